@@ -2,8 +2,11 @@
 # make run: the four programs on a small sample, out of bin/, or from source by `rt try` where bin/ is not up to date
 # make tftp-show, tftp-play, tftp or tftpd: proves and builds that program alone, which takes less than all four
 # make test: the gate, every proof from nothing, and then what is tried of the programs that it built
-# make install, make uninstall: programs, manuals, completions and unit at DESTDIR and PREFIX
-# make dist: an archive of what is installed, for hosts without the kit
+# make install, make uninstall: programs, manuals, completions, units and documents at DESTDIR and PREFIX; they copy what
+#   is in bin/, and build nothing. PROGRAM_PREFIX= is put before the names of the programs and their manuals
+# make dist: an archive of what is installed, with a script that installs it on hosts without the kit
+# make deb: a package for Debian
+# make soak SECONDS=3600 SEED=2: trials of bin/tftp and bin/tftpd against a model, a bad network and a bad host
 # make bench: the benchmarks of bench/, which are no tests
 # make bench-udp: tftpd and tftp beside the other servers and clients that are installed
 
@@ -11,14 +14,17 @@
 VERSION := 0.1.0
 PREFIX := /usr/local
 DESTDIR :=
+PROGRAM_PREFIX :=
+MANDIR := $(PREFIX)/share/man
+UNITDIR := $(PREFIX)/lib/systemd/system
 
 PROGRAMS := bin/tftp-show bin/tftp-play bin/tftp bin/tftpd
 SOURCES := $(shell find crates -path '*/out' -prune -o \( -name '*.rt' -o -name '*.antt' \) -print) crates.txt
 
 # what is run behind `rt ci`, over the programs in crates/*/out: the first that fails ends the gate
-CHECKS := tools/same_options.py tools/check_documents.py tools/same_pictures.sh tools/statuses.py tools/loopback/run.py tools/memory_in_turn.py tools/lost_requests.py
+CHECKS := tools/same_options.py tools/check_install.py tools/check_documents.py tools/statement.py tools/definitions.py tools/one_journal.py tools/same_pictures.sh tools/statuses.py tools/loopback/run.py tools/network.py tools/memory_in_turn.py tools/lost_requests.py tools/soak/run.py
 
-.PHONY: build run sample tftp-show tftp-play tftp tftpd test install uninstall dist bench bench-udp clean
+.PHONY: build run sample tftp-show tftp-play tftp tftpd test install uninstall dist deb soak bench bench-udp clean
 # one after another: each crate is proved by as many processors as there are
 .NOTPARALLEL:
 
@@ -50,14 +56,21 @@ test:
 	rt ci
 	@set -e; for check in $(CHECKS); do echo "$$check"; $$check; done
 
-install: $(PROGRAMS)
-	@tools/install.sh install '$(PREFIX)' '$(DESTDIR)'
-
-uninstall:
-	@tools/install.sh uninstall '$(PREFIX)' '$(DESTDIR)'
+install uninstall:
+	@tools/install.sh $@ 'DESTDIR=$(DESTDIR)' 'PREFIX=$(PREFIX)' 'PROGRAM_PREFIX=$(PROGRAM_PREFIX)' \
+		'MANDIR=$(MANDIR)' 'UNITDIR=$(UNITDIR)'
 
 dist: $(PROGRAMS)
-	@tools/install.sh dist '$(PREFIX)' '$(VERSION)'
+	@tools/install.sh dist '$(VERSION)'
+
+deb: $(PROGRAMS)
+	@debian/pack.sh '$(VERSION)'
+
+SECONDS := 60
+SEED := 1
+
+soak: bin/tftp bin/tftpd
+	tools/soak/run.py $(SECONDS) $(SEED) bin/tftp bin/tftpd
 
 bench: $(PROGRAMS)
 	bench/show/run.sh bin/tftp-show

@@ -46,7 +46,11 @@ build() {
     start=$(date +%s)
     (
         cd "$2/crates/$1" || exit 2
-        # a program runs once it is built: it only prints its help
+        # a program runs once it is built: it only prints its help. tftp and tftpd are for every processor of x86-64,
+        # since small and emulated machines run them; the others for x86-64-v2, the default
+        case $1 in
+        tftp_main | tftpd_main) exec rt run --cpu=x86-64 -- --help ;;
+        esac
         if test -f src/main.rt; then exec rt run -- --help; fi
         # rt gives a second and a fourth processor to large crates alone
         exec rt lib --jobs "$(nproc)"

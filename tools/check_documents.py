@@ -14,7 +14,7 @@ import tempfile
 
 ROOT = pathlib.Path(__file__).resolve().parent.parent
 PROGRAMS = {"tftp-show": "tftp_show_main", "tftp-play": "tftp_play_main"}
-SECONDS = 60
+SECONDS = 600
 
 
 def program(name):

@@ -1,73 +1,146 @@
 #!/bin/sh
-# Installs the programs of bin/ with their manuals, completions and unit, removes them, or packs them into an archive.
-# Usage: install.sh install|uninstall PREFIX [DESTDIR], or install.sh dist PREFIX VERSION
-# Nothing is written or removed but the files below; a file that is the same already is left as it is.
+# Installs the programs of bin/ with their manuals, completions, units and documents, or removes them; packs all that
+# into an archive; or checks that the programs run on this host. It builds nothing.
+# Usage: install.sh install|uninstall [NAME=VALUE..], install.sh dist VERSION, or install.sh check
+# NAME is DESTDIR, PREFIX (/usr/local), PROGRAM_PREFIX (put before each program's name), MANDIR (PREFIX/share/man) or
+# UNITDIR (PREFIX/lib/systemd/system). Nothing is written or removed but the files below; one that is the same already
+# stays as it is.
 set -eu
 umask 022
-cd "$(dirname "$0")/.."
-verb=$1 prefix=$2
-
-case $prefix in
-/*) ;;
-*)
-    echo "install.sh: PREFIX is no absolute path: $prefix" >&2
+cd "$(dirname "$0")"
+# in the archive it stands at the top
+test -d man || cd ..
+usage='usage: install.sh install|uninstall [NAME=VALUE..], install.sh dist VERSION, or install.sh check'
+fail() {
+    echo "install.sh: $1" >&2
     exit 2
+}
+test $# -gt 0 || fail "$usage"
+verb=$1
+shift
+
+DESTDIR='' PREFIX=/usr/local PROGRAM_PREFIX='' MANDIR='' UNITDIR='' VERSION=''
+case $verb in
+install | uninstall)
+    for word; do
+        case $word in
+        DESTDIR=*) DESTDIR=${word#*=} ;;
+        PREFIX=*) PREFIX=${word#*=} ;;
+        PROGRAM_PREFIX=*) PROGRAM_PREFIX=${word#*=} ;;
+        MANDIR=*) MANDIR=${word#*=} ;;
+        UNITDIR=*) UNITDIR=${word#*=} ;;
+        *) fail "$usage" ;;
+        esac
+    done
     ;;
+dist)
+    test $# = 1 || fail "$usage"
+    VERSION=$1
+    ;;
+check) test $# = 0 || fail "$usage" ;;
+*) fail "$usage" ;;
 esac
+MANDIR=${MANDIR:-$PREFIX/share/man}
+UNITDIR=${UNITDIR:-$PREFIX/lib/systemd/system}
+DOCDIR=$PREFIX/share/doc/fanjuvery
+for path in "$PREFIX" "$MANDIR" "$UNITDIR"; do
+    case $path in
+    /*) ;;
+    *) fail "no absolute path: $path" ;;
+    esac
+done
+case $PROGRAM_PREFIX in
+*[!A-Za-z0-9._-]*) fail "a PROGRAM_PREFIX is of letters, digits, dots, underscores and dashes: $PROGRAM_PREFIX" ;;
+esac
+programs='tftp tftpd tftp-show tftp-play'
 
 room=$(mktemp -d)
 trap 'rm -rf "$room"' EXIT
 trap 'exit 130' HUP INT TERM
 
-# the unit, with the path of the server that is installed
-quoted=$(printf '%s' "$prefix" | sed 's/[&\\|]/\\&/g')
-sed "s|/usr/local/bin/tftpd|$quoted/bin/tftpd|" packaging/tftpd.service > "$room/tftpd.service"
-
-# what is installed, a file a line: its mode, its place below PREFIX and where it is taken from
-files() {
-    # users start tftpd, too, and have no sbin/ on their PATH: it needs no root
-    for program in tftp tftpd tftp-show tftp-play; do
-        echo "755 bin/$program bin/$program"
-        echo "644 share/bash-completion/completions/$program completions/$program.bash"
-        echo "644 share/zsh/site-functions/_$program completions/$program.zsh"
-        echo "644 share/fish/vendor_completions.d/$program.fish completions/$program.fish"
-    done
-    for manual in man/*.[1-8]; do
-        echo "644 share/man/man${manual##*.}/${manual#man/} $manual"
-    done
-    echo "644 lib/systemd/system/tftpd.service $room/tftpd.service"
+# one of the room's files: the source, with the names and the path of the programs that are installed
+named() {
+    # as a word in double quotes of a unit, and then as the replacement of sed
+    path=$(printf '%s' "$PREFIX/bin/$PROGRAM_PREFIX" | sed 's/[\\"]/\\&/g; s/%/%%/g' | sed 's/[&\\|]/\\&/g')
+    sed "s|/usr/local/bin/tftpd|${path}tftpd|
+        s|man:tftpd|man:${PROGRAM_PREFIX}tftpd|
+        s|^complete -F \(_[a-z_]*\) |&$PROGRAM_PREFIX|
+        s|^complete -c |&$PROGRAM_PREFIX|
+        s|^#compdef |&$PROGRAM_PREFIX|" "$1" > "$room/${1##*/}"
+    echo "$room/${1##*/}"
 }
 
-# puts the files below a folder
-put() {
-    files | while read -r mode place source; do
-        mkdir -p "$1/${place%/*}"
-        install -C -m "$mode" "$source" "$1/$place"
+# what is installed, a file a line: its mode, its place and where it is taken from
+files() {
+    # users start tftpd, too, and have no sbin/ on their PATH: it needs no root
+    for program in $programs; do
+        name=$PROGRAM_PREFIX$program
+        echo "755 $PREFIX/bin/$name bin/$program"
+        echo "644 $PREFIX/share/bash-completion/completions/$name $(named "completions/$program.bash")"
+        echo "644 $PREFIX/share/zsh/site-functions/_$name $(named "completions/$program.zsh")"
+        echo "644 $PREFIX/share/fish/vendor_completions.d/$name.fish $(named "completions/$program.fish")"
     done
+    for manual in man/*.[1-8]; do
+        echo "644 $MANDIR/man${manual##*.}/$PROGRAM_PREFIX${manual#man/} $manual"
+    done
+    for unit in tftpd.service tftpd@.service; do
+        echo "644 $UNITDIR/$PROGRAM_PREFIX$unit $(named "packaging/$unit")"
+    done
+    echo "644 $DOCDIR/tftpd.nft packaging/tftpd.nft"
+    for document in LICENSE README.md SECURITY.md docs/OPERATING.md; do
+        echo "644 $DOCDIR/${document#docs/} $document"
+    done
+}
+
+# what is in the archive: what is installed, and what `check` needs
+packed() {
+    for program in $programs; do echo "bin/$program"; done
+    ls -d completions/* man/*.[1-8] packaging/*
+    echo LICENSE README.md SECURITY.md docs/OPERATING.md examples/loopback.sh examples/packets.hex | tr ' ' '\n'
 }
 
 case $verb in
 install)
-    put "${3-}$prefix"
-    echo "installed below ${3-}$prefix"
+    for program in $programs; do
+        test -x "bin/$program" || fail "there is no bin/$program: make builds it"
+    done
+    files > "$room/files"
+    # a line is two words without spaces and a path, or paths with spaces, told apart by their ends
+    while IFS=' ' read -r mode rest; do
+        source=${rest##* } place=${rest% *}
+        mkdir -p "$DESTDIR${place%/*}"
+        install -C -m "$mode" "$source" "$DESTDIR$place"
+    done < "$room/files"
+    echo "installed below $DESTDIR$PREFIX"
     ;;
 uninstall)
-    files | while read -r _ place _; do rm -f "${3-}$prefix/$place"; done
+    files | while IFS=' ' read -r _ rest; do rm -f "$DESTDIR${rest% *}"; done
+    test ! -d "$DESTDIR$DOCDIR" || rmdir --ignore-fail-on-non-empty "$DESTDIR$DOCDIR"
     ;;
 dist)
     # the same bytes from the same files: in order of names, with the owner, the group and the time of the commit
-    put "$room/tree$prefix"
+    name=fanjuvery-$VERSION-$(uname -m)
+    packed | while read -r file; do
+        test -e "$file" || fail "there is no $file"
+        mkdir -p "$room/$name/$(dirname "$file")"
+        case $file in
+        bin/* | *.sh) mode=755 ;;
+        *) mode=644 ;;
+        esac
+        install -m "$mode" "$file" "$room/$name/$file"
+    done
+    install -m 755 tools/install.sh "$room/$name/install.sh"
     mkdir -p out
-    archive=out/fanjuvery-$3-$(uname -m).tar.gz
     time=$(git log -1 --format=%ct 2> /dev/null || echo 0)
-    (cd "$room/tree" && find ./* -type f | sed 's|^\./||' | LC_ALL=C sort) > "$room/names"
-    tar -C "$room/tree" -T "$room/names" -c -f - --format=ustar --mtime="@$time" --owner=0 --group=0 --numeric-owner |
+    (cd "$room" && find "$name" -type f | LC_ALL=C sort) > "$room/names"
+    tar -C "$room" -T "$room/names" -c -f - --format=ustar --mtime="@$time" --owner=0 --group=0 --numeric-owner |
         gzip -n > "$room/archive"
-    mv "$room/archive" "$archive"
-    echo "$archive"
+    mv "$room/archive" "out/$name.tar.gz"
+    echo "out/$name.tar.gz"
     ;;
-*)
-    echo "usage: install.sh install|uninstall PREFIX [DESTDIR], or install.sh dist PREFIX VERSION" >&2
-    exit 2
+check)
+    for program in $programs; do "bin/$program" --version; done
+    examples/loopback.sh bin/tftpd bin/tftp
+    echo "the programs run here: a get and a put over the loopback address, compared byte for byte"
     ;;
 esac

@@ -1,68 +1,117 @@
 #!/usr/bin/env python3
 """Refuses each request for memory of a server in turn: lost_requests.py [TFTPD]
 
-TFTPD is the built tftpd; without words, the one that `rt ci` built. A client asks for a file, and again where it gets
-no answer. Whichever request for memory is refused, the transfer completes, and a request that is lost is a line of the
-log that says so. Before the server serves, whichever is refused, it says that it is out of memory. The counter is refuse_memory.c, compiled into a temporary folder.
+TFTPD is the built tftpd; without words, the one that `rt ci` built. A client asks for a file, and again where its
+request is lost. Whichever request for memory is refused, the transfer completes, and a request that is lost is a line of
+the log that says so. Before the server serves, whichever is refused, it says that it is out of memory. The counter is
+refuse_memory.c, compiled into a temporary folder. A server has five minutes, however slow the host is.
 """
 import os
 import re
+import select
 import socket
 import subprocess
 import sys
 import tempfile
+import time
 from pathlib import Path
 
+from addresses import own_address
 from memory_in_turn import compiled
 
+HOST = own_address()
 TFTPD = Path(__file__).resolve().parent.parent / "crates" / "tftpd_main" / "out" / "tftpd_main"
-PATIENCE = 20
-REPEAT_AFTER = 0.25
+# the longest that a server may take, in seconds: by the test, and by its own count of waits
+PATIENCE = 300
+LIMITS = ["--rounds", "2000", "--retries", "10"]
 REQUEST = b"\0\1a\0octet\0"
 DATA = b"\0\3\0\1fortytwo"
 ACK = b"\0\4\0\1"
+LOST = re.compile(rb"^lost ", re.M)
 
 
-def fetched(server, process):
-    """How often a client asks until it has the file, or None where the server has ended."""
+class Watched:
+    """A server, and what it has written so far."""
+
+    def __init__(self, process):
+        self.process, self.deadline = process, time.monotonic() + PATIENCE
+        self.texts = {process.stdout: b"", process.stderr: b""}
+        self.open = set(self.texts)
+
+    def wait(self, client=None):
+        """Waits until something comes from the server. Returns whether a datagram for the client is there."""
+        left = self.deadline - time.monotonic()
+        ready, _, _ = select.select([*self.open, *([client] if client else [])], [], [], max(left, 0))
+        if not ready:
+            sys.exit(f"lost requests: nothing more after {PATIENCE} seconds: {self.texts}")
+        for pipe in self.open & set(ready):
+            piece = os.read(pipe.fileno(), 65_536)
+            self.texts[pipe] += piece
+            if not piece:
+                self.open.discard(pipe)
+        return client in ready
+
+    def printed(self):
+        return self.texts[self.process.stdout].decode()
+
+    def log(self):
+        return self.texts[self.process.stderr].decode()
+
+    def port(self):
+        while "\n" not in self.printed() and self.open:
+            self.wait()
+        return int(self.printed().split("\n")[0].rsplit(":", 1)[1])
+
+
+def fetched(server, port):
+    """How often a client asks until it has the file, or None where the server has ended. It asks again where the log
+    says that its request was lost: no time passes for nothing, and a slow server is not asked twice."""
     with socket.socket(socket.AF_INET, socket.SOCK_DGRAM) as client:
-        client.bind(("127.0.0.1", 0))
-        client.settimeout(REPEAT_AFTER)
+        client.bind((HOST, 0))
         for requests in range(1, 10):
-            client.sendto(REQUEST, server)
-            try:
-                data, peer = client.recvfrom(600)
-            except socket.timeout:
-                if process.poll() is not None:
+            client.sendto(REQUEST, (HOST, port))
+            while len(LOST.findall(server.texts[server.process.stderr])) < requests:
+                if server.wait(client):
+                    data, peer = client.recvfrom(600)
+                    if data != DATA:
+                        sys.exit(f"lost requests: the answer is {data!r}")
+                    client.sendto(ACK, peer)
+                    return requests
+                if not server.open:
                     return None
-                continue
-            if data != DATA:
-                sys.exit(f"lost requests: the answer is {data!r}")
-            client.sendto(ACK, peer)
-            return requests
     sys.exit("lost requests: no answer")
 
 
 def served(program, counter, folder, refused):
     """How often the client asks, the log, and how many requests for memory were made and refused. None in place of
     the first for a server that was refused its buffers and has ended."""
-    words = [program, folder, "--listen", "127.0.0.1:0", "--log"]
+    words = [program, folder, "--listen", f"{HOST}:0", "--log", *LIMITS]
     env = {"LD_PRELOAD": str(counter), "REFUSED": str(refused), "FROM_OUTPUT": "1"}
-    with subprocess.Popen(words, env=env, stdout=subprocess.PIPE, stderr=subprocess.PIPE, text=True) as server:
-        port = int(server.stdout.readline().rsplit(":", 1)[1])
-        requests = fetched(("127.0.0.1", port), server)
-        printed, log = server.communicate(timeout=PATIENCE)
+    pipe = subprocess.PIPE
+    process = subprocess.Popen(words, env=env, stdin=subprocess.DEVNULL, stdout=pipe, stderr=pipe, bufsize=0)
+    try:
+        server = Watched(process)
+        requests = fetched(server, server.port())
+        while server.open:
+            server.wait()
+        process.wait(PATIENCE)
+    finally:
+        process.kill()
+        process.wait()
+        process.stdout.close()
+        process.stderr.close()
+    printed, log = server.printed().split("\n", 1)[1], server.log()
     counts = re.search(r"^counted (\d+) refused (\d+)$", log, re.M)
-    has_ended = requests is None and server.returncode == 2 and not printed
-    is_complete = requests and server.returncode == 0 and printed.endswith(" Complete\n")
+    has_ended = requests is None and process.returncode == 2 and not printed
+    is_complete = requests and process.returncode == 0 and printed.endswith(" Complete\n")
     if not counts or not (has_ended or is_complete):
-        sys.exit(f"lost requests: with {refused} refused, status {server.returncode}: {printed}{log}")
+        sys.exit(f"lost requests: with {refused} refused, status {process.returncode}: {printed}{log}")
     return requests, log, int(counts[1]), int(counts[2])
 
 
 def begun(program, counter, folder, refused):
     """What a server says that is refused a request for memory before it serves, and how many such requests there are."""
-    words = [program, folder, "--listen", "127.0.0.1:0", "--rounds", "1"]
+    words = [program, folder, "--listen", f"{HOST}:0", "--rounds", "1"]
     env = {"LD_PRELOAD": str(counter), "REFUSED": str(refused), "FROM_START": "1"}
     done = subprocess.run(words, env=env, capture_output=True, text=True, timeout=PATIENCE)
     said, counts = re.fullmatch(r"(.*)counted (\d+) refused \d+\n", done.stderr, re.S).groups()
@@ -97,7 +146,7 @@ def main():
         _, _, count, _ = served(program, counter, str(files), 0)
         for request in range(1, count + 1):
             requests, log, _, refused = served(program, counter, str(files), request)
-            lines = re.findall(r"^lost 127\.0\.0\.1:\d+ RRQ a octet: out of memory$", log, re.M)
+            lines = re.findall(rf"^lost {HOST}:\d+ RRQ a octet: out of memory$", log, re.M)
             lost += len(lines)
             unserved += requests is None
             if refused != 1 or len(lines) > 1 or (requests or 1) > 1 + len(lines):

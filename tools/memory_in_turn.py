@@ -16,7 +16,7 @@ import tempfile
 from pathlib import Path
 
 SCENES = Path(__file__).resolve().parent.parent / "crates" / "tftp_memory_scenes"
-PATIENCE = 20
+PATIENCE = 120
 AS_BEFORE = "= out of memory, all as before"
 # Where a commit is refused its memory: no file, ERROR 3 `disk full`, and the name is free for the other write.
 RACE = "a race for a name"
@@ -51,16 +51,16 @@ n 42
 """.splitlines()
 
 
-def compiled(folder):
-    """The counter, as a library that is preloaded."""
-    source, library = Path(__file__).with_name("refuse_memory.c"), Path(folder, "refuse_memory.so")
+def compiled(folder, source=Path(__file__).with_name("refuse_memory.c")):
+    """The counter, or another source, as a library that is preloaded."""
+    library = Path(folder, source.stem + ".so")
     kit = shutil.which("rt")
     beside = Path(kit).resolve().parent.parent / "toolchain" / "bin" / "clang" if kit else "clang"
     words = ["-O1", "-shared", "-fPIC", "-nostdlib", "-o", library, source]
     for compiler in ["cc", "clang", str(beside)]:
         if shutil.which(compiler) and subprocess.run([compiler, *words]).returncode == 0:
             return library
-    sys.exit("memory: no C compiler serves here, neither cc nor clang, so no request was refused")
+    sys.exit("memory: no C compiler serves here, neither cc nor clang, so nothing was refused")
 
 
 def played(program, counter, refused):

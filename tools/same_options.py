@@ -2,8 +2,9 @@
 """The options of the four programs are the same wherever they are named.
 
 What `--help` prints is compared with the program's manual in man/ and its completions for bash, zsh and fish, and for
-tftpd with docs/OPERATING.md. What examples and the unit give to a program is among its options, `--version` prints the
-version of the Makefile and the line of `rt version`, and mandoc and systemd-analyze find nothing, where they are installed.
+tftpd with docs/OPERATING.md. What examples and the units give to a program is among its options, `--version` prints the
+version of the Makefile and the line of `rt version`, and mandoc and systemd-analyze find nothing. The last line says
+what was skipped: either of them where it is not installed, or where systemd is older than the settings of the units.
 
 Reads the programs that `rt ci` left in crates/*_main/out, or else those of bin/. A line for each difference, and the
 status 1 where there is one; 2 where a program is missing.
@@ -18,7 +19,11 @@ from pathlib import Path
 
 TOP = Path(__file__).resolve().parent.parent
 OPERATING = "docs/OPERATING.md"
-UNIT = "packaging/tftpd.service"
+UNITS = ["packaging/tftpd.service", "packaging/tftpd@.service"]
+# the longest command that a manual shows in 80 columns
+COLUMNS = 68
+# the first systemd that knows each setting of the units
+SYSTEMD = 247
 MANUALS = {"tftp-show": "man/tftp-show.1", "tftp-play": "man/tftp-play.1", "tftp": "man/tftp.1", "tftpd": "man/tftpd.8"}
 # the subcommands of each program, each of which has a help text of its own; "" is the program itself
 VERBS = {"tftp-show": [""], "tftp-play": [""], "tftp": ["", "get", "put"], "tftpd": [""]}
@@ -38,7 +43,7 @@ def program_at(name):
 
 def printed(path, *words):
     """What a program prints on standard output."""
-    done = subprocess.run([path, *words], stdin=subprocess.DEVNULL, capture_output=True, text=True, timeout=60)
+    done = subprocess.run([path, *words], stdin=subprocess.DEVNULL, capture_output=True, text=True, timeout=600)
     return done.stdout
 
 
@@ -131,7 +136,7 @@ class Comparison:
     """The options of each help text, and what differs from them."""
 
     def __init__(self, paths):
-        self.differences = []
+        self.differences, self.skipped = [], []
         self.paths = paths
         self.toolchain = printed("rt", "version").strip() if shutil.which("rt") else ""
         self.options = {
@@ -163,10 +168,17 @@ class Comparison:
     def check_manual(self, name):
         """The manual has an item for each option, and names no other anywhere."""
         place, known = MANUALS[name], self.known[name]
-        lines = [line[1:] for line in (TOP / place).read_text().splitlines() if re.match(r"\.[A-Z]", line)]
+        text = (TOP / place).read_text()
+        lines = [line[1:] for line in text.splitlines() if re.match(r"\.[A-Z]", line)]
         self.differ(place, known, {it for line in lines if line.startswith("It Fl") for it in flags_of(line)})
         self.name_no_other(place, known, {it for line in lines if line[:5] != "It Fl" for it in flags_of(line)})
-        self.check_commands(place, [line[3:].replace("\\&", "") for line in lines if line.startswith("Dl ")])
+        shown = [line[3:] for line in lines if line.startswith("Dl ")]
+        for block in re.findall(r"(?ms)^\.Bd -literal[^\n]*\n(.*?)^\.Ed$", text):
+            shown += block.replace("\\e\n", " ").splitlines()
+        self.check_commands(place, [line.replace("\\&", "") for line in shown])
+        # what is longer is broken at 80 columns, into what looks like two commands
+        long = [line for line in re.findall(r"(?m)^(?:\.Dl )?([#$] .*)$", text) if len(line) > COLUMNS]
+        self.differences += [f"{place}: longer than {COLUMNS}: {line}" for line in long]
 
     def check_completions(self, name):
         """The completions of each shell have the options of each subcommand."""
@@ -183,7 +195,7 @@ class Comparison:
         given = set()
         for command in commands:
             words = re.sub(r"^#?\w+=|^[$#] ", "", command.strip()).split()
-            name = os.path.basename(words[0]) if words else ""
+            name = os.path.basename(words[0].strip('"')) if words else ""
             if name in VERBS:
                 found = long_ones(OPTION.findall(" ".join(words[1:])))
                 self.name_no_other(f"{place}: `{command.strip()}`", self.known[name], found)
@@ -198,41 +210,65 @@ class Comparison:
         named = alone | self.check_commands(OPERATING, pieces)
         self.differ(OPERATING, long_ones(self.known["tftpd"]), named & self.known["tftpd"])
 
-    def check_unit(self):
-        """The unit starts tftpd with options that it has, and systemd finds nothing in it."""
-        text = (TOP / UNIT).read_text()
-        if not self.check_commands(UNIT, [line for line in text.splitlines() if "ExecStart=" in line]):
-            self.differences.append(f"{UNIT}: starts no tftpd")
-        if not shutil.which("systemd-analyze"):
-            print("systemd-analyze is not installed: the unit is not looked at")
+    def check_units(self):
+        """The units start tftpd with options that it has, and systemd finds nothing in them."""
+        for place in UNITS:
+            lines = (TOP / place).read_text().splitlines()
+            if not self.check_commands(place, [line for line in lines if "ExecStart=" in line]):
+                self.differences.append(f"{place}: starts no tftpd")
+        reason = missing_systemd()
+        if reason:
+            self.skipped.append(f"the units ({reason})")
             return
-        with tempfile.TemporaryDirectory() as room:
-            unit = Path(room) / Path(UNIT).name
-            # tftpd need not be installed
-            unit.write_text(re.sub(r"(?m)^(ExecStart=)\S+", r"\1/bin/sh", text))
-            words = ["systemd-analyze", "verify", "--man=no", unit]
-            done = subprocess.run(words, stdin=subprocess.DEVNULL, capture_output=True, text=True)
-        # some of what it finds leaves the status at 0
-        found = [line for line in done.stderr.splitlines() if unit.name in line]
-        self.differences += [f"{UNIT}: {line}" for line in found]
-        if done.returncode and not found:
-            self.differences.append(f"{UNIT}: systemd-analyze verify ends with {done.returncode}: {done.stderr.strip()}")
+        for place in UNITS:
+            self.differences += [f"{place}: {line}" for line in found_in_unit(TOP / place)]
 
     def check_form(self):
-        """mandoc finds nothing in the manuals."""
-        if not shutil.which("mandoc"):
-            print("mandoc is not installed: the form of the manuals is not looked at")
-            return
+        """mandoc finds nothing in the manuals, and each manual of ours that they refer to is there."""
         manuals = sorted(str(it.relative_to(TOP)) for it in (TOP / "man").glob("*.[1-8]"))
-        with tempfile.TemporaryDirectory() as room:
-            # as they are installed, so that each finds those that it refers to
-            for manual in manuals:
-                section = Path(room) / f"man{manual[-1]}"
-                section.mkdir(exist_ok=True)
-                shutil.copy(TOP / manual, section)
-            words = ["mandoc", "-Tlint", "-Wstyle", *manuals]
-            done = subprocess.run(words, cwd=TOP, env={**os.environ, "MANPATH": room}, capture_output=True, text=True)
-        self.differences += done.stdout.splitlines()
+        for manual in manuals:
+            for name, section in re.findall(r"^\.Xr (tftp\S*) (\d)", (TOP / manual).read_text(), re.M):
+                if f"man/{name}.{section}" not in manuals:
+                    self.differences.append(f"{manual}: there is no manual {name}({section})")
+        if not shutil.which("mandoc"):
+            self.skipped.append("the form of the manuals (no mandoc)")
+            return
+        done = subprocess.run(["mandoc", "-Tlint", "-Wstyle", *manuals], cwd=TOP, capture_output=True, text=True)
+        # whether a manual of another program is there depends on the host
+        self.differences += [it for it in done.stdout.splitlines() if "referenced manual not found" not in it]
+
+
+def missing_systemd():
+    """Why systemd cannot look at the units on this host, or nothing if it can."""
+    if not shutil.which("systemd-analyze"):
+        return "no systemd-analyze"
+    version = re.match(r"systemd (\d+)", printed("systemd-analyze", "--version"))
+    if not version or int(version[1]) < SYSTEMD:
+        return f"systemd before {SYSTEMD}"
+    with tempfile.TemporaryDirectory() as room:
+        # a unit in which there is nothing to find
+        sound = Path(room) / "sound.service"
+        sound.write_text("[Service]\nExecStart=/bin/sh\n")
+        return "systemd-analyze verify does not work here" if verified(sound).returncode else ""
+
+
+def verified(unit):
+    words = ["systemd-analyze", "verify", "--man=no", unit]
+    return subprocess.run(words, stdin=subprocess.DEVNULL, capture_output=True, text=True, timeout=600)
+
+
+def found_in_unit(place):
+    """What systemd finds in a unit."""
+    with tempfile.TemporaryDirectory() as room:
+        unit = Path(room) / place.name.replace("@", "@6901")
+        # tftpd need not be installed
+        unit.write_text(re.sub(r'(?m)^(ExecStart=)("[^"]*"|\S+)', r"\1/bin/sh", place.read_text()))
+        done = verified(unit)
+    # some of what it finds leaves the status at 0
+    found = [line for line in done.stderr.splitlines() if unit.name in line]
+    if done.returncode and not found:
+        found = [f"systemd-analyze verify ends with {done.returncode}: {done.stderr.strip()}"]
+    return found
 
 
 def main():
@@ -243,12 +279,13 @@ def main():
         it.check_manual(name)
         it.check_completions(name)
     it.check_operating()
-    it.check_unit()
+    it.check_units()
     it.check_form()
     for line in it.differences:
         print(line)
     count = sum(map(len, it.options.values()))
-    print(f"{count} options of {len(it.options)} help texts, {len(it.differences)} differences")
+    skipped = f"; skipped: {', '.join(it.skipped)}" if it.skipped else ""
+    print(f"{count} options of {len(it.options)} help texts, {len(it.differences)} differences{skipped}")
     return 1 if it.differences else 0
 
 

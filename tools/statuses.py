@@ -1,23 +1,32 @@
 #!/usr/bin/env python3
 """Runs the four programs and compares their statuses and messages: statuses.py [SHOW PLAY TFTP TFTPD]
 
-Without words it takes the programs that `rt ci` built. A run has 20 seconds, a server ends after 50 waits at most.
-Everything goes over 127.0.0.1 and through one temporary folder. The last line is a count; the status is 1 where
-something was not as wanted, or fewer runs than known were made.
+Without words it takes the programs that `rt ci` built. A run has two minutes, a server ends after 2000 waits at most.
+Everything goes over an address of 127.0.0.0/8 and through one temporary folder. The last line is a count; the status is
+1 where something was not as wanted, or fewer runs than known were made.
 """
 import os
 import resource
+import signal
 import socket
+import struct
 import subprocess
 import sys
 import tempfile
 import threading
+import time
 from contextlib import contextmanager
 from pathlib import Path
 
+from addresses import own_address
+
+HOST = own_address()
 CRATES = Path(__file__).resolve().parent.parent / "crates"
-PATIENCE = 20
-RUNS_AT_LEAST = 120
+PATIENCE = 120
+# How often a client asks again where the host is slow, and the words of a server that ends whatever happens
+RETRIES = ["--retries", "10"]
+LIMITS = ["--rounds", "2000", *RETRIES]
+RUNS_AT_LEAST = 150
 # What a program writes of a command line that it does not understand
 USAGE = "error: "
 
@@ -49,6 +58,11 @@ class Check:
             self.wrong.append(f"{program} {words}: status {done.returncode}, {wrote!r}, {told!r}; wanted {wanted}")
         return wrote
 
+    def has_file(self, name, content):
+        """A file has this content."""
+        if (self.folder / name).read_bytes() != content:
+            self.wrong.append(f"{name}: has {(self.folder / name).read_bytes()!r}; wanted {content!r}")
+
     def is_usage_fault(self, program, *words, **how):
         self.ends(program, words, 2, USAGE, "", at_start=True, **how)
 
@@ -63,7 +77,7 @@ class Check:
 @contextmanager
 def serving(check, *words):
     """A tftpd of the folder `served`, and its address; it is killed at the end, whatever happened."""
-    words = [check.programs["tftpd"], "served", "--listen", "127.0.0.1:0", "--rounds", "50", *words]
+    words = [check.programs["tftpd"], "served", "--listen", f"{HOST}:0", *LIMITS, *words]
     pipe = subprocess.PIPE
     server = subprocess.Popen(words, cwd=check.folder, stdin=subprocess.DEVNULL, stdout=pipe, stderr=pipe)
     try:
@@ -87,13 +101,40 @@ def few_files(count):
     return lambda: resource.setrlimit(resource.RLIMIT_NOFILE, (count, count))
 
 
+def short_files(length):
+    """Has the program write no file beyond so many bytes: the write is refused, and the signal of it ignored."""
+    def limit():
+        signal.signal(signal.SIGXFSZ, signal.SIG_IGN)
+        resource.setrlimit(resource.RLIMIT_FSIZE, (length, length))
+    return limit
+
+
+def first_line_of(path):
+    """The first line of a file that another process writes, once it is whole."""
+    end = time.monotonic() + PATIENCE
+    while not path.read_bytes().endswith(b"\n") and time.monotonic() < end:
+        time.sleep(0.02)
+    return path.read_bytes()
+
+
+@contextmanager
+def left_open(address):
+    """A transfer of a server that waits for its client, which never comes back."""
+    host, port = address.split(":")
+    with socket.socket(socket.AF_INET, socket.SOCK_DGRAM) as client:
+        client.settimeout(PATIENCE)
+        client.sendto(b"\0\1a\0octet\0timeout\x00200\0", (host, int(port)))
+        client.recvfrom(600)
+        yield
+
+
 @contextmanager
 def answering(answer, first=lambda: None):
     """A port whose first datagram is answered by this, from another port, or by nothing, once `first` is done."""
     with socket.socket(socket.AF_INET, socket.SOCK_DGRAM) as port, \
             socket.socket(socket.AF_INET, socket.SOCK_DGRAM) as transfer:
-        port.bind(("127.0.0.1", 0))
-        transfer.bind(("127.0.0.1", 0))
+        port.bind((HOST, 0))
+        transfer.bind((HOST, 0))
         port.settimeout(PATIENCE)
 
         def answer_once():
@@ -108,7 +149,7 @@ def answering(answer, first=lambda: None):
         thread = threading.Thread(target=answer_once)
         thread.start()
         try:
-            yield "127.0.0.1:%d" % port.getsockname()[1]
+            yield f"{HOST}:{port.getsockname()[1]}"
         finally:
             # (a client that sent nothing leaves the thread waiting)
             transfer.sendto(b"", port.getsockname())
@@ -137,6 +178,52 @@ def test_show(check):
     os.close(folder)
     with closed_pipe() as write:
         check.ends("tftp-show", [], 2, input=b"00040000\n", stdout=write)
+
+
+def has_state(pid, wanted):
+    """Waits until a process is in this state of proc(5), and says whether it came to be before it ended."""
+    state, end = "", time.monotonic() + PATIENCE
+    while state not in (wanted, "Z") and time.monotonic() < end:
+        time.sleep(0.02)
+        state = Path(f"/proc/{pid}/stat").read_text().rpartition(")")[2].split()[0]
+    return state == wanted
+
+
+# The words of a tftp-show, its input in two parts, and what its output begins with
+INTERRUPTED = [
+    ([], [b"0004", b"0000\n"], "ACK 0\n"),
+    (["--flow"], [b"0\t192.0.2.2\t1024\t192.0.2.1\t69\t0001", b"61006f6374657400\n"],
+     "transfer 1: 192.0.2.2:1024 reads from 192.0.2.1:69\n  asked    RRQ a octet\n"),
+]
+
+
+def test_interrupted_reads(check):
+    """A read that a signal interrupts is made again. No handler can be had from outside, but a read of a socket with a
+    timeout also fails with EINTR where its process is stopped and goes on, on Linux (signal(7))."""
+    for words, parts, output in INTERRUPTED:
+        check.runs += 1
+        pipe = subprocess.PIPE
+        ours, theirs = socket.socketpair()
+        with ours, theirs:
+            theirs.setsockopt(socket.SOL_SOCKET, socket.SO_RCVTIMEO, struct.pack("ll", PATIENCE, 0))
+            show = subprocess.Popen([check.programs["tftp-show"], *words], stdin=theirs, stdout=pipe, stderr=pipe)
+            try:
+                is_stopped = []
+                for part in parts:
+                    has_state(show.pid, "S")
+                    os.kill(show.pid, signal.SIGSTOP)
+                    is_stopped.append(has_state(show.pid, "T"))
+                    os.kill(show.pid, signal.SIGCONT)
+                    has_state(show.pid, "S")
+                    ours.sendall(part)
+                ours.shutdown(socket.SHUT_WR)
+                wrote, told = show.communicate(timeout=PATIENCE)
+            finally:
+                show.kill()
+                show.wait()
+        is_read = show.returncode == 0 and wrote.decode().startswith(output) and not told
+        if not is_read or not all(is_stopped):
+            check.wrong.append(f"tftp-show {words}, stopped: status {show.returncode}, {wrote!r}, {told!r}")
 
 
 def test_play(check):
@@ -175,27 +262,35 @@ READ_ANSWERS = [
 def test_transfers(check):
     """Statuses 0 and 1: a transfer that completes, and each way in which a client may end."""
     (check.folder / "abc").write_bytes(b"ABC")
-    with serving(check, "--transfers", "3") as (server, address):
-        check.ends("tftp", ["get", address, "a", "copy"], 0, "", "complete 3\n")
-        check.ends("tftp", ["put", address, "abc", "new"], 0, "", "complete 3\n")
-        check.ends("tftp", ["get", address, "missing", "none"], 1, "tftp: PeerError(1)\n", "")
-        check.ends("tftp", ["put", address, "abc", "a"], 1, "tftp: PeerError(6)\n", "")
+    with serving(check, "--transfers", "6") as (server, address):
+        check.ends("tftp", ["get", address, "a", "copy", *RETRIES], 0, "", "complete 3\n")
+        check.ends("tftp", ["put", address, "abc", "new", *RETRIES], 0, "", "complete 3\n")
+        check.ends("tftp", ["get", address, "missing", "none", *RETRIES], 1, "tftp: PeerError(1)\n", "")
+        check.ends("tftp", ["put", address, "abc", "a", *RETRIES], 1, "tftp: PeerError(6)\n", "")
+        with open("/dev/full", "wb") as full, closed_pipe() as write:
+            for place, output in enumerate([full, write]):
+                words = ["get", address, "a", f"told{place}", "--no-linger", *RETRIES]
+                check.ends("tftp", words, 2, "tftp: output fault\n", stdout=output)
+                check.has_file(f"told{place}", b"ABC")
+            words = ["get", address, "a", "told", "--no-linger", "--verbose", *RETRIES]
+            reason = "tftp: No space left on device (os error 28)\n"
+            check.ends("tftp", words, 2, f"tftp: output fault\n{reason}", stdout=full)
         with answering(None) as silent:
             check.ends("tftp", ["get", silent, "a", "silence", "--retries", "0"], 1, "tftp: TimedOut\n", "")
-        check.ends("tftp", ["get", address, "a", "again", "--blksize", "8"], 0, "", "complete 3\n")
-        has_ended(check, server, 0, ["Complete"] * 3)
+        check.ends("tftp", ["get", address, "a", "again", "--blksize", "8", *RETRIES], 0, "", "complete 3\n")
+        has_ended(check, server, 0, ["Complete"] * 6)
     for place, (answer, options, outcome) in enumerate(READ_ANSWERS):
         with answering(answer) as address:
-            words = ["get", address, "a", f"answer{place}", *options]
+            words = ["get", address, "a", f"answer{place}", *options, *RETRIES]
             check.ends("tftp", words, 1, f"tftp: {outcome}\n", "")
     # LOCAL is there by the time that it would get its name
     with answering(b"\0\3\0\1ABC", (check.folder / "soon").touch) as address:
-        check.ends("tftp", ["get", address, "a", "soon"], 1, "tftp: StoreFault\n", "")
+        check.ends("tftp", ["get", address, "a", "soon", *RETRIES], 1, "tftp: StoreFault\n", "")
     # as many blocks of 1428 bytes have numbers, and not of 512
     (check.folder / "longer").touch()
     os.truncate(check.folder / "longer", 65_535 * 512)
     with answering(b"\0\4\0\0") as address:
-        words = ["put", address, "longer", "n", "--blksize", "1428"]
+        words = ["put", address, "longer", "n", "--blksize", "1428", *RETRIES]
         check.ends("tftp", words, 1, "tftp: TooLarge\n", "")
 
 
@@ -204,12 +299,18 @@ def test_client_faults(check):
     nowhere, long = "127.0.0.1:9", "a" * 513
     (check.folder / "long").touch()
     os.truncate(check.folder / "long", 65_535 * 8)
-    # LOCAL: one that is there, one in a folder that is missing, one that is missing, and a folder
+    (check.folder / "link").symlink_to("abc")
+    # LOCAL: one that is there, one in a folder that is missing, a folder and a link that cannot be replaced; one that
+    # is missing, a folder, and one of no length that has bytes
     for words in [
         ["get", nowhere, "a", "abc"],
         ["get", nowhere, "a", "missing/local"],
+        ["get", nowhere, "a", ".", "--replace"],
+        ["get", nowhere, "a", "link", "--replace"],
         ["put", nowhere, "missing", "a"],
         ["put", nowhere, ".", "a"],
+        ["put", nowhere, "/proc/cpuinfo", "a"],
+        ["put", nowhere, "/proc/cpuinfo", "a", "--netascii"],
     ]:
         check.ends("tftp", words, 2, "tftp: file fault\n", "")
         check.ends("tftp", [long if it == "a" else it for it in words], 2, "tftp: file fault\n", "")
@@ -231,20 +332,54 @@ def test_client_faults(check):
 def test_server_faults(check):
     """Status 2, in the order command line, ROOT, port: each fault also where the later ones hold, too."""
     with socket.socket(socket.AF_INET, socket.SOCK_DGRAM) as used:
-        used.bind(("127.0.0.1", 0))
-        taken = ["--listen", "127.0.0.1:%d" % used.getsockname()[1]]
+        used.bind((HOST, 0))
+        taken = ["--listen", f"{HOST}:{used.getsockname()[1]}"]
         for root in ["missing", "abc"]:
-            check.ends("tftpd", [root, "--listen", "127.0.0.1:0"], 2, "tftpd: file fault\n", "")
+            check.ends("tftpd", [root, "--listen", f"{HOST}:0"], 2, "tftpd: file fault\n", "")
             check.ends("tftpd", [root, *taken], 2, "tftpd: file fault\n", "")
             check.is_usage_fault("tftpd", root, *taken, "--cap", "0")
         check.ends("tftpd", ["served", *taken], 2, "tftpd: socket fault\n", "")
         check.is_usage_fault("tftpd", "served", *taken, "--rounds", "0")
     # an address that is of no interface here (RFC 5737)
     check.ends("tftpd", ["served", "--listen", "192.0.2.1:0"], 2, "tftpd: socket fault\n", "")
-    words = ["served", "--listen", "127.0.0.1:0", "--rounds", "1"]
+    words = ["served", "--listen", f"{HOST}:0", "--rounds", "1"]
     check.ends("tftpd", words, 2, "tftpd: socket fault\n", "", preexec_fn=few_files(4))
+    with open("/dev/full", "wb") as full:
+        check.ends("tftpd", words, 2, "tftpd: output fault\n", stdout=full)
     # a server that nobody asks ends after its waits
-    check.ends("tftpd", words, 0, "", "listening 127.0.0.1:", at_start=True)
+    check.ends("tftpd", words, 0, "", f"listening {HOST}:", at_start=True)
+
+
+def test_unprinted_close(check):
+    """Status 2 where the line of a close cannot be printed, though `listening` was: the reader of a pipe has gone, or a
+    file may not grow to hold it. The client has its file by then; another transfer that is open is given up."""
+    words = [check.programs["tftpd"], "served", "--listen", f"{HOST}:0", *LIMITS, "--log"]
+    for place, is_pipe in enumerate([True, False]):
+        check.runs += 1
+        printed = check.folder / f"printed{place}"
+        with open(printed, "wb") as file:
+            how = {"stdout": subprocess.PIPE} if is_pipe else {"stdout": file, "preexec_fn": short_files(40)}
+            server = subprocess.Popen(words, cwd=check.folder, stdin=subprocess.DEVNULL, stderr=subprocess.PIPE, **how)
+        try:
+            listening = server.stdout.readline() if is_pipe else first_line_of(printed)
+            address = listening.decode().removeprefix("listening ").strip()
+            if is_pipe:
+                server.stdout.close()
+            with left_open(address):
+                get = ["get", address, "a", f"unprinted{place}", "--no-linger", *RETRIES]
+                check.ends("tftp", get, 0, "", "complete 3\n")
+                _, told = server.communicate(timeout=PATIENCE)
+        finally:
+            server.kill()
+            server.wait()
+        # (where the host is slow the client asks again, which is ignored)
+        lines = [line.split()[0] for line in told.decode().splitlines()[:-1] if not line.startswith("ignored ")]
+        last = told.decode().splitlines(True)[-1]
+        if (server.returncode, lines, last) != (2, ["opened", "opened", "closed"], "tftpd: output fault\n"):
+            check.wrong.append(f"tftpd, close {place} unprinted: status {server.returncode}, {told!r}")
+        # of the file's second line there is as much as it may hold
+        if not is_pipe and (len(printed.read_bytes()) > 40 or not printed.read_bytes().startswith(listening)):
+            check.wrong.append(f"tftpd, close {place} unprinted: {printed.read_bytes()!r}")
 
 
 # Numbers below and above the range of each option
@@ -290,7 +425,8 @@ def main():
         check = Check(programs, Path(folder))
         (check.folder / "served").mkdir()
         (check.folder / "served" / "a").write_bytes(b"ABC")
-        for test in [test_show, test_play, test_transfers, test_client_faults, test_server_faults, test_usage]:
+        for test in [test_show, test_interrupted_reads, test_play, test_transfers, test_client_faults,
+                     test_server_faults, test_unprinted_close, test_usage]:
             test(check)
     for line in check.wrong:
         print(line)

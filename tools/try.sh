@@ -9,7 +9,7 @@ cd "$(dirname "$0")/.." || exit 2
 
 # the longest that all of it may take, and the longest between a server's start and its listening, in seconds
 LIMIT=900
-START_LIMIT=30
+START_LIMIT=120
 
 bold='' plain=''
 if test -t 1; then bold=$'\e[1m' plain=$'\e[0m'; fi

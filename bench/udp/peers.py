@@ -58,6 +58,20 @@ class Dnsmasq(Server):
         return [self.program, "--no-daemon", "--conf-file=/dev/null", f"--user={USER}", *address, *served]
 
 
+class Floor(Server):
+    """What only exchanges the datagrams: with a process for each transfer, or one for all. It is no peer."""
+
+    def __init__(self, program, kind):
+        self.program, self.kind, self.name = program, kind, f"floor, {kind}"
+
+    def words(self, root, port):
+        return [self.program, "serve", HOST, str(port), root, self.kind]
+
+
+def floors(program):
+    return [Floor(program, "each"), Floor(program, "all")]
+
+
 class Client:
     """A client. `names_at_end` says that a file has its name only once it is whole."""
     name = program = ""
@@ -138,6 +152,19 @@ class Busybox(Client):
 
     def put(self, *case):
         return self.words("-p", *case)
+
+
+class FloorClient(Client):
+    name = "floor"
+
+    def __init__(self, program):
+        self.program = program
+
+    def get(self, port, name, local, block):
+        return [self.program, "get", HOST, str(port), name, local, str(block)]
+
+    def put(self, port, name, local, block):
+        return [self.program, "put", HOST, str(port), name, local, str(block)]
 
 
 def installed(peers):

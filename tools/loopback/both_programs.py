@@ -1,10 +1,16 @@
 """`tftp` gets files from `tftpd`, and puts files to it."""
 import re
 from itertools import product
+from pathlib import Path
 
-from datagrams import expect
+from datagrams import expect, free_ports, is_bound, text_of
+from scene import LIFE, RETRIES, Server
 
 MODES = {"octet": [], "netascii": ["--netascii"]}
+# The timeout of transfers of which many run at once, in seconds: once it is agreed, with the most retries, an end waits
+# for its turn almost two minutes. A server goes on for two timeouts after a put
+UNHURRIED = 10
+SERVE_MEMORY = Path(__file__).resolve().parent.parent.parent / "crates" / "serve_memory" / "out" / "serve_memory"
 
 
 def bytes_of(length):
@@ -20,7 +26,7 @@ def length_on_wire(content, mode):
 def test_failures_are_reported(scene):
     """A missing name, a put of an existing one, a get, and an existing local file."""
     scene.make("a", b"ABC")
-    server = scene.serve("--rounds", "50")
+    server = scene.serve()
     scene.tftp("get", server.word, "b", "local").fails("PeerError(1)")
     scene.tftp("put", server.word, "a", "a").fails("PeerError(6)")
     scene.tftp("get", server.word, "a", "local").completes(3)
@@ -29,13 +35,25 @@ def test_failures_are_reported(scene):
     scene.has(a=b"ABC", local=b"ABC")
 
 
+def test_a_server_over_memory(scene):
+    """The example of a server whose files are in memory: its text is got, and a file is put and got."""
+    scene.make("a", bytes_of(1_000))
+    server = Server(scene.start(SERVE_MEMORY, [f"{scene.address}:0", "3"]))
+    scene.tftp("get", server.word, "greeting", "text").completes(24)
+    scene.tftp("put", server.word, "a", "b").completes(1_000)
+    scene.tftp("get", server.word, "b", "copy", "--blksize", "100").completes(1_000)
+    server.has_closed("Complete", "Complete", "Complete")
+    scene.has(a=bytes_of(1_000), copy=bytes_of(1_000), text=b"This file is in memory.\n")
+
+
 def test_sixteen_at_once(scene):
     """Sixteen clients at once, each with a file of its own length, at the boundaries of blocks of 512 bytes."""
     lengths = [0, 1, 2, 511, 512, 513, 1023, 1024, 1025, 1535, 1536, 1537, 5119, 5120, 5121, 40_000]
     for length in lengths:
         scene.make(f"{length}", bytes_of(length))
     server = scene.serve("--transfers", "16")
-    clients = [scene.tftp("get", server.word, f"{length}", f"{length}.local") for length in lengths]
+    words = ["--timeout", f"{UNHURRIED}", "--no-linger"]
+    clients = [scene.tftp("get", server.word, f"{length}", f"{length}.local", *words) for length in lengths]
     for length, client in zip(lengths, clients):
         client.completes(length)
     server.has_closed(*["Complete"] * 16)
@@ -43,34 +61,37 @@ def test_sixteen_at_once(scene):
     scene.has_files({f"{length}{ending}": bytes_of(length) for length, ending in names})
 
 
-def transfers_at_once(scene, server, way, size, files):
-    """Gets or puts these files in both modes at once, in blocks of this size. Returns the copies, and for each the end
-    of its line in the log."""
+def transfers_at_once(scene, server, way, mode, size, files):
+    """Gets or puts these files at once, in blocks of this size. Returns the copies, and for each the end of its line in
+    the log."""
     clients, copies, lines = [], {}, []
-    for (name, content), mode in product(files.items(), MODES):
+    for name, content in files.items():
         copy = f"{way}.{mode}.{name}"
-        words = [way, server.word, name, copy, "--blksize", f"{size}", *MODES[mode]]
-        clients.append((scene.tftp(*words), len(content)))
+        words = [way, server.word, name, copy, "--blksize", f"{size}", "--timeout", f"{UNHURRIED}", *MODES[mode]]
+        clients.append((scene.tftp(*words, *["--no-linger"] * (way == "get")), len(content)))
         copies[copy] = content
         request = f"RRQ {name}" if way == "get" else f"WRQ {copy}"
-        lines.append(f"{request} {mode} blksize={size}: OACK blksize={size}, {length_on_wire(content, mode)} bytes")
+        options = f"blksize={size} timeout={UNHURRIED}"
+        lines.append(f"{request} {mode} {options}: OACK {options}, {length_on_wire(content, mode)} bytes")
     for client, length in clients:
         client.completes(length)
     return copies, lines
 
 
 def serves_blocks(scene, size, lengths):
-    """Files of these lengths arrive in blocks of this size, in both modes, those of a direction at once."""
+    """Files of these lengths arrive in blocks of this size, in both modes, those of a mode and a direction at once."""
     files = {f"file{length}": bytes_of(length) for length in lengths}
     for name, content in files.items():
         scene.make(name, content)
-    server = scene.serve("--max-block", "65464", "--transfers", "24", "--log")
-    got, got_lines = transfers_at_once(scene, server, "get", size, files)
-    put, put_lines = transfers_at_once(scene, server, "put", size, files)
+    server = scene.serve("--max-block", "65464", "--cap", "64", "--transfers", "24", "--log")
+    copies, lines = {}, []
+    for way, mode in product(["get", "put"], MODES):
+        more_copies, more_lines = transfers_at_once(scene, server, way, mode, size, files)
+        copies, lines = {**copies, **more_copies}, lines + more_lines
     log = server.has_closed(*["Complete"] * 24)
-    scene.has_files({**files, **got, **put})
+    scene.has_files({**files, **copies})
     found = [re.fullmatch(r"closed \d+ \S+ (.*), \d+ ms, Complete", line) for line in log]
-    expect(sorted(line[1] for line in found if line), sorted(got_lines + put_lines), "the transfers in the log")
+    expect(sorted(line[1] for line in found if line), sorted(lines), "the transfers in the log")
 
 
 def test_blocks_of_512(scene):
@@ -89,15 +110,19 @@ def test_blocks_of_65464(scene):
     serves_blocks(scene, 65_464, [0, 1, 65_463, 65_464, 65_465, 196_392])
 
 
+# The words of a client behind such a network: what is lost is sent again after so many seconds
+LOSSY = ["--timeout", "3"]
+
+
 def test_gets_survive(scene):
     """Ten retries are enough for each get through a network that loses, duplicates and reorders."""
     content = bytes_of(2_500)
     scene.make("file", content)
-    server = scene.serve("--retries", "10", "--transfers", "9")
+    server = scene.serve("--transfers", "9")
     clients = []
     for seed in [1, 2, 3]:
         proxy = scene.proxy(server, seed)
-        clients.append(scene.tftp("get", proxy.word, "file", f"got{seed}", "--retries", "10"))
+        clients.append(scene.tftp("get", proxy.word, "file", f"got{seed}", *LOSSY))
     for client in clients:
         client.completes(2_500)
     scene.has(file=content, got1=content, got2=content, got3=content)
@@ -105,16 +130,19 @@ def test_gets_survive(scene):
 
 def test_puts_survive(scene):
     """A file that is put through such a network is whole or missing, and whole if the client reports completion. The
-    server may close before the client has its last ACK, but not each time."""
-    content, seeds = bytes_of(2_500), [4, 5, 6, 7, 8]
+    server may close before the client has its last ACK, but not each of many times."""
+    content, seeds, complete = bytes_of(2_500), iter(range(4, 54)), set()
     scene.make("local", content)
     scene.make_folder("served")
-    server = scene.serve("--retries", "10", "--transfers", "9", root="served")
-    clients = []
-    for seed in seeds:
-        proxy = scene.proxy(server, seed)
-        clients.append(scene.tftp("put", proxy.word, "local", f"put{seed}", "--retries", "10"))
-    complete = {f"served/put{seed}" for seed, client in zip(seeds, clients) if client.completes_or_times_out(2_500)}
+    server = scene.serve("--forever", root="served")
+    for five in zip(*[seeds] * 5):
+        clients = []
+        for seed in five:
+            proxy = scene.proxy(server, seed)
+            clients.append(scene.tftp("put", proxy.word, "local", f"put{seed}", *LOSSY))
+        complete |= {f"served/put{seed}" for seed, client in zip(five, clients) if client.completes_or_times_out(2_500)}
+        if complete:
+            break
     expect(bool(complete), True, "whether some put is complete")
     named = {name: found for name, found in scene.files().items() if name.startswith("served/put")}
     expect(complete - set(named), set(), "the files of complete puts that are missing")
@@ -148,7 +176,7 @@ def test_a_file_is_replaced(scene):
     """With `--overwrite` a put replaces the existing file."""
     scene.make("a", b"old")
     scene.make("local", b"newer")
-    server = scene.serve("--overwrite", "--rounds", "50")
+    server = scene.serve("--overwrite")
     scene.tftp("put", server.word, "local", "a").completes(5)
     server.has_closed("Complete")
     scene.has(a=b"newer", local=b"newer")
@@ -160,11 +188,43 @@ def test_the_disk_is_full(scene):
     last bytes are refused."""
     for limit, length in [("-f 8", 20_000), ("-f 8", 200_000), ("-f 384", 200_000)]:
         scene.make("local", bytes_of(length))
-        server = scene.serve("--max-block", "8192", "--rounds", "500", limit=limit)
+        server = scene.serve("--max-block", "8192", limit=limit)
         client = scene.tftp("put", server.word, "local", "n", "--verbose")
         client.ends(1, "", "tftp: PeerError(3)\ntftp: ERROR 3 (disk full)\n")
         server.has_closed("StoreFault")
         scene.lacks("n")
+
+
+def test_closed_streams_of_a_client(scene):
+    """With standard input, output or error closed, what would be printed there goes into no file."""
+    scene.make("served/a", b"ABC")
+    server = scene.serve("--transfers", "3", root="served")
+    for number in range(3):
+        words = ["get", server.word, "a", f"got{number}", "--no-linger"]
+        scene.tftp(*words, closed=number).ends(0, "" if number == 1 else "complete 3\n")
+        client = scene.tftp("get", server.word, "b", f"none{number}", "--verbose", closed=number)
+        client.ends(1, "", "" if number == 2 else "tftp: PeerError(1)\ntftp: ERROR 1 (file not found)\n")
+    server.has_closed("Complete", "Complete", "Complete")
+    got, none = ({f"{name}{number}{ending}": content for number in range(3)}
+                 for name, ending, content in [("got", "", b"ABC"), ("none", ".part", b"")])
+    scene.has_files({"served/a": b"ABC", **got, **none})
+
+
+def test_closed_streams_of_a_server(scene):
+    """The same of a server: it takes a file and gives it back."""
+    scene.make("local", b"ABC")
+    for number in range(3):
+        scene.make_folder(f"served{number}")
+        # what it prints may be closed, too: it has a port that the test knows, and listens once that is bound
+        word = text_of((scene.address, free_ports(scene.address, 1)))
+        words = [f"served{number}", "--listen", word, "--log", "--transfers", "2", *RETRIES]
+        server = scene.start("tftpd", words, closed=number)
+        is_bound(word)
+        scene.tftp("put", word, "local", "n").completes(3)
+        scene.tftp("get", word, "n", f"got{number}").completes(3)
+        expect(server.wait(LIFE), 0, "the status of the server")
+    copies = [f"{name}{number}{ending}" for name, ending in [("served", "/n"), ("got", "")] for number in range(3)]
+    scene.has_files(dict.fromkeys(["local", *copies], b"ABC"))
 
 
 def logs(log, patterns):
@@ -176,22 +236,22 @@ def logs(log, patterns):
 def test_log_lines(scene):
     """An invalid name, and a get: a line for each request, and one for the close."""
     scene.make("a", b"ABC")
-    server = scene.serve("--log", "--rounds", "50")
+    server = scene.serve("--log")
     scene.tftp("get", server.word, "b c", "local").fails("PeerError(2)")
     scene.tftp("get", server.word, "a", "local").completes(3)
     logs(server.has_closed("Complete"), [
-        r"refused 127\.0\.0\.1:\d+ RRQ b%20c octet: ERROR 2 \(access violation\)",
-        r"opened \d+ 127\.0\.0\.1:\d+ RRQ a octet: DATA 1 3",
-        r"closed \d+ 127\.0\.0\.1:\d+ RRQ a octet: DATA 1 3, 3 bytes, \d+ ms, Complete",
+        r"refused 127[.\d]+:\d+ RRQ b%20c octet: ERROR 2 \(access violation\)",
+        r"opened \d+ 127[.\d]+:\d+ RRQ a octet: DATA 1 3",
+        r"closed \d+ 127[.\d]+:\d+ RRQ a octet: DATA 1 3, 3 bytes, \d+ ms, Complete",
     ])
 
 
 def test_the_log_says_why(scene):
     """The log has the system's reason why a file was not stored."""
     scene.make("long", bytes_of(20_000))
-    server = scene.serve("--log", "--rounds", "500", limit="-f 8")
+    server = scene.serve("--log", limit="-f 8")
     scene.tftp("put", server.word, "long", "n").fails("PeerError(3)")
     logs(server.has_closed("StoreFault"), [
-        r"opened \d+ 127\.0\.0\.1:\d+ WRQ n octet: ACK 0",
-        r"closed \d+ 127\.0\.0\.1:\d+ WRQ n octet: ACK 0, \d+ bytes, \d+ ms, StoreFault, file too large",
+        r"opened \d+ 127[.\d]+:\d+ WRQ n octet: ACK 0",
+        r"closed \d+ 127[.\d]+:\d+ WRQ n octet: ACK 0, \d+ bytes, \d+ ms, StoreFault, file too large",
     ])

@@ -1,12 +1,18 @@
 """`tftp` transfers files with a server of the test."""
-import time
+import os
+import pty
+import re
+import signal
+from contextlib import suppress
 
 from both_programs import bytes_of
-from datagrams import End, ack, data, error, expect, oack, rrq, wrq
-from scene import first_line
+from datagrams import PATIENT, End, ack, data, error, expect, oack, rrq, wrq
+from scene import first_line, preloaded
 from server_alone import CUT_FILE, CUT_SIZE, is_given_up
 
 ABC = data(1, b"ABC")
+# The words of a patient transfer. A client that ends at all in a test ends before its first timeout
+PATIENTLY = ["--timeout", f"{PATIENT['timeout']}"]
 
 
 def asked(scene, requests, expected):
@@ -47,23 +53,20 @@ def test_an_error_to_the_client_is_seen_soon(scene):
     """An ERROR immediately after an acknowledgement is handled long before the timeout of 255 seconds."""
     scene.make("local", bytes_of(1_000))
     requests = scene.port()
-    client = scene.tftp("put", requests.word, "local", "n", "--timeout", "255")
-    end = asked(scene, requests, wrq("n", timeout=255))
-    end.is_answered(oack(timeout=255), data(1, bytes_of(512)))
+    client = scene.tftp("put", requests.word, "local", "n", *PATIENTLY)
+    end = asked(scene, requests, wrq("n", **PATIENT))
+    end.is_answered(oack(**PATIENT), data(1, bytes_of(512)))
     end.send(ack(1))
     end.send(error(0, "stop"))
-    began = time.monotonic()
     client.fails("PeerError(0)")
-    expect(time.monotonic() - began < 20, True, "whether it ends soon")
 
 
-def patient_get(scene, word):
-    """Starts a get with one more word. With a timeout of 20 seconds a slow test causes no retransmission. Returns the
-    client and the server's end."""
+def patient_get(scene, *words, **how):
+    """Starts a get with more words, in which nothing is sent again. Returns the client and the server's end."""
     requests = scene.port()
-    client = scene.tftp("get", requests.word, "a", "local", "--timeout", "20", word)
-    end = asked(scene, requests, rrq("a", timeout=20))
-    end.is_answered(oack(timeout=20), ack(0))
+    client = scene.tftp("get", requests.word, "a", "local", *PATIENTLY, *words, **how)
+    end = asked(scene, requests, rrq("a", **PATIENT))
+    end.is_answered(oack(**PATIENT), ack(0))
     return client, end
 
 
@@ -81,15 +84,13 @@ def test_no_linger(scene):
     """With `--no-linger` the client ends before its first timeout."""
     client, end = patient_get(scene, "--no-linger")
     end.is_answered(ABC, ack(1))
-    began = time.monotonic()
     client.completes(3)
-    expect(time.monotonic() - began < 20, True, "whether it ends soon")
     scene.has(local=b"ABC")
 
 
-def is_got(scene):
+def is_got(scene, *words):
     """A get of three bytes is complete, and `local.part` is removed."""
-    client, end = patient_get(scene, "--no-linger")
+    client, end = patient_get(scene, "--no-linger", *words)
     end.is_answered(ABC, ack(1))
     client.completes(3)
     scene.lacks("local.part")
@@ -121,24 +122,109 @@ def test_another_file_is_not_named(scene):
     scene.has_files({"local.part": b"another's"})
 
 
-def test_falls_back(scene):
-    """After ERROR 8 the client retries without options (RFC 2347), from a new port."""
+def test_replaces(scene):
+    """With `--replace` a file has its old content until the new one is whole, and keeps its permissions."""
+    scene.make("local", b"old")
+    (scene.folder / "local").chmod(0o600)
+    client, end = patient_get(scene, "--no-linger", "--replace")
+    end.is_answered(data(1, b"\7" * 512), ack(1))
+    scene.has_files({"local": b"old", "local.part": b""})
+    end.is_answered(data(2, b"ABC"), ack(2))
+    client.completes(515)
+    scene.has(local=b"\7" * 512 + b"ABC")
+    expect((scene.folder / "local").stat().st_mode & 0o777, 0o600, "the permissions")
+
+
+def test_replaces_nothing_after_a_failure(scene):
+    """With `--replace` a file stays if the transfer fails."""
+    scene.make("local", b"old")
+    client, end = patient_get(scene, "--replace")
+    end.is_answered(data(1, b"\7" * 512), ack(1))
+    end.send(error(0, "stop"))
+    client.fails("PeerError(0)")
+    expect((scene.folder / "local").read_bytes(), b"old", "local")
+
+
+def test_is_synced_and_then_named(scene):
+    """The file is synced before it gets its name, and the folder after that. If either sync is refused, the transfer
+    fails, and `local.part` stays alone."""
+    for refused, calls in [(0, "fsync link fsync"), (1, "fsync"), (2, "fsync link fsync")]:
+        client, end = patient_get(scene, "--no-linger", "--verbose", env=preloaded(scene, "refuse_sync.c", refused))
+        told = "".join(f"{call}\n" for call in calls.split())
+        if refused:
+            end.is_answered(ABC, error(3, "disk full"))
+            client.ends(1, "", f"{told}tftp: StoreFault\ntftp: Input/output error (os error 5)\n")
+            scene.has_files({"local.part": b"ABC"})
+        else:
+            end.is_answered(ABC, ack(1))
+            client.ends(0, "complete 3\n", told)
+            scene.has(local=b"ABC")
+            (scene.folder / "local").unlink()
+
+
+def test_is_ended_by_signals(scene):
+    """A client that is ended leaves `local.part` alone."""
+    for number in [signal.SIGHUP, signal.SIGINT, signal.SIGTERM]:
+        client, end = patient_get(scene, "--verbose")
+        end.is_answered(data(1, b"\7" * 512), ack(1))
+        client.process.send_signal(number)
+        client.ends(-number)
+        expect(sorted(scene.files()), ["local.part"], "the files")
+
+
+def test_short_options(scene):
+    """`-b` and `-v` are `--blksize` and `--verbose`."""
     requests = scene.port()
-    client = scene.tftp("get", requests.word, "a", "local", "--blksize", "1428", "--fallback")
-    first = asked(scene, requests, rrq("a", blksize=1428))
-    first.send(error(8, "no options"))
-    request, peer = requests.receive(other_than=rrq("a", blksize=1428))
-    expect(request, rrq("a"), "the second request")
-    expect(peer != first.peer, True, "whether it has a new port")
-    End(scene.port(), peer).is_answered(ABC, ack(1))
-    client.completes(3)
-    scene.has(local=b"ABC")
+    client = scene.tftp("get", requests.word, "a", "local", "-vb", "8")
+    asked(scene, requests, rrq("a", blksize=8)).send(error(0, "stop"))
+    client.ends(1, "", "tftp: PeerError(0)\ntftp: ERROR 0 (stop)\n")
+
+
+def written_to(terminal):
+    """All that was written to a terminal that no program has any more, which a read may return in parts."""
+    parts = []
+    # (behind the last part a read fails)
+    with suppress(OSError), open(terminal, "rb", buffering=0) as stream:
+        while part := stream.read(4_096):
+            parts.append(part)
+    return b"".join(parts)
+
+
+def test_progress_is_shown_on_a_terminal(scene):
+    """With `--progress` standard error has the bytes and the share, if it is a terminal, and nothing else."""
+    shown, terminal = pty.openpty()
+    client, end = patient_get(scene, "--no-linger", "--progress", stderr=terminal)
+    os.close(terminal)
+    end.is_answered(ABC, ack(1))
+    client.ends(0, "complete 3\n", None)
+    text = written_to(shown).decode()
+    expect(bool(re.search(r"\r3 bytes, \d+\.\d MB/s", text)), True, f"whether 3 bytes are in {text!r}")
+    (scene.folder / "local").unlink()
+    is_got(scene, "--progress")
+
+
+def test_falls_back(scene):
+    """After ERROR 8 the client retries without options (RFC 2347), from a new port: the system may choose the old one
+    again, and hardly does in each of three runs."""
+    ports = []
+    for name in ["first", "second", "third"]:
+        requests = scene.port()
+        client = scene.tftp("get", requests.word, "a", name, "--blksize", "1428", "--fallback")
+        first = asked(scene, requests, rrq("a", blksize=1428))
+        first.send(error(8, "no options"))
+        request, peer = requests.receive(other_than=rrq("a", blksize=1428))
+        expect(request, rrq("a"), "the second request")
+        ports.append((first.peer, peer))
+        End(scene.port(), peer).is_answered(ABC, ack(1))
+        client.completes(3)
+    expect([first == second for first, second in ports] != [True] * 3, True, f"whether one of {ports} is new")
+    scene.has(first=b"ABC", second=b"ABC", third=b"ABC")
 
 
 def test_a_put_file_is_cut(scene):
     scene.make("a", CUT_FILE)
-    requests, options = scene.port(), {"blksize": CUT_SIZE, "timeout": 20}
-    client = scene.tftp("put", requests.word, "a", "n", "--blksize", f"{CUT_SIZE}", "--timeout", "20")
+    requests, options = scene.port(), {"blksize": CUT_SIZE, **PATIENT}
+    client = scene.tftp("put", requests.word, "a", "n", "--blksize", f"{CUT_SIZE}", *PATIENTLY)
     end = asked(scene, requests, wrq("n", **options))
     is_given_up(end, oack(**options), lambda: scene.make("a", b"cut"))
     client.fails("SourceFault")

@@ -1,5 +1,5 @@
 """Help texts, and invalid command lines: each fault names the option and its range."""
-from datagrams import expect
+from datagrams import PATIENCE, expect
 
 GET, PUT = (("tftp", way, "127.0.0.1:69", "a", "b") for way in ("get", "put"))
 
@@ -36,7 +36,7 @@ FAULTS = [
 def writes(scene, words, status, parts):
     """A command ends with this status, and what it writes to standard output and error has these parts, or is empty."""
     process = scene.start(words[0], words[1:])
-    wrote = [text.decode() for text in process.communicate(timeout=20)]
+    wrote = [text.decode() for text in process.communicate(timeout=PATIENCE)]
     expect(process.returncode, status, f"the status of {words}")
     for text, part in zip(wrote, parts):
         expect(part in text if part else not text, True, f"what {words} writes, {text!r}, has {part!r}")

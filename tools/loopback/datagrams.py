@@ -1,9 +1,14 @@
 """The packets of TFTP (RFC 1350, section 5; RFC 2347), and a test's ports and ends that send and receive them."""
 import socket
+import sys
 import time
+from contextlib import ExitStack, closing, suppress
+from pathlib import Path
 
-# The longest wait for a datagram, in seconds
-PATIENCE = 20
+# The longest wait for a datagram or a line, in seconds
+PATIENCE = 60
+# The options of a transfer in which nothing is sent again however slow the host is, since no timeout is due
+PATIENT = {"timeout": 255}
 
 
 def expect(found, expected, what):
@@ -55,11 +60,11 @@ def text_of(address):
 
 
 class Port:
-    """A UDP port of 127.0.0.1 that the system chooses."""
+    """A UDP port of an address, which the system chooses for 0."""
 
-    def __init__(self):
+    def __init__(self, address, number=0):
         self.socket = socket.socket(socket.AF_INET, socket.SOCK_DGRAM)
-        self.socket.bind(("127.0.0.1", 0))
+        self.socket.bind((address, number))
         self.address = self.socket.getsockname()
         self.word = text_of(self.address)
 
@@ -70,7 +75,7 @@ class Port:
         self.socket.sendto(datagram, to)
 
     def receive(self, other_than=None):
-        """The next datagram and its sender. A copy of `other_than` is skipped: a slow test may receive it again."""
+        """The next datagram and its sender. A copy of `other_than` is skipped."""
         end = time.monotonic() + PATIENCE
         while True:
             self.socket.settimeout(max(end - time.monotonic(), 0.001))
@@ -89,22 +94,45 @@ class Port:
             return found
 
 
-class End:
-    """The test's end of a transfer: a port, and the endpoint of its peer."""
+def free_ports(address, count):
+    """The first of so many ports in a row that no program has at this address, and that the system chooses for none.
+    Only the address of a test is tried: for a moment each port is taken, which no other test may meet."""
+    lowest = int(Path("/proc/sys/net/ipv4/ip_local_port_range").read_text().split()[0])
+    for first in range(4_001, lowest - count, count):
+        with ExitStack() as stack, suppress(OSError):
+            for number in range(first, first + count):
+                stack.enter_context(closing(Port(address, number)))
+            return first
+    raise AssertionError(f"no {count} free ports in a row")
 
-    def __init__(self, port, peer):
-        self.port, self.peer = port, peer
+
+def is_bound(word):
+    """Waits until a program has bound this UDP port."""
+    host, port = word.split(":")
+    entry = f" {int.from_bytes(socket.inet_aton(host), sys.byteorder):08X}:{int(port):04X} "
+    end = time.monotonic() + PATIENCE
+    while entry not in Path("/proc/net/udp").read_text():
+        expect(time.monotonic() < end, True, f"whether {word} is bound within {PATIENCE} seconds")
+        time.sleep(0.02)
+
+
+class End:
+    """The test's end of a transfer: a port, the endpoint of its peer, and what the peer sent last. Where the host is
+    slow that is sent again at any time, and such a copy is skipped; the tests of retransmissions count them."""
+
+    def __init__(self, port, peer, newest=None):
+        self.port, self.peer, self.newest = port, peer, newest
 
     def send(self, datagram):
         self.port.send(datagram, self.peer)
 
-    def answer_to(self, datagram, other_than=None):
+    def answer_to(self, datagram, expected=None):
         """Sends a datagram, and returns the answer of the peer."""
         self.send(datagram)
-        answer, sender = self.port.receive(other_than)
+        self.newest, sender = self.port.receive(None if self.newest == expected else self.newest)
         expect(sender, self.peer, "the sender of the answer")
-        return answer
+        return self.newest
 
-    def is_answered(self, datagram, expected, other_than=None):
+    def is_answered(self, datagram, expected):
         """The peer answers a datagram by this one."""
-        expect(self.answer_to(datagram, other_than), expected, "the answer")
+        expect(self.answer_to(datagram, expected), expected, "the answer")

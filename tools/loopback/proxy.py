@@ -36,7 +36,7 @@ class Proxy:
     """Receives a client's request at `requests`, and answers from another port, in a thread until it is closed."""
 
     def __init__(self, server, seed):
-        self.requests, self.answers, self.server_side = Port(), Port(), Port()
+        self.requests, self.answers, self.server_side = (Port(server[0]) for _ in range(3))
         self.word, self.server = self.requests.word, server
         self.client = self.transfer = None
         self.to_server, self.to_client = Lane(seed), Lane(seed + 1_000)

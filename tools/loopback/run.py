@@ -2,7 +2,7 @@
 """Tests of tftp and tftpd as processes over the loopback address: run.py [TFTP TFTPD [TEST..]]
 
 Without words it takes the programs that `rt ci` built, and runs every test, some at the same time. Each wait has a
-limit, and so has the whole. It uses 127.0.0.0/8 alone, ports that the system chooses, and one temporary folder. The
+limit, and so has the whole. It uses addresses of 127.0.0.0/8 alone, one for each test, and one temporary folder. The
 last line is a count; the status is 1 if a test failed, or if fewer tests than known ran.
 """
 import os
@@ -20,16 +20,19 @@ from pathlib import Path
 import both_programs
 import client_alone
 import command_lines
+import options
+import served_folder
 import server_alone
-from scene import Scene
+import server_loop
+from scene import Scene, own_network
 
 HERE = Path(__file__).resolve()
 CRATES = HERE.parent.parent.parent / "crates"
-MODULES = [both_programs, server_alone, client_alone, command_lines]
-TESTS_AT_LEAST = 34
+MODULES = [both_programs, server_alone, server_loop, served_folder, client_alone, command_lines, options]
+TESTS_AT_LEAST = 71
 AT_ONCE = 8
-# The longest time of all tests together, in seconds
-LIMIT = 240
+# The longest time of all tests together, in seconds, however slow the host is
+LIMIT = 1_200
 
 
 def known_tests():
@@ -52,15 +55,15 @@ def fault_of(test, scene):
 
 def run_tests(programs, folder, tests):
     """Runs tests in some threads, and prints a line for each that fails. Returns the number that ran and failed."""
-    todo, faults = queue.SimpleQueue(), []
-    for item in tests.items():
-        todo.put(item)
+    todo, faults, network = queue.SimpleQueue(), [], own_network()
+    for host, item in enumerate(tests.items(), 1):
+        todo.put((f"{network}.{host}", item))
 
     def work():
         with suppress(queue.Empty):
             while True:
-                name, test = todo.get_nowait()
-                fault = fault_of(test, Scene(programs, Path(folder, name)))
+                address, (name, test) = todo.get_nowait()
+                fault = fault_of(test, Scene(programs, Path(folder, name), address))
                 faults.append(fault)
                 if fault:
                     print(f"{name}: {fault}", flush=True)
@@ -99,6 +102,10 @@ def run_apart(folder, words):
 
 def main():
     if sys.argv[1:2] == ["--in"]:
+        # what a shell in the background or nohup has ignored, the programs would ignore, too
+        signal.pthread_sigmask(signal.SIG_SETMASK, [])
+        for number in (signal.SIGHUP, signal.SIGINT, signal.SIGTERM):
+            signal.signal(number, signal.SIG_DFL)
         sys.exit(run(*sys.argv[2:]))
     if len(sys.argv) == 2 or sys.argv[1:2] == ["--help"]:
         sys.exit(__doc__)

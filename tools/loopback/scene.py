@@ -1,26 +1,51 @@
-"""What one test has: a folder of its own, the two programs, ports and proxies. All end with the test."""
+"""What one test has: a folder and an address of its own, the two programs, ports and proxies. All end with the test."""
 import os
 import re
 import select
 import signal
 import subprocess
+import sys
 from contextlib import ExitStack
+from pathlib import Path
 
 from datagrams import PATIENCE, Port, expect
 from proxy import Proxy
 
-# The longest life of a program, in seconds
-LIFE = 60
+HERE = Path(__file__).resolve().parent
+sys.path.append(str(HERE.parent))
+from addresses import own_network
+from memory_in_turn import compiled
+
+# The longest life of a program, in seconds: it ends before a timeout of a patient transfer is due
+LIFE = 180
+# How often a program sends again what is not answered, unless the test says otherwise: as often as it can
+RETRIES = ["--retries", "10"]
 
 # A shell script that runs a program under a limit of `ulimit`. A write beyond a file's limit is an error and no signal.
 LIMITED = "trap '' XFSZ; ulimit $1; shift; exec \"$@\""
 
 
+def next_line(stream):
+    """The next line that a program writes to this stream, or nothing at its end."""
+    if not select.select([stream], [], [], PATIENCE)[0]:
+        raise AssertionError(f"no line after {PATIENCE} seconds")
+    return stream.readline().decode()
+
+
 def first_line(process):
     """The first line that a program prints."""
-    if not select.select([process.stdout], [], [], PATIENCE)[0]:
-        raise AssertionError(f"no line after {PATIENCE} seconds")
-    return process.stdout.readline().decode()
+    return next_line(process.stdout)
+
+
+def preloaded(scene, source, refused):
+    """The environment of a program with a library of this source, which refuses the call of this number."""
+    library = compiled(scene.folder.parent, HERE / source)
+    return {**os.environ, "LD_PRELOAD": str(library), "REFUSED": str(refused)}
+
+
+def patiently(words):
+    """The words of a command line, with the most retries if they name none."""
+    return [*words, *([] if "--retries" in words else RETRIES)]
 
 
 class Client:
@@ -30,8 +55,8 @@ class Client:
         self.process = process
 
     def ends(self, status, printed="", errors=""):
-        """It ends with this status, and has written exactly this."""
-        wrote = [text.decode() for text in self.process.communicate(timeout=LIFE)]
+        """It ends with this status, and has written exactly this; None is for a stream that the test reads."""
+        wrote = [text if text is None else text.decode() for text in self.process.communicate(timeout=LIFE)]
         expect((self.process.returncode, *wrote), (status, printed, errors), "the client")
 
     def completes(self, length):
@@ -63,12 +88,19 @@ class Server:
 
     def has_closed(self, *outcomes):
         """It ends with status 0, and has printed a line for each closed transfer, with these outcomes. Returns the
-        lines of its log, without those of requests that a slow client repeated."""
+        lines of its log, without those of requests that a client repeated because the host is slow."""
         printed, log = (text.decode().splitlines() for text in self.process.communicate(timeout=LIFE))
         found = [re.fullmatch(r"\d+ \d+ (\S+)", line) for line in printed]
         expect([line and line[1] for line in found], list(outcomes), f"the outcomes in {printed}, {log}")
         expect(self.process.returncode, 0, "the status of the server")
-        return [line for line in log if not line.startswith("ignored ")]
+        return [line for at, line in enumerate(log) if not line.startswith("ignored ")
+                and not (line.startswith("refused ") and line in log[:at])]
+
+    def has_logged(self, count):
+        """Waits for so many lines of its log, and kills it. Returns them, and any that came behind."""
+        lines = [next_line(self.process.stderr) for _ in range(count)]
+        self.process.kill()
+        return [line.strip() for line in lines] + self.process.communicate(timeout=LIFE)[1].decode().splitlines()
 
     def stop(self):
         """Stops it until `go_on`."""
@@ -86,8 +118,8 @@ class Server:
 class Scene:
     """The folder, and what runs for the test."""
 
-    def __init__(self, programs, folder):
-        self.programs, self.folder, self.ending = programs, folder, ExitStack()
+    def __init__(self, programs, folder, address):
+        self.programs, self.folder, self.address, self.ending = programs, folder, address, ExitStack()
 
     def __enter__(self):
         self.folder.mkdir()
@@ -124,25 +156,42 @@ class Scene:
         """No file has this name."""
         expect(os.path.lexists(self.folder / name), False, f"whether there is {name}")
 
-    def start(self, program, words, limit=None):
-        command = [self.programs[program], *words]
+    def start(self, program, words, limit=None, closed=None, **how):
+        """Starts a program, under a limit, or with one of the standard streams closed."""
+        command = [self.programs.get(program, program), *words]
         if limit:
             command = ["sh", "-c", LIMITED, "sh", limit, *command]
-        process = subprocess.Popen(command, cwd=self.folder, bufsize=0, stdin=subprocess.DEVNULL,
-                                   stdout=subprocess.PIPE, stderr=subprocess.PIPE)
+        if closed is not None:
+            command = ["sh", "-c", f'exec "$@" {closed}>&-', "sh", *command]
+        how = {"stdout": subprocess.PIPE, "stderr": subprocess.PIPE, **how}
+        process = subprocess.Popen(command, cwd=self.folder, bufsize=0, stdin=subprocess.DEVNULL, **how)
         self.ending.callback(end, process)
         return process
 
-    def tftp(self, *words):
+    def tftp(self, *words, **how):
         """Starts a client with these words."""
-        return Client(self.start("tftp", words))
+        return Client(self.start("tftp", patiently(words), **how))
 
-    def serve(self, *words, root=".", listen="127.0.0.1", limit=None):
+    def serve(self, *words, root=".", listen=None, limit=None):
         """Starts a server of a folder with these words, under a limit such as `-f 8`: 8 times 512 bytes in a file."""
-        return Server(self.start("tftpd", [root, "--listen", f"{listen}:0", *words], limit))
+        return Server(self.start("tftpd", self.server_words(root, listen or self.address, words), limit))
 
-    def port(self):
-        port = Port()
+    def server_words(self, root, address, words):
+        if not {"--rounds", "--forever"} & set(words):
+            # it ends by itself, whatever happens to the test
+            words = [*words, "--rounds", "2000"]
+        return [root, "--listen", f"{address}:0", *patiently(words)]
+
+    def watch(self, *words, unsent=0):
+        """Starts a server of the folder with these words, whose calls are counted; the datagram of that number, counted
+        from 1, is refused by the system."""
+        library = compiled(self.folder, HERE / "watch_calls.c")
+        env = {**os.environ, "LD_PRELOAD": str(library), "UNSENT": str(unsent)}
+        return Server(self.start("tftpd", self.server_words(".", self.address, words), env=env))
+
+    def port(self, number=0):
+        """The UDP port of this number, which the system chooses for 0."""
+        port = Port(self.address, number)
         self.ending.callback(port.close)
         return port
 
@@ -156,5 +205,6 @@ def end(process):
     """Kills a program if it runs."""
     process.kill()
     process.wait(PATIENCE)
-    process.stdout.close()
-    process.stderr.close()
+    for stream in (process.stdout, process.stderr):
+        if stream:
+            stream.close()

@@ -1,0 +1,175 @@
+#!/usr/bin/env python3
+"""Tries `make install`, `uninstall`, `dist` and `deb`, and the syntax of the completions: check_install.py
+
+Takes the programs that `rt ci` built, or else those of bin/, and works on a copy of the files that are installed, in a
+temporary folder. The last line says what was skipped: the kit hidden, where this user may not mount; the package, where
+dpkg-deb is not installed; the completions of a shell that is not installed.
+"""
+import filecmp
+import os
+import re
+import shutil
+import subprocess
+import sys
+import tempfile
+from pathlib import Path
+
+TOP = Path(__file__).resolve().parent.parent
+PROGRAMS = ["tftp", "tftpd", "tftp-show", "tftp-play"]
+COPIED = ["Makefile", "LICENSE", "README.md", "SECURITY.md", "crates.txt", "completions", "debian", "docs/OPERATING.md",
+          "examples", "man", "packaging", "tools"]
+WORDS = ["PREFIX=/usr", "PROGRAM_PREFIX=x-", "MANDIR=/usr/man", "UNITDIR=/usr/units"]
+SHELLS = {"bash": ["bash", "-n"], "zsh": ["zsh", "-f", "-n"], "fish": ["fish", "--no-execute"]}
+PATIENCE = 600
+# what is installed with these words, but the programs and what is named for each
+DOCUMENTS = ["LICENSE", "OPERATING.md", "README.md", "SECURITY.md", "tftpd.nft"]
+MANUALS = ["man1/x-tftp.1", "man1/x-tftp-play.1", "man1/x-tftp-show.1", "man5/x-tftp-play.5", "man8/x-tftpd.8"]
+UNITS = ["x-tftpd.service", "x-tftpd@.service"]
+
+
+def wanted():
+    """The paths of the files that are installed with these words."""
+    found = {f"usr/share/doc/fanjuvery/{name}" for name in DOCUMENTS}
+    found |= {f"usr/man/{name}" for name in MANUALS} | {f"usr/units/{name}" for name in UNITS}
+    for name in PROGRAMS:
+        found |= {
+            f"usr/bin/x-{name}",
+            f"usr/share/bash-completion/completions/x-{name}",
+            f"usr/share/fish/vendor_completions.d/x-{name}.fish",
+            f"usr/share/zsh/site-functions/_x-{name}",
+        }
+    return found
+
+
+def files_below(folder):
+    return {str(path.relative_to(folder)) for path in folder.rglob("*") if path.is_file()}
+
+
+class Trial:
+    """A copy of the repository without its crates, and what was wrong there."""
+
+    def __init__(self, room):
+        self.room, self.top, self.wrong, self.skipped = room, room / "top", [], []
+        for name in COPIED:
+            place = self.top / name
+            place.parent.mkdir(parents=True, exist_ok=True)
+            copy = shutil.copytree if (TOP / name).is_dir() else shutil.copy2
+            copy(TOP / name, place)
+        (self.top / "crates").mkdir()
+        (self.top / "bin").mkdir()
+        for name in PROGRAMS:
+            crate = name.replace("-", "_") + "_main"
+            built = [TOP / "crates" / crate / "out" / crate, TOP / "bin" / name]
+            place = next((it for it in built if it.is_file()), None)
+            if not place:
+                sys.exit(f"install: there is no {name}: run `rt ci` or `make` first")
+            shutil.copy(place, self.top / "bin" / name)
+        # a kit that says that it was called
+        (room / "path").mkdir()
+        (room / "path" / "rt").write_text(f"#!/bin/sh\ntouch '{room}/built'\nexit 1\n")
+        (room / "path" / "rt").chmod(0o755)
+
+    def run(self, *words, folder=None, status=0):
+        """Runs a command, and says so if it ends otherwise. Returns what it prints."""
+        env = {**os.environ, "PATH": f"{self.room}/path:{os.environ['PATH']}", "LC_ALL": "C"}
+        for name in ["MAKEFLAGS", "MAKELEVEL", "MFLAGS"]:
+            env.pop(name, None)
+        done = subprocess.run(words, cwd=folder or self.top, env=env, stdin=subprocess.DEVNULL, capture_output=True,
+                              text=True, timeout=PATIENCE)
+        if done.returncode != status:
+            self.wrong.append(f"{' '.join(map(str, words))}: status {done.returncode}: {done.stdout}{done.stderr}")
+        return done.stdout
+
+    def expect(self, found, expected, what):
+        if found != expected:
+            self.wrong.append(f"{what}: {found}; expected {expected}")
+
+    def check_install(self):
+        """Each file is there, the programs unchanged, and uninstall removes those alone."""
+        root = self.room / "root"
+        words = [f"DESTDIR={root}", *WORDS]
+        self.run("make", "install", *words)
+        self.expect(sorted(files_below(root) ^ wanted()), [], "the files that are installed or wanted alone")
+        if self.wrong:
+            return
+        for name in PROGRAMS:
+            place = root / "usr/bin" / f"x-{name}"
+            self.expect(filecmp.cmp(place, self.top / "bin" / name, shallow=False), True, f"whether {name} is installed")
+            self.expect(place.stat().st_mode & 0o777, 0o755, f"the mode of {name}")
+        for name in UNITS:
+            text = (root / "usr/units" / name).read_text()
+            started = re.findall(r"(?m)^#?ExecStart=(\S+)", text)
+            self.expect(set(started), {'"/usr/bin/x-tftpd"'}, f"what {name} starts")
+            # standard error goes where standard output goes, unless the unit says otherwise
+            self.expect("\nStandardError=journal\n" in text, True, f"whether the log of {name} is in the journal")
+        (root / "usr/bin/other").touch()
+        self.run("make", "uninstall", *words)
+        self.expect(sorted(files_below(root)), ["usr/bin/other"], "the files that uninstall leaves")
+
+    def check_no_build(self):
+        """Without a program nothing is installed, and nothing is built."""
+        moved = self.top / "bin/tftp-play"
+        moved.rename(self.room / "moved")
+        self.run("make", "install", f"DESTDIR={self.room / 'none'}", status=2)
+        self.expect((self.room / "none").exists(), False, "whether something is installed without a program")
+        self.expect((self.room / "built").exists(), False, "whether install builds")
+        (self.room / "moved").rename(moved)
+
+    def check_archive(self):
+        """The archive is the same each time; its script installs the same files, and its programs run without the kit."""
+        archive = self.top / self.run("tools/install.sh", "dist", "9").strip()
+        before = archive.read_bytes()
+        self.run("tools/install.sh", "dist", "9")
+        self.expect(archive.read_bytes() == before, True, "whether the archive is the same again")
+        self.run("tar", "-x", "-z", "-f", archive, "-C", self.room)
+        unpacked = next(self.room.glob("fanjuvery-9-*"))
+        root = self.room / "unpacked"
+        self.run("./install.sh", "install", f"DESTDIR={root}", *WORDS, folder=unpacked)
+        self.expect(sorted(files_below(root) ^ wanted()), [], "the files that the archive installs, or wanted alone")
+        check, kit = ["./install.sh", "check"], shutil.which("rt")
+        if kit:
+            kit = Path(kit).resolve().parent.parent
+            hidden = ["unshare", "--map-root-user", "--mount", "sh", "-c", 'mount -t tmpfs none "$0" && exec "$@"', kit]
+            if shutil.which("unshare") and subprocess.run([*hidden, "true"], capture_output=True).returncode == 0:
+                check = [*hidden, *check]
+            else:
+                self.skipped.append("the kit hidden")
+        told = self.run(*check, folder=unpacked)
+        self.expect(len(re.findall(r"(?m)^complete 236$", told)), 2, f"the transfers in {told}")
+
+    def check_package(self):
+        """The package has the programs, compressed manuals, a unit, and the documents that Debian asks for."""
+        if not shutil.which("dpkg-deb"):
+            self.skipped.append("the package (no dpkg-deb)")
+            return
+        package = self.top / self.run("debian/pack.sh", "9").strip()
+        held = self.run("dpkg-deb", "--contents", package)
+        for name in ["usr/bin/tftpd", "usr/share/man/man8/tftpd.8.gz", "usr/share/doc/fanjuvery/copyright",
+                     "usr/share/doc/fanjuvery/changelog.gz", "lib/systemd/system/tftpd.service"]:
+            self.expect(f" ./{name}\n" in held, True, f"whether the package has {name}")
+
+    def check_completions(self):
+        """Each shell that is there reads its completions."""
+        for shell, words in SHELLS.items():
+            if not shutil.which(shell):
+                self.skipped.append(f"completions of {shell}")
+                continue
+            for name in PROGRAMS:
+                self.run(*words, f"completions/{name}.{shell}")
+
+
+def main():
+    with tempfile.TemporaryDirectory(prefix="tftp-install-") as room:
+        trial = Trial(Path(room))
+        for check in [trial.check_install, trial.check_no_build, trial.check_archive, trial.check_package,
+                      trial.check_completions]:
+            check()
+    for line in trial.wrong:
+        print(line)
+    skipped = f"; skipped: {', '.join(trial.skipped)}" if trial.skipped else ""
+    print(f"install: {len(trial.wrong)} not as wanted{skipped}")
+    sys.exit(1 if trial.wrong else 0)
+
+
+if __name__ == "__main__":
+    main()

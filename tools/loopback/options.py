@@ -1,0 +1,130 @@
+"""Each option of the two programs has the effect that its manual states."""
+import re
+import signal
+from pathlib import Path
+
+from both_programs import bytes_of
+from client_alone import PATIENTLY, asked, patient_get
+from datagrams import PATIENCE, PATIENT, ack, data, error, expect, oack, rrq, wrq
+from server_alone import is_refused, opened
+
+UNITS = Path(__file__).resolve().parent.parent.parent / "packaging"
+
+
+def test_retries_of_the_server(scene):
+    """A block that is not acknowledged is sent `--retries` times again."""
+    scene.make("a", b"ABC")
+    for retries in [0, 2]:
+        server = scene.serve("--retries", f"{retries}")
+        end = opened(scene, server, rrq("a"), data(1, b"ABC"))
+        server.has_closed("TimedOut")
+        again = [datagram for datagram, _ in end.port.waiting()]
+        expect(again, [data(1, b"ABC")] * retries, f"what is sent again with --retries {retries}")
+
+
+def test_retries_of_the_client(scene):
+    """A request that is not answered is sent `--retries` times again."""
+    for retries in [0, 2]:
+        requests = scene.port()
+        client = scene.tftp("get", requests.word, "a", "local", "--retries", f"{retries}")
+        asked(scene, requests, rrq("a"))
+        client.fails("TimedOut")
+        again = [datagram for datagram, _ in requests.waiting()]
+        expect(again, [rrq("a")] * retries, f"what is sent again with --retries {retries}")
+
+
+def test_max_file(scene):
+    """A write that announces a longer file is refused, and one that announces one of this length is not."""
+    server = scene.serve("--max-file", "1000")
+    is_refused(scene, server, wrq("n", tsize=1001), error(3, "disk full"))
+    end = opened(scene, server, wrq("n", tsize=1000, **PATIENT), oack(tsize=1000, **PATIENT))
+    end.send(error(0, "stop"))
+    server.has_closed("PeerError(0)")
+
+
+def test_max_block(scene):
+    """A larger block size is cut to `--max-block`, and blocks have it."""
+    scene.make("a", bytes_of(250))
+    server = scene.serve("--max-block", "100")
+    end = opened(scene, server, rrq("a", blksize=1000, **PATIENT), oack(blksize=100, **PATIENT))
+    for number, block in [(1, bytes_of(100)), (2, bytes_of(200)[100:]), (3, bytes_of(250)[200:])]:
+        end.is_answered(ack(number - 1), data(number, block))
+    end.send(ack(3))
+    server.has_closed("Complete")
+
+
+def test_cap(scene):
+    """With `--cap 64` there are 64 transfers at once, and no more."""
+    scene.make("a", b"ABC")
+    server = scene.serve("--cap", "64", "--transfers", "64")
+    ends = [opened(scene, server, rrq("a", **PATIENT), oack(**PATIENT)) for _ in range(64)]
+    is_refused(scene, server, rrq("a", **PATIENT), error(0, "server busy"))
+    for end in ends:
+        end.is_answered(ack(0), data(1, b"ABC"))
+        end.send(ack(1))
+    server.has_closed(*["Complete"] * 64)
+
+
+def test_tsize(scene):
+    """A get asks for the length, and a put states it (RFC 2349); with `--netascii` neither does."""
+    scene.make("local", bytes_of(700))
+    for words, request in [
+        (["get", "a", "got", "--tsize"], rrq("a", **PATIENT, tsize=0)),
+        (["put", "local", "n", "--tsize"], wrq("n", **PATIENT, tsize=700)),
+        (["get", "a", "got", "--tsize", "--netascii"], rrq("a", "netascii", **PATIENT)),
+        (["put", "local", "n", "--tsize", "--netascii"], wrq("n", "netascii", **PATIENT)),
+    ]:
+        requests = scene.port()
+        client = scene.tftp(words[0], requests.word, *words[1:], *PATIENTLY)
+        asked(scene, requests, request).send(error(0, "stop"))
+        client.fails("PeerError(0)")
+
+
+def test_no_fallback(scene):
+    """Without `--fallback` a client ends whose options are refused."""
+    requests = scene.port()
+    client = scene.tftp("get", requests.word, "a", "local", "--blksize", "1428")
+    asked(scene, requests, rrq("a", blksize=1428)).send(error(8, "no options"))
+    client.fails("PeerError(8)")
+    others = [it for it, _ in requests.waiting() if it != rrq("a", blksize=1428)]
+    expect(others, [], "the other requests")
+
+
+def test_signals(scene):
+    """TERM, INT and HUP end the server at once."""
+    for number in [signal.SIGTERM, signal.SIGINT, signal.SIGHUP]:
+        server = scene.serve("--forever")
+        server.process.send_signal(number)
+        expect(server.process.wait(PATIENCE), -number, "the status of the server")
+
+
+def test_nobody_reads_the_log(scene):
+    """A server whose standard error is a pipe that nobody reads any more serves on."""
+    scene.make("a", b"ABC")
+    server = scene.serve("--log", "--transfers", "2")
+    server.process.stderr.close()
+    for name in ["first", "second"]:
+        scene.tftp("get", server.word, "a", name, "--no-linger").completes(3)
+    expect(server.process.wait(PATIENCE), 0, "the status of the server")
+
+
+def test_a_name_appears(scene):
+    """If LOCAL appears during a get, the server receives ERROR 6, LOCAL is unchanged, and LOCAL.part stays."""
+    client, end = patient_get(scene, "--no-linger")
+    end.is_answered(data(1, b"\7" * 512), ack(1))
+    scene.make("local", b"another's")
+    end.is_answered(data(2, b"ABC"), error(6, "file exists"))
+    client.fails("StoreFault")
+    scene.has_files({"local": b"another's", "local.part": b"\7" * 512 + b"ABC"})
+
+
+def test_units(scene):
+    """The command lines of the units serve a folder to read, and refuse writes."""
+    scene.make("a", b"ABC")
+    for unit in ["tftpd.service", "tftpd@.service"]:
+        line = re.search(r'(?m)^ExecStart="[^"]+" (/srv/tftp) --listen 0\.0\.0\.0:(?:69|%i) (.*)$',
+                         (UNITS / unit).read_text())
+        server = scene.serve(*line[2].split())
+        scene.tftp("get", server.word, "a", "got", "--no-linger").completes(3)
+        scene.tftp("put", server.word, "a", "n").fails("PeerError(2)")
+        (scene.folder / "got").unlink()

@@ -1,0 +1,198 @@
+"""What `tftpd` does in its folder: who may exchange what in it, modes, the folder of uploads, and why it refuses."""
+import os
+import re
+import stat
+from pathlib import Path
+
+from both_programs import logs
+from datagrams import PATIENCE, PATIENT, ack, data, error, expect, oack, rrq, wrq
+from server_alone import ACCESS_VIOLATION, DISK_FULL, FILE_EXISTS, first_block_of, is_refused, opened
+
+LAST = data(1, b"new")
+TOO_LARGE = error(0, "file too large")
+
+
+def writing(scene, server, name):
+    """Requests to write a file, of which nothing is sent again. Returns the end of the transfer."""
+    return opened(scene, server, wrq(name, **PATIENT), oack(**PATIENT))
+
+
+def drafts(scene):
+    """The drafts in the folder and below."""
+    return sorted(str(path.relative_to(scene.folder)) for path in scene.folder.rglob(".tftp-*"))
+
+
+def test_a_folder_is_exchanged(scene):
+    """Between the request and the last block the folder of a put becomes a link out of ROOT, or the folder above it,
+    with the very folder behind the link. The put fails, and no file is outside."""
+    for name in ["one", "two/deep"]:
+        scene.make(f"served/{name}/old", b"old")
+    scene.make_folder("out")
+    server = scene.serve("--transfers", "2", "--log", root="served")
+    ends = [writing(scene, server, f"{name}/n") for name in ["one", "two/deep"]]
+    os.rename(scene.folder / "served/one", scene.folder / "out/one")
+    (scene.folder / "served/one").symlink_to("../out/one")
+    os.rename(scene.folder / "served/two", scene.folder / "out/two")
+    (scene.folder / "served/two").symlink_to("../out/two")
+    for end in ends:
+        end.is_answered(LAST, DISK_FULL)
+    log = server.has_closed("StoreFault", "StoreFault")
+    expect([line.endswith("StoreFault, folder replaced") for line in log[2:]], [True, True], f"the log {log}")
+    for name in ["one/n", "two/deep/n"]:
+        scene.lacks(f"out/{name}")
+
+
+def test_a_text_is_read_once(scene):
+    """A text whose lines are too many for ten block sizes, though its bytes are not, is read once for all of them."""
+    scene.make("a", b"\n" * 1_000_000)
+    server = scene.serve()
+    before = read_by(server)
+    for size in range(17, 27):
+        is_refused(scene, server, rrq("a", "netascii", blksize=size), TOO_LARGE)
+    expect(read_by(server) - before < 2_000_000, True, f"{read_by(server) - before} bytes read are a file's or so")
+    server.kill()
+
+
+def read_by(server):
+    """How many bytes a server has read."""
+    text = Path(f"/proc/{server.process.pid}/io").read_text()
+    return int(re.search(r"^rchar: (\d+)$", text, re.M)[1])
+
+
+def test_a_file_without_length(scene):
+    """A file whose length is 0 and that has bytes, as those of /proc, is refused in both modes; an empty one is not."""
+    server = scene.serve("--log", root="/proc")
+    for mode in ["octet", "netascii"]:
+        is_refused(scene, server, rrq("version", mode), ACCESS_VIOLATION)
+    logs(server.has_logged(2), [
+        rf"refused {scene.address}:\d+ RRQ version {mode}: ERROR 2 \(access violation\), length unknown"
+        for mode in ["octet", "netascii"]
+    ])
+    scene.make("empty", b"")
+    server = scene.serve()
+    scene.tftp("get", server.word, "empty", "got").completes(0)
+    server.has_closed("Complete")
+
+
+def mode_of(scene, name):
+    return stat.S_IMODE((scene.folder / name).stat().st_mode)
+
+
+def test_a_mode_is_kept(scene):
+    """With `--overwrite` a file keeps its permissions, which its draft has before its first byte; a new file has those
+    that the umask leaves."""
+    mask = int(re.search(r"(?m)^Umask:\s+(\d+)$", Path("/proc/self/status").read_text())[1], 8)
+    for name, mode in [("secret", 0o600), ("open", 0o666), ("run", 0o755)]:
+        scene.make(name, b"old")
+        (scene.folder / name).chmod(mode)
+        server = scene.serve("--overwrite")
+        end = writing(scene, server, name)
+        expect([mode_of(scene, draft) for draft in drafts(scene)], [mode], "the mode of the draft")
+        end.is_answered(LAST, ack(1))
+        expect(mode_of(scene, name), mode, f"the mode of {name}")
+    server = scene.serve("--overwrite")
+    writing(scene, server, "n").is_answered(LAST, ack(1))
+    expect(mode_of(scene, "n"), 0o666 & ~mask, "the mode of a new file")
+    scene.has(secret=b"new", open=b"new", run=b"new", n=b"new")
+
+
+def test_uploads(scene):
+    """With `--uploads` only files below that folder are written, its drafts are there, and every file is read."""
+    scene.make("served/a", b"ABC")
+    scene.make("served/incoming/sub/b", b"BB")
+    scene.make_folder("served/incoming2")
+    (scene.folder / "served").chmod(0o555)
+    server = scene.serve("--uploads", "incoming", "--log", root="served")
+    for name in ["n", "incoming", "incoming2/n", "a"]:
+        is_refused(scene, server, wrq(name), ACCESS_VIOLATION)
+    is_refused(scene, server, wrq("incoming/sub/b"), FILE_EXISTS)
+    for name in ["incoming/n", "incoming/sub/n"]:
+        end = writing(scene, server, name)
+        expect([str(Path(draft).parent) for draft in drafts(scene)], ["served/incoming"], "the folder of the draft")
+        end.is_answered(LAST, ack(1))
+    log = server.has_logged(7)
+    expect(sum(line.endswith("(access violation), not in uploads") for line in log), 4, f"the refusals in {log}")
+    (scene.folder / "served").chmod(0o755)
+    scene.has_files({"served/a": b"ABC", "served/incoming/sub/b": b"BB",
+                     "served/incoming/n": b"new", "served/incoming/sub/n": b"new"})
+
+
+def test_uploads_and_other_options(scene):
+    """`--read-only` refuses writes there too, and `--overwrite` replaces there alone."""
+    scene.make("served/a", b"old")
+    scene.make("served/in/deep/a", b"old")
+    server = scene.serve("--uploads", "in/deep", "--read-only", root="served")
+    is_refused(scene, server, wrq("in/deep/n"), ACCESS_VIOLATION)
+    server.kill()
+    server = scene.serve("--uploads", "/in/deep", "--overwrite", root="served")
+    is_refused(scene, server, wrq("a"), ACCESS_VIOLATION)
+    writing(scene, server, "in/deep/a").is_answered(LAST, ack(1))
+    scene.has_files({"served/a": b"old", "served/in/deep/a": b"new"})
+
+
+def test_the_log_says_why_it_refuses(scene):
+    """The log has the reason of refusals by a rule of the folder."""
+    scene.make("served/a", b"ABC")
+    scene.make("secret", b"S")
+    scene.make_folder("served/sub")
+    (scene.folder / "served/outer").symlink_to("../secret")
+    (scene.folder / "served/inner").symlink_to("sub")
+    os.mkfifo(scene.folder / "served/fifo")
+    refusals = [
+        (rrq("outer"), "leads out of the folder"),
+        (rrq("fifo"), "not a file"),
+        (wrq("none/n"), "no such folder"),
+        (wrq("a/n"), "no such folder"),
+        (wrq("inner/n"), "through a link"),
+        (wrq("sub"), "not a file"),
+    ]
+    server = scene.serve("--overwrite", "--log", root="served")
+    for request, _ in refusals:
+        is_refused(scene, server, request, ACCESS_VIOLATION)
+    log = server.has_logged(len(refusals))
+    expect([line.partition("(access violation), ")[2] for line in log], [reason for _, reason in refusals],
+           f"the reasons in {log}")
+    server = scene.serve("--read-only", "--log", root="served")
+    is_refused(scene, server, wrq("n"), ACCESS_VIOLATION)
+    logs(server.has_logged(1),
+         [rf"refused {scene.address}:\d+ WRQ n octet: ERROR 2 \(access violation\), read-only server"])
+
+
+def test_the_log_says_that_a_file_was_cut(scene):
+    """A file that becomes shorter is told apart from one that cannot be read."""
+    scene.make("a", bytes(100_000))
+    server = scene.serve("--max-block", "65464", "--log")
+    end = first_block_of(scene, server, "a", bytes(512))
+    scene.make("a", b"cut")
+    for number in range(1, 30):
+        if end.answer_to(ack(number)) == error(0, "file changed"):
+            break
+    log = server.has_closed("SourceFault")
+    expect(log[-1].endswith("SourceFault, file cut short"), True, f"the log {log}")
+
+
+def ends_with(scene, words, status, errors):
+    """A server ends at once with this status, and has written exactly this on standard error."""
+    process = scene.start("tftpd", words)
+    printed, wrote = (text.decode() for text in process.communicate(timeout=PATIENCE))
+    expect((process.returncode, printed, wrote), (status, "", errors), f"tftpd {words}")
+
+
+def test_a_server_that_does_not_start(scene):
+    """With `--log` a second line says why; the first is as ever."""
+    scene.make("a", b"ABC")
+    scene.make_folder("sub")
+    (scene.folder / "link").symlink_to("sub")
+    taken = scene.port().word
+    for words, fault, reason in [
+        (["none"], "file", "not found"),
+        (["a"], "file", "not a folder"),
+        ([".", "--uploads", "none"], "file", "not found"),
+        ([".", "--uploads", "a"], "file", "not a folder"),
+        ([".", "--uploads", "link"], "file", "not a folder"),
+        ([".", "--uploads", "../sub"], "file", "not found"),
+        ([".", "--listen", taken], "socket", "address in use"),
+        ([".", "--listen", "192.0.2.1:6969"], "socket", "address not available"),
+    ]:
+        ends_with(scene, words, 2, f"tftpd: {fault} fault\n")
+        ends_with(scene, [*words, "--log"], 2, f"tftpd: {fault} fault\ntftpd: {reason}\n")

@@ -1,0 +1,167 @@
+"""The loop of `tftpd`: when it polls, syncs and ends, what it cannot send, and the ports of its transfers."""
+import re
+import time
+
+from both_programs import bytes_of, logs
+from datagrams import PATIENT, ack, data, error, expect, free_ports, oack, rrq, wrq
+from scene import LIFE, next_line
+from server_alone import FILE_NOT_FOUND, first_block_of, is_refused, opened
+
+
+def watched(server):
+    """The counts that `watch_calls.c` writes at the end of a server, by their names."""
+    counts = re.fullmatch(r"watched (.*)\n", server.process.communicate(timeout=LIFE)[1].decode().splitlines(True)[-1])
+    return {name: int(count) for count, name in (part.split(" ", 1) for part in counts[1].split(", "))}
+
+
+def test_no_line_beyond_the_count(scene):
+    """The last datagrams of four transfers wait at their ports: a server that ends with the second close prints two
+    lines."""
+    scene.make("a", b"ABC")
+    server = scene.serve("--transfers", "2")
+    ends = [first_block_of(scene, server, "a", b"ABC") for _ in range(4)]
+    server.stop()
+    for end in ends:
+        end.send(ack(1))
+    server.go_on()
+    server.has_closed("Complete", "Complete")
+
+
+def test_the_log_has_the_time_of_the_clock(scene):
+    """A server that was stopped for two seconds and a half logs them, though its deadlines age by a second a wait. It
+    answers one request after a wait, so that it has read the clock again once it has answered two."""
+    scene.make("a", b"ABC")
+    server = scene.serve("--log")
+    end = opened(scene, server, rrq("a", **PATIENT), oack(**PATIENT))
+    server.stop()
+    time.sleep(2.5)
+    server.go_on()
+    for _ in range(2):
+        is_refused(scene, server, rrq("none"), FILE_NOT_FOUND)
+    end.send(error(0, "stop"))
+    lines = server.has_closed("PeerError(0)")
+    millis = int(re.search(r", (\d+) ms, PeerError\(0\)$", lines[-1])[1])
+    expect(2_400 <= millis < 1_000 * LIFE, True, f"whether {millis} ms are those of the clock")
+
+
+def test_a_datagram_that_is_not_sent_is_logged(scene):
+    """The system refuses one datagram of the server: the first of a transfer, a later one, an ERROR. It is logged with
+    the port that it was to leave from, and a datagram of a transfer is sent again."""
+    scene.make("a", bytes_of(600))
+    blocks = [data(1, bytes_of(600)[:512]), data(2, bytes_of(600)[512:])]
+    for unsent in (1, 2):
+        server = scene.watch("--log", unsent=unsent)
+        end = opened(scene, server, rrq("a"), blocks[0])
+        end.is_answered(ack(1), blocks[1])
+        end.send(ack(2))
+        logs(server.has_closed("Complete")[:-1], [
+            r"opened \d+ \S+ RRQ a octet: DATA 1 512",
+            rf"unsent {end.peer[1]} {end.port.word} RRQ a octet: permission denied",
+            r"closed \d+ \S+ RRQ a octet: DATA 1 512, 600 bytes, \d+ ms, Complete",
+        ])
+    server = scene.watch("--log", unsent=1)
+    scene.port().send(rrq("none"), server.address)
+    logs(server.has_logged(2), [
+        r"refused \S+ RRQ none octet: ERROR 1 \(file not found\)",
+        rf"unsent {server.address[1]} \S+ RRQ none octet: permission denied",
+    ])
+
+
+def test_a_transfer_that_waits_makes_no_polls(scene):
+    """A get whose client waits between its blocks costs a few polls a block, also beside a put that has finished and
+    waits for its last block, and beside a client that is silent. However slow the host is, a poll that finds nothing
+    takes a second, or half of one once after each block."""
+    began = time.monotonic()
+    scene.make("a", bytes_of(512 * 40))
+    server = scene.watch("--transfers", "1")
+    put = opened(scene, server, wrq("n", **PATIENT), oack(**PATIENT))
+    put.is_answered(data(1, b"N"), ack(1))
+    opened(scene, server, rrq("a", **PATIENT), oack(**PATIENT))
+    time.sleep(0.7)
+    end = opened(scene, server, rrq("a", **PATIENT), oack(**PATIENT))
+    for number in range(41):
+        time.sleep(0.002)
+        block = bytes_of(512 * 40)[512 * number:512 * (number + 1)]
+        end.is_answered(ack(number), data(number + 1, block))
+    end.send(ack(41))
+    polls, seconds = watched(server)["polls"], time.monotonic() - began
+    expect(polls < 41 * 4 + 60 + 3 * seconds, True, f"whether {polls} polls are few in {seconds:.1f} s")
+
+
+def test_requests_take_turns_with_transfers(scene):
+    """Twenty requests wait at the request port. The server polls between two that it opens, so that no transfer waits for
+    all of them."""
+    scene.make("a", b"ABC")
+    server = scene.watch("--cap", "64", "--transfers", "20")
+    ports = [scene.port() for _ in range(20)]
+    server.stop()
+    for port in ports:
+        port.send(rrq("a", **PATIENT), server.address)
+    server.go_on()
+    for port in ports:
+        port.send(error(0, "stop"), port.receive()[1])
+    expect(watched(server)["at once"] < 3, True, "whether few requests were answered after one poll")
+
+
+# The blocks after which a client waits for a sync, and how many of 65,464 bytes are a megabyte
+PAUSE, MEGABYTE = 20, 17
+
+
+def test_a_sync_waits_until_no_port_is_ready(scene):
+    """A long put is synced before its last block, a megabyte at a time, and each time after a poll that found nothing.
+    That comes for certain where the client sends nothing until then; where it is slow it may come earlier. Between two
+    of its waits there are always enough bytes for one sync, and never for two."""
+    server = scene.watch("--max-block", "65464")
+    asked = {"blksize": 65_464, **PATIENT}
+    end = opened(scene, server, wrq("n", **asked), oack(**asked))
+    for number in range(1, 4 * PAUSE + 1):
+        end.is_answered(data(number, bytes(65_464)), ack(number))
+        if number % PAUSE == 0:
+            expect(next_line(server.process.stderr), "synced\n", f"what the server does after block {number}")
+    expect(4 * PAUSE // MEGABYTE, 4, "the most syncs of so many blocks")
+    end.send(error(0, "stop"))
+    counts = watched(server)
+    expect((counts["syncs"], counts["hasty"]), (4, 0), f"the syncs, and those that were hasty: {counts}")
+
+
+def served_ports(scene, server, count):
+    """The ports of so many transfers, one after the other."""
+    ports = []
+    for _ in range(count):
+        end = first_block_of(scene, server, "a", b"ABC")
+        end.send(ack(1))
+        ports.append(end.peer[1])
+    return ports
+
+
+def test_ports_are_used_each_once_before_any_again(scene):
+    """Transfers use the ports of `--ports` alone, each once before any again, and two servers in another order."""
+    scene.make("a", b"ABC")
+    first = free_ports(scene.address, 12)
+    last, orders = first + 11, []
+    for _ in range(2):
+        server = scene.serve("--ports", f"{first}:{last}", "--transfers", "36")
+        ports = served_ports(scene, server, 36)
+        server.has_closed(*["Complete"] * 36)
+        expect(sorted(ports[:12]), list(range(first, last + 1)), "the ports of the first cycle")
+        expect(ports[12:], ports[:12] * 2, "the ports of two more")
+        orders.append(ports[:12])
+    expect(orders[0] == orders[1], False, f"whether two servers have the same order {orders[0]}")
+
+
+def test_ports_in_use_are_passed_over(scene):
+    """A port in use is passed over, also one of a transfer that is open. Where all are in use a request is lost."""
+    scene.make("a", b"ABC")
+    first = free_ports(scene.address, 4)
+    scene.port(first + 1)
+    server = scene.serve("--ports", f"{first}:{first + 3}", "--log", "--transfers", "3")
+    ends = [opened(scene, server, rrq("a", **PATIENT), oack(**PATIENT)) for _ in range(3)]
+    expect(sorted(end.peer[1] for end in ends), [first, first + 2, first + 3], "the ports")
+    lost = scene.port()
+    lost.send(rrq("a"), server.address)
+    for end in ends:
+        end.is_answered(ack(0), data(1, b"ABC"))
+        end.send(ack(1))
+    log = server.has_closed(*["Complete"] * 3)
+    found = [line for line in log if line.startswith("lost ")]
+    logs(found, [rf"lost {lost.word} RRQ a octet: no port"])

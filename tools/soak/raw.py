@@ -1,0 +1,353 @@
+"""Raw clients at one `tftpd`: each answer is compared with the model's, byte for byte.
+
+They send valid, mutated, truncated, repeated, reordered and foreign datagrams in bursts. The model is asked at once, and
+then each expected answer has to arrive. Any other datagram has to be a retransmission that is due. What closes without
+a datagram has to be due, too, after all its retransmissions.
+"""
+import time
+
+import model
+from mutations import mutated, random_bytes
+from ports import LAST, PATIENCE, Failure, Port, Program, Sent, Server, Stalled, wait_for
+
+# How much earlier than the model's a timer may be, in seconds, since two clocks are read that count otherwise
+EARLY = 0.05
+# Nothing is sent to an end that could close within so many seconds. Where a stall of this host takes longer the trial
+# begins again
+STALL = 0.5
+MOST_CLIENTS = 64
+# The most steps of a burst
+MOST_STEPS = 3
+# The most resident memory of a server at the end
+MOST_MEGABYTES = 12
+MOST_CHECKED = 400
+SIZES = [8, 9, 100, 511, 512, 513, 1_024, 1_428, 1_468, 8_192, 65_464]
+
+
+class Live:
+    """A client's port, what the request port and the transfer owe it, and the model's end once a transfer opens."""
+
+    def __init__(self, port):
+        self.port, self.end, self.transfer, self.text = port, None, None, None
+        # what it sent before its newest steps, of which retransmissions may be on their way
+        self.older = []
+        # `began` is the earliest time at which the timer of the newest datagram may have begun
+        self.refusals, self.expected, self.began = [], [], None
+
+    def opens(self, end, text, began):
+        self.end, self.text, self.began = end, text, began
+        self.expected.append(end.newest)
+
+    def was_in_time(self):
+        """Nothing can have closed the transfer before what was just sent to it was there."""
+        if self.end and not self.end.outcome and self.left() < EARLY:
+            raise Stalled
+
+    def is_owed(self):
+        return bool(self.refusals or self.expected)
+
+    def left(self):
+        """How long it stays open without progress, in seconds."""
+        end = self.end
+        is_dallying = isinstance(end, model.Receiver) and end.is_complete
+        timeouts = 2 - end.silences if is_dallying else end.left + 1
+        return self.began + timeouts * end.interval - time.time()
+
+    def is_open(self):
+        return self.end and self.transfer and not self.end.outcome and self.left() > STALL
+
+    def next_datagram(self):
+        """What a right client would send next."""
+        end = self.end
+        if isinstance(end, model.Sender):
+            return model.ack(end.number)
+        number = end.number if end.is_complete else end.number + 1
+        return model.data(number, self.text[(number - 1) * end.size:number * end.size])
+
+    def ends_with(self, datagram):
+        """Whether the server commits a file by this datagram."""
+        end, packet = self.end, model.decode(datagram)
+        return (isinstance(end, model.Receiver) and isinstance(packet, model.Data)
+                and packet.number == end.number + 1 and len(packet.block) < end.size)
+
+
+class Trial:
+    """A server with raw clients, for some seconds."""
+
+    def __init__(self, program, folder, rng, life, words=(), **limits):
+        self.rng, self.counts = rng, {"datagrams": 0, "transfers": 0, "retransmissions": 0, "faults": 0}
+        self.files = self.make_files(folder)
+        self.port = model.RequestPort(dict(self.files), [b"sub"], cap=MOST_CLIENTS, **limits)
+        self.server = Server(program, folder, [*words, "--cap", f"{MOST_CLIENTS}", "--forever"], life)
+        self.probe, self.stranger = Port(), Port()
+        self.live, self.commits = [], set()
+        # the server reads its clock once a round, and handles what came since in that round, too: what is sent now is
+        # handled in a round that began after this time
+        self.round = time.time()
+
+    def make_files(self, folder):
+        (folder / "sub").mkdir()
+        files = {}
+        for at, length in enumerate([0, 1, 7, 8, 9, 511, 512, 513, 1_024, 1_427, 1_428, 1_429, 5_000, 70_000]):
+            content = self.rng.randbytes(length) if at % 2 else (b"line\r\n\r" * (length // 7 + 1))[:length]
+            name = f"sub/f{length}" if at % 3 == 0 else f"f{length}"
+            files[name.encode()] = content
+            (folder / name).write_bytes(content)
+        return files
+
+    def close(self):
+        self.server.end()
+        for port in [self.probe, self.stranger, *[each.port for each in self.live]]:
+            port.close()
+
+    # ---- what is sent
+
+    def options(self):
+        rng, options = self.rng, []
+        choices = [(b"blksize", rng.choice(SIZES + [7, 65_465])), (b"timeout", rng.choice([3, 3, 5, 0, 256])),
+                   (b"tsize", rng.choice([0, 0, 100, 2**64])), (b"windowsize", 4), (b"BLKSIZE", 512), (b"x", "")]
+        for name, value in rng.sample(choices, rng.randrange(4)):
+            options.append((name, str(value).encode()))
+        return options
+
+    def request(self):
+        rng = self.rng
+        mode = rng.choice([b"octet", b"octet", b"netascii", b"OcTeT", b"mail"])
+        names = [*self.files, *self.files, b"none", b"sub", b"../a", b"a//b", b"/f512", b"a+b", b""]
+        if rng.random() < 0.5:
+            return model.request("RRQ", rng.choice(names), mode, self.options())
+        name = rng.choice([b"n%d" % rng.randrange(10_000), b"sub/n%d" % rng.randrange(10_000), b"none/n", b"f512"])
+        return model.request("WRQ", name, mode, self.options())
+
+    def ask(self):
+        """A burst at the request port. A request may come twice, and other datagrams with it."""
+        if len(self.port.held) + 4 > MOST_CLIENTS:
+            return
+        for _ in range(self.rng.randrange(1, 4)):
+            live, datagram = Live(Port()), self.request()
+            self.live.append(live)
+            if self.rng.random() < 0.3:
+                datagram = mutated(self.rng, datagram)
+            for _ in range(self.rng.choice([1, 1, 2])):
+                self.ask_once(live, datagram)
+            live.was_in_time()
+
+    def ask_once(self, live, datagram):
+        answer, end = self.port.on_datagram(live.port.address, datagram)
+        self.sent(live.port, datagram, self.server.address)
+        if end:
+            self.counts["transfers"] += 1
+            live.opens(end, self.text_to_send(end) if isinstance(end, model.Receiver) else None, self.round)
+        elif answer:
+            live.refusals.append(answer)
+
+    def text_to_send(self, end):
+        content = self.rng.randbytes(self.rng.choice([0, 1, 10, end.size, 3 * end.size + 5]))
+        is_wrong = end.mode == b"netascii" and self.rng.random() < 0.2
+        return content if is_wrong else model.wire_text(end.mode, content)
+
+    def sent(self, port, datagram, to):
+        self.counts["datagrams"] += 1
+        return port.send(datagram, to)
+
+    def datagram_for(self, live):
+        rng, right = self.rng, live.next_datagram()
+        dice = rng.random()
+        if dice < 0.85:
+            return right
+        if dice < 0.9:
+            return right[:2] + (max(live.end.number - 1, 0)).to_bytes(2, "big") + right[4:]
+        if dice < 0.94:
+            return mutated(rng, right)
+        return rng.choice([right, self.request(), model.error("disk full"), b"\0\5", b"\0\6a\0b\0",
+                           random_bytes(rng, b"")])
+
+    def converse(self, live):
+        """A burst at the port of a transfer, at times with a stranger's datagram."""
+        for _ in range(self.rng.choice([1, 1, 1, 2, 3])):
+            if self.rng.random() < 0.03:
+                self.from_stranger(live)
+            datagram = self.datagram_for(live)
+            if live.ends_with(datagram):
+                # two commits of one name in one burst have no order
+                if live.end.path in self.commits:
+                    return
+                self.commits.add(live.end.path)
+            self.say(live, datagram)
+            if live.end.outcome:
+                return
+
+    def say(self, live, datagram):
+        end, moved = live.end, live.end.moved
+        older = Sent(end.newest, live.began - EARLY, end.interval, end.left)
+        self.sent(live.port, datagram, live.transfer)
+        live.was_in_time()
+        answer = end.on_datagram(live.port.address, datagram)
+        if end.moved > moved:
+            live.older, live.began = [*live.older[-MOST_STEPS + 1:], older], self.round
+        if answer:
+            live.expected.append(answer)
+
+    def from_stranger(self, live):
+        datagram = self.rng.choice([live.next_datagram(), b"\0\5\0\0\0", b"\0\5", b"x"])
+        answer = live.end.on_datagram(self.stranger.address, datagram)
+        self.sent(self.stranger, datagram, live.transfer)
+        live.was_in_time()
+        if answer:
+            self.receive_exactly(self.stranger, answer, live.transfer)
+
+    def receive_exactly(self, port, answer, sender):
+        end = time.monotonic() + PATIENCE
+        while time.monotonic() < end:
+            wait_for([port], 0.5)
+            for found in port.arrived():
+                if found[:2] != (answer, sender):
+                    raise Failure(f"{found[:2]} in place of {answer} from {sender}", port.seen)
+                return
+        raise Failure(f"no answer {answer}", port.seen)
+
+    # ---- what is received
+
+    def take(self, seconds):
+        """Receives for so long, or until all that is expected has come."""
+        end = time.monotonic() + seconds
+        while True:
+            if self.is_owed():
+                wait_for([self.server.output, *[each.port for each in self.live]], 0.2)
+            for live in self.live:
+                for found in live.port.arrived():
+                    self.take_of(live, *found)
+            self.take_lines()
+            if not self.is_owed():
+                return
+            if time.monotonic() > end:
+                live = next(each for each in self.live if each.is_owed())
+                raise Failure(f"no answer {[*live.refusals, *live.expected][0][:60]}", live.port.seen)
+
+    def is_owed(self):
+        return any(each.is_owed() for each in self.live)
+
+    def take_of(self, live, datagram, sender, when):
+        if sender == self.server.address:
+            if not live.refusals or datagram != live.refusals.pop(0):
+                raise Failure(f"the request port answers {datagram[:60]}", live.port.seen)
+            return
+        live.transfer = live.transfer or sender
+        if sender != live.transfer or not live.end:
+            raise Failure(f"{datagram[:60]} from {sender} in place of {live.transfer}", live.port.seen)
+        if live.expected and datagram == live.expected[0]:
+            live.expected.pop(0)
+        else:
+            self.take_again(live, datagram, when)
+
+    def take_again(self, live, datagram, when):
+        """The datagram is a retransmission that is due."""
+        end = live.end
+        if not any(each.may_come(datagram, when) for each in live.older):
+            newest = Sent(end.newest, live.began - EARLY, end.interval, end.left)
+            if not newest.may_come(datagram, when):
+                since = when - live.began
+                raise Failure(f"{datagram[:60]} after {since:.3f} s, of interval {end.interval}", live.port.seen)
+            end.on_timeout()
+            live.began += end.interval
+        self.counts["retransmissions"] += 1
+
+    def take_lines(self):
+        for line in self.server.lines():
+            transfer, client, outcome = line.split()
+            found = [each for each in self.live if each.port.address[1] == int(client) and each.transfer
+                     and each.transfer[1] == int(transfer)]
+            if not found:
+                raise Failure(f"a line of no transfer: {line}")
+            self.take_close(found[0], outcome, line)
+
+    def take_close(self, live, outcome, line):
+        for found in live.port.arrived():
+            self.take_of(live, *found)
+        end, since = live.end, time.time() - live.began
+        if not end.outcome and end.is_complete:
+            end.outcome = "Complete" if since > 2 * end.interval - EARLY else "Complete too early"
+        elif not end.outcome and end.left == 0 and since > end.interval - EARLY:
+            end.outcome = "TimedOut"
+        if end.outcome != outcome or live.expected:
+            raise Failure(f"{line}; the model: {end.outcome}, {end.left} left, {since:.3f} s since its timer began",
+                          live.port.seen)
+        self.port.has_closed(end)
+        self.forget(live)
+
+    def forget(self, live):
+        self.live.remove(live)
+        live.port.close()
+
+    def is_quiet(self):
+        """Nothing else has been sent: a datagram that has one answer is handled after all before. The server handles one
+        in a round, so that the second is handled in a round that began after the first was sent."""
+        begun = time.time()
+        for _ in range(2):
+            self.sent(self.probe, b"?", self.server.address)
+            self.receive_exactly(self.probe, model.error("illegal operation"), self.server.address)
+        self.round = begun
+        self.take(0)
+        self.commits.clear()
+        for live in [each for each in self.live if not each.end]:
+            self.forget(live)
+
+    # ---- the whole
+
+    def run(self, seconds):
+        end = time.monotonic() + seconds
+        self.is_quiet()
+        while time.monotonic() < end:
+            if self.rng.random() < 0.3:
+                self.ask()
+            else:
+                for live in self.rng.sample(self.live, min(len(self.live), self.rng.randrange(1, 12))):
+                    if live.is_open():
+                        self.converse(live)
+            self.take(PATIENCE)
+            self.is_quiet()
+
+    def finish(self):
+        """Every transfer closes in time, a get succeeds, and every file is equal."""
+        while self.live:
+            longest = max(each.left() for each in self.live)
+            if longest < -PATIENCE / 2:
+                raise Failure("a transfer that does not close", self.live[0].port.seen)
+            wait_for([self.server.output, *[each.port for each in self.live]], 0.5)
+            self.take(0)
+        return self.server.usage()
+
+
+def run(programs, folder, rng, seconds, **limits):
+    """Runs a trial, and others where this host stalled. Returns their counts together."""
+    counts, end, at = {"stalls": 0}, time.monotonic() + seconds, 0
+    while at == 0 or time.monotonic() < end:
+        place, at = folder / f"{at}", at + 1
+        place.mkdir()
+        try:
+            for name, count in run_once(programs, place, rng, max(end - time.monotonic(), 1), **limits).items():
+                counts[name] = counts.get(name, 0) + count
+        except Stalled:
+            counts["stalls"] += 1
+    return counts
+
+
+def run_once(programs, folder, rng, seconds, **limits):
+    """Returns the counts of a trial."""
+    words = [word for name, value in limits.items() for word in (f"--{name.replace('_', '-')}", f"{value}")]
+    trial = Trial(programs["tftpd"], folder, rng, seconds + LAST, words, **limits)
+    try:
+        trial.run(seconds)
+        files, megabytes = trial.finish()
+        if files > 7 or megabytes > (MOST_MEGABYTES if not trial.server.has_checks() else MOST_CHECKED):
+            raise Failure(f"{files} open files and {megabytes:.1f} MB at the end")
+        for path, content in trial.port.files.items():
+            if (folder / path.decode()).read_bytes() != content:
+                raise Failure(f"the file {path} differs")
+        name = next(iter(trial.files)).decode()
+        get = Program([programs["tftp"], "get", trial.server.word, name, "got", "--no-linger"], folder, 60)
+        if get.ended()[0] or (folder / "got").read_bytes() != trial.files[name.encode()]:
+            raise Failure("a get at the end")
+        return trial.counts
+    finally:
+        trial.close()

@@ -1,0 +1,140 @@
+#!/usr/bin/env python3
+"""Writes docs/STATEMENT.md, the headlines and all that they stand on, from the definitions in `crates/*/specs`.
+
+statement.py --write writes the document; without a word it is compared, and the status is 1 where it differs.
+"""
+import sys
+from textwrap import wrap
+
+from specs import TOP, all_files, source_of
+
+DOCUMENT = TOP / "docs" / "STATEMENT.md"
+
+HEAD = """# The headlines, word by word
+
+Made by `tools/statement.py` from the definitions in `crates/*/specs`: those that the headlines need, and no others, by
+file, each file after those that it needs. The prover checks them as they stand here: a headline is the clause of a law,
+a public function with an empty body.
+
+**Notation.** `A → B` is "if A then B", and before a value "for all"; `×` is "and", or "there is" before a name; `⊎` is
+"or"; `≡` is "equals", `≢` "differs from". `[]` is the empty list, `x ∷ xs` a list with a first element, `++` joins.
+`Some` and `None` are those of Rust; `slice_get xs k` is the element of a list at an index, if there is one. A `record`
+has fields, a `data` has cases; `module _ (x : A) where` gives `x` to the definitions indented below it. Numbers and
+lists have no bound. Names of types of the code (`Side`, `Mode`, `Outcome`) are those of the crates.
+"""
+
+# each headline: its title, where it stands, what it says, and the definitions that stay opaque, with who concludes them
+HEADLINES = [
+    ("A world", "tftp_player", "WorldRuns", "WorldsAreSafe",
+     "One server, any clients and a network that loses, repeats and reorders datagrams, after every list of events. The "
+     "law is `tftp_player::laws::every_world_is_safe`.",
+     {"IsBlockSize": "a number from 8 to 65,464",
+      "end_record": "the record of an end: its side, peer, block size, number, whether it is complete, its outcome",
+      "OpenEnd": "an open end, with its address, path, file, and what it has stored", "ClosedEnd": "a closed one",
+      "WorldStep": "one event of a world, by the tables of the standard; `World::apply` ensures it (clause `steps`), and "
+                   "this law assumes it"}),
+    ("Programs", "tftp_network", "Joined", "ProgramsKeepAnyFiles",
+     "One server and any clients as programs, over any store and any files, by what their journals note. The law is "
+     "`tftp_network::laws::programs_keep_promises`, its clause `any_files`.",
+     {"Runs": "a run of a client's loop; `tftp_client::transfer` ensures it, and this law assumes it",
+      "ClientRun": "the whole run of a client's program; the parts of its loop ensure it, and this law assumes it",
+      "Run": "steps, one after another; `tftp_loop::serve` ensures such a run of the server's loop, and this law assumes "
+             "it", "Converses": "a client's run",
+      "ClientOpens": "a client's end at its request, which is valid",
+      "record_of": "the record of an end, as above", "is_complete": "whether an end is complete",
+      "terms_of": "the terms of an end, once its peer is known", "begun": "a client whose request was sent",
+      "IsNew": "a received file has taken nothing", "ServerState": "a server", "Does": "a step of the server's loop",
+      "EndState": "an end, by its role and its position", "LoopState": "a server at its ports",
+      "HeldTransfer": "a transfer that a server holds", "State": "a client with its journal",
+      "moved_in": "what moved in a client's run", "moved_at": "what moved at a port of a server's run",
+      "opened_at": "the last transfer that a server's run opened at a port",
+      "HasClosed": "the run closed this transfer at this port",
+      "opened_ports": "the ports at which a run opened transfers", "server_ports": "those of a server's run",
+      "SourceMeaning": "the model of a source, which may say nothing",
+      "SinkMeaning": "the model of a sink, which may say nothing",
+      "StoreMeaning": "the model of a store, which may say nothing"}),
+]
+
+
+def needed(files, root, opaque, shown):
+    """The definitions that this one needs, each after those that it needs, and those that stay opaque."""
+    order = []
+
+    def visit(definition):
+        key = (definition.crate, definition.file, definition.name)
+        if key in shown:
+            return
+        shown.add(key)
+        if definition.name not in opaque:
+            for word in sorted(definition.words()):
+                found = source_of(files, definition.crate, definition.file, word)
+                if found and not isinstance(found, str):
+                    visit(found)
+        order.append(definition)
+
+    visit(root)
+    return order
+
+
+def by_file(files, definitions):
+    """The definitions in the order of their files, each file after those that it needs, and as they stand there."""
+    wanted, order = {}, []
+    for each in definitions:
+        wanted.setdefault((each.crate, each.file), []).append(each)
+
+    def visit(place):
+        if place not in wanted:
+            return
+        found = wanted.pop(place)
+        for word in sorted({word for each in found for word in each.words()}):
+            source = source_of(files, *place, word)
+            if source and not isinstance(source, str):
+                visit((source.crate, source.file))
+        names = list(files[place].definitions)
+        order.extend(sorted(found, key=lambda each: names.index(each.name)))
+
+    while wanted:
+        visit(next(iter(wanted)))
+    return order
+
+
+def shown_text(definitions):
+    """The definitions as one text, with their file and the module that they stand in, where these change."""
+    lines, place, module = ["```"], None, ""
+    for each in definitions:
+        if (each.crate, each.file) != place:
+            place, module = (each.crate, each.file), ""
+            lines.append(f"-- ---- {each.crate}, {each.file}")
+        if each.module != module:
+            module = each.module
+            head = module.replace(" module _", "") + " where"
+            lines += wrap(head, 100, subsequent_indent="    ", break_on_hyphens=False) if module else []
+        margin = "  " if module else ""
+        lines += [f"{margin}{line}".rstrip() for line in (*(f"-- {line}" for line in each.comment), *each.text)] + [""]
+    return [*lines[:-1], "```", ""]
+
+
+def document():
+    files, shown, lines = all_files(), set(), [HEAD]
+    for title, crate, file, name, says, opaque in HEADLINES:
+        definitions = needed(files, files[crate, file].definitions[name], opaque, shown)
+        lines += [f"## {title}", "", *wrap(says, 120), ""]
+        names = "; ".join(f"`{name}`, {opaque[name]}" for name in opaque)
+        lines += [*wrap(f"Not spelled out here: {names}.", 120, break_on_hyphens=False), ""]
+        lines += shown_text(by_file(files, [each for each in definitions if each.name not in opaque]))
+    return "\n".join(lines).rstrip() + "\n"
+
+
+def main():
+    text = document()
+    if "--write" in sys.argv:
+        DOCUMENT.write_text(text)
+    elif not DOCUMENT.is_file() or DOCUMENT.read_text() != text:
+        print("docs/STATEMENT.md differs: run tools/statement.py --write")
+        return 1
+    print(f"docs/STATEMENT.md: {text.count(chr(10))} lines")
+    return 0
+
+
+if __name__ == "__main__":
+    sys.exit(main())

@@ -1,0 +1,319 @@
+#!/usr/bin/env python3
+"""Tries the units of packaging/ under a systemd of their own: units.py [FOLDER]
+
+Debian's systemd is PID 1 of a container with a network of its own, in which what `make install` installs is at
+/usr/local. Its units are started, asked over a link by another host, killed, given a folder to write to, and spread
+over eight ports. It takes the four programs of bin/. FOLDER (out/debian) is where the container's files are made, once,
+from Debian's archive; a run leaves no change in it. It needs root, and debootstrap, systemd-nspawn, ip, nft and
+unshare. It is run by hand, and not by the gate. The last line is a count; the status is 1 if a trial failed.
+"""
+import os
+import re
+import shutil
+import signal
+import subprocess
+import sys
+import tempfile
+import time
+from contextlib import ExitStack, suppress
+from pathlib import Path
+
+import network
+from network import CLIENT, MANY, PATIENCE, SERVER, TOP, Fault, Host, expect
+
+SUITE, ARCHIVE = "bookworm", "http://deb.debian.org/debian"
+PACKAGES = "systemd,systemd-sysv,dbus,nftables,iproute2,util-linux"
+# The longest time until systemd has started, and of all, in seconds
+BOOT, LIMIT = 120, 600
+# CAP_NET_BIND_SERVICE alone, as /proc has it
+BIND = f"{1 << 10:016x}"
+NOTHING = "0" * 16
+# No interface has it at first
+LATE = "192.0.2.9"
+APART = ["unshare", "--net", "--mount", "--pid", "--fork", "--kill-child", "--mount-proc"]
+
+
+def own_group(stack):
+    """Puts this process into a control group of its own, below which systemd makes others."""
+    name = f"units-{time.monotonic_ns()}"
+    for top in map(Path, ["/sys/fs/cgroup/systemd", "/sys/fs/cgroup/unified", "/sys/fs/cgroup"]):
+        if (top / "cgroup.procs").exists():
+            group = top / name
+            group.mkdir()
+            (group / "cgroup.procs").write_text("0")
+            stack.callback(remove_group, top, group)
+
+
+def remove_group(top, group):
+    """Removes a control group and those below, once what ran there has ended."""
+    (top / "cgroup.procs").write_text("0")
+    end = time.monotonic() + PATIENCE
+    while group.exists() and time.monotonic() < end:
+        for folder, _, _ in os.walk(group, topdown=False):
+            with suppress(OSError):
+                os.rmdir(folder)
+        time.sleep(0.1)
+
+
+def until(what, test, seconds=PATIENCE):
+    """Waits until this is so, and returns what it gave."""
+    end = time.monotonic() + seconds
+    while time.monotonic() < end:
+        found = test()
+        if found:
+            return found
+        time.sleep(0.2)
+    raise Fault(f"not so after {seconds} seconds: {what}")
+
+
+def for_writes(unit, user):
+    """The lines in the comments of a unit, as `systemctl edit` takes them."""
+    text = (TOP / "packaging" / unit).read_text()
+    lines = re.search(r"(?m)^# For writes these lines .*\n((?:#\S.*\n)+)", text)
+    return "[Service]\n" + lines[1].replace("#", "").replace("User=USER", f"User={user}")
+
+
+class Container:
+    """A Debian whose systemd runs, at the server's end of a link, and a client at the other."""
+
+    def __init__(self, folder, room, stack):
+        self.room, self.content, self.first = Path(room), os.urandom(12 * network.BLOCK + 7), ""
+        (self.room / "a").write_bytes(self.content)
+        installed = self.room / "installed"
+        words = [TOP / "tools/install.sh", "install", f"DESTDIR={installed}"]
+        subprocess.run(words, check=True, stdout=subprocess.DEVNULL)
+        self.client, self.server = Host(stack), Host(stack)
+        self.client.link(self.server, "wire")
+        self.server.run(f"ip address add {SERVER}/24 dev wire; ip route add 198.51.100.0/24 dev wire")
+        addresses = "; ".join(f"ip address add {host}/24 dev wire" for host in [CLIENT, *MANY])
+        self.client.run(f"{addresses}; ip route add 192.0.2.0/24 dev wire")
+        own_group(stack)
+        self.console = open(self.room / "console", "wb")
+        words = ["systemd-nspawn", "--directory", folder, "--volatile=overlay", "--boot", "--console=pipe",
+                 "--register=no", "--keep-unit", f"--network-namespace-path=/proc/{self.server.process.pid}/ns/net",
+                 "--capability=CAP_NET_ADMIN", f"--bind-ro={installed}/usr/local:/usr/local"]
+        self.process = subprocess.Popen(words, stdin=subprocess.DEVNULL, stdout=self.console, stderr=self.console)
+        stack.callback(self.end)
+        until("systemd has started", self.is_running, BOOT)
+
+    def end(self):
+        # all in the container ends with its first process
+        if self.first:
+            os.kill(int(self.first), signal.SIGKILL)
+        else:
+            self.process.terminate()
+        self.process.wait(PATIENCE)
+        self.console.close()
+
+    def is_running(self):
+        if self.process.poll() is not None:
+            raise Fault(f"the container ended: {(self.room / 'console').read_text()}")
+        self.first = Path(f"/proc/{self.process.pid}/task/{self.process.pid}/children").read_text().strip()
+        return self.first and self.told("systemctl is-system-running").strip() in ("running", "degraded")
+
+    def words(self, *words):
+        return ["nsenter", "--target", self.first, "--mount", "--uts", "--ipc", "--net", "--pid", "--cgroup", *words]
+
+    def told(self, script, **how):
+        """What a shell prints in the container, whatever its status is."""
+        done = subprocess.run(self.words("sh", "-c", script), capture_output=True, text=True, timeout=PATIENCE, **how)
+        return done.stdout + done.stderr
+
+    def run(self, script, **how):
+        """Runs shell commands in the container."""
+        done = subprocess.run(self.words("bash", "-ec", script), capture_output=True, timeout=3 * PATIENCE, **how)
+        if done.returncode:
+            raise Fault(f"{script}: {done.stderr.decode()}")
+        return done.stdout.decode()
+
+    def property(self, unit, name):
+        return self.run(f"systemctl show --value --property {name} {unit}").strip()
+
+    def begin(self, unit, change=""):
+        """Starts a unit, with these lines of `systemctl edit`."""
+        if change:
+            place = f"/etc/systemd/system/{unit}.service.d"
+            self.run(f"mkdir -p {place}; cat > {place}/override.conf; systemctl daemon-reload", input=change.encode())
+        # (where the program ends at once, this fails, and systemd starts it again)
+        self.told(f"systemctl restart {unit}")
+
+    def revert(self, unit):
+        """Stops a unit, and forgets what was changed in it."""
+        change = f"/etc/systemd/system/{unit}.service.d"
+        self.run(f"systemctl disable --now {unit}; rm -rf {change}; systemctl daemon-reload")
+
+    def log(self, unit):
+        return self.run(f"journalctl --quiet --output=cat _SYSTEMD_UNIT={unit}").splitlines()
+
+    def process_of(self, unit):
+        """What the system has of a unit's process, by the names in /proc/PID/status."""
+        text = self.run(f"cat /proc/{self.property(unit, 'MainPID')}/status")
+        return dict(line.split(":\t", 1) for line in text.splitlines() if ":\t" in line)
+
+    def may(self, unit, user, capabilities=BIND):
+        """The unit's process has this user, a dynamic one for none, these capabilities, and cannot get others."""
+        found = self.process_of(unit)
+        number = found["Uid"].split()[0]
+        is_own = 61_184 <= int(number) <= 65_519
+        expect(self.run(f"id -u {user}").strip() == number if user else is_own, True, f"whether {number} is the user")
+        names = ["CapEff", "CapPrm", "CapBnd", "NoNewPrivs", "Seccomp"]
+        expect([found[name] for name in names], [capabilities] * 3 + ["1", "2"], f"{names} of {unit}")
+        return number
+
+    def sees(self, unit, writable):
+        """The unit's process sees one folder of /srv, and can write nowhere else than there, if there."""
+        inside = f"nsenter --target {self.property(unit, 'MainPID')} --mount"
+        expect(self.run(f"{inside} ls /srv").split(), ["tftp"], "what is in /srv")
+        for folder in ["/etc", "/usr", "/usr/local", "/srv", "/var/lib", "/srv/tftp"]:
+            wanted = folder == "/srv/tftp" and writable
+            told = self.told(f"{inside} sh -c 'touch {folder}/x && rm {folder}/x'")
+            expect("Read-only file system" not in told, wanted, f"whether {folder} is writable: {told}")
+
+    def is_served(self, address=SERVER, port=69):
+        """Whether the client gets the file."""
+        local = self.room / "local"
+        words = [TOP / "bin/tftp", "get", f"{address}:{port}", "a", local, "--blksize", network.BLOCK, "--no-linger",
+                 "--retries", 1]
+        done = subprocess.run(self.client.words(*map(str, words)), capture_output=True, timeout=PATIENCE)
+        is_whole = local.exists() and local.read_bytes() == self.content
+        for left in [local, self.room / "local.part"]:
+            left.unlink(missing_ok=True)
+        expect(is_whole, done.returncode == 0, f"whether the file is whole where {done} says so")
+        return is_whole
+
+    def put(self, name, port=69):
+        """What the client says that puts the file."""
+        words = [TOP / "bin/tftp", "put", f"{SERVER}:{port}", self.room / "a", name, "--blksize", network.BLOCK]
+        done = subprocess.run(self.client.words(*map(str, words)), capture_output=True, text=True, timeout=PATIENCE)
+        return done.stdout + done.stderr
+
+
+def try_no_folder(it):
+    """Without its folder the unit is not started, and does not fail."""
+    it.begin("tftpd")
+    found = [it.property("tftpd", name) for name in ["ConditionResult", "ActiveState", "Result"]]
+    expect(found, ["no", "inactive", "success"], "the unit without a folder")
+
+
+def try_reading(it):
+    """It serves the folder, refuses writes, and has no more than it needs. The journal has each transfer once."""
+    it.run("mkdir /srv/tftp /srv/other; cat > /srv/tftp/a", input=it.content)
+    it.run("systemctl enable --now tftpd")
+    until("port 69 is served", it.is_served)
+    expect(it.put("new"), "tftp: PeerError(2)\n", "the answer to a write")
+    lines = [line.split()[0] for line in it.log("tftpd.service") if "192" in line or "198" in line]
+    expect(lines, ["opened", "closed", "refused"], "the lines of the journal")
+    it.may("tftpd", None)
+    it.sees("tftpd", False)
+
+
+def try_kill(it):
+    """It is started again when it was killed."""
+    before = it.property("tftpd", "MainPID")
+    it.run(f"kill -KILL {before}")
+    until("another process serves", lambda: it.property("tftpd", "MainPID") not in ("0", before) and it.is_served())
+
+
+def try_late_address(it):
+    """It is started again and again, more often than systemd's limit of five, until its address is there."""
+    line = network.started_by("tftpd.service")
+    line[line.index("0.0.0.0:69")] = f"{LATE}:69"
+    it.begin("tftpd", f"[Service]\nExecStart=\nExecStart=/usr/local/bin/tftpd {' '.join(line)}\n")
+    until("it was started seven times", lambda: int(it.property("tftpd", "NRestarts")) >= 7, 3 * PATIENCE)
+    it.server.run(f"ip address add {LATE}/24 dev wire")
+    until("it serves its address", lambda: it.is_served(LATE))
+    expect("tftpd: address not available" in it.log("tftpd.service"), True, "whether the journal has the reason")
+    it.server.run(f"ip address delete {LATE}/24 dev wire")
+    it.revert("tftpd")
+
+
+def takes_writes(it, unit, template, port, capabilities):
+    """With the lines of the comments it takes writes, as the user whose folder it is."""
+    it.begin(unit, for_writes(template, "uploader"))
+    until("the port is served", lambda: it.is_served(port=port))
+    expect(it.put(f"new{port}", port), f"complete {len(it.content)}\n", "the answer to a write")
+    sent = subprocess.run(it.words("cat", f"/srv/tftp/new{port}"), capture_output=True, check=True).stdout
+    expect(sent == it.content, True, "whether the file is what was sent")
+    expect(it.run(f"stat --format '%U %a' /srv/tftp/new{port}"), "uploader 644\n", "its owner and its mode")
+    expect(it.put(f"new{port}", port), "tftp: PeerError(6)\n", "the answer to a second write")
+    it.may(unit, "uploader", capabilities)
+    it.sees(unit, True)
+    it.revert(unit)
+
+
+def try_writing(it):
+    it.run("useradd --system uploader; chown uploader /srv/tftp")
+    takes_writes(it, "tftpd", "tftpd.service", 69, BIND)
+    takes_writes(it, "tftpd@6901", "tftpd@.service", 6901, NOTHING)
+
+
+def try_instances(it):
+    """Eight instances behind the rules of tftpd.nft serve 200 clients that ask port 69 at once. They share a user."""
+    units = [f"tftpd@{port}" for port in range(6901, 6909)]
+    it.run("systemctl enable --now tftpd@{6901..6908}; nft -f /usr/local/share/doc/fanjuvery/tftpd.nft")
+    for port in range(6901, 6909):
+        until(f"port {port} is served", lambda: it.is_served(port=port))
+    words = [sys.executable, TOP / "tools/network.py", "--fetch", it.room / "a"]
+    done = subprocess.run(it.client.words(*map(str, words)), capture_output=True, text=True, timeout=3 * PATIENCE)
+    expect(done.stdout.split(), [str(len(MANY))], f"how many files are whole: {done.stderr}")
+    opened = [line.split()[2].split(":")[0] for unit in units for line in it.log(f"{unit}.service")
+              if line.startswith("opened ")]
+    is_each_once = sorted(host for host in opened if host != CLIENT) == sorted(MANY)
+    expect(is_each_once, True, "whether each client was opened once")
+    expect(len({it.may(unit, None, NOTHING) for unit in units}), 1, "how many users the instances have")
+    expect(it.run("systemctl is-enabled tftpd@{6901..6908}").split(), ["enabled"] * 8, "whether they start at boot")
+
+
+def try_grade(it):
+    """What `systemd-analyze security` says of both, from 0.0 to 10.0 where all is exposed."""
+    for unit in ["tftpd", "tftpd@6901"]:
+        told = it.told(f"systemd-analyze --no-pager security {unit}")
+        found = re.search(r"Overall exposure level .*: ([\d.]+)", told)
+        print(f"units: exposure of {unit}: {found and found[1]}")
+
+
+TRIALS = [try_no_folder, try_reading, try_kill, try_late_address, try_writing, try_instances, try_grade]
+
+
+def run(folder):
+    """All trials. Returns the status."""
+    began = time.monotonic()
+    with tempfile.TemporaryDirectory(prefix="units-") as room, ExitStack() as stack:
+        it = Container(folder, room, stack)
+        print("units:", it.run("systemctl --version").splitlines()[0], f"started in {time.monotonic() - began:.0f} s")
+        for trial in TRIALS:
+            try:
+                trial(it)
+            except (Fault, subprocess.SubprocessError, OSError) as fault:
+                print(f"units: {trial.__name__}: {fault}")
+                print(it.told("journalctl --no-pager --lines 20"))
+                return 1
+    print(f"units: {len(TRIALS)} trials in {time.monotonic() - began:.0f} s, 0 failed")
+    return 0
+
+
+def main():
+    if sys.argv[1:2] == ["--in"]:
+        sys.exit(run(sys.argv[2]))
+    if len(sys.argv) > 2 or sys.argv[1:2] == ["--help"]:
+        sys.exit(__doc__)
+    needed = ["debootstrap", "systemd-nspawn", "ip", "nft", "unshare", "nsenter"]
+    missing = [name for name in needed if not shutil.which(name)]
+    built = [f"bin/{name}" for name in ["tftp", "tftpd", "tftp-show", "tftp-play"]]
+    missing += [path for path in built if not (TOP / path).exists()]
+    missing += ["root"] * (os.geteuid() != 0)
+    if missing:
+        sys.exit(f"units: needs {', '.join(missing)}")
+    folder = Path(sys.argv[1] if len(sys.argv) > 1 else TOP / "out/debian").resolve()
+    if not (folder / "usr/lib/systemd/systemd").exists():
+        folder.parent.mkdir(exist_ok=True)
+        words = ["debootstrap", "--variant=minbase", f"--include={PACKAGES}", SUITE, folder, ARCHIVE]
+        subprocess.run(words, check=True, stdout=subprocess.DEVNULL)
+    try:
+        sys.exit(subprocess.run([*APART, sys.executable, __file__, "--in", folder], timeout=LIMIT).returncode)
+    except subprocess.TimeoutExpired:
+        sys.exit(f"units: has not ended after {LIMIT} seconds")
+
+
+if __name__ == "__main__":
+    main()
