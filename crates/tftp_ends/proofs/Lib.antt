@@ -6,6 +6,7 @@ pub mod RowLemmas
 pub mod SenderRowLemmas
 pub mod ReceiverRowLemmas
 pub mod WaitingRowLemmas
+pub mod SharedRowLemmas
 pub mod RunLemmas
 pub mod RunSteps
 pub mod Sending

@@ -101,7 +101,7 @@ module _ {S K : Type 0} {sources : SourceMeaning S} {sinks : SinkMeaning K} (c :
       (did_at (Some packet) phase (decoded_is c.bytes packet c.step.decoded says c.step.says) stands))
 
   -- for bytes that spell no packet
-  nothing_at : (phase : Phase) → is_stranger (terms_of phase) c.e.position.last_sent_to c.from ≡ false → c.e.position.phase ≡ phase → ((packet : Packet) → Spells packet c.bytes → ⊥) →
+  pub nothing_at : (phase : Phase) → is_stranger (terms_of phase) c.e.position.last_sent_to c.from ≡ false → c.e.position.phase ≡ phase → ((packet : Packet) → Spells packet c.bytes → ⊥) →
       DidSo (if has_error_opcode c.bytes && true then Respond (garbled_response phase) else packet_action c.e c.from None phase)
   nothing_at phase own stands none =
       if_no DidSo (is_stranger (terms_of phase) c.e.position.last_sent_to c.from) (if has_error_opcode c.bytes then Respond Ignore else Respond Stranger)
@@ -226,7 +226,7 @@ module _ {S K : Type 0} {sources : SourceMeaning S} {sinks : SinkMeaning K} (c :
       h.1,
     )
     append_row true after mid sink' (Ok done) h =
-        record { answer = h.answer; commits = h.commits; refused = h.refused; leaves = h.leaves; row = commit_row after h.answer h.answers }
+        record { answer = h.answer; commits = h.commits; refused = h.refused; leaves = h.leaves; effect = h.effect; row = commit_row after h.answer h.answers }
 
     stores_of : (piece : List ℕ) (files files' : Files S K) → StoresIn sources sinks terms (n + 1) c.from piece c.e files c.turn files' → c.files ≡ files → c.files' ≡ files' → HandsToSink c terms n piece
     stores_of piece (Sink k) (Sink k') h a b =

@@ -43,7 +43,7 @@ module _ {K : Type 0} (sinks : SinkMeaning K) (terms : Terms) (number : ℕ) (fr
   goes_on true (Err fault) mid block_stored o = (ap stored_turn o.0, o.1)
   goes_on false (Err fault) mid block_stored o = (ap stored_turn o.0, o.1)
   goes_on true (Ok done) mid block_stored o =
-      record { answer = o.answer; commits = o.commits; refused = o.refused; leaves = o.leaves; answers = ap stored_turn o.comes_to ∙ committed o.answer }
+      record { answer = o.answer; commits = o.commits; refused = o.refused; leaves = o.leaves; effect = o.effect; answers = ap stored_turn o.comes_to ∙ committed o.answer }
   goes_on false (Ok done) mid block_stored o = (ap stored_turn o.0, o.1)
 
   stores : (block_stored : BlockStored) → StoresNext block_stored → Stores sinks terms number from piece e sink (stored_turn block_stored) sink'

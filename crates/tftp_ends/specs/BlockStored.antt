@@ -1,5 +1,6 @@
 -- Internal to the code: the result of storing a block.
 use Rattle.std.specs.Prelude.{◌≡◌, ◌≢◌, Bool, true, false, List, ℕ, Result, Ok, Err, IfErr, is_ok}
+use Rattle.std.specs.Result.{result_err}
 use Rattle.tftp_wire.specs.declared.mode.Mode.{Mode}
 use Rattle.tftp_file.specs.Sink.{SinkMeaning, Commits}
 use Rattle.tftp_file.specs.declared.fault.StoreFault.{StoreFault}
@@ -22,6 +23,7 @@ module _ {K : Type 0} (sinks : SinkMeaning K) where
     pub commits : Commits (sinks.held sink) (sinks.held sink') answer
     pub refused : IfErr answer (sinks.may_refuse_commit sink)
     pub leaves : sinks.becomes sink sink' (is_ok answer)
+    pub effect : sinks.after_commit sink sink' (result_err answer)
     pub comes_to : block_stored ≡ committed_as answer
 
   -- what follows an append

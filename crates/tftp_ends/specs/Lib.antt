@@ -13,6 +13,7 @@ pub mod Step
 pub mod Sound
 pub mod Fits
 pub mod Room
+pub mod Shortage
 pub mod BlockRead
 pub mod BlockStored
 pub mod Files
@@ -23,4 +24,5 @@ pub mod Rows
 pub mod SenderRows
 pub mod ReceiverRows
 pub mod WaitingRows
+pub mod SharedRows
 pub mod Endpoint

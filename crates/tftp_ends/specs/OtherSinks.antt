@@ -1,6 +1,6 @@
 -- A step with one file is a step with another file that has the same model.
 use Rattle.std.specs.Prelude.{ℕ, ◌≡◌, ◌↔◌, Bool, true, false, List, [], ◌∷◌, Result, Ok, Err}
-use Rattle.std.specs.Prelude.{IfErr}
+use Rattle.std.specs.Prelude.{IfErr, Option}
 use Rattle.std.proofs.Common.{ap, sym, subst}
 use Rattle.tftp_file.specs.Source.{SourceMeaning}
 use Rattle.tftp_file.specs.Sink.{SinkMeaning}
@@ -36,6 +36,11 @@ pub record SinksModel {K L : Type 0} (seen : K → L) (holds : K → Type 0) (si
       → sinks'.may_refuse_commit (seen sink) fault
   pub leaves : (sink sink' : K) (committed : Bool) → holds sink → sinks.becomes sink sink' committed
       → sinks'.becomes (seen sink) (seen sink') committed
+  pub after_append : (sink sink' : K) (bytes : List ℕ) (fault : Option StoreFault) → holds sink
+      → sinks.after_append sink bytes sink' fault
+      → sinks'.after_append (seen sink) bytes (seen sink') fault
+  pub after_commit : (sink sink' : K) (fault : Option StoreFault) → holds sink
+      → sinks.after_commit sink sink' fault → sinks'.after_commit (seen sink) (seen sink') fault
 
 -- the files of an end, each seen as a value of another type
 abbrev pub seen_as : {S T K L : Type 0} → (S → T) → (K → L) → Files S K → Files T L
@@ -130,6 +135,7 @@ module _ {S T K L : Type 0} (sources : SourceMeaning S) (sinks : SinkMeaning K)
         rw (sink_models.models k, sink_models.models k') h.0,
         faults answer _ _ (λ fault. sink_models.appends k (b ∷ bytes) fault p) h.1,
         sink_models.leaves k k' false p h.2,
+        sink_models.after_append k k' (b ∷ bytes) _ p h.3,
       ),
       sink_models.keeps k k' p h.2,
     )
@@ -144,6 +150,7 @@ module _ {S T K L : Type 0} (sources : SourceMeaning S) (sinks : SinkMeaning K)
           commits = rw (sink_models.models k, sink_models.models k') h.commits;
           refused = faults h.answer _ _ (λ fault. sink_models.commits k fault p) h.refused;
           leaves = sink_models.leaves k k' _ p h.leaves;
+          effect = sink_models.after_commit k k' _ p h.effect;
           answers = h.answers;
         }
 

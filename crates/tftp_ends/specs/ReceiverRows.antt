@@ -1,6 +1,7 @@
 -- The receiver's table, a statement for each row (RFC 1350, sections 2 and 6).
 use Rattle.std.specs.Prelude.{ℕ, ◌≡◌, ◌≢◌, ◌<◌, ◌≤◌, ◌+◌, Bool, true, false, nat_lt, List, length}
 use Rattle.std.specs.Prelude.{codes, Some, Result, Ok, Err, IfErr, is_ok}
+use Rattle.std.specs.Result.{result_err}
 use Rattle.tftp_wire.specs.Spelling.{Spells}
 use Rattle.tftp_wire.specs.declared.options.RawOption.{RawOption}
 use Rattle.tftp_wire.specs.declared.packet.Packet.{Packet}
@@ -57,6 +58,7 @@ module _ {S K : Type 0} {sources : SourceMeaning S} {sinks : SinkMeaning K}
     pub commits : Commits (sinks.held sink) (sinks.held sink') answer
     pub refused : IfErr answer (sinks.may_refuse_commit sink)
     pub leaves : sinks.becomes sink sink' (is_ok answer)
+    pub effect : sinks.after_commit sink sink' (result_err answer)
     pub row : CommitRow after answer
 
   -- the result of the append; `last` says that the block is shorter than the block size

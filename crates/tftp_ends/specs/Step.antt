@@ -1,7 +1,8 @@
 -- The state of an end after an event, and its answer.
-use Rattle.std.specs.Prelude.{ℕ, ◌≡◌, ◌≢◌, ◌+◌, ◌-◌, ◌*◌, min, nat_lt, ◌==◌, Bool, true, false}
+use Rattle.std.specs.Prelude.{ℕ, ◌≡◌, ◌≢◌, ◌-◌, ◌*◌, min, nat_lt, ◌==◌, Bool, true, false}
 use Rattle.std.specs.Prelude.{if◌then◌else◌, List, [], ◌∷◌, ◌++◌, length, Option, Some, None}
 use Rattle.std.specs.Prelude.{Result, Ok, Err, IfErr, is_ok, option_map}
+use Rattle.std.specs.Result.{result_err}
 use Rattle.tftp_wire.specs.declared.packet.Packet.{Packet}
 use Rattle.tftp_wire.specs.declared.packet.Packet.TheVariants.{Data, Ack}
 use Rattle.tftp_wire.specs.Spelling.{Spells, canonical}
@@ -213,6 +214,7 @@ module _ {K : Type 0} (sinks : SinkMeaning K) where
   Appended (b ∷ bytes) sink sink' answer =
       Appends (sinks.held sink) (sinks.held sink') (b ∷ bytes) answer
       × IfErr answer (sinks.may_refuse_append sink (b ∷ bytes)) × sinks.becomes sink sink' false
+      × sinks.after_append sink (b ∷ bytes) sink' (result_err answer)
 
   -- a sink was called to commit the file
   pub record Committed (terms : Terms) (number : ℕ) (from : Endpoint) (e : EndState) (sink : K)
@@ -221,6 +223,7 @@ module _ {K : Type 0} (sinks : SinkMeaning K) where
     pub commits : Commits (sinks.held sink) (sinks.held sink') answer
     pub refused : IfErr answer (sinks.may_refuse_commit sink)
     pub leaves : sinks.becomes sink sink' (is_ok answer)
+    pub effect : sinks.after_commit sink sink' (result_err answer)
     pub answers : turn ≡ committed_turn terms number from e answer
 
   -- after an append: the last block is acknowledged after a commit, any other at once

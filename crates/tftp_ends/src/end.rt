@@ -48,8 +48,8 @@ pub struct End {
 }
 
 impl Model for End {
-    ghost use Rattle.std.specs.Prelude.{◌≡◌, ◌≤◌, [], vec_capacity};
-    ghost use Rattle.tftp_ends.specs.End.{EndState};
+    ghost use Rattle.std.specs.Prelude.{◌≡◌, ◌≤◌, [], true, length, vec_capacity};
+    ghost use Rattle.tftp_ends.specs.End.{EndState, is_sender};
     ghost use Rattle.tftp_ends.specs.Sound.{IsSound};
 
     ghost Value = { EndState };
@@ -74,7 +74,8 @@ impl Model for End {
         held = e.decoder;
         phase = e.phase;
       };
-    }) × (4 ≤ vec_capacity e.last_sent) × (e.spare.items ≡ []) };
+    }) × (4 ≤ vec_capacity e.last_sent) × (e.spare.items ≡ [])
+        × (is_sender e.role.side ≡ true → length e.last_sent.items ≤ vec_capacity e.spare) };
 }
 
 impl End {
@@ -83,6 +84,8 @@ impl End {
     ghost use Rattle.tftp_ends.specs.Action.{garbled_response, is_stranger, timeout_response};
     ghost use Rattle.tftp_ends.specs.Action.{timeout_action};
     ghost use Rattle.tftp_ends.specs.Fits.{ActionFits, BytesFit, ReplyFits, ResponseFits};
+    ghost use Rattle.tftp_ends.specs.Room.{response_room, room_of};
+    ghost use Rattle.tftp_ends.specs.Shortage.{AppendsNothing, HasNoRoom, LacksMemory};
     ghost use Rattle.tftp_ends.specs.Sound.{IsSound, ResendsAck, longest_sent};
     ghost use Rattle.tftp_ends.specs.Files.{AreFilesOf, KeepsFiles, AreSame};
     ghost use Rattle.tftp_ends.specs.Step.{Turn, DatagramStep, Carries, Lends, IsAnswered};
@@ -284,6 +287,11 @@ impl End {
         ensures memory { IsErrOf result EndFault.Memory → (decoded : Option Packet)
             × Decodes bytes.now decoded
             × UsesFile (datagram_action self.old from bytes.now decoded) }
+        ensures why { IsErrOf result EndFault.Memory → LacksMemory S.meaning K.meaning
+            AppendsNothing from bytes.now self.old files.old files.new }
+        ensures room { IfOk result (λ answer. (decoded : Option Packet) × Decodes bytes.now decoded
+            × (length (lent answer.1 self.new)
+            ≤ room_of self.old (datagram_action self.old from bytes.now decoded))) }
         ensures err { OnErr result ((self.new ≡ self.old)
             × KeepsFiles S.meaning K.meaning files.old files.new) }
         ensures same { AreSame S.is_same K.is_same files.old files.new }
@@ -351,6 +359,9 @@ impl End {
         ensures memory { IsErrOf result EndFault.Memory → (decoded : Option Packet)
             × Decodes bytes.now decoded
             × IsAnswered (datagram_action self.old from bytes.now decoded) }
+        ensures why { IsErrOf result EndFault.Memory → LacksMemory S.meaning K.meaning
+            (HasNoRoom (vec_capacity out.old) (vec_len out.old)) from bytes.now self.old
+            files.old files.new }
         ensures err { OnErr result ((self.new ≡ self.old) × (out.new.items ≡ out.old.items)
             × KeepsFiles S.meaning K.meaning files.old files.new) }
         ensures same { AreSame S.is_same K.is_same files.old files.new }
@@ -380,6 +391,9 @@ impl End {
             ↔ IsSome (outcome_of self.old.position.phase) }
         ensures memory { IsErrOf result EndFault.Memory
             → IsAnswered (timeout_action self.old.position.retries_left self.old.position.phase) }
+        ensures why { IsErrOf result EndFault.Memory
+            → HasNoRoom (vec_capacity out.old) (vec_len out.old) (response_room self.old
+            (timeout_response self.old.position.retries_left self.old.position.phase)) }
         ensures err { OnErr result ((self.new ≡ self.old) × (out.new.items ≡ out.old.items)) }
     {
         if self.is_closed() {

@@ -10,6 +10,8 @@ use crate::side::Side;
 /// The timeout interval in seconds where none is agreed; no RFC states a default.
 pub const DEFAULT_INTERVAL: u8 = 1;
 
+const _: () = prove!(DEFAULT_INTERVAL == 1);
+
 /// The state of an end, as it reports it.
 #[derive(Clone, Copy, Debug, PartialEq, Eq)]
 pub struct Record {

@@ -1,6 +1,8 @@
 //! The bytes of the ERROR packets that are sent.
 
 ghost use Rattle.std.specs.Prelude.{◌≡◌, ◌++◌, ◌+◌, ◌≤◌, IsOk, length, OnOk, OnErr, vec_capacity};
+ghost use Rattle.std.specs.Prelude.{vec_len};
+ghost use Rattle.tftp_ends.specs.Shortage.{HasNoRoom};
 ghost use Rattle.tftp_ends.specs.Step.{error_bytes};
 
 use crate::error_reply::ErrorReply;
@@ -36,6 +38,8 @@ impl ErrorReply {
         ensures ok { OnOk result (out.new.items ≡ out.old.items ++ error_bytes self) }
         ensures err { OnErr result (out.new.items ≡ out.old.items) }
         ensures room { length out.old.items + MAX_ERROR ≤ vec_capacity out.old → IsOk result }
+        ensures why { OnErr result
+            (HasNoRoom (vec_capacity out.old) (vec_len out.old) (length (error_bytes self))) }
     {
         out.extend_from_slice(self.datagram())
     }

@@ -39,6 +39,15 @@ abbrev pub MayRefuseCommit : MemSinkState → StoreFault → Type 0
 MayRefuseCommit sink Full = (sink.holding.refuses ≡ true) ⊎ (sink.refuses_commit ≡ true)
 MayRefuseCommit sink fault = ⊥
 
+-- an append must be refused with Full if set to, or if there are bytes and the sink is full
+abbrev pub MustRefuseAppend : MemSinkState → List ℕ → Type 0
+MustRefuseAppend sink piece =
+    (sink.holding.refuses ≡ true) ⊎ (IsFull sink × (0 < length piece))
+
+-- a commit must be refused with Full if set to
+abbrev pub MustRefuseCommit : MemSinkState → Type 0
+MustRefuseCommit sink = (sink.holding.refuses ≡ true) ⊎ (sink.refuses_commit ≡ true)
+
 -- the model of a sink in memory
 abbrev pub memory_sink : SinkMeaning MemSinkState
 memory_sink =
@@ -47,6 +56,8 @@ memory_sink =
       may_refuse_append = MayRefuseAppend;
       may_refuse_commit = MayRefuseCommit;
       becomes = λ before after committed. ⊤;
+      after_append = λ before piece after fault. MustRefuseAppend before piece → fault ≡ Some Full;
+      after_commit = λ before after fault. MustRefuseCommit before → fault ≡ Some Full;
     }
 
 -- the model of a source in memory: its wire text is known, and it never fails to read

@@ -26,6 +26,11 @@ pub record SinkMeaning (K : Type 0) : Type 1 where
   -- the effect of a call on the state of the sink besides its content: true after a successful
   -- commit, false after every other call
   pub becomes : K → K → Bool → Type 0
+  -- what an append of these bytes leaves, if refused with this fault or not refused: it states which
+  -- appends must be refused
+  pub after_append : K → List ℕ → K → Option StoreFault → Type 0
+  -- the same, of a commit
+  pub after_commit : K → K → Option StoreFault → Type 0
 
 -- the model of a value that contains a sink
 abbrev pub sink_through : {K L : Type 0} → SinkMeaning L → (K → L) → SinkMeaning K
@@ -35,6 +40,8 @@ sink_through meaning seen =
       may_refuse_append = λ k bytes fault. meaning.may_refuse_append (seen k) bytes fault;
       may_refuse_commit = λ k fault. meaning.may_refuse_commit (seen k) fault;
       becomes = λ k l committed. meaning.becomes (seen k) (seen l) committed;
+      after_append = λ k bytes l fault. meaning.after_append (seen k) bytes (seen l) fault;
+      after_commit = λ k l fault. meaning.after_commit (seen k) (seen l) fault;
     }
 
 -- the model of a borrow of a sink

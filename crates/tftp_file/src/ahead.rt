@@ -72,16 +72,20 @@ impl<S> Ahead<S> {
 }
 
 impl<S: Source> Source for Ahead<S> {
+    ghost use Rattle.std.specs.Prelude.{◌≡◌, true};
     ghost use Rattle.tftp_file.specs.Ahead.{ahead_meaning};
 
     ghost meaning = { ahead_meaning S.meaning S.is_same };
 
-    /// The source below is the same.
-    ghost is_same = { λ a b. S.is_same a.source b.source };
+    /// The source below is the same, and a read ahead that failed stays so.
+    ghost is_same = { λ a b. S.is_same a.source b.source × (a.failed ≡ true → b.failed ≡ true) };
 
-    ghost stays = { λ a. S.stays a.source };
+    ghost stays = { λ a. (S.stays a.source, λ failed. failed) };
 
-    ghost joins = { λ a b c p q. S.joins a.source b.source c.source p q };
+    ghost joins = { λ a b c p q. (
+      S.joins a.source b.source c.source p.0 q.0,
+      λ failed. q.1 (p.1 failed),
+    ) };
 
     fn fill(&mut self, want: usize, out: &mut Vec<u8>) -> Result<usize, FileFault> {
         if self.failed {

@@ -14,6 +14,9 @@ use tftp_wire::Mode;
 /// the last of them one byte short (RFC 2348, "Blocksize Option Specification").
 pub const MAX_WIRE: u64 = 4_290_183_239;
 
+// Our own number: what 65,535 blocks of the largest size hold, if the last is short.
+const _: () = prove!(MAX_WIRE == 65_535 * 65_464 - 1);
+
 const CHUNK: usize = 8192;
 
 /// The length of the reader's text on the wire, in bytes, or `MAX_WIRE + 1` if it is greater; it

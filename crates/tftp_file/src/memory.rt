@@ -9,6 +9,7 @@ use crate::{FileFault, Sink, Source, StoreFault};
 use bytes::Bytes as SharedBytes;
 use std::alloc::Global;
 use std::marker::Model;
+use std::mem;
 use tftp_wire::Mode;
 
 /// A source of bytes in memory, which each fill encodes. Its model is the wire text that is left.
@@ -154,6 +155,8 @@ impl Sink for MemSink {
     ghost use Rattle.std.proofs.Common.{◌∙◌};
     ghost use Rattle.tftp_file.specs.Sink.{Appends, Commits};
     ghost use Rattle.tftp_file.specs.Memory.{IsFull, MayRefuseAppend, MayRefuseCommit, memory_sink};
+    ghost use Rattle.tftp_file.specs.Memory.{MustRefuseAppend, MustRefuseCommit};
+    ghost use Rattle.std.specs.Result.{result_err};
 
     ghost meaning = { memory_sink };
 
@@ -178,6 +181,8 @@ impl Sink for MemSink {
         ensures filled { result ≡ Err StoreFault.Full → self.old.holding.refuses ≡ false
             → self.new.holding.bytes ≡ take self.old.room (self.old.holding.bytes ++ bytes.now) }
         ensures full { IsFull self.old → 0 < length bytes.now → result ≡ Err StoreFault.Full }
+        ensures after { MustRefuseAppend self.old bytes.now
+            → result_err result ≡ Some StoreFault.Full }
     {
         if self.refuses_next {
             self.refuses_next = false;
@@ -200,9 +205,9 @@ impl Sink for MemSink {
         ensures same { (self.new.room ≡ self.old.room)
             × (self.new.refuses_commit ≡ self.old.refuses_commit) }
         ensures refuses { self.old.refuses_commit ≡ true → result ≡ Err StoreFault.Full }
+        ensures after { MustRefuseCommit self.old → result_err result ≡ Some StoreFault.Full }
     {
-        if self.refuses_next {
-            self.refuses_next = false;
+        if mem::replace(&mut self.refuses_next, false) {
             return Err(StoreFault::Full);
         }
         if self.refuses_commit {

@@ -1,6 +1,7 @@
 //! The file that a receiver writes: it is appended to, and then committed.
 
 ghost use Rattle.std.specs.Prelude.{◌≡◌, ◌≢◌, Err, IfErr, is_ok, false};
+ghost use Rattle.std.specs.Result.{result_err};
 ghost use Rattle.tftp_file.specs.Sink.{Appends, Commits, WritesBehind, SinkMeaning};
 
 use crate::StoreFault;
@@ -13,7 +14,8 @@ use crate::StoreFault;
 pub trait Sink {
     /// Its content, if it has a model (`held`), the faults that an append and a commit may return
     /// (`may_refuse_append`, `may_refuse_commit`), and the effect of a call on the rest of its
-    /// state (`becomes`).
+    /// state (`becomes`; by the fault, and so which calls must be refused, `after_append` and
+    /// `after_commit`).
     ghost meaning: { SinkMeaning Self };
 
     /// The second is the first at a later time: it holds the same borrows. For a sink without
@@ -28,6 +30,7 @@ pub trait Sink {
         ensures appends { Appends (meaning.held self.old) (meaning.held self.new) bytes.now result }
         ensures refused { IfErr result (meaning.may_refuse_append self.old bytes.now) }
         ensures leaves { meaning.becomes self.old self.new false }
+        ensures after { meaning.after_append self.old bytes.now self.new (result_err result) }
         ensures same { is_same self.old self.new };
 
     /// Makes the content permanent.
@@ -38,6 +41,7 @@ pub trait Sink {
         ensures commits { Commits (meaning.held self.old) (meaning.held self.new) result }
         ensures refused { IfErr result (meaning.may_refuse_commit self.old) }
         ensures leaves { meaning.becomes self.old self.new (is_ok result) }
+        ensures after { meaning.after_commit self.old self.new (result_err result) }
         ensures not_memory { result ≢ Err StoreFault.Memory }
         ensures same { is_same self.old self.new };
 

@@ -322,6 +322,8 @@ impl<W: Write> Sink for WriteSink<W> {
       may_refuse_append = λ _ _ fault. fault ≡ Io;
       may_refuse_commit = λ _ fault. fault ≡ Io;
       becomes = λ _ _ _. ⊤;
+      after_append = λ _ _ _ _. ⊤;
+      after_commit = λ _ _ _. ⊤;
     } };
 
     /// Always true: it does not constrain the writer.

@@ -3,3 +3,4 @@ pub mod TableLemmas
 pub mod OneFileLemmas
 mod RequestLemmas
 mod RepeatLemmas
+mod ShortageLemmas

@@ -67,7 +67,7 @@ module _ {S K R : Type 0} (sources : SourceMeaning S) (sinks : SinkMeaning K) (s
       let steps = subst (λ (f : Files S (MutBor K)). DatagramStep sources (borrowed_sink sinks) from bytes e (Sink first) h.0 f) is h.1 in
       let now : DatagramStep sources sinks from bytes e (Sink first.now) h.0 (Sink second.now) =
       sink_step_as sources (borrowed_sink sinks) sources sinks
-      (λ k. k.now) (λ k. Unit {0}) (record { models = λ k. refl; keeps = λ k l p b. tt; appends = λ k piece fault p f. f; commits = λ k fault p f. f; leaves = λ k l committed p b. b }) from bytes e first h.0 second tt steps in
+      (λ k. k.now) (λ k. Unit {0}) (record { models = λ k. refl; keeps = λ k l p b. tt; appends = λ k piece fault p f. f; commits = λ k fault p f. f; leaves = λ k l committed p b. b; after_append = λ k l piece fault p a. a; after_commit = λ k l fault p a. a }) from bytes e first h.0 second tt steps in
       record {
         turn = h.0;
         steps = subst (λ (k : K). DatagramStep sources sinks from bytes e (Sink first.now) h.0 (Sink k)) (sym same) now;

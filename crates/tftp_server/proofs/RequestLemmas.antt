@@ -1,6 +1,6 @@
 -- What the request port decides, from the calls that it makes.
 use Rattle.std.proofs.Common.{◌≡◌, ◌≢◌, ℕ, Bool, true, false, List, [], ◌++◌, Option, Some, None, Result, Ok, Err, IfOk, IsErrOf, OnOk, OnErr, length, take, refl, sym, ap, subst, ◌∙◌}
-use Rattle.std.specs.Prelude.{if◌then◌else◌, nat_le}
+use Rattle.std.specs.Prelude.{if◌then◌else◌, nat_le, IsOk}
 use Rattle.tftp_wire.specs.declared.mode.Mode.{Mode}
 use Rattle.tftp_wire.specs.declared.options.RawOption.{RawOption}
 use Rattle.tftp_wire.specs.declared.packet.Packet.{Packet}
@@ -37,8 +37,9 @@ use Rattle.tftp_server.specs.declared.server.request.Decision.TheVariants.{Refus
 use Rattle.tftp_store.specs.declared.store.Opening.{Opening}
 use Rattle.tftp_server.specs.Port.{Ask, Ignores, Refuses, asks, by_packet, by_repeat, by_name, by_options, by_kind, by_file, begin_reply}
 use Rattle.tftp_server.specs.Request.{Acts, Admits, CarriesOut, Came, Nothing, An_error, A_transfer, IsRequest, AsksToRead, AsksToWrite, Goes, RequestStep, Sent, Left, ask_of, came_to, decided_bytes, left_by}
+use Rattle.tftp_server.specs.Shortage.{NamesAPath}
 use Rattle.tftp_server.specs.State.{HeldTransfer, ServerState, IsRepeated, with_new}
-use Rattle.tftp_store.specs.Store.{StoreMeaning, Opens, Begins}
+use Rattle.tftp_store.specs.Store.{StoreMeaning, Opens, Begins, FailsIf, RefusedIf}
 
 -- what was appended is truncated
 cut_back : (before sent all cut : List ℕ) (start : ℕ) → start ≡ length before → all ≡ before ++ sent → cut ≡ take start all → cut ≡ before
@@ -138,14 +139,30 @@ module _ {S F D : Type 0} (old : ServerState S F D) (from : Endpoint) (bytes : L
         (kind_acts kind request.mode request.options old.config.limits) (path_of_name request.name),
   )
 
+  -- and its name is a path
+  pub names_a_path : {T E : Type 0} (kind : Kind) (request : Request) (decoded : Option Packet) (repeated : Bool) (r : Result T E) → Decodes bytes decoded → IsRequest decoded (Some (kind, request)) →
+      IsRepeated repeated from decoded old.held → repeated ≡ false → OnErr r (IsOk (path_of_name request.name)) → OnErr r (NamesAPath old from bytes)
+  names_a_path kind request decoded repeated (Ok done) says is repeats new h = tt
+  names_a_path kind request decoded repeated (Err fault) says is repeats new h =
+      record {
+        decoded = decoded;
+        says = says;
+        fresh = subst (λ (b : Bool). IsRepeated b from decoded old.held) new repeats;
+        kind = kind;
+        request = request;
+        is = is;
+        path = h;
+      }
+
 module _ {S F D : Type 0} (meaning : StoreMeaning S D) (sources : SourceMeaning F) (old : ServerState S F D) (from : Endpoint) (bytes : List ℕ) where
   -- the file was opened, and this was decided
   pub asks_to_read : {E : Type 0} (path : List ℕ) (mode : Mode) (options : List RawOption) (file : Opening F) (r : Result (Decision F D) E) → Opens sources (meaning.stored old.store) path mode (Ok file) →
+      RefusedIf {A = Opening F} (meaning.must_refuse_open old.store path) (Ok file) → FailsIf sources (meaning.must_fail old.store path) (Ok file) →
       IfOk r (λ d. Sent meaning sources old from bytes (by_file old.config.limits path mode options (Ok file.length)) (Ok file) (came_to d old.store)) →
       IfOk r (λ d. AsksToRead meaning sources old from bytes path mode options (came_to d old.store))
-  asks_to_read path mode options file (Ok d) o h =
-      record { file = Ok file; opens = o; refused = tt; memory = λ e. cc; goes_on = h }
-  asks_to_read path mode options file (Err e) o h = tt
+  asks_to_read path mode options file (Ok d) o must reads h =
+      record { file = Ok file; opens = o; refused = tt; must = must; reads = reads; memory = λ e. cc; goes_on = h }
+  asks_to_read path mode options file (Err e) o must reads h = tt
 
   -- a draft was begun
   pub asks_to_write : (path : List ℕ) (mode : Mode) (agreed : List Known) (store : S) (draft : D) (end : EndState) (request : List ℕ) (held : HeldTransfer F D) → Begins meaning.drafted (meaning.stored old.store) (meaning.stored store) path old.config.overwrite (Ok draft) →

@@ -70,7 +70,7 @@ module _ {S F D : Type 0} (meaning : StoreMeaning S D) (sources : SourceMeaning 
       let steps =
       sink_step_as sources (sink_through (drafting_sink meaning) as_drafting)
       sources (drafting_sink meaning)
-      as_drafting (λ k. Unit {0}) (record { models = λ k. refl; keeps = λ k l p b. tt; appends = λ k piece fault p f. f; commits = λ k fault p f. f; leaves = λ k l committed p b. b }) from bytes e k h.turn k' tt h.steps in
+      as_drafting (λ k. Unit {0}) (record { models = λ k. refl; keeps = λ k l p b. tt; appends = λ k piece fault p f. f; commits = λ k fault p f. f; leaves = λ k l committed p b. b; after_append = λ k l piece fault p a. a; after_commit = λ k l fault p a. a }) from bytes e k h.turn k' tt h.steps in
       let last = subst (λ (d : Drafting S D). StepIn meaning sources from bytes e (Sink (as_drafting k)) h.turn (Sink d)) is steps in
       record {
         turn = h.turn;

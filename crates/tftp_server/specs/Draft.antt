@@ -48,6 +48,13 @@ module _ {S D : Type 0} (meaning : StoreMeaning S D) where
     pub files : FilesBy committed (meaning.stored before.store) (meaning.stored after.store)
         (meaning.drafted before.draft) before.path before.replace
 
+  -- what an append, or a commit, leaves of the store
+  abbrev pub AfterAppend : Drafting S D → List ℕ → Drafting S D → Option StoreFault → Type 0
+  AfterAppend before bytes after fault = meaning.after_append before.store after.store fault
+
+  abbrev pub AfterCommit : Drafting S D → Drafting S D → Option StoreFault → Type 0
+  AfterCommit before after fault = meaning.after_commit before.store after.store fault
+
   -- the model of a store with one of its drafts
   abbrev pub drafting_sink : SinkMeaning (Drafting S D)
   drafting_sink =
@@ -56,6 +63,8 @@ module _ {S D : Type 0} (meaning : StoreMeaning S D) where
         may_refuse_append = MayRefuseAppend;
         may_refuse_commit = MayRefuseCommit;
         becomes = DraftingBecomes;
+        after_append = AfterAppend;
+        after_commit = AfterCommit;
       }
 
 -- a read transfer does not change the store

@@ -7,3 +7,4 @@ pub mod Steps
 pub mod Work
 pub mod Port
 pub mod Request
+pub mod Shortage

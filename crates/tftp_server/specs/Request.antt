@@ -2,6 +2,7 @@
 -- "Negotiation Protocol").
 use Rattle.std.specs.Prelude.{ℕ, Bool, ◌≡◌, ◌≢◌, List, [], ◌⊎◌, length, Option, Some, None, Result}
 use Rattle.std.specs.Prelude.{Ok, Err, IfErr}
+use Rattle.std.specs.Result.{result_err}
 use Rattle.tftp_wire.specs.declared.mode.Mode.{Mode}
 use Rattle.tftp_wire.specs.declared.options.RawOption.{RawOption}
 use Rattle.tftp_wire.specs.Borrowed.{owned_request}
@@ -32,7 +33,7 @@ use Rattle.tftp_store.specs.declared.store.Opening.{Opening}
 use Rattle.tftp_server.specs.State.{HeldTransfer, ServerState, IsRepeated, with_new}
 use Rattle.tftp_server.specs.Port.{Ask, Ignores, Refuses, Reads, Writes, Service, Refused, Sends}
 use Rattle.tftp_server.specs.Port.{Takes, asks, by_file, by_draft}
-use Rattle.tftp_store.specs.Store.{StoreMeaning, Opens, Begins, fault_in}
+use Rattle.tftp_store.specs.Store.{StoreMeaning, Opens, Begins, FailsIf, RefusedIf}
 
 -- the length of a file that was opened
 abbrev pub opened_length : {F : Type 0} → Result (Opening F) StoreFault → Result ℕ StoreFault
@@ -123,6 +124,8 @@ module _ {S F D : Type 0} (meaning : StoreMeaning S D) (sources : SourceMeaning 
     pub file : Result (Opening F) StoreFault
     pub opens : Opens sources (meaning.stored old.store) path mode file
     pub refused : IfErr file (meaning.may_refuse_open old.store path)
+    pub must : RefusedIf (meaning.must_refuse_open old.store path) file
+    pub reads : FailsIf sources (meaning.must_fail old.store path) file
     pub memory : file ≢ Err Memory
     pub goes_on : Sent (by_file old.config.limits path mode options (opened_length file)) file
         came
@@ -147,7 +150,7 @@ module _ {S F D : Type 0} (meaning : StoreMeaning S D) (sources : SourceMeaning 
     pub begins : Begins meaning.drafted (meaning.stored old.store) (meaning.stored store) path
         old.config.overwrite draft
     pub refused : IfErr draft (meaning.may_refuse_begin old.store path old.config.overwrite)
-    pub begun : meaning.begun old.store store (fault_in draft)
+    pub begun : meaning.begun old.store store (result_err draft)
     pub memory : draft ≢ Err Memory
     pub goes_on : Taken (by_draft path mode agreed draft) draft store came
 

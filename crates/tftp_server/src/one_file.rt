@@ -1,9 +1,11 @@
 //! An end that handles a datagram over a borrowed file.
 
 ghost use Rattle.std.specs.Prelude.{◌≡◌, ◌↔◌, true, false, IfOk, OnErr, IsErrOf, IsSome, Option};
+ghost use Rattle.std.specs.Prelude.{vec_len, vec_capacity};
 ghost use Rattle.tftp_ends.specs.Action.{Decodes, datagram_action};
 ghost use Rattle.tftp_ends.specs.Files.{KeepsSource, KeepsSink};
 ghost use Rattle.tftp_ends.specs.End.{is_sender, outcome_of};
+ghost use Rattle.tftp_ends.specs.Shortage.{AppendsNothing, HasNoRoom, LacksMemory};
 ghost use Rattle.tftp_ends.specs.Step.{IsAnswered, UsesFile};
 ghost use Rattle.tftp_wire.specs.declared.packet.Packet.{Packet};
 ghost use Rattle.tftp_server.specs.Steps.{MakesStep, appends, lends};
@@ -27,6 +29,9 @@ pub(crate) fn on_datagram_of_source<S: Source, K: Sink>(
     ensures unmoved { IsErrOf result EndFault.Closed → source.new ≡ source.old }
     ensures memory { IsErrOf result EndFault.Memory → (decoded : Option Packet)
         × Decodes bytes.now decoded × IsAnswered (datagram_action end.old from bytes.now decoded) }
+    ensures why { IsErrOf result EndFault.Memory → LacksMemory S.meaning K.meaning
+        (HasNoRoom (vec_capacity out.old) (vec_len out.old)) from bytes.now end.old
+        (Files.Source source.old) (Files.Source source.new) }
     ensures err { OnErr result ((end.new ≡ end.old) × (out.new.items ≡ out.old.items)
         × KeepsSource S.meaning source.old source.new) }
     ensures side { is_sender end.new.role.side ≡ true }
@@ -55,6 +60,9 @@ pub(crate) fn on_datagram_of_sink<S: Source, K: Sink>(
     ensures unmoved { IsErrOf result EndFault.Closed → sink.new ≡ sink.old }
     ensures memory { IsErrOf result EndFault.Memory → (decoded : Option Packet)
         × Decodes bytes.now decoded × IsAnswered (datagram_action end.old from bytes.now decoded) }
+    ensures why { IsErrOf result EndFault.Memory → LacksMemory S.meaning K.meaning
+        (HasNoRoom (vec_capacity out.old) (vec_len out.old)) from bytes.now end.old
+        (Files.Sink sink.old) (Files.Sink sink.new) }
     ensures err { OnErr result ((end.new ≡ end.old) × (out.new.items ≡ out.old.items)
         × KeepsSink K.meaning sink.old sink.new) }
     ensures same { K.is_same sink.old sink.new }
@@ -83,6 +91,9 @@ pub(crate) fn handle_datagram_of_source<S: Source, K: Sink>(
     ensures unmoved { IsErrOf result EndFault.Closed → source.new ≡ source.old }
     ensures memory { IsErrOf result EndFault.Memory → (decoded : Option Packet)
         × Decodes bytes.now decoded × UsesFile (datagram_action end.old from bytes.now decoded) }
+    ensures why { IsErrOf result EndFault.Memory → LacksMemory S.meaning K.meaning
+        AppendsNothing from bytes.now end.old
+        (Files.Source source.old) (Files.Source source.new) }
     ensures err { OnErr result ((end.new ≡ end.old)
         × KeepsSource S.meaning source.old source.new) }
     ensures side { is_sender end.new.role.side ≡ true }
@@ -110,6 +121,9 @@ pub(crate) fn handle_datagram_of_sink<S: Source, K: Sink>(
     ensures unmoved { IsErrOf result EndFault.Closed → sink.new ≡ sink.old }
     ensures memory { IsErrOf result EndFault.Memory → (decoded : Option Packet)
         × Decodes bytes.now decoded × UsesFile (datagram_action end.old from bytes.now decoded) }
+    ensures why { IsErrOf result EndFault.Memory → LacksMemory S.meaning K.meaning
+        AppendsNothing from bytes.now end.old
+        (Files.Sink sink.old) (Files.Sink sink.new) }
     ensures err { OnErr result ((end.new ≡ end.old)
         × KeepsSink K.meaning sink.old sink.new) }
     ensures same { K.is_same sink.old sink.new }

@@ -6,7 +6,7 @@ mod request;
 ghost use Rattle.std.specs.Prelude.{◌≡◌, ◌≢◌, ◌↔◌, ◌⊎◌, ◌++◌, ◌+◌, ◌≤◌, vec_capacity, List, ℕ, []};
 ghost use Rattle.std.specs.Prelude.{length, Bool, Option, None, Some, option_copied, option_map};
 ghost use Rattle.std.specs.Prelude.{is_some, IsSome, if◌then◌else◌, false, IfOk, IfErr, IsErrOf};
-ghost use Rattle.std.specs.Prelude.{OnOk, OnErr};
+ghost use Rattle.std.specs.Prelude.{OnOk, OnErr, vec_len};
 ghost use Rattle.std.specs.Map.{keys_of};
 ghost use Rattle.tftp_ends.specs.End.{record_of};
 ghost use Rattle.tftp_server.specs.Config.{IsConfig};
@@ -22,6 +22,9 @@ ghost use Rattle.tftp_server.specs.Steps.{TimesOut, TimesOutLent, TimeoutFault, 
 ghost use Rattle.tftp_server.specs.Steps.{TakesDatagramLent, DatagramFault};
 ghost use Rattle.tftp_server.specs.Steps.{DatagramFaultLent, KeepsHeld};
 ghost use Rattle.tftp_server.specs.Work.{WorksAt};
+ghost use Rattle.tftp_ends.specs.Shortage.{AppendsNothing, HasNoRoom};
+ghost use Rattle.tftp_server.specs.Shortage.{AskLacksMemory, LacksMemoryAt, NamesAPath};
+ghost use Rattle.tftp_server.specs.Shortage.{ReadLacksMemory, RequestLacksMemory, TimeoutLacksMemory};
 ghost use Rattle.std.specs.Borrow.{Lends, sem};
 
 use crate::config::Config;
@@ -114,6 +117,8 @@ impl<S: Store> Server<S> {
         ensures no_such_tid { IsErrOf result ServerFault.NoSuchTid
             ↔ (is_open (at tid self.old.held) ≡ false) }
         ensures fault { IfErr result (TimeoutFault (at tid self.old.held)) }
+        ensures why { IsErrOf result ServerFault.Memory → TimeoutLacksMemory
+            (vec_capacity out.old) (vec_len out.old) tid self.old.held }
         ensures err { OnErr result ((self.new ≡ self.old) × (out.new.items ≡ out.old.items)) }
     {
         let Some(transfer) = self.table.get_mut(tid) else {
@@ -144,6 +149,9 @@ impl<S: Store> Server<S> {
             ↔ (is_open (at tid self.old.held) ≡ false) }
         ensures unmoved { IsErrOf result ServerFault.NoSuchTid → self.new ≡ self.old }
         ensures fault { IfErr result (DatagramFault from bytes.now (at tid self.old.held)) }
+        ensures why { IsErrOf result ServerFault.Memory → LacksMemoryAt S.meaning S.Source.meaning
+            (HasNoRoom (vec_capacity out.old) (vec_len out.old)) tid from bytes.now
+            self.old self.new }
         ensures err { OnErr result (KeepsHeld S.meaning S.Source.meaning
             tid (at tid self.old.held) self.old self.new × (out.new.items ≡ out.old.items)) }
     {
@@ -198,6 +206,8 @@ impl<S: Store> Server<S> {
             ↔ (is_open (at tid self.old.held) ≡ false) }
         ensures unmoved { IsErrOf result ServerFault.NoSuchTid → self.new ≡ self.old }
         ensures fault { IfErr result (DatagramFaultLent from bytes.now (at tid self.old.held)) }
+        ensures why { IsErrOf result ServerFault.Memory → LacksMemoryAt S.meaning S.Source.meaning
+            AppendsNothing tid from bytes.now self.old self.new }
         ensures err { OnErr result (KeepsHeld S.meaning S.Source.meaning
             tid (at tid self.old.held) self.old self.new) }
     {
@@ -245,6 +255,7 @@ impl<S: Store> Server<S> {
         ensures bytes { IfOk result (λ admission. admission.bytes ≡ bytes.now) }
         ensures memory { IfErr result (λ fault. fault ≡ ServerFault.Memory) }
         ensures acts { OnErr result (Acts self.now from bytes.now) }
+        ensures why { OnErr result (NamesAPath self.now from bytes.now) }
     {
         match self.asked(from, bytes) {
             Ok(asked) => Ok(Admission { from, bytes, asked }),
@@ -262,6 +273,7 @@ impl<S: Store> Server<S> {
             self.now.config.limits bytes.now decoded))) }
         ensures memory { IfErr result (λ fault. fault ≡ ServerFault.Memory) }
         ensures acts { OnErr result (Acts self.now from bytes.now) }
+        ensures why { OnErr result (NamesAPath self.now from bytes.now) }
     {
         match self.admit(from, bytes) {
             Ok(admission) => Ok(admission.may_open()),
@@ -304,6 +316,9 @@ impl<S: Store> Server<S> {
         ensures fault { IfErr result (λ fault. (fault ≡ ServerFault.TidInUse) ⊎
             (fault ≡ ServerFault.Memory)) }
         ensures acts { IsErrOf result ServerFault.Memory → admission.entry.ask ≢ Ignores }
+        ensures why { IsErrOf result ServerFault.Memory → AskLacksMemory
+            (vec_capacity out.old) (vec_len out.old) S.meaning S.Source.meaning self.old
+            admission.entry.ask }
         ensures err { OnErr result ((self.new ≡ self.old) × (out.new.items ≡ out.old.items)) }
     {
         if self.table.contains(tid) {
@@ -345,6 +360,9 @@ impl<S: Store> Server<S> {
         ensures fault { IfErr result (λ fault. (fault ≡ ServerFault.TidInUse) ⊎
             (fault ≡ ServerFault.Memory)) }
         ensures acts { IsErrOf result ServerFault.Memory → Acts self.old from bytes.now }
+        ensures why { IsErrOf result ServerFault.Memory → RequestLacksMemory
+            (vec_capacity out.old) (vec_len out.old) S.meaning S.Source.meaning self.old
+            from bytes.now }
         ensures err { OnErr result ((self.new ≡ self.old) × (out.new.items ≡ out.old.items)) }
     {
         match self.admit(from, bytes) {
@@ -375,6 +393,8 @@ impl<S: Store> Server<S> {
               sent = sent;
             } ≡ left_by came self.old from tid)) }
         ensures memory { IfErr result (λ fault. fault ≡ ServerFault.Memory) }
+        ensures why { OnErr result (ReadLacksMemory (vec_capacity out.old) (vec_len out.old)
+            S.meaning S.Source.meaning self.old path request.now.mode request.now.options) }
         ensures err { OnErr result ((self.new ≡ self.old) × (out.new.items ≡ out.old.items)) }
     {
         let start = out.len();
@@ -450,6 +470,8 @@ impl<S: Store> Server<S> {
     pub fn tids(&self, out: &mut Vec<u16>) -> Result<(), ServerFault>
         ensures ok { OnOk result (out.new.items ≡ out.old.items ++ keys_of self.now.held) }
         ensures err { OnErr result (out.new.items ≡ out.old.items) }
+        ensures why { OnErr result (HasNoRoom (vec_capacity out.old) (vec_len out.old)
+            (length self.now.held)) }
         ensures memory { IfErr result (λ fault. fault ≡ ServerFault.Memory) }
     {
         match self.table.append_tids(out) {
@@ -508,6 +530,8 @@ fn refuse(reply: ErrorReply, from: Endpoint, out: &mut Vec<u8>) -> Result<Opened
     ensures opened { IfOk result (λ opened. opened ≡ record { tid = None; to = Some from }) }
     ensures ok { OnOk result (out.new.items ≡ out.old.items ++ error_bytes reply) }
     ensures memory { IfErr result (λ fault. fault ≡ ServerFault.Memory) }
+    ensures why { OnErr result (HasNoRoom (vec_capacity out.old) (vec_len out.old)
+        (length (error_bytes reply))) }
     ensures err { OnErr result (out.new.items ≡ out.old.items) }
 {
     let Ok(()) = reply.append_to(out) else {

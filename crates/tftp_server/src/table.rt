@@ -2,6 +2,8 @@
 
 ghost use Rattle.std.specs.Prelude.{◌≡◌, ◌↔◌, ◌++◌, [], map, length, option_copied, option_map};
 ghost use Rattle.std.specs.Prelude.{is_some, None, IsTrue, IfOk, IfErr, OnOk, OnErr, List, ℕ};
+ghost use Rattle.std.specs.Prelude.{vec_len, vec_capacity};
+ghost use Rattle.tftp_ends.specs.Shortage.{HasNoRoom};
 ghost use Rattle.tftp_wire.specs.Borrowed.{owned};
 ghost use Rattle.tftp_server.specs.State.{IsRepeated, open_records};
 ghost use Rattle.std.specs.Map.{lookup, keys_of, remove_entry, set_value};
@@ -80,6 +82,8 @@ impl<T> Table<T> {
     pub(crate) fn append_tids(&self, out: &mut Vec<u16>) -> Result<(), AllocError>
         ensures ok { OnOk result (out.new.items ≡ out.old.items ++ keys_of self.now) }
         ensures err { OnErr result (out.new.items ≡ out.old.items) }
+        ensures why { OnErr result (HasNoRoom (vec_capacity out.old) (vec_len out.old)
+            (length self.now)) }
     {
         append_keys(&self.index, out)
     }
@@ -219,6 +223,8 @@ impl<T: Drop> Spot<T> {
 fn append_keys(index: &BTreeMap<u16, usize>, out: &mut Vec<u16>) -> Result<(), AllocError>
     ensures ok { OnOk result (out.new.items ≡ out.old.items ++ keys_of index.now.entries) }
     ensures err { OnErr result (out.new.items ≡ out.old.items) }
+    ensures why { OnErr result (HasNoRoom (vec_capacity out.old) (vec_len out.old)
+        (length index.now.entries)) }
 {
     out.reserve(index.len())?;
     for tid in index.keys() {

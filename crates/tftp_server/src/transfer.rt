@@ -1,13 +1,17 @@
 //! A transfer that a server holds.
 
 ghost use Rattle.std.specs.Prelude.{◌≡◌, ◌↔◌, true, IsTrue, IfOk, OnErr, IsErrOf, Option};
-ghost use Rattle.std.specs.Prelude.{option_copied};
+ghost use Rattle.std.specs.Prelude.{option_copied, vec_len, vec_capacity};
 ghost use Rattle.tftp_ends.specs.End.{record_of};
 ghost use Rattle.tftp_server.specs.State.{is_closed, draft_of, Repeats};
 ghost use Rattle.tftp_wire.specs.Borrowed.{owned};
 ghost use Rattle.tftp_ends.specs.Files.{AreFilesOf};
 ghost use Rattle.tftp_server.specs.Steps.{with_end, lends, TakesBy, TakesIn, StaysAs};
 ghost use Rattle.tftp_ends.specs.Action.{Decodes, datagram_action, timeout_action};
+ghost use Rattle.tftp_ends.specs.Action.{timeout_response};
+ghost use Rattle.tftp_ends.specs.Room.{response_room};
+ghost use Rattle.tftp_ends.specs.Shortage.{AppendsNothing, HasNoRoom};
+ghost use Rattle.tftp_server.specs.Shortage.{TransferLacksMemory};
 ghost use Rattle.tftp_ends.specs.Step.{Carries, Lends, IsAnswered, UsesFile, lent, timeout_turn};
 ghost use Rattle.tftp_ends.specs.Step.{reported};
 ghost use Rattle.tftp_server.specs.Work.{Works};
@@ -114,6 +118,10 @@ impl<F, D> Transfer<F, D> {
         ensures memory { IsErrOf result EndFault.Memory
             → IsAnswered (timeout_action self.old.end.position.retries_left
             self.old.end.position.phase) }
+        ensures why { IsErrOf result EndFault.Memory
+            → HasNoRoom (vec_capacity out.old) (vec_len out.old) (response_room self.old.end
+            (timeout_response self.old.end.position.retries_left
+            self.old.end.position.phase)) }
         ensures err { OnErr result ((self.new ≡ self.old) × (out.new.items ≡ out.old.items)) }
     {
         self.end.on_timeout(out)
@@ -160,6 +168,9 @@ impl<F: Source, D> Transfer<F, D> {
         ensures memory { IsErrOf result EndFault.Memory → (decoded : Option Packet)
             × Decodes bytes.now decoded × IsAnswered (datagram_action self.old.end from bytes.now
             decoded) }
+        ensures why { IsErrOf result EndFault.Memory → TransferLacksMemory S.meaning F.meaning
+            (HasNoRoom (vec_capacity out.old) (vec_len out.old))
+            replace from bytes.now store.old store.new self.old self.new }
         ensures err { OnErr result (StaysAs S.meaning F.meaning
             replace store.old store.new self.old self.new
             × (out.new.items ≡ out.old.items)) }
@@ -204,6 +215,9 @@ impl<F: Source, D> Transfer<F, D> {
         ensures memory { IsErrOf result EndFault.Memory → (decoded : Option Packet)
             × Decodes bytes.now decoded × UsesFile (datagram_action self.old.end from bytes.now
             decoded) }
+        ensures why { IsErrOf result EndFault.Memory → TransferLacksMemory S.meaning F.meaning
+            AppendsNothing
+            replace from bytes.now store.old store.new self.old self.new }
         ensures err { OnErr result (StaysAs S.meaning F.meaning
             replace store.old store.new self.old self.new) }
     {

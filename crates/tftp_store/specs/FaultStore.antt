@@ -4,7 +4,8 @@ use Rattle.std.specs.Prelude.{Some, None, Result, Err}
 use Rattle.tftp_file.specs.declared.fault.StoreFault.{StoreFault}
 use Rattle.tftp_file.specs.declared.fault.StoreFault.TheVariants.{Full, Io, Memory}
 use Rattle.tftp_file.specs.Source.{SourceMeaning}
-use Rattle.tftp_store.specs.Store.{Stored, StoreMeaning, fault_in}
+use Rattle.std.specs.Result.{result_err}
+use Rattle.tftp_store.specs.Store.{Stored, StoreMeaning}
 
 -- the state of a store that injects faults
 pub record FaultStoreState (S : Type 0) : Type 0 where
@@ -46,7 +47,7 @@ after_fault calls_left _ = one_less calls_left
 
 -- the count after a call with this result
 abbrev pub after_call : {A : Type 0} → Option ℕ → Result A StoreFault → Option ℕ
-after_call calls_left result = after_fault calls_left (fault_in result)
+after_call calls_left result = after_fault calls_left (result_err result)
 
 -- a call changes only the inner store and the count; the refused call returns the fault, and
 -- changes only the count
@@ -62,23 +63,29 @@ abbrev pub MayAnswer : Bool → StoreFault → StoreFault → Type 0 → Type 0
 MayAnswer true own fault inner = fault ≡ own
 MayAnswer false own fault inner = inner
 
--- the effect of the beginning of a draft on the inner store: if it is the refused call, it is
--- refused, and the inner store is unchanged
-abbrev pub BegunBelow : {S : Type 0} → Bool → StoreFault → S → S → Option StoreFault → Type 0
+-- the effect of a call on the inner store: if it is the refused call, it is refused, and the inner
+-- store is unchanged
+abbrev pub CalledBelow : {S : Type 0} → Bool → StoreFault → S → S → Option StoreFault → Type 0
     → Type 0
-BegunBelow true own before after fault inner = (fault ≡ Some own) × (after ≡ before)
-BegunBelow false own before after fault inner = inner
+CalledBelow true own before after fault inner = (fault ≡ Some own) × (after ≡ before)
+CalledBelow false own before after fault inner = inner
 
--- the effect of the beginning of a draft on the store: the call is counted, and the inner store
--- changes as its own model states
-pub record Begun {S D : Type 0} (inner : StoreMeaning S D) (before after : FaultStoreState S)
-    (fault : Option StoreFault) : Type 0 where
+-- the effect of a call on the store, by that on the inner one: the call is counted, and the inner
+-- store changes as its own model states
+pub record Called {S : Type 0} (inner : S → S → Option StoreFault → Type 0)
+    (before after : FaultStoreState S) (fault : Option StoreFault) : Type 0 where
   pub counted : after ≡ record before {
     inner = after.inner;
     calls_left = after_fault before.calls_left fault;
   }
-  pub below : BegunBelow (is_due before.calls_left) before.fault before.inner after.inner fault
-      (inner.begun before.inner after.inner fault)
+  pub below : CalledBelow (is_due before.calls_left) before.fault before.inner after.inner fault
+      (inner before.inner after.inner fault)
+
+-- a call of the inner store that is not counted changes nothing else
+pub record Passed {S : Type 0} (inner : S → S → Type 0)
+    (before after : FaultStoreState S) : Type 0 where
+  pub rest : after ≡ record before { inner = after.inner }
+  pub below : inner before.inner after.inner
 
 -- the model of the inner store without the setting to refuse a call
 abbrev pub never_armed : Option Stored → Option Stored
@@ -96,7 +103,13 @@ fault_meaning inner =
       may_refuse_begin = λ s path replace fault.
           MayAnswer (is_due s.calls_left) s.fault fault
           (inner.may_refuse_begin s.inner path replace fault);
-      begun = Begun inner;
+      must_refuse_open = λ s path fault.
+          MayAnswer s.refuses_open s.fault fault (inner.must_refuse_open s.inner path fault);
+      must_fail = λ s path want. (s.fails_fill ≡ true) ⊎ inner.must_fail s.inner path want;
+      begun = Called inner.begun;
+      after_append = Called inner.after_append;
+      after_commit = Called inner.after_commit;
+      after_write_behind = Passed inner.after_write_behind;
       may_refuse_append = λ s draft bytes fault.
           MayAnswer (is_due s.calls_left) s.fault fault
           (inner.may_refuse_append s.inner draft bytes fault);

@@ -1,6 +1,6 @@
 -- A store in memory: its construction, and the calls that it refuses.
 use Rattle.std.specs.Prelude.{ℕ, ◌≡◌, Bool, true, false, not, ◌&&◌, ◌⊎◌, List, [], ◌∷◌, map, Some}
-use Rattle.std.specs.Prelude.{None, is_some, ⊤}
+use Rattle.std.specs.Prelude.{None, Option, is_some, ⊤}
 use Rattle.std.specs.declared.vec.Vec.{Vec}
 use Rattle.tftp_file.specs.declared.fault.StoreFault.{StoreFault}
 use Rattle.tftp_file.specs.declared.fault.StoreFault.TheVariants.{Missing, Exists, Full, Memory}
@@ -55,6 +55,16 @@ MayRefuseCommit stored path draft replace Full =
     (stored.refuses ≡ true) ⊎ (is_taken replace path stored.files ≡ false)
 MayRefuseCommit stored path draft replace _ = ⊥
 
+-- an opening must fail if there is no such file
+pub record MustRefuseOpen (stored : Stored) (path : List ℕ) (fault : StoreFault) : Type 0 where
+  pub missing : file_at path stored.files ≡ None
+  pub answer : fault ≡ Missing
+
+-- an append or a commit must be refused with Full if set to; none is set to be refused after it
+pub record UsesArmed (before after : Stored) (fault : Option StoreFault) : Type 0 where
+  pub refused : before.refuses ≡ true → fault ≡ Some Full
+  pub cleared : after.refuses ≡ false
+
 -- the model of a store in memory
 abbrev pub memory_meaning : StoreMeaning Stored Drafted
 memory_meaning =
@@ -63,7 +73,12 @@ memory_meaning =
       drafted = λ draft. Some draft;
       may_refuse_open = MayRefuseOpen;
       may_refuse_begin = MayRefuseBegin;
+      must_refuse_open = MustRefuseOpen;
+      must_fail = λ stored path want. ⊥;
       begun = λ before after fault. after ≡ before;
+      after_append = UsesArmed;
+      after_commit = UsesArmed;
+      after_write_behind = λ before after. after ≡ before;
       may_refuse_append = MayRefuseAppend;
       may_refuse_commit = MayRefuseCommit;
     }

@@ -39,17 +39,26 @@ pub record StoreMeaning (S D : Type 0) : Type 1 where
   pub may_refuse_open : S → List ℕ → StoreFault → Type 0
   -- a draft of the path, to replace a file or not, may be refused with this fault
   pub may_refuse_begin : S → List ℕ → Bool → StoreFault → Type 0
-  -- the effect of the beginning of a draft on the store, if refused with this fault or not refused
+  -- an opening of the path returns this fault
+  pub must_refuse_open : S → List ℕ → StoreFault → Type 0
+  -- a fill of this many bytes of a source that is opened at the path returns Read
+  pub must_fail : S → List ℕ → ℕ → Type 0
+  -- the effect of the beginning of a draft on the store, if refused with this fault or not refused:
+  -- it states which calls must be refused
   pub begun : S → S → Option StoreFault → Type 0
+  -- the same, of an append and of a commit
+  pub after_append : S → S → Option StoreFault → Type 0
+  pub after_commit : S → S → Option StoreFault → Type 0
+  -- the effect of writing a draft back on the store
+  pub after_write_behind : S → S → Type 0
   -- an append of these bytes may return this fault
   pub may_refuse_append : S → D → List ℕ → StoreFault → Type 0
   -- a commit under the path, to replace a file or not, may return this fault
   pub may_refuse_commit : S → List ℕ → D → Bool → StoreFault → Type 0
 
--- the fault of a result, if any
-abbrev pub fault_in : {A : Type 0} → Result A StoreFault → Option StoreFault
-fault_in (Ok done) = None
-fault_in (Err fault) = Some fault
+-- a call that must return one of these faults returns it
+abbrev pub RefusedIf : {A : Type 0} → (StoreFault → Type 0) → Result A StoreFault → Type 0
+RefusedIf must_refuse result = (fault : StoreFault) → must_refuse fault → result ≡ Err fault
 
 -- a draft at its beginning
 abbrev pub new_draft : Drafted
@@ -101,6 +110,12 @@ module _ {F : Type 0} (sources : SourceMeaning F) where
   Opens (Some stored) path mode (Err Memory) = IsSome (file_at path stored.files)
   Opens (Some stored) path mode (Err _) = ⊤
 
+  -- a source that is opened fails at each fill of so many bytes
+  abbrev pub FailsIf : (ℕ → Type 0) → Result (Opening F) StoreFault → Type 0
+  FailsIf must_fail (Ok opening) =
+      (want : ℕ) → must_fail want → sources.fails opening.source want
+  FailsIf must_fail (Err fault) = ⊤
+
 module _ {K : Type 0} (drafted : K → Option Drafted) where
   -- the result of the beginning of a draft, by the content of the store; out of memory is the last
   -- refusal
@@ -126,11 +141,17 @@ Puts (Some before) after draft path replace (Err Exists) =
     (files_of after ≡ Some before.files) × (is_taken replace path before.files ≡ true)
 Puts before after draft path replace (Err _) = files_of after ≡ files_of before
 
--- the content of the store and its draft is unchanged, and no more calls may be refused
+-- the content of the store and its draft is unchanged, no more calls may be refused, and no fewer
+-- must fail
 pub record WritesBehind {S D : Type 0} (stores : StoreMeaning S D) (before after : S)
     (draft draft' : D) : Type 0 where
   pub stored : stores.stored after ≡ stores.stored before
   pub drafted : stores.drafted draft' ≡ stores.drafted draft
+  pub behind : stores.after_write_behind before after
+  pub must_refuse_open : (path : List ℕ) (fault : StoreFault)
+      → stores.must_refuse_open before path fault → stores.must_refuse_open after path fault
+  pub must_fail : (path : List ℕ) (want : ℕ)
+      → stores.must_fail before path want → stores.must_fail after path want
   pub may_refuse_open : (path : List ℕ) (fault : StoreFault)
       → stores.may_refuse_open after path fault → stores.may_refuse_open before path fault
   pub may_refuse_begin : (path : List ℕ) (replace : Bool) (fault : StoreFault)

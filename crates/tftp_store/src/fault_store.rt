@@ -116,8 +116,11 @@ fn after_call<A>(calls_left: Option<u64>, answer: &Result<A, StoreFault>) -> Opt
 impl<S: Store> Store for FaultStore<S> {
     ghost use Rattle.std.specs.Prelude.{◌≡◌, ◌≢◌, Err, IfErr, IfOk, IsErrOf, true, false};
     ghost use Rattle.tftp_file.specs.Sink.{Appends, Commits};
-    ghost use Rattle.tftp_store.specs.Store.{Opens, Begins, fault_in, holding_of, files_of, Puts};
-    ghost use Rattle.tftp_store.specs.FaultStore.{Begun, Counts, MayAnswer, fault_meaning, is_due};
+    ghost use Rattle.std.specs.Prelude.{◌⊎◌, refl};
+    ghost use Rattle.std.specs.Result.{result_err};
+    ghost use Rattle.tftp_store.specs.Store.{Opens, Begins, FailsIf, RefusedIf, holding_of};
+    ghost use Rattle.tftp_store.specs.Store.{files_of, Puts};
+    ghost use Rattle.tftp_store.specs.FaultStore.{Called, Counts, MayAnswer, fault_meaning, is_due};
     ghost use Rattle.tftp_store.specs.FaultStore.{never_armed, opened_meaning};
 
     type Source = OpenedSource<S::Source>;
@@ -125,6 +128,8 @@ impl<S: Store> Store for FaultStore<S> {
     type Draft = S::Draft;
 
     ghost meaning = { fault_meaning S.meaning };
+
+    ghost unmoved = { λ a. record { rest = refl; below = S.unmoved a.inner } };
 
     fn open(
         &self,
@@ -136,6 +141,11 @@ impl<S: Store> Store for FaultStore<S> {
             (never_armed (S.meaning.stored self.now.inner)) path.now mode result }
         ensures refused { IfErr result (λ fault. MayAnswer self.now.refuses_open self.now.fault
             fault (S.meaning.may_refuse_open self.now.inner path.now fault)) }
+        ensures must { RefusedIf (λ fault. MayAnswer self.now.refuses_open self.now.fault fault
+            (S.meaning.must_refuse_open self.now.inner path.now fault)) result }
+        ensures reads { FailsIf (opened_meaning S.Source.meaning) (λ want.
+            (self.now.fails_fill ≡ true) ⊎ S.meaning.must_fail self.now.inner path.now want)
+            result }
         ensures fails { self.now.refuses_open ≡ true → result ≡ Err self.now.fault }
         ensures source { IfOk result (λ file. file.source.fails ≡ self.now.fails_fill) }
     {
@@ -158,7 +168,7 @@ impl<S: Store> Store for FaultStore<S> {
         ensures refused { IfErr result (λ fault. MayAnswer (is_due self.old.calls_left)
             self.old.fault fault (S.meaning.may_refuse_begin self.old.inner path.now replace
             fault)) }
-        ensures begun { Begun S.meaning self.old self.new (fault_in result) }
+        ensures begun { Called S.meaning.begun self.old self.new (result_err result) }
         ensures memory { IsErrOf result StoreFault.Memory → self.new ≡ self.old }
         ensures counts { Counts self.old self.new result }
         ensures passed { is_due self.old.calls_left ≡ false → Begins S.meaning.drafted
@@ -185,6 +195,7 @@ impl<S: Store> Store for FaultStore<S> {
         ensures refused { IfErr result (λ fault. MayAnswer (is_due self.old.calls_left)
             self.old.fault fault (S.meaning.may_refuse_append self.old.inner draft.old bytes.now
             fault)) }
+        ensures after { Called S.meaning.after_append self.old self.new (result_err result) }
         ensures memory { IsErrOf result StoreFault.Memory → (self.new ≡ self.old)
             × (draft.new ≡ draft.old) }
         ensures counts { Counts self.old self.new result }
@@ -215,6 +226,7 @@ impl<S: Store> Store for FaultStore<S> {
         ensures refused { IfErr result (λ fault. MayAnswer (is_due self.old.calls_left)
             self.old.fault fault (S.meaning.may_refuse_commit self.old.inner path.now draft.old
             replace fault)) }
+        ensures after { Called S.meaning.after_commit self.old self.new (result_err result) }
         ensures not_memory { result ≢ Err StoreFault.Memory }
         ensures counts { Counts self.old self.new result }
         ensures draft { is_due self.old.calls_left ≡ true → draft.new ≡ draft.old }

@@ -113,6 +113,7 @@ impl MemDraft {
 }
 
 impl Store for MemStore {
+    ghost use Rattle.std.specs.Prelude.{refl};
     ghost use Rattle.tftp_store.specs.Memory.{memory_meaning};
 
     type Source = MemSource;
@@ -120,6 +121,8 @@ impl Store for MemStore {
     type Draft = MemDraft;
 
     ghost meaning = { memory_meaning };
+
+    ghost unmoved = { λ _. refl };
 
     fn open(
         &self,

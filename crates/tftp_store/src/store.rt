@@ -3,7 +3,8 @@
 ghost use Rattle.std.specs.Prelude.{◌≡◌, ◌≢◌, Err, IfErr, IsErrOf};
 ghost use Rattle.tftp_file.specs.Sink.{Appends, Commits};
 ghost use Rattle.tftp_store.specs.Store.{StoreMeaning, Opens, Begins, holding_of, files_of, Puts};
-ghost use Rattle.tftp_store.specs.Store.{WritesBehind, fault_in};
+ghost use Rattle.tftp_store.specs.Store.{FailsIf, RefusedIf, WritesBehind};
+ghost use Rattle.std.specs.Result.{result_err};
 
 use std::alloc::Global;
 use tftp_file::{Path, Source, StoreFault};
@@ -32,7 +33,9 @@ pub trait Store {
 
     /// The content of the store and of its drafts (`stored`, `drafted`), the faults that its calls
     /// may return (`may_refuse_open`, `may_refuse_begin`, `may_refuse_append`,
-    /// `may_refuse_commit`), and the effect of the beginning of a draft (`begun`).
+    /// `may_refuse_commit`), what an opening must return (`must_refuse_open`, `must_fail`), and the
+    /// effect of the other calls, and so which must be refused (`begun`, `after_append`,
+    /// `after_commit`, `after_write_behind`).
     ghost meaning: { StoreMeaning Self Self.Draft };
 
     /// Opens the file for reading in the mode.
@@ -46,7 +49,9 @@ pub trait Store {
         mode: Mode,
     ) -> Result<Opening<Self::Source>, StoreFault>
         ensures opens { Opens Self.Source.meaning (meaning.stored self.now) path.now mode result }
-        ensures refused { IfErr result (meaning.may_refuse_open self.now path.now) };
+        ensures refused { IfErr result (meaning.may_refuse_open self.now path.now) }
+        ensures must { RefusedIf (meaning.must_refuse_open self.now path.now) result }
+        ensures reads { FailsIf Self.Source.meaning (meaning.must_fail self.now path.now) result };
 
     /// Begins an empty draft. With `replace` there may be a file at the path.
     ///
@@ -61,7 +66,7 @@ pub trait Store {
         ensures begins { Begins meaning.drafted (meaning.stored self.old)
             (meaning.stored self.new) path.now replace result }
         ensures refused { IfErr result (meaning.may_refuse_begin self.old path.now replace) }
-        ensures begun { meaning.begun self.old self.new (fault_in result) }
+        ensures begun { meaning.begun self.old self.new (result_err result) }
         ensures memory { IsErrOf result StoreFault.Memory → self.new ≡ self.old };
 
     /// Appends the bytes to a draft.
@@ -75,6 +80,7 @@ pub trait Store {
         ensures files { files_of (meaning.stored self.new)
             ≡ files_of (meaning.stored self.old) }
         ensures refused { IfErr result (meaning.may_refuse_append self.old draft.old bytes.now) }
+        ensures after { meaning.after_append self.old self.new (result_err result) }
         ensures memory { IsErrOf result StoreFault.Memory → (self.new ≡ self.old)
             × (draft.new ≡ draft.old) };
 
@@ -97,13 +103,18 @@ pub trait Store {
             (meaning.drafted draft.old) path.now replace result }
         ensures refused { IfErr result
             (meaning.may_refuse_commit self.old path.now draft.old replace) }
+        ensures after { meaning.after_commit self.old self.new (result_err result) }
         ensures not_memory { result ≢ Err StoreFault.Memory };
 
     /// Writes the buffered bytes of the draft, while its caller is idle. Most stores do nothing.
     ///
-    /// Neither the files nor the draft change, and no more calls may be refused than before. If it
-    /// fails to write, a later append or commit of the draft is refused.
+    /// Neither the files nor the draft change, no more calls may be refused than before, and the
+    /// calls that must be refused stay so. If it fails to write, a later append or commit of the
+    /// draft is refused.
     fn write_behind(&mut self, draft: &mut Self::Draft)
         ensures { WritesBehind meaning self.old self.new draft.old draft.new }
     {}
+
+    /// `after_write_behind` holds for a store that no call has changed.
+    ghost unmoved: { (a : Self) → meaning.after_write_behind a a };
 }

@@ -1,12 +1,13 @@
 //! How an end carries out an action: its next phase, and the datagram to send.
 
-ghost use Rattle.std.specs.Prelude.{◌≡◌, ◌≤◌, drop, length, OnErr, IfOk};
+ghost use Rattle.std.specs.Prelude.{◌≡◌, ◌≤◌, drop, false, length, OnErr, IfOk};
 ghost use Rattle.tftp_ends.specs.Files.{AreFilesOf, KeepsFiles, AreSame};
 ghost use Rattle.tftp_ends.specs.Step.{Turn, Acts, AcksAgain, Lends, UsesFile, ack_bytes};
 ghost use Rattle.tftp_ends.specs.Step.{having_sent, in_phase, response_turn, with_position};
 ghost use Rattle.tftp_ends.specs.Step.{lent};
 ghost use Rattle.tftp_ends.specs.Room.{room_of, response_room};
-ghost use Rattle.tftp_ends.specs.End.{number_of, terms_of};
+ghost use Rattle.tftp_ends.specs.Shortage.{ActLacksMemory};
+ghost use Rattle.tftp_ends.specs.End.{is_sender, number_of, terms_of};
 ghost use Rattle.tftp_ends.specs.Fits.{ActionFits, BytesFit, ReplyFits, ResponseFits, SentFits};
 ghost use Rattle.tftp_ends.specs.Sound.{PhaseFits, ResendsAck};
 
@@ -48,7 +49,8 @@ impl End {
 
     /// Enters a phase and acknowledges its block. It allocates no memory.
     pub(crate) fn acknowledge(&mut self, phase: Phase, from: Endpoint) -> Outgoing
-        requires { PhaseFits self.old phase }
+        requires fits { PhaseFits self.old phase }
+        requires receiver { is_sender self.old.role.side ≡ false }
         ensures state { self.new ≡ with_position (having_sent
             (record { to = from; bytes = ack_bytes (number_of phase) }) (in_phase phase self.old))
             self.old }
@@ -156,6 +158,8 @@ impl End {
         ensures room { IfOk result (λ answer.
             length (lent answer.1 self.new) ≤ room_of self.old action) }
         ensures uses { OnErr result (UsesFile action) }
+        ensures why { OnErr result (ActLacksMemory S.meaning K.meaning action bytes.now self.old
+            files.old files.new) }
         ensures err { OnErr result ((self.new ≡ self.old)
             × KeepsFiles S.meaning K.meaning files.old files.new) }
         ensures same { AreSame S.is_same K.is_same files.old files.new }

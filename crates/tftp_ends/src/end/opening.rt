@@ -1,12 +1,12 @@
 //! The openings of a client's end: by its request.
 
 ghost use Rattle.std.specs.Prelude.{ℕ, ◌≡◌, ◌↔◌, ◌++◌, ◌*◌, ◌≤◌, ◌⊎◌, IsTrue, IfOk, IfErr, OnOk};
-ghost use Rattle.std.specs.Prelude.{OnErr, IsErrOf, vec_capacity};
+ghost use Rattle.std.specs.Prelude.{OnErr, IsErrOf, [], true, length, vec_capacity};
 ghost use Rattle.tftp_wire.specs.Spelling.{canonical};
 ghost use Rattle.tftp_wire.specs.declared.packet.Packet.TheVariants.{Read, Write};
 ghost use Rattle.tftp_ends.specs.Opening.{MayGet, MayPut, MayAskPut, getting, putting, opened};
 ghost use Rattle.tftp_ends.specs.Opening.{opening_step, request_of, asked_size};
-ghost use Rattle.tftp_ends.specs.End.{terms_of};
+ghost use Rattle.tftp_ends.specs.End.{is_sender, terms_of};
 ghost use Rattle.tftp_ends.specs.Sound.{PhaseFits, ResendsAck};
 ghost use Rattle.tftp_ends.specs.Fits.{SentFits};
 
@@ -37,25 +37,29 @@ pub(crate) fn opening_step(to: Endpoint) -> Step
 }
 
 impl End {
-    /// An end at its opening: with all its retries, and `last_sent` sent to `to`.
+    /// An end at its opening: with all its retries, and `last_sent` sent to `to`. A sender's spare
+    /// buffer has the capacity for a datagram of the same length.
     pub(crate) fn opened(
-        alloc: Global,
         role: Role,
         phase: Phase,
         to: Endpoint,
         last_sent: Vec<u8>,
+        spare: Vec<u8>,
     ) -> End
         requires phase { PhaseFits (opened role phase to last_sent.items) phase }
         requires resends { ResendsAck (opened role phase to last_sent.items) phase }
         requires sent { SentFits (opened role phase to last_sent.items) (terms_of phase) }
         requires room { HEADER ≤ vec_capacity last_sent }
+        requires empty { spare.items ≡ [] }
+        requires spare { is_sender role.side ≡ true
+            → length last_sent.items ≤ vec_capacity spare }
         ensures { result ≡ opened role phase to last_sent.items }
     {
         End {
             role,
             retries_left: role.retries,
             last_sent,
-            spare: Vec::new(alloc),
+            spare,
             last_sent_to: to,
             decoder: NetDecoder::new(),
             phase,
@@ -105,7 +109,7 @@ impl End {
             length: 0,
             retries: config.retries,
         };
-        let end = End::opened(alloc, role, phase, to, last_sent);
+        let end = End::opened(role, phase, to, last_sent, Vec::new(alloc));
         Ok((end, opening_step(to)))
     }
 
@@ -149,6 +153,7 @@ impl End {
             return Err(OpenFault::TooLarge);
         }
         let last_sent = write_request(alloc, name, mode, asked)?;
+        let spare = Vec::with_capacity(alloc, last_sent.len())?;
         out.extend_from_slice(&last_sent)?;
         let phase = Phase::Waiting {
             asked: *asked,
@@ -160,7 +165,7 @@ impl End {
             length,
             retries: config.retries,
         };
-        let end = End::opened(alloc, role, phase, to, last_sent);
+        let end = End::opened(role, phase, to, last_sent, spare);
         Ok((end, opening_step(to)))
     }
 }

@@ -1,12 +1,13 @@
 //! How a sender sends a block: it builds DATA in the spare buffer, and swaps that with the buffer
 //! of the last datagram sent.
 
-ghost use Rattle.std.specs.Prelude.{◌≡◌, ◌≤◌, ◌+◌, [], length, OnOk, OnErr, IfOk, Some};
-ghost use Rattle.std.specs.Prelude.{vec_capacity};
+ghost use Rattle.std.specs.Prelude.{◌≡◌, ◌≤◌, ◌<◌, ◌+◌, [], length, OnOk, OnErr, IfOk, Some};
+ghost use Rattle.std.specs.Prelude.{vec_len, vec_capacity};
 ghost use Rattle.tftp_ends.specs.BlockRead.{is_whole};
 ghost use Rattle.tftp_ends.specs.Files.{KeepsSource};
 ghost use Rattle.tftp_ends.specs.Step.{Turn, Lends, Sends, block_length, lent};
 ghost use Rattle.tftp_ends.specs.Room.{ReadsData, room_of};
+ghost use Rattle.tftp_ends.specs.Shortage.{FillLacksMemory, SendLacksMemory};
 ghost use Rattle.tftp_ends.specs.Sound.{IsSending};
 ghost use Rattle.tftp_ends.specs.Fits.{SentFits};
 
@@ -39,6 +40,29 @@ pub(crate) enum BlockRead {
     Changed,
 }
 
+/// Reserves capacity for a datagram of `length` bytes in both buffers, so that they grow only for
+/// one that is longer than the last datagram sent.
+fn reserve_datagram(
+    last_sent: &mut Vec<u8>,
+    spare: &mut Vec<u8>,
+    length: usize,
+) -> Result<(), AllocError>
+    requires empty { spare.old.items ≡ [] }
+    requires room { vec_len last_sent.old ≤ vec_capacity spare.old }
+    ensures ok { OnOk result ((length ≤ vec_capacity last_sent.new)
+        × (length ≤ vec_capacity spare.new)) }
+    ensures items { (last_sent.new.items ≡ last_sent.old.items) × (spare.new.items ≡ []) }
+    ensures capacity { (vec_capacity last_sent.old ≤ vec_capacity last_sent.new)
+        × (vec_capacity spare.old ≤ vec_capacity spare.new) }
+    ensures why { OnErr result (vec_len last_sent.old < length) }
+{
+    if last_sent.len() < length {
+        last_sent.reserve(length - last_sent.len())?;
+        spare.reserve(length)?;
+    }
+    Ok(())
+}
+
 /// Replaces the buffer's bytes by DATA of this number, with a block of `want` bytes from the
 /// source. If the source does not give the whole block, the buffer is left empty.
 pub(crate) fn read_data<S: Source>(
@@ -47,17 +71,17 @@ pub(crate) fn read_data<S: Source>(
     want: usize,
     buffer: &mut Vec<u8>,
 ) -> Result<BlockRead, AllocError>
-    requires { want ≤ 65535 }
+    requires { HEADER + want ≤ vec_capacity buffer.old }
     ensures reads { IfOk result (λ read. ReadsData (S.meaning.left source.old)
         (S.meaning.left source.new) (S.meaning.may_fail source.old want)
         (S.meaning.fails source.old want) number want buffer.new.items (is_whole read)) }
-    ensures room { OnOk result (4 ≤ vec_capacity buffer.new) }
+    ensures capacity { vec_capacity buffer.old ≤ vec_capacity buffer.new }
     ensures err { OnErr result (KeepsSource S.meaning source.old source.new
         × (buffer.new.items ≡ [])) }
+    ensures why { OnErr result (FillLacksMemory S.meaning want source.old source.new) }
     ensures same { S.is_same source.old source.new }
 {
     buffer.clear();
-    buffer.reserve(HEADER + want)?;
     let Ok(()) = append_data_header(buffer, number) else {
         unreachable!()
     };
@@ -98,9 +122,13 @@ impl End {
             length (lent outgoing self.new) ≤ room_of self.old (Action.Send terms number)) }
         ensures err { OnErr result ((self.new ≡ self.old)
             × KeepsSource S.meaning source.old source.new) }
+        ensures why { OnErr result (SendLacksMemory S.meaning
+            (block_length self.old.role.length terms.size number) self.old
+            source.old source.new) }
         ensures same { S.is_same source.old source.new }
     {
         let want = block_length(self.role.length, terms.size, number);
+        reserve_datagram(&mut self.last_sent, &mut self.spare, HEADER + want)?;
         match read_data(source, number, want, &mut self.spare)? {
             BlockRead::Whole => {
                 mem::swap(&mut self.last_sent, &mut self.spare);

@@ -82,6 +82,7 @@ impl End {
         ensures plain { IsErrOf result OpenFault.SourceFault → agreed.now ≡ [] }
         ensures memory { IsErrOf result OpenFault.Memory → (length < 65535 * size agreed.now)
             × KeepsFiles S.meaning K.meaning files.old files.new }
+        ensures capacity { vec_capacity out.old ≤ vec_capacity out.new }
         ensures err { OnErr result (out.new.items ≡ out.old.items) }
         ensures same { AreSame S.is_same K.is_same files.old files.new }
         ensures files { IfOk result (λ opened. AreFilesOf opened.0.role.side files.new) }
@@ -115,6 +116,7 @@ impl End {
             → FilesFailToStart S.meaning length files.old files.new }
         ensures memory { IsErrOf result OpenFault.Memory
             → KeepsFiles S.meaning K.meaning files.old files.new }
+        ensures capacity { vec_capacity out.old ≤ vec_capacity out.new }
         ensures err { IfErr result (λ fault.
             ((fault ≡ OpenFault.SourceFault) ⊎ (fault ≡ OpenFault.Memory))
             × (out.new.items ≡ out.old.items)) }
@@ -126,7 +128,8 @@ impl End {
         };
         let want = block_length(length, DEFAULT_BLOCK, 1);
         out.reserve(HEADER + want)?;
-        let mut last_sent = Vec::new(alloc);
+        let spare = Vec::with_capacity(alloc, HEADER + want)?;
+        let mut last_sent = Vec::with_capacity(alloc, HEADER + want)?;
         match read_data(source, 1, want, &mut last_sent)? {
             BlockRead::Changed => Err(OpenFault::SourceFault),
             BlockRead::Whole => {
@@ -143,7 +146,7 @@ impl End {
                     length,
                     retries,
                 };
-                let end = End::opened(alloc, role, phase, peer, last_sent);
+                let end = End::opened(role, phase, peer, last_sent, spare);
                 Ok((end, opening_step(peer)))
             }
         }
@@ -164,9 +167,11 @@ impl End {
             (Phase.Sending (agreed_terms peer agreed.now) 0) peer (oack_bytes agreed.now))
             × (out.new.items ≡ out.old.items ++ oack_bytes agreed.now)) }
         ensures step { IfOk result (λ o. o.1 ≡ opening_step peer) }
+        ensures capacity { vec_capacity out.old ≤ vec_capacity out.new }
         ensures err { OnErr result (out.new.items ≡ out.old.items) }
     {
         let last_sent = oack(alloc, agreed)?;
+        let spare = Vec::with_capacity(alloc, last_sent.len())?;
         out.extend_from_slice(&last_sent)?;
         let phase = Phase::Sending {
             terms: agreed_terms(peer, agreed),
@@ -178,7 +183,7 @@ impl End {
             length,
             retries,
         };
-        let end = End::opened(alloc, role, phase, peer, last_sent);
+        let end = End::opened(role, phase, peer, last_sent, spare);
         Ok((end, opening_step(peer)))
     }
 
@@ -235,7 +240,7 @@ impl End {
             length: 0,
             retries,
         };
-        let end = End::opened(alloc, role, phase, terms.peer, answer);
+        let end = End::opened(role, phase, terms.peer, answer, Vec::new(alloc));
         Ok((end, opening_step(terms.peer)))
     }
 }

@@ -1,10 +1,11 @@
 //! How a receiver stores a block and acknowledges it.
 
 ghost use Rattle.std.specs.Prelude.{◌≡◌, ◌≤◌, ◌++◌, [], true, false, nat_lt, length, OnErr};
-ghost use Rattle.std.specs.Prelude.{IfOk, Some};
+ghost use Rattle.std.specs.Prelude.{IfOk, Some, Err, ◌+◌, ◌<◌, vec_capacity};
 ghost use Rattle.tftp_file.specs.Decoding.{DecodesPiece};
 ghost use Rattle.tftp_ends.specs.BlockStored.{StoresBlock, StoresPiece, StoresLast};
 ghost use Rattle.tftp_ends.specs.Files.{KeepsSink};
+ghost use Rattle.tftp_ends.specs.Shortage.{StoreLacksMemory};
 ghost use Rattle.tftp_ends.specs.Text.{begins_netascii, is_readable};
 ghost use Rattle.tftp_ends.specs.Step.{Turn, Lends, Stores, Appended, commit_reply, lent};
 ghost use Rattle.tftp_ends.specs.End.{is_sender};
@@ -76,6 +77,8 @@ fn store_block<K: Sink>(
     ensures takes { IfOk result (λ block_stored.
         StoresBlock K.meaning piece.now is_last sink.old sink.new block_stored) }
     ensures err { OnErr result (KeepsSink K.meaning sink.old sink.new) }
+    ensures why { OnErr result
+        (Appended K.meaning piece.now sink.old sink.new (Err StoreFault.Memory)) }
     ensures same { K.is_same sink.old sink.new }
 {
     match append_block(sink, piece) {
@@ -128,6 +131,8 @@ fn store_through<K: Sink>(
     ensures takes { IfOk result (λ stored.
         StoresPiece K.meaning mode decoder piece.now is_last sink.old sink.new stored.0 stored.1) }
     ensures err { OnErr result (KeepsSink K.meaning sink.old sink.new) }
+    ensures why { OnErr result
+        (StoreLacksMemory K.meaning mode decoder piece.now sink.old sink.new) }
     ensures same { K.is_same sink.old sink.new }
 {
     match mode {
@@ -156,6 +161,8 @@ fn store_piece<K: Sink>(
     ensures takes { IfOk result (λ stored.
         StoresPiece K.meaning mode decoder piece.now is_last sink.old sink.new stored.0 stored.1) }
     ensures err { OnErr result (KeepsSink K.meaning sink.old sink.new) }
+    ensures why { OnErr result
+        (StoreLacksMemory K.meaning mode decoder piece.now sink.old sink.new) }
     ensures empty { buffer.new.items ≡ [] }
     ensures same { K.is_same sink.old sink.new }
 {
@@ -185,6 +192,8 @@ impl End {
         ensures room { IfOk result (λ outgoing. length (lent outgoing self.new) ≤ MAX_ERROR) }
         ensures err { OnErr result ((self.new ≡ self.old)
             × KeepsSink K.meaning sink.old sink.new) }
+        ensures why { OnErr result (StoreLacksMemory K.meaning self.old.role.mode
+            self.old.position.held piece.now sink.old sink.new) }
         ensures same { K.is_same sink.old sink.new }
     {
         let is_last = piece.len() < usize::from(terms.size);

@@ -2,7 +2,7 @@
 
 ghost use Rattle.std.specs.Prelude.{Bool, ◌≡◌, ◌≢◌, ◌*◌, ◌+◌, ◌<◌, ◌≤◌, true, vec_capacity};
 ghost use Rattle.std.specs.Prelude.{IsErrOf, OnOk, ◌++◌, [], Ok, Option, length, option_map, IfOk};
-ghost use Rattle.std.specs.Prelude.{IfErr, OnErr};
+ghost use Rattle.std.specs.Prelude.{IfErr, OnErr, IsOk, vec_len};
 ghost use Rattle.tftp_wire.specs.Borrowed.{owned};
 ghost use Rattle.tftp_wire.specs.declared.packet.Packet.{Packet};
 ghost use Rattle.tftp_negotiate.specs.Answer.{answer};
@@ -18,6 +18,7 @@ ghost use Rattle.tftp_server.specs.Port.{by_kind};
 ghost use Rattle.tftp_server.specs.Port.{by_name, by_options, by_room, by_length};
 ghost use Rattle.tftp_server.specs.Request.{Acts, Admits, AsksToRead, AsksToWrite, IsRequest};
 ghost use Rattle.tftp_server.specs.Request.{Sent, ask_of};
+ghost use Rattle.tftp_server.specs.Shortage.{NamesAPath, ReadLacksMemory, ServiceLacksMemory};
 ghost use Rattle.tftp_server.specs.Request.{came_to, decided_bytes, kind_and_request};
 
 use crate::config::Config;
@@ -64,6 +65,7 @@ impl<S: Store> Server<S> {
         ensures asks { IfOk result (λ asked. Admits self.now from bytes.now (ask_of asked)) }
         ensures memory { IfErr result (λ fault. fault ≡ ServerFault.Memory) }
         ensures acts { OnErr result (Acts self.now from bytes.now) }
+        ensures why { OnErr result (NamesAPath self.now from bytes.now) }
     {
         let decoded = decode_packet(bytes);
         let is_repeated = self.table.is_repeated(from, &decoded);
@@ -106,6 +108,7 @@ fn by_name<'a>(
         (by_kind kind request.entry.mode request.entry.options config.now.limits)
         (path_of_name request.entry.name.now)) }
     ensures memory { IfErr result (λ fault. fault ≡ ServerFault.Memory) }
+    ensures why { OnErr result (IsOk (path_of_name request.entry.name.now)) }
 {
     match path_of(alloc, request.name) {
         Ok(path) => Ok(by_room(config, count, kind, path, request)),
@@ -198,6 +201,9 @@ impl<S: Store> Server<S> {
         ensures sent { IfOk result (λ decision. out.new.items ≡ out.old.items ++ decided_bytes
             decision) }
         ensures memory { IfErr result (λ fault. fault ≡ ServerFault.Memory) }
+        ensures why { OnErr result (ReadLacksMemory (vec_capacity out.old) (vec_len out.old)
+            S.meaning S.Source.meaning self.now path request.now.mode request.now.options) }
+        ensures capacity { vec_capacity out.old ≤ vec_capacity out.new }
         ensures err { OnErr result (out.new.items ≡ out.old.items) }
     {
         match self.store.open(self.alloc, &path, request.mode) {
@@ -226,6 +232,10 @@ impl<S: Store> Server<S> {
         ensures sent { IfOk result (λ decision. out.new.items ≡ out.old.items ++ decided_bytes
             decision) }
         ensures memory { IfErr result (λ fault. fault ≡ ServerFault.Memory) }
+        ensures why { OnErr result (ServiceLacksMemory (vec_capacity out.old) (vec_len out.old)
+            (by_file self.now.config.limits path request.now.mode request.now.options
+            (Ok file.length))) }
+        ensures capacity { vec_capacity out.old ≤ vec_capacity out.new }
         ensures err { OnErr result (out.new.items ≡ out.old.items) }
     {
         let limits = self.config.limits;
@@ -254,6 +264,9 @@ impl<S: Store> Server<S> {
         ensures sent { IfOk result (λ decision. out.new.items ≡ out.old.items ++ decided_bytes
             decision) }
         ensures memory { IfErr result (λ fault. fault ≡ ServerFault.Memory) }
+        ensures why { OnErr result (ServiceLacksMemory (vec_capacity out.old) (vec_len out.old)
+            (by_length path mode file.length (Ok agreed.now))) }
+        ensures capacity { vec_capacity out.old ≤ vec_capacity out.new }
         ensures err { OnErr result (out.new.items ≡ out.old.items) }
     {
         let length = file.length;
@@ -298,6 +311,8 @@ fn serve_source<F: Source + Drop>(
     ensures source { IsErrOf result OpenFault.SourceFault → (length < 65535 * size agreed.now)
         × CannotStart F.meaning length source }
     ensures plain { IsErrOf result OpenFault.SourceFault → agreed.now ≡ [] }
+    ensures memory { IsErrOf result OpenFault.Memory → length < 65535 * size agreed.now }
+    ensures capacity { vec_capacity out.old ≤ vec_capacity out.new }
     ensures err { OnErr result (out.new.items ≡ out.old.items) }
 {
     let mut files = Files::Source(source);

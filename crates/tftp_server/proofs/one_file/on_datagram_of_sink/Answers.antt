@@ -1,7 +1,10 @@
 -- A step of an end with its files is one of the end with its sink.
+use Rattle.std.specs.Prelude.{vec_capacity, vec_len}
 use Rattle.std.specs.Borrow.{MutBor}
 use Rattle.tftp_ends.specs.declared.record.Step.{Step}
 use Rattle.tftp_server.specs.Steps.{appends}
+use Rattle.tftp_ends.specs.Shortage.{HasNoRoom}
+use Rattle.tftp_server.proofs.ShortageLemmas.{sink_lacks}
 use Rattle.tftp_server.proofs.OneFileLemmas.{sink_back, sink_steps, sink_kept}
 use Rattle.tftp_server.proofs.one_file.on_datagram_of_sink.Goals as goal
 
@@ -27,3 +30,10 @@ returns-clause-same g c =
     let first : MutBor g.row.K.Denot = record { ref_ptr = c.args.sink.ref_ptr; ghost_name = _; now = c.args.sink.now } in
     let back = sink_back g.S.Source.is_same g.K.Sink.is_same first c.in-Sink._sink c.on_datagram-result.new.files _ c.in-Sink.is c.on_datagram-result.ensures.same c.in-Sink.sink-1-own.given.1 in
     rw (back.0) back.1
+
+pub returns-clause-why : goal.returns-clause-why
+returns-clause-why g c = λ memory.
+    let first : MutBor g.row.K.Denot = record { ref_ptr = c.args.sink.ref_ptr; ghost_name = _; now = c.args.sink.now } in
+    let back = sink_back g.S.Source.is_same g.K.Sink.is_same first c.in-Sink._sink c.on_datagram-result.new.files _ c.in-Sink.is c.on_datagram-result.ensures.same c.in-Sink.sink-1-own.given.1 in
+    sink_lacks g.S.Source.meaning g.K.Sink.meaning (HasNoRoom (vec_capacity c.args.out.now) (vec_len c.args.out.now)) c.args.from c.args.bytes.now c.args.end.now first c.in-Sink._sink c.on_datagram-result.new.files _
+    c.in-Sink.is back.0 (c.on_datagram-result.ensures.why memory)

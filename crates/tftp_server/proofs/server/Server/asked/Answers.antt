@@ -2,7 +2,7 @@
 use Rattle.std.proofs.Common.{◌≡◌, ap, sym, length, subst, List, ℕ, option_map, ◌∙◌}
 use Rattle.tftp_wire.specs.Borrowed.{owned, owned_request}
 use Rattle.tftp_server.specs.State.{HeldTransfer, ServerState, IsRepeated}
-use Rattle.tftp_server.proofs.RequestLemmas.{asked_by_name, acts_by_name}
+use Rattle.tftp_server.proofs.RequestLemmas.{asked_by_name, acts_by_name, names_a_path}
 use Rattle.tftp_server.proofs.server.Server.asked.Goals as goal
 
 pub returns-else-is_repeated-clause-asks : goal.returns-else-is_repeated-clause-asks
@@ -24,3 +24,11 @@ returns-else-is_repeated-clause-acts g c =
     acts_by_name c.args.self.now c.args.from c.args.bytes.now c.in-Some.kind (owned_request c.in-Some.request) _ c.is_repeated-is_repeated.result c.by_name.result
     (sym c.has_error_opcode.ensures ∙ c.if-has_error_opcode.false) c.decode_packet-decoded.ensures c.in-Some.ensures
     repeats c.if-is_repeated.false
+
+pub returns-else-is_repeated-clause-why : goal.returns-else-is_repeated-clause-why
+returns-else-is_repeated-clause-why g c =
+    let same : c.self.inside.table ≡ c.args.self.now.held = ap (λ (s : ServerState g.row.S.Denot g.row.S-Source.Denot g.row.S-Draft.Denot). s.held) c.self.view_is in
+    let repeats : IsRepeated c.is_repeated-is_repeated.result c.args.from (option_map owned c.decode_packet-decoded.result) c.args.self.now.held =
+    subst (λ (held : List (ℕ × HeldTransfer g.row.S-Source.Denot g.row.S-Draft.Denot)). IsRepeated c.is_repeated-is_repeated.result c.args.from (option_map owned c.decode_packet-decoded.result) held) same c.is_repeated-is_repeated.ensures in
+    names_a_path c.args.self.now c.args.from c.args.bytes.now c.in-Some.kind (owned_request c.in-Some.request) _ c.is_repeated-is_repeated.result c.by_name.result
+    c.decode_packet-decoded.ensures c.in-Some.ensures repeats c.if-is_repeated.false c.by_name.ensures.why

@@ -5,6 +5,8 @@ use Rattle.tftp_ends.specs.Step.{UsesFile}
 use Rattle.tftp_ends.specs.declared.outgoing.Outgoing.{Outgoing}
 use Rattle.tftp_ends.specs.declared.record.Step.{Step}
 use Rattle.tftp_server.specs.Steps.{lends}
+use Rattle.tftp_ends.specs.Shortage.{AppendsNothing}
+use Rattle.tftp_server.proofs.ShortageLemmas.{lacks_at, memory_of_end}
 use Rattle.tftp_server.proofs.StepsLemmas.{found_now, datagram_fault, takes_datagram, keeps_held, leaves_unmoved}
 use Rattle.tftp_server.proofs.server.Server.handle_datagram.Goals as goal
 use Rattle.tftp_server.proofs.server.Server.handle_datagram.Goals.{in-Ok, in-Err}
@@ -49,4 +51,16 @@ returns-clause-unmoved g c =
           (λ e. leaves_unmoved {R = Step × Outgoing} {Q = Step × Outgoing} c.self.inside.config c.self.inside.store c.handle_datagram.new.store c.args.tid c.self.inside.table
           c.in-Some.transfer.now c.handle_datagram.new.self w.in-Err.fault w.from.result c.in-Some.ensures.value w.from.ensures w.in-Err.ensures.unmoved e
           ∙ c.self.view_is)
+    ]
+
+pub returns-clause-why : goal.returns-clause-why
+returns-clause-why g c =
+    let old : ServerState g.row.S.Denot g.row.S-Source.Denot g.row.S-Draft.Denot = record { config = c.self.inside.config; store = c.self.inside.store; held = c.self.inside.table } in
+    let new : ServerState g.row.S.Denot g.row.S-Source.Denot g.row.S-Draft.Denot = record { config = c.self.inside.config; store = c.handle_datagram.new.store; held = with_next c.args.tid c.handle_datagram.new.self c.self.inside.table } in
+    elim c.match-handle_datagram.branch [
+      | in-Ok w ↦ rw w.result-is (λ e. absurd (cc))
+      | in-Err w ↦
+          rw (w.result-is, ← c.self.view_is)
+          (λ memory. lacks_at g.S.Store.meaning g.S.Source.Source.meaning AppendsNothing c.args.tid c.args.from c.args.bytes.now old new c.self.inside.table c.in-Some.transfer.now c.handle_datagram.new.self refl c.in-Some.ensures.value refl
+          (w.in-Err.ensures.why (memory_of_end {R = Step × Outgoing} {Q = Step × Outgoing} w.in-Err.fault w.from.result w.from.ensures memory)))
     ]

@@ -1,9 +1,12 @@
 -- A fault is that of the transfer at the identifier, or there is no transfer.
 use Rattle.std.proofs.Common.{◌≡◌, ◌∙◌, refl, ap}
+use Rattle.std.specs.Prelude.{vec_capacity, vec_len}
 use Rattle.tftp_server.specs.State.{ServerState, at, with_next}
 use Rattle.tftp_ends.specs.Step.{IsAnswered}
 use Rattle.tftp_ends.specs.declared.record.Step.{Step}
 use Rattle.tftp_server.specs.Steps.{appends}
+use Rattle.tftp_ends.specs.Shortage.{HasNoRoom}
+use Rattle.tftp_server.proofs.ShortageLemmas.{lacks_at, memory_of_end}
 use Rattle.tftp_server.proofs.StepsLemmas.{found_now, datagram_fault, takes_datagram, keeps_held, leaves_unmoved}
 use Rattle.tftp_server.proofs.server.Server.on_datagram.Goals as goal
 use Rattle.tftp_server.proofs.server.Server.on_datagram.Goals.{in-Ok, in-Err}
@@ -48,4 +51,16 @@ returns-clause-unmoved g c =
           (λ e. leaves_unmoved {R = Step} {Q = Step} c.self.inside.config c.self.inside.store c.on_datagram.new.store c.args.tid c.self.inside.table
           c.in-Some.transfer.now c.on_datagram.new.self w.in-Err.fault w.from.result c.in-Some.ensures.value w.from.ensures w.in-Err.ensures.unmoved e
           ∙ c.self.view_is)
+    ]
+
+pub returns-clause-why : goal.returns-clause-why
+returns-clause-why g c =
+    let old : ServerState g.row.S.Denot g.row.S-Source.Denot g.row.S-Draft.Denot = record { config = c.self.inside.config; store = c.self.inside.store; held = c.self.inside.table } in
+    let new : ServerState g.row.S.Denot g.row.S-Source.Denot g.row.S-Draft.Denot = record { config = c.self.inside.config; store = c.on_datagram.new.store; held = with_next c.args.tid c.on_datagram.new.self c.self.inside.table } in
+    elim c.match-on_datagram.branch [
+      | in-Ok w ↦ rw w.result-is (λ e. absurd (cc))
+      | in-Err w ↦
+          rw (w.result-is, ← c.self.view_is)
+          (λ memory. lacks_at g.S.Store.meaning g.S.Source.Source.meaning (HasNoRoom (vec_capacity c.args.out.now) (vec_len c.args.out.now)) c.args.tid c.args.from c.args.bytes.now old new c.self.inside.table c.in-Some.transfer.now c.on_datagram.new.self refl c.in-Some.ensures.value refl
+          (w.in-Err.ensures.why (memory_of_end {R = Step} {Q = Step} w.in-Err.fault w.from.result w.from.ensures memory)))
     ]

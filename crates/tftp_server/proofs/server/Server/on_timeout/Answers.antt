@@ -2,6 +2,8 @@
 use Rattle.std.proofs.Common.{◌≡◌, ap, ◌∙◌, List, ℕ}
 use Rattle.tftp_server.specs.State.{ServerState, HeldTransfer, at}
 use Rattle.tftp_server.specs.Steps.{appends}
+use Rattle.tftp_ends.specs.declared.record.Step.{Step}
+use Rattle.tftp_server.proofs.ShortageLemmas.{memory_of_end}
 use Rattle.tftp_server.proofs.StepsLemmas.{found_now, timeout_fault, times_out, nothing_written}
 use Rattle.tftp_server.proofs.server.Server.on_timeout.Goals as goal
 use Rattle.tftp_server.proofs.server.Server.on_timeout.Goals.{in-Ok, in-Err}
@@ -40,4 +42,18 @@ returns-clause-err g c =
             ap with_held (nothing_written c.args.tid c.self.inside.table c.in-Some.transfer.now c.on_timeout.new.self c.in-Some.ensures.value w.in-Err.ensures.err.0) ∙ c.self.view_is,
             w.in-Err.ensures.err.1,
           )
+    ]
+
+pub returns-clause-why : goal.returns-clause-why
+returns-clause-why g c =
+    let same : c.self.inside.table ≡ c.args.self.now.held = ap (λ (s : ServerState g.row.S.Denot g.row.S-Source.Denot g.row.S-Draft.Denot). s.held) c.self.view_is in
+    elim c.match-on_timeout.branch [
+      | in-Ok w ↦ rw w.result-is (λ e. absurd (cc))
+      | in-Err w ↦
+          rw w.result-is
+          (λ memory. record {
+            transfer = c.in-Some.transfer.now;
+            found = found_now c.args.tid c.self.inside.table c.args.self.now.held c.in-Some.transfer.now same c.in-Some.ensures.value;
+            room = w.in-Err.ensures.why (memory_of_end {R = Step} {Q = Step} w.in-Err.fault w.from.result w.from.ensures memory);
+          })
     ]

@@ -1,8 +1,15 @@
 -- A step over the store and the draft as a sink is the transfer's.
-use Rattle.std.proofs.Common.{refl, sym}
+use Rattle.std.proofs.Common.{Option, refl, sym, subst}
+use Rattle.tftp_wire.specs.declared.packet.Packet.{Packet}
+use Rattle.tftp_ends.specs.Action.{Decodes, datagram_action}
+use Rattle.tftp_ends.specs.Step.{IsAnswered}
+use Rattle.tftp_server.specs.State.{HeldTransfer}
+use Rattle.std.specs.Prelude.{vec_capacity, vec_len}
 use Rattle.tftp_ends.specs.declared.record.Step.{Step}
 use Rattle.tftp_server.specs.Steps.{appends}
 use Rattle.tftp_file.specs.Memory.{memory_sink}
+use Rattle.tftp_ends.specs.Shortage.{HasNoRoom}
+use Rattle.tftp_server.proofs.ShortageLemmas.{source_lacked, draft_lacked}
 use Rattle.tftp_server.proofs.StepsLemmas.{source_taken, draft_taken, drafting_now}
 use Rattle.tftp_server.proofs.transfer.Transfer.on_datagram.Goals as goal
 
@@ -26,3 +33,32 @@ returns-in-Source-clause-takes g c =
     c.args.replace c.args.from c.args.bytes.now c.args.store.now c.self.inside.end c.on_datagram_of_source.new.end c.self.inside.files
     c.in-Source.source c.on_datagram_of_source.new.source c.self.inside.path c.self.inside.request.items c.on_datagram_of_source.result
     c.in-Source.is c.on_datagram_of_source.ensures.steps)
+
+pub returns-in-Sink-clause-why : goal.returns-in-Sink-clause-why
+returns-in-Sink-clause-why g c = λ memory.
+    let same = c.on_datagram_of_sink.ensures.same in
+    let last = drafting_now c.on_datagram_of_sink.new.sink _ c.self.inside.path c.args.replace (c.store-1.given.1 (sym same.0)) same.2 same.3 in
+    rw (← c.self.view_is)
+    (draft_lacked
+    g.S.Store.meaning g.F.Source.meaning (HasNoRoom (vec_capacity c.args.out.now) (vec_len c.args.out.now))
+    c.args.replace c.args.from c.args.bytes.now c.args.store.now _ c.self.inside.end c.on_datagram_of_sink.new.end c.self.inside.files
+    _ c.on_datagram_of_sink.new.sink c.in-Sink.draft _ c.self.inside.path c.self.inside.request.items
+    c.in-Sink.is refl last (c.on_datagram_of_sink.ensures.why memory))
+
+pub returns-in-Source-clause-why : goal.returns-in-Source-clause-why
+returns-in-Source-clause-why g c = λ memory.
+    rw (← c.self.view_is)
+    (source_lacked
+    g.S.Store.meaning g.F.Source.meaning (HasNoRoom (vec_capacity c.args.out.now) (vec_len c.args.out.now))
+    memory_sink
+    c.args.replace c.args.from c.args.bytes.now c.args.store.now c.self.inside.end c.on_datagram_of_source.new.end c.self.inside.files
+    c.in-Source.source c.on_datagram_of_source.new.source c.self.inside.path c.self.inside.request.items
+    c.in-Source.is (c.on_datagram_of_source.ensures.why memory))
+
+pub returns-in-Source-clause-memory : goal.returns-in-Source-clause-memory
+returns-in-Source-clause-memory g c = λ memory.
+    subst (λ (held : HeldTransfer g.row.F.Denot g.row.D.Denot). (decoded : Option Packet) × Decodes c.args.bytes.now decoded × IsAnswered (datagram_action held.end c.args.from c.args.bytes.now decoded)) c.self.view_is (c.on_datagram_of_source.ensures.memory memory)
+
+pub returns-in-Sink-clause-memory : goal.returns-in-Sink-clause-memory
+returns-in-Sink-clause-memory g c = λ memory.
+    subst (λ (held : HeldTransfer g.row.F.Denot g.row.D.Denot). (decoded : Option Packet) × Decodes c.args.bytes.now decoded × IsAnswered (datagram_action held.end c.args.from c.args.bytes.now decoded)) c.self.view_is (c.on_datagram_of_sink.ensures.memory memory)
