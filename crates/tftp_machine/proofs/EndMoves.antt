@@ -227,7 +227,7 @@ module _ (network : Network) where
         let y = in_state (with_position (after (Close outcome) from x.state) x.state) x in
         let live = going_live x.state.position.phase going in
         let b = is_sender x.state.role.side in
-        let f = wire_text x.state.role.mode x.file in
+        let f = x.text in
         let w = wire_text x.state.role.mode x.stored in
         let shown_now = closes network first views messages k (open_view x) s (text_of_end y) live (text_cut b (goes_on x.state.position.phase) f w x.state.position.held)
         (text_sent b (goes_on x.state.position.phase) f w x.state.position.held) in
@@ -250,7 +250,7 @@ module _ (network : Network) where
         let y = in_state (with_position (after (Refuse (terms_of x.state.position.phase) reply outcome) from x.state) x.state) x in
         let live = going_live x.state.position.phase going in
         let b = is_sender x.state.role.side in
-        let f = wire_text x.state.role.mode x.file in
+        let f = x.text in
         let w = wire_text x.state.role.mode x.stored in
         let shown_now = refuses network first views messages k (open_view x) s from (text_of_end y) live (text_cut b (goes_on x.state.position.phase) f w x.state.position.held)
         (text_sent b (goes_on x.state.position.phase) f w x.state.position.held) in

@@ -64,6 +64,7 @@ module _ {K : Type 0} (sinks : SinkMeaning K) where
           subst (λ (o : Option Holding). Appends (Some before) o (b ∷ bytes) answer) after.1 appends,
           any_fault answer _ (λ fault. tt),
           tt,
+          tt,
         );
       }
 
@@ -88,6 +89,7 @@ module _ {K : Type 0} (sinks : SinkMeaning K) where
               commits = subst (λ (o : Option Holding). Commits (Some before) o h.answer) after.1 commits;
               refused = any_fault h.answer _ (λ fault. tt);
               leaves = tt;
+              effect = tt;
               answers = h.answers;
             };
       }

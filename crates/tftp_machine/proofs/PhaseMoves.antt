@@ -33,7 +33,7 @@ use Rattle.tftp_machine.specs.Said.{said}
 use Rattle.tftp_machine.specs.Shows.{EndView, IsShownWithin}
 use Rattle.tftp_machine.specs.OpenEnds.{OpenEnd, files_of, end_after, text_of as text_of_end, open_view, with_phase}
 use Rattle.tftp_machine.specs.KnownFiles.{known_source, known_sink}
-use Rattle.tftp_machine.specs.EndKept.{EndKept, sent_text}
+use Rattle.tftp_machine.specs.EndKept.{EndKept}
 use Rattle.tftp_machine.specs.EndShown.{Stands, Goes, IsThere}
 use Rattle.tftp_machine.proofs.Endpoints.{endpoint_from}
 use Rattle.tftp_machine.proofs.Actions.{stores, refuses_next}
@@ -102,7 +102,7 @@ module _ (network : Network) where
     acked_acts acked peer come =
         let P = Acting first views messages k sender from bytes in
         let u = kept.phase in
-        let text = sent_text x0 in
+        let text = x0.text in
         let measured : x0.state.role.length ≡ length text = u.measured in
         if_acts P (acked == n) (if nat_lt n (x0.state.role.length / terms.size + 1) then Send terms (n + 1) else Respond Complete) (if nat_lt acked n then Respond Ignore else illegal_action terms)
         (λ e.

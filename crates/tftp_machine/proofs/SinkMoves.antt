@@ -161,7 +161,7 @@ module _ (network : Network) where
     pub wire_text_is : text_of_end x ≡ wire_text x.state.role.mode x.stored ++ x.state.position.held
     wire_text_is =
         let w = wire_text x.state.role.mode x.stored in
-        text_else (is_sender x.state.role.side) (wire_text x.state.role.mode x.file) (if goes_on x.state.position.phase then w ++ x.state.position.held else w) r.receiver
+        text_else (is_sender x.state.role.side) x.text (if goes_on x.state.position.phase then w ++ x.state.position.held else w) r.receiver
         ∙ ap (λ (b : Bool). if b then w ++ x.state.position.held else w) r.going
 
     uncommitted : x.committed ≡ false
@@ -182,7 +182,7 @@ module _ (network : Network) where
     refused_goes held sink reply outcome fits un begins =
         let turn = refused_turn terms reply outcome from (holding held x.state) in
         let y = end_after x turn (Sink sink) in
-        let t = text_else (is_sender x.state.role.side) (wire_text x.state.role.mode x.file) (wire_text x.state.role.mode sink.bytes) r.receiver in
+        let t = text_else (is_sender x.state.role.side) x.text (wire_text x.state.role.mode sink.bytes) r.receiver in
         let shown_now = r.refused (text_of_end y) (subst (λ (z : List ℕ). IsBeginningOf z (text_of_end x ++ piece)) (sym t) begins) in
         record {
           said_now = message x.address from Error ∷ [];
@@ -223,7 +223,7 @@ module _ (network : Network) where
         let y = end_after x turn (Sink sink) in
         let text : wire_text x.state.role.mode (x.stored ++ more) ++ after ≡ text_of_end y =
         ap (λ (z : List ℕ). wire_text x.state.role.mode z ++ after) (sym bytes)
-        ∙ sym (text_else (is_sender x.state.role.side) (wire_text x.state.role.mode x.file) (wire_text x.state.role.mode sink.bytes ++ after) r.receiver) in
+        ∙ sym (text_else (is_sender x.state.role.side) x.text (wire_text x.state.role.mode sink.bytes ++ after) r.receiver) in
         record {
           said_now = message x.address from (Says_ack number) ∷ [];
           shown = sound_view (text_of_end y) false (messages ++ message x.address from (Says_ack number) ∷ []) (acknowledged sink more after bytes d (text_of_end y) text false last);
@@ -247,7 +247,7 @@ module _ (network : Network) where
         ap (λ (z : List ℕ). wire_text x.state.role.mode (x.stored ++ more) ++ z) none
         ∙ (append-nil (wire_text x.state.role.mode (x.stored ++ more))
         ∙ (ap (wire_text x.state.role.mode) (sym bytes)
-        ∙ sym (text_else (is_sender x.state.role.side) (wire_text x.state.role.mode x.file) (wire_text x.state.role.mode sink.bytes) r.receiver))) in
+        ∙ sym (text_else (is_sender x.state.role.side) x.text (wire_text x.state.role.mode sink.bytes) r.receiver))) in
         record {
           said_now = message x.address from (Says_ack number) ∷ [];
           shown = sound_view (text_of_end y) true (messages ++ message x.address from (Says_ack number) ∷ []) (acknowledged sink more after bytes d (text_of_end y) text true last);

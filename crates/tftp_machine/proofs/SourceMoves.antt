@@ -29,7 +29,7 @@ use Rattle.tftp_machine.specs.Said.{said}
 use Rattle.tftp_machine.specs.Shows.{EndView, IsShownWithin}
 use Rattle.tftp_machine.specs.OpenEnds.{OpenEnd, files_of, holding_of, in_state, end_after, text_of as text_of_end, received_text, open_view, with_phase}
 use Rattle.tftp_machine.specs.KnownFiles.{known_source, known_sink}
-use Rattle.tftp_machine.specs.EndKept.{EndKept, sent_text}
+use Rattle.tftp_machine.specs.EndKept.{EndKept}
 use Rattle.tftp_machine.specs.EndShown.{Stands, Goes}
 use Rattle.tftp_machine.proofs.Actions.{sends, completes}
 use Rattle.tftp_machine.proofs.SaidLemmas.{spells_own}
@@ -127,12 +127,12 @@ valid_data text size n p small f l =
 -- the turn in which block n + 1 is sent
 abbrev pub data_turn : OpenEnd → Terms → ℕ → Endpoint → Turn
 data_turn x terms n from =
-    sent_turn (Sending terms (n + 1)) from (data_bytes (n + 1) (block (sent_text x) terms.size (n + 1))) x.state
+    sent_turn (Sending terms (n + 1)) from (data_bytes (n + 1) (block x.text terms.size (n + 1))) x.state
 
 -- the end after it
 abbrev pub data_end : OpenEnd → Terms → ℕ → Endpoint → OpenEnd
 data_end x terms n from =
-    record (in_state (after_turn x.state (data_turn x terms n from)) x) { left = drop ((n + 1) * terms.size) (sent_text x) }
+    record (in_state (after_turn x.state (data_turn x terms n from)) x) { left = drop ((n + 1) * terms.size) x.text }
 
 -- a sender's text is shown
 pub text_if : (b : Bool) (f r : List ℕ) → b ≡ true → (if b then f else r) ≡ f
@@ -160,7 +160,7 @@ module _ (network : Network) where
 
   -- an action that sends has sent the next block, or the source failed
   pub data_goes : (first : List Rule) (views : List EndView) (messages : List Message) (k : ℕ) (x : OpenEnd) (terms : Terms) (n : ℕ) (from : Endpoint) (turn : Turn) (held : Files (List ℕ) Holding) →
-      is_sender x.state.role.side ≡ true → x.state.role.length ≡ length (sent_text x) → x.left ≡ drop (n * terms.size) (sent_text x) →
+      is_sender x.state.role.side ≡ true → x.state.role.length ≡ length x.text → x.left ≡ drop (n * terms.size) x.text →
       Goes network first views messages k x (data_turn x terms n from) (data_end x terms n from) →
       Goes network first views messages k x (failed_turn terms from x) (in_state (after_turn x.state (failed_turn terms from x)) x) →
       SendsFrom known_source known_sink terms (n + 1) from x.state (files_of x) turn held →
@@ -168,15 +168,15 @@ module _ (network : Network) where
   data_goes first views messages k x terms n from turn held sender measured remaining_is g failed h =
       let f = sends_from (is_sender x.state.role.side) sender known_source known_sink terms (n + 1) from x.state x.left (holding_of x) turn held h in
       subst (λ (fs : Files (List ℕ) Holding). Goes network first views messages k x turn (end_after x turn fs)) (sym f.1)
-      (elim (block_sent known_source (λ text. refl) terms n from x.state (sent_text x) x.left turn f.0 measured remaining_is f.2) [
+      (elim (block_sent known_source (λ text. refl) terms n from x.state x.text x.left turn f.0 measured remaining_is f.2) [
         | inl b ↦ subst (λ (t : Turn). Goes network first views messages k x t (end_after x t (Source f.0))) (sym b.turn_is)
             (subst (λ (l : List ℕ). Goes network first views messages k x (data_turn x terms n from) (end_after x (data_turn x terms n from) (Source l))) (sym b.left_is) g)
         | inr b ↦ subst (λ (t : Turn). Goes network first views messages k x t (end_after x t (Source f.0))) (sym b.turn_is) (failed_goes first views messages k x terms from f.0 failed)
       ])
 
   -- the sender's state after a block is kept
-  pub data_kept : (x : OpenEnd) (terms : Terms) (n : ℕ) (from : Endpoint) → EndKept network x → x.state.role.length ≡ length (sent_text x) → is_sender x.state.role.side ≡ true → 0 < terms.size → terms.size ≤ MAX_BLOCK →
-      Fits (sent_text x) terms.size → n + 1 ≤ block_count (sent_text x) terms.size → from ≡ terms.peer → EndKept network (data_end x terms n from)
+  pub data_kept : (x : OpenEnd) (terms : Terms) (n : ℕ) (from : Endpoint) → EndKept network x → x.state.role.length ≡ length x.text → is_sender x.state.role.side ≡ true → 0 < terms.size → terms.size ≤ MAX_BLOCK →
+      Fits x.text terms.size → n + 1 ≤ block_count x.text terms.size → from ≡ terms.peer → EndKept network (data_end x terms n from)
   data_kept x terms n from kept measured sender positive small fits l peer = record {
     phase = record { sender = sender; positive = positive; size = small; fits = fits; so_far = l; left = refl; last_sent_to = peer; measured = measured };
     held = kept.held;
@@ -186,12 +186,12 @@ module _ (network : Network) where
   module _ (first : List Rule) (views : List EndView) (messages : List Message) (k : ℕ) (x0 : OpenEnd) (terms : Terms) (n : ℕ)
       (s : Stands network first views messages k (open_view (with_phase (Sending terms n) x0))) (kept : EndKept network (with_phase (Sending terms n) x0)) where
     -- the next block is sent
-    pub sends_next : (from : Endpoint) → terms.peer ≡ from → Contains messages (message from x0.address (Says_ack n)) → n < block_count (sent_text x0) terms.size →
+    pub sends_next : (from : Endpoint) → terms.peer ≡ from → Contains messages (message from x0.address (Says_ack n)) → n < block_count x0.text terms.size →
         Goes network first views messages k (with_phase (Sending terms n) x0) (data_turn (with_phase (Sending terms n) x0) terms n from) (data_end (with_phase (Sending terms n) x0) terms n from)
     sends_next from peer acked more =
         let x = with_phase (Sending terms n) x0 in
         let u = kept.phase in
-        let text = sent_text x in
+        let text = x.text in
         let text_is : text_of_end x ≡ text = text_if (is_sender x.state.role.side) text (received_text x.state x.stored) u.sender in
         let l : n + 1 ≤ block_count text terms.size = omega arith in
         let packet = Data (n + 1) (block text terms.size (n + 1)) in
@@ -208,12 +208,12 @@ module _ (network : Network) where
         }
 
     -- the last block is acknowledged
-    pub ends_whole : (from : Endpoint) → terms.peer ≡ from → Contains messages (message from x0.address (Says_ack n)) → n ≡ block_count (sent_text x0) terms.size →
+    pub ends_whole : (from : Endpoint) → terms.peer ≡ from → Contains messages (message from x0.address (Says_ack n)) → n ≡ block_count x0.text terms.size →
         Goes network first views messages k (with_phase (Sending terms n) x0) (response_turn Complete from (with_phase (Sending terms n) x0).state) (in_state (with_position (after Complete from (with_phase (Sending terms n) x0).state) (with_phase (Sending terms n) x0).state) (with_phase (Sending terms n) x0))
     ends_whole from peer acked last =
         let x = with_phase (Sending terms n) x0 in
         let u = kept.phase in
-        let text = sent_text x in
+        let text = x.text in
         let text_is : text_of_end x ≡ text = text_if (is_sender x.state.role.side) text (received_text x.state x.stored) u.sender in
         let whole : n ≡ block_count (text_of_end x) terms.size = subst (λ (t : List ℕ). n ≡ block_count t terms.size) (sym text_is) last in
         let shown_now = completes network first views messages k (open_view x) s from (refl, refl) u.sender (ap Some peer) acked whole in

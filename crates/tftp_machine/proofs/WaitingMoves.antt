@@ -44,7 +44,7 @@ use Rattle.tftp_machine.specs.Said.{said, oack_size}
 use Rattle.tftp_machine.specs.Shows.{EndView, IsShownWithin}
 use Rattle.tftp_machine.specs.OpenEnds.{OpenEnd, files_of, holding_of, in_state, received_text, text_of as text_of_end, open_view, with_phase}
 use Rattle.tftp_machine.specs.KnownFiles.{known_source, known_sink}
-use Rattle.tftp_machine.specs.EndKept.{EndKept, sent_text, IsAnswer}
+use Rattle.tftp_machine.specs.EndKept.{EndKept, IsAnswer}
 use Rattle.tftp_machine.specs.EndShown.{Stands, Goes}
 use Rattle.tftp_machine.proofs.Actions.{IsWaiting, stores_first, refuses_first, accepts, sends_first, sends_first_with, refuses_to_begin}
 use Rattle.tftp_machine.proofs.SaidLemmas.{data_of, spells_own, taken_oack}
@@ -178,7 +178,7 @@ module _ (network : Network) where
     begin_acts writer terms peer positive small shown failing =
         if_acts Answers (nat_lt x0.state.role.length (65535 * terms.size)) (Send terms 1) (Respond (Refuse None replies.FileTooLarge outcomes.TooLarge))
         (λ e.
-        let text = sent_text x0 in
+        let text = x0.text in
         let measured : x0.state.role.length ≡ length text = kept.phase.5 writer in
         let fits : Fits text terms.size = subst (λ (n : ℕ). n < 65535 * terms.size) measured (ltb-true x0.state.role.length (65535 * terms.size) e) in
         let text_is : text_of_end waiter ≡ text = text_if (is_sender x0.state.role.side) text (received_text waiter.state waiter.stored) writer in

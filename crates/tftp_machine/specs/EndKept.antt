@@ -8,7 +8,6 @@ use Rattle.tftp_wire.specs.declared.packet.Packet.TheVariants.{Read, Write, Data
 use Rattle.tftp_wire.specs.Spelling.{Spells}
 use Rattle.tftp_negotiate.specs.Asked.{IsAskable}
 use Rattle.tftp_file.specs.Block.{block_count, Fits}
-use Rattle.tftp_file.specs.Netascii.{wire_text}
 use Rattle.tftp_ends.specs.declared.phase.Phase.{Phase}
 use Rattle.tftp_ends.specs.declared.phase.Phase.TheVariants.{Waiting, Sending, Receiving, Dallying}
 use Rattle.tftp_ends.specs.declared.phase.Phase.TheVariants.{Closed}
@@ -18,21 +17,17 @@ use Rattle.tftp_ends.specs.End.{is_sender, is_client, is_complete}
 use Rattle.tftp_machine.specs.Machine.{Endpoint, At_server, Network}
 use Rattle.tftp_machine.specs.OpenEnds.{OpenEnd, peer_of}
 
--- the wire text of a sender's file
-abbrev pub sent_text : OpenEnd → List ℕ
-sent_text x = wire_text x.state.role.mode x.file
-
 -- a sender at this block: its source has left the text after it
 pub record IsUnderWay (x : OpenEnd) (terms : Terms) (number : ℕ) : Type 0 where
   pub sender : is_sender x.state.role.side ≡ true
   pub positive : 0 < terms.size
   pub size : terms.size ≤ MAX_BLOCK
-  pub fits : Fits (sent_text x) terms.size
-  pub so_far : number ≤ block_count (sent_text x) terms.size
-  pub left : x.left ≡ drop (number * terms.size) (sent_text x)
+  pub fits : Fits x.text terms.size
+  pub so_far : number ≤ block_count x.text terms.size
+  pub left : x.left ≡ drop (number * terms.size) x.text
   pub last_sent_to : x.state.position.last_sent_to ≡ terms.peer
   -- its file is as long as it was measured
-  pub measured : x.state.role.length ≡ length (sent_text x)
+  pub measured : x.state.role.length ≡ length x.text
 
 -- in octet no text is held back
 abbrev pub HeldFits : Mode → List ℕ → Type 0
@@ -53,9 +48,9 @@ module _ (network : Network) where
   abbrev pub PhaseKept : OpenEnd → Phase → Type 0
   PhaseKept x (Waiting asked limit) =
       (is_client x.state.role.side ≡ true) × IsAskable asked
-      × (x.state.position.last_sent_to ≡ network.request_port) × (x.left ≡ sent_text x)
+      × (x.state.position.last_sent_to ≡ network.request_port) × (x.left ≡ x.text)
       × (is_sender x.state.role.side ≡ false → x.state.position.held ≡ [])
-      × (is_sender x.state.role.side ≡ true → x.state.role.length ≡ length (sent_text x))
+      × (is_sender x.state.role.side ≡ true → x.state.role.length ≡ length x.text)
   PhaseKept x (Sending terms number) = IsUnderWay x terms number
   PhaseKept x (Receiving terms number) =
       (is_sender x.state.role.side ≡ false) × (x.state.position.last_sent_to ≡ terms.peer)

@@ -19,6 +19,8 @@ known_sink =
       may_refuse_append = λ holding bytes fault. ⊤;
       may_refuse_commit = λ holding fault. ⊤;
       becomes = λ before after committed. ⊤;
+      after_append = λ before bytes after fault. ⊤;
+      after_commit = λ before after fault. ⊤;
     }
 
 -- a source has this text left, or each fill of it returns Read

@@ -22,7 +22,9 @@ pub record OpenEnd : Type 0 where
   pub path : List ℕ
   -- the file of a sender, as its host stores it
   pub file : List ℕ
-  -- the wire text that a sender's source has left
+  -- the wire text that a sender sends: that of its file, if the file is known
+  pub text : List ℕ
+  -- what of it the sender's source has left
   pub left : List ℕ
   -- what a receiver has stored, as its host stores it
   pub stored : List ℕ
@@ -84,7 +86,7 @@ received_text e stored =
 -- a sender's text, or what a receiver has of its peer's
 abbrev pub text_of : OpenEnd → List ℕ
 text_of x =
-    if is_sender x.state.role.side then wire_text x.state.role.mode x.file
+    if is_sender x.state.role.side then x.text
     else received_text x.state x.stored
 
 -- the endpoint of the other end

@@ -1,5 +1,6 @@
 -- What a client notes, step by step.
-use Rattle.std.proofs.Common.{◌≡◌, ℕ, List, [], ◌∷◌, ◌++◌, append_assoc, Option, Some, None, refl, sym, ap, ◌∙◌}
+use Rattle.std.proofs.Common.{◌≡◌, ℕ, List, [], ◌∷◌, ◌++◌, append_assoc, Option, Some, None, refl, sym, ap, ◌∙◌, subst, inl, inr}
+use Rattle.std.specs.Prelude.{◌⊎◌}
 use Rattle.std.specs.List.{AllByRecursion}
 use Rattle.std.proofs.lemmas.List.{append_cancel_right}
 use Rattle.tftp_file.specs.Sink.{SinkMeaning}
@@ -8,13 +9,14 @@ use Rattle.tftp_file.specs.declared.files.Files.{Files}
 use Rattle.tftp_ends.specs.End.{EndState}
 use Rattle.tftp_ends.specs.Step.{Reply}
 use Rattle.tftp_machine.specs.Machine.{Endpoint}
-use Rattle.tftp_sockets.specs.Journal.{Event, answered}
-use Rattle.tftp_sockets.specs.Journal.Event.{Received, Sent, Watched, Elapsed}
-use Rattle.tftp_client.specs.Converses.{State, Converses, HandlesReceived, MayElapse}
-use Rattle.tftp_client.specs.Converses.Converses.{Begins, Receives, Waits, Times, Rests}
+use Rattle.tftp_sockets.specs.Journal.{Event, QuietEvent, answered}
+use Rattle.tftp_sockets.specs.Journal.Event.{Received, Sent, Watched, Elapsed, Printed, Quiet}
+use Rattle.tftp_sockets.specs.Journal.QuietEvent.{Empty, Failed, Slept}
+use Rattle.tftp_client.specs.Converses.{State, HandlesReceived, MayElapse, wait_at}
 use Rattle.tftp_client.specs.Converses.HandlesReceived.{Answers, Loses}
 use Rattle.tftp_client.specs.Converses.MayElapse.{Stays, Elapses}
-use Rattle.tftp_network.specs.Journals.{IsOfPort, AsksFirst}
+use Rattle.tftp_network.specs.ClientRuns.{ClientDoes, ClientRun, Starts, Goes_on, Receives_one, Waits_until, Times_out, File_works, Prints_line}
+use Rattle.tftp_network.specs.Journals.{IsOfPort, IsQuietAt, AsksFirst}
 use Rattle.tftp_network.specs.Programs.{ClientProgram, ClientOpens, To_read, To_write}
 
 -- the events since `first` are of this port
@@ -28,8 +30,15 @@ answer : {first events : List Event} (port : ℕ) (reply : Option Reply) → Sin
 answer port None since = since
 answer port (Some reply) since = one_more (Sent port reply.to reply.bytes) refl since
 
+-- a receive at the port without a datagram
+at_port : (port : ℕ) (event : QuietEvent) → (event ≡ Empty port) ⊎ (event ≡ Failed port) → IsQuietAt port event
+at_port port event which = elim which [
+  | inl empty ↦ subst (λ (e : QuietEvent). IsQuietAt port e) (sym empty) refl
+  | inr failed ↦ subst (λ (e : QuietEvent). IsQuietAt port e) (sym failed) refl
+]
+
 elapse : {first : List Event} {port : ℕ} {s next : State} → MayElapse port s next → Since port first s.events → Since port first next.events
-elapse Stays since = since
+elapse (Stays why) since = since
 elapse {port = port} {s = s} (Elapses due still) since = answer port _ (one_more (Elapsed port s.now) refl since)
 
 module _ {G K : Type 0} {inputs : SourceMeaning G} {outputs : SinkMeaning K} where
@@ -38,23 +47,28 @@ module _ {G K : Type 0} {inputs : SourceMeaning G} {outputs : SinkMeaning K} whe
   handle {port = port} (Answers {turn} still step) since = answer port turn.reply since
   handle (Loses lost keeps) since = since
 
-  pub converse : {port : ℕ} {first : State} {file : Files G K} {s : State} {files : Files G K} →
-      Converses inputs outputs port first file s files → Since port first.events s.events
-  converse Begins = ([], refl, tt)
-  converse {port = port} (Receives {from = from} {bytes = bytes} {time = time} run later handles) =
-      handle handles (one_more (Watched time) tt (one_more (Received port from bytes) refl (converse run)))
-  converse (Waits {time = time} run later) = one_more (Watched time) tt (converse run)
-  converse (Times run elapses) = elapse elapses (converse run)
-  converse (Rests run works) = converse run
+  -- a step
+  does_since : {first : List Event} {port : ℕ} {s : State} {files : Files G K} {s' : State} {files' : Files G K} → ClientDoes inputs outputs port s files s' files' → Since port first s.events → Since port first s'.events
+  does_since {port = port} {s = s} (Receives_one {from = from} {bytes = bytes} {time = time} may later handles) since =
+      handle handles (one_more (Watched time) tt (one_more (Received port from bytes) refl (one_more (Quiet (Slept (wait_at s))) tt since)))
+  does_since {port = port} {s = s} (Waits_until {event = event} {time = time} may which later) since =
+      one_more (Watched time) tt (one_more (Quiet event) (at_port port event which) (one_more (Quiet (Slept (wait_at s))) tt since))
+  does_since (Times_out elapses) since = elapse elapses since
+  does_since (File_works works) since = since
+  does_since (Prints_line line) since = one_more (Printed line) tt since
+
+  pub converse : {port : ℕ} {first : State} {file : Files G K} {s : State} {files : Files G K} → ClientRun inputs outputs port first file s files → Since port first.events s.events
+  converse Starts = ([], refl, tt)
+  converse (Goes_on run does) = does_since does (converse run)
 
   -- the request goes to the server
-  asks_there : {to : Endpoint} {first : EndState} {file : Files G K} {bytes : List ℕ} → ClientOpens inputs outputs to first file bytes → first.position.last_sent_to ≡ to
+  asks_there : {to : Endpoint} {first : EndState} {file : Files G K} → ClientOpens inputs outputs to first file → first.position.last_sent_to ≡ to
   asks_there (To_read opens) = ap (λ (e : EndState). e.position.last_sent_to) opens.is
   asks_there (To_write opens) = ap (λ (e : EndState). e.position.last_sent_to) opens.is
 
   pub asks_first : (to : Endpoint) (client : ClientProgram inputs outputs to) → AsksFirst client
   asks_first to client =
-      let since = converse client.runs.converses in
+      let since = converse client.runs in
       let request = client.first.position.last_sent in
       let asked : Endpoint → List Event = λ a. Sent client.port a request ∷ [] in
       let there = asks_there client.opens in

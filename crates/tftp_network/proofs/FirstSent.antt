@@ -38,7 +38,7 @@ first_of_write (known ∷ agreed) = Oack (agreed_options (known ∷ agreed))
 
 -- ---- the source
 -- the first block is requested of a text that was measured to its end
-first_want : (m n : ℕ) → m ≡ n → block_length m DEFAULT_BLOCK 1 ≡ min DEFAULT_BLOCK n
+pub first_want : (m n : ℕ) → m ≡ n → block_length m DEFAULT_BLOCK 1 ≡ min DEFAULT_BLOCK n
 first_want m n e = omega arith
 
 -- and it was read
@@ -97,11 +97,3 @@ read_first_is (k ∷ agreed) peer mode text retries = refl
 pub write_first_is : (agreed : List Known) (peer : Endpoint) (mode : Mode) (retries : ℕ) → (serving_write agreed peer mode retries).position.last_sent ≡ canonical (first_of_write agreed)
 write_first_is [] peer mode retries = refl
 write_first_is (k ∷ agreed) peer mode retries = refl
-
-pub read_peer_is : (agreed : List Known) (peer : Endpoint) (mode : Mode) (text : List ℕ) (retries : ℕ) → (sending agreed peer mode text retries).position.last_sent_to ≡ peer
-read_peer_is [] peer mode text retries = refl
-read_peer_is (k ∷ agreed) peer mode text retries = refl
-
-pub write_peer_is : (agreed : List Known) (peer : Endpoint) (mode : Mode) (retries : ℕ) → (serving_write agreed peer mode retries).position.last_sent_to ≡ peer
-write_peer_is [] peer mode retries = refl
-write_peer_is (k ∷ agreed) peer mode retries = refl

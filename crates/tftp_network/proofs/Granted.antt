@@ -69,3 +69,9 @@ answer_granted options kind mode file_length limits agreed fits max e =
       small = range.1;
       oack = λ some. (some_options agreed some, spelled.0, (let n : suc (suc (length (options_bytes (agreed_options agreed)))) ≤ MAX_REQUEST = omega (arith, l, three) in n));
     }
+
+-- its block size does not depend on the length of the file
+pub answer_small : (options : List RawOption) (kind : Kind) (mode : Mode) (file_length : ℕ) (limits : Limits) (agreed : List Known) → IsBlockSize limits.max_block →
+    answer options kind mode file_length limits ≡ Ok agreed → size agreed ≤ MAX_BLOCK
+answer_small options kind mode file_length limits agreed max e =
+    (agreements_have_block_sizes agreed (answers_may_be_agreed options kind mode file_length limits agreed max e)).1

@@ -1,5 +1,5 @@
 -- From one order of all events to a joint run. The last steps are taken off one by one, from the
--- end of the order: a step leaves when the oldest of its events does.
+-- end of the order: a step leaves when the oldest of its events after a wait does.
 use Rattle.std.proofs.Common.{◌≡◌, ℕ, List, [], ◌∷◌, ◌++◌, append_assoc, length, map, set, Option, Some, None, refl, sym, ap, ◌∙◌, subst, zero, suc, arith, inl, inr}
 use Rattle.std.specs.Prelude.{◌≢◌, slice_get, option_map}
 use Rattle.std.specs.List.{Contains, AllByRecursion}
@@ -16,28 +16,30 @@ use Rattle.tftp_sockets.specs.Journal.{Event}
 use Rattle.tftp_sockets.specs.Journal.Event.{Received, Sent}
 use Rattle.tftp_loop.specs.Run.{Run}
 use Rattle.tftp_loop.specs.Run.Run.{Start, Then}
-use Rattle.tftp_loop.specs.Serves.{LoopState, Does, at_start}
-use Rattle.tftp_client.specs.Converses.{State, Converses}
-use Rattle.tftp_client.specs.Converses.Converses.{Begins, Receives, Waits, Times, Rests}
+use Rattle.tftp_loop.specs.Serves.{LoopState, Does}
+use Rattle.tftp_client.specs.Converses.{State}
 use Rattle.tftp_client.specs.Runs.{begun}
+use Rattle.tftp_network.specs.ClientRuns.{ClientDoes, ClientRun, Starts, Goes_on, client_moves, moved_in}
 use Rattle.tftp_network.specs.Joint.{Joint, All_begin, Server_does, Client_asks, Client_does, CanTake, WasSentBefore, JournalsAreJoint}
+use Rattle.tftp_network.specs.Moved.{Moved, nothing_moved}
 use Rattle.tftp_network.specs.Order.{Noted, Programs, events_of, IsAt, IsHonest, IsOrder, CanCome}
 use Rattle.tftp_network.specs.Programs.{endpoint, requests_at, ClientProgram}
-use Rattle.tftp_network.specs.Snapshots.{ClientDoes, Receives_one, Waits_until, Times_out, File_works, ClientStage, Unasked, Has_asked, noted_by, Snapshot, just_asked, client_did, all_of}
+use Rattle.tftp_network.specs.Snapshots.{ClientStage, Unasked, Has_asked, noted_by, Snapshot, just_asked, client_did, all_of}
 use Rattle.tftp_network.proofs.ClientJournals.{converse}
 use Rattle.tftp_network.proofs.Orders.{events_own, events_other, noted_in, set_again, set_own, all_are, mapped}
-use Rattle.tftp_network.proofs.SeenSteps.{Split, split, heads, no_more, step_back, split_in, oldest_in, past, at_first, ends_with}
-use Rattle.tftp_network.proofs.StepEvents.{IsOther, Silent, Notes, server_adds, client_adds}
+use Rattle.tftp_network.proofs.SeenSteps.{Split, split, heads, no_more, step_back, split_in, oldest_in, past, past_waits, before_waits, at_first, ends_with}
+use Rattle.tftp_network.proofs.ServersRun.{server_noted}
+use Rattle.tftp_network.proofs.StepEvents.{IsOther, IsQuiet, Silent, Notes, Rests, Acts, server_adds, client_adds}
 
 module _ {S F D G K : Type 0} {stores : StoreMeaning S D} {sources : SourceMeaning F} {inputs : SourceMeaning G} {outputs : SinkMeaning K} (programs : Programs stores sources inputs outputs) where
   abbrev Client : Type 0
   Client = ClientProgram inputs outputs (requests_at stores sources programs.server)
 
   abbrev ServerRun : LoopState S F D → Type 0
-  ServerRun state = Run (Does stores sources) (at_start programs.server.port programs.server.first programs.server.before) state
+  ServerRun state = Run (Does stores sources) (programs.server.start) state
 
   abbrev Conversed : Client → State → Files G K → Type 0
-  Conversed client s files = Converses inputs outputs client.port (begun client.port client.first client.before) client.runs.file s files
+  Conversed client s files = ClientRun inputs outputs client.port (begun client.port client.first client.before) client.file s files
 
   abbrev snap : {state : LoopState S F D} → ServerRun state → List Event → List (ClientStage G K) → Snapshot programs
   snap {state} run noted clients = record { state = state; run = run; noted = noted; clients = clients }
@@ -45,24 +47,26 @@ module _ {S F D G K : Type 0} {stores : StoreMeaning S D} {sources : SourceMeani
   -- ---- one program where its journal is seen so far
 
   data ServerFits (seen : List Event) : (state : LoopState S F D) → ServerRun state → List Event → Type 0 where
-    Served : {state : LoopState S F D} {run : ServerRun state} {noted : List Event} → state.events ≡ noted ++ programs.server.before → noted ≡ seen → ServerFits seen state run noted
-    Serving : {old new : LoopState S F D} {run : ServerRun old} {old_noted noted : List Event} → old.events ≡ old_noted ++ programs.server.before → (does : Does stores sources old new) →
+    Served : {state : LoopState S F D} {run : ServerRun state} {noted : List Event} → state.events ≡ noted ++ programs.server.start.events → noted ≡ seen → ServerFits seen state run noted
+    Serving : {old new : LoopState S F D} {run : ServerRun old} {old_noted noted : List Event} → old.events ≡ old_noted ++ programs.server.start.events → (does : Does stores sources old new) →
         Split old.events new.events old_noted noted seen → ServerFits seen new (Then run does) noted
 
+  -- what is seen may end with a wait of the next step, or in that step
   data ClientFits (client : Client) (seen : List Event) : ClientStage G K → Type 0 where
     Not_yet : seen ≡ [] → ClientFits client seen Unasked
-    Conversed_so : {s : State} {files : Files G K} {noted : List Event} → Conversed client s files → s.events ≡ noted ++ client.before → noted ≡ seen → ClientFits client seen (Has_asked s files noted)
-    Conversing : {s s' : State} {files files' : Files G K} {old_noted noted : List Event} → Conversed client s files → s.events ≡ old_noted ++ client.before → ClientDoes inputs outputs client.port s files s' files' →
-        Split s.events s'.events old_noted noted seen → ClientFits client seen (Has_asked s' files' noted)
+    Conversed_so : {s : State} {files : Files G K} {noted : List Event} (run : Conversed client s files) → s.events ≡ noted ++ client.before → (waits : List Event) → AllByRecursion IsQuiet waits → waits ++ noted ≡ seen →
+        ClientFits client seen (Has_asked s files noted (moved_in run))
+    Conversing : {s s' : State} {files files' : Files G K} {noted : List Event} (old_noted : List Event) (run : Conversed client s files) → s.events ≡ old_noted ++ client.before → (waits : List Event) → AllByRecursion IsQuiet waits →
+        (does : ClientDoes inputs outputs client.port s files s' files') → Split (waits ++ s.events) s'.events (waits ++ old_noted) noted seen → ClientFits client seen (Has_asked s' files' noted (client_moves does (moved_in run)))
 
   server_in : {seen : List Event} {state : LoopState S F D} {run : ServerRun state} {noted : List Event} (e : Event) → ServerFits seen state run noted → Contains seen e → Contains noted e
   server_in e (Served is seen_is) i = subst (λ (es : List Event). Contains es e) (sym seen_is) i
   server_in e (Serving is does s) i = split_in e s i
 
-  client_in : {client : Client} {seen : List Event} {stage : ClientStage G K} (e : Event) → ClientFits client seen stage → Contains seen e → Contains (noted_by stage) e
-  client_in e (Not_yet none) i = subst (λ (es : List Event). Contains es e) none i
-  client_in e (Conversed_so run is seen_is) i = subst (λ (es : List Event). Contains es e) (sym seen_is) i
-  client_in e (Conversing run is does s) i = split_in e s i
+  client_in : {client : Client} {seen : List Event} {stage : ClientStage G K} (port : ℕ) (to : Endpoint) (bytes : List ℕ) → ClientFits client seen stage → Contains seen (Sent port to bytes) → Contains (noted_by stage) (Sent port to bytes)
+  client_in port to bytes (Not_yet none) i = subst (λ (es : List Event). Contains es (Sent port to bytes)) none i
+  client_in port to bytes (Conversed_so {noted = noted} run is waits quiet seen_is) i = past_waits waits noted (Sent port to bytes) quiet (λ q. q) (subst (λ (es : List Event). Contains es (Sent port to bytes)) (sym seen_is) i)
+  client_in port to bytes (Conversing old_noted run is waits quiet does s) i = split_in (Sent port to bytes) s i
 
   -- ---- all programs where their journals are seen so far
 
@@ -91,7 +95,7 @@ module _ {S F D G K : Type 0} {stores : StoreMeaning S D} {sources : SourceMeani
         is_stage = has.1;
         port = port;
         at = at.2 ∙ ap (λ (ip : List ℕ). endpoint ip port) (sym m.2);
-        sent = client_in (Sent port to bytes) has.2 (noted_in (suc k) (Sent port to bytes) order i);
+        sent = client_in port to bytes has.2 (noted_in (suc k) (Sent port to bytes) order i);
       })
 
   -- a program can take what comes to it
@@ -100,19 +104,12 @@ module _ {S F D G K : Type 0} {stores : StoreMeaning S D} {sources : SourceMeani
   can_take sn order fits program ip is_ip e comes ahead x others same port from bytes i =
       let received = same ∙ oldest_in ahead x port from bytes others i in
       let come : CanCome stores sources inputs outputs programs program (Received port from bytes) order = subst (λ (z : Event). CanCome stores sources inputs outputs programs program z order) received comes in
-      let sent = come.2 in
-      subst (λ (a : Endpoint). WasSentBefore programs sn from a bytes) (is_ip port come.0 come.1) (sent_before sn order fits sent.program sent.port from come.0 bytes sent.is_at sent.sent)
+      elim come.2 [
+        | inl sent ↦ inl (subst (λ (a : Endpoint). WasSentBefore programs sn from a bytes) (is_ip port come.0 come.1) (sent_before sn order fits sent.program sent.port from come.0 bytes sent.is_at sent.sent))
+        | inr stranger ↦ inr stranger
+      ]
 
   -- ---- the server
-
-  server_noted : {state : LoopState S F D} → ServerRun state → (noted : List Event) × (state.events ≡ noted ++ programs.server.before)
-  server_noted Start = ([], refl)
-  server_noted (Then {middle = old} run does) = elim (server_adds does) [
-    | Silent same ↦ ((server_noted run).0, same ∙ (server_noted run).1)
-    | Notes x rest own is ↦
-        let before = server_noted run in
-        ((x ∷ rest) ++ before.0, is ∙ (ap (λ (es : List Event). (x ∷ rest) ++ es) before.1 ∙ sym (append_assoc (x ∷ rest) before.0 programs.server.before)))
-  ]
 
   -- a silent step of the server
   server_rests : {old new : LoopState S F D} {run : ServerRun old} {noted : List Event} {clients : List (ClientStage G K)} → Joint programs (snap run noted clients) → (does : Does stores sources old new) → new.events ≡ old.events →
@@ -120,7 +117,7 @@ module _ {S F D G K : Type 0} {stores : StoreMeaning S D} {sources : SourceMeani
   server_rests joint does same = Server_does joint does [] same (λ port from bytes i. absurd (let l = i.1 in omega arith))
 
   -- at the beginning of the order the server has made silent steps only
-  server_first : {state : LoopState S F D} (run : ServerRun state) (noted : List Event) (clients : List (ClientStage G K)) → state.events ≡ noted ++ programs.server.before → noted ≡ [] →
+  server_first : {state : LoopState S F D} (run : ServerRun state) (noted : List Event) (clients : List (ClientStage G K)) → state.events ≡ noted ++ programs.server.start.events → noted ≡ [] →
       map (λ (client : Client). Unasked) programs.clients ≡ clients → Joint programs (snap run noted clients)
   server_first Start noted clients is none all =
       subst (λ (cs : List (ClientStage G K)). Joint programs (snap Start noted cs)) all
@@ -129,7 +126,7 @@ module _ {S F D G K : Type 0} {stores : StoreMeaning S D} {sources : SourceMeani
     | Silent same ↦ server_rests (server_first run noted clients (sym same ∙ is) none all) does same
     | Notes x rest own added ↦
         let before = server_noted run in
-        no_more x (rest ++ before.0) (sym none ∙ past (x ∷ rest) before.0 programs.server.before old.events new.events noted added before.1 is)
+        no_more x (rest ++ before.0) (sym none ∙ past (x ∷ rest) before.0 programs.server.start.events old.events new.events noted added before.1 is)
   ]
 
   module _ (e : Event) (earlier : List Noted) (comes : CanCome stores sources inputs outputs programs 0 e earlier) (clients : List (ClientStage G K))
@@ -137,7 +134,7 @@ module _ {S F D G K : Type 0} {stores : StoreMeaning S D} {sources : SourceMeani
       (fit : (k : ℕ) (client : Client) → slice_get programs.clients k ≡ Some client → ClientHas clients earlier k client)
       (ih : (sn : Snapshot programs) → Fits sn earlier → Joint programs sn) where
     -- the last step of the server has noted the event
-    server_steps : {old new : LoopState S F D} {run : ServerRun old} {old_noted noted : List Event} → old.events ≡ old_noted ++ programs.server.before → (does : Does stores sources old new) →
+    server_steps : {old new : LoopState S F D} {run : ServerRun old} {old_noted noted : List Event} → old.events ≡ old_noted ++ programs.server.start.events → (does : Does stores sources old new) →
         Split old.events new.events old_noted noted (e ∷ events_of 0 earlier) → Joint programs (snap (Then run does) noted clients)
     server_steps {old = old} {new = new} {run = run} {old_noted = old_noted} {noted = noted} is does (split ahead x [] others own added noted_is seen_is) =
         let h = heads e x (events_of 0 earlier) old_noted seen_is in
@@ -151,14 +148,14 @@ module _ {S F D G K : Type 0} {stores : StoreMeaning S D} {sources : SourceMeani
         ih (snap (Then run does) noted clients) (record { server = Serving is does (step_back ahead x y rest (events_of 0 earlier) others own added noted_is h.1); count = count; clients = fit })
 
     -- the event is the last that the server has noted
-    server_back : {state : LoopState S F D} (run : ServerRun state) (noted : List Event) → state.events ≡ noted ++ programs.server.before → noted ≡ e ∷ events_of 0 earlier → Joint programs (snap run noted clients)
+    server_back : {state : LoopState S F D} (run : ServerRun state) (noted : List Event) → state.events ≡ noted ++ programs.server.start.events → noted ≡ e ∷ events_of 0 earlier → Joint programs (snap run noted clients)
     server_back Start noted is seen_is =
-        no_more e (events_of 0 earlier) (sym (at_first programs.server.before programs.server.before noted refl is) ∙ seen_is)
+        no_more e (events_of 0 earlier) (sym (at_first programs.server.start.events programs.server.start.events noted refl is) ∙ seen_is)
     server_back (Then {middle = old} {last = new} run does) noted is seen_is = elim (server_adds does) [
       | Silent same ↦ server_rests (server_back run noted (sym same ∙ is) seen_is) does same
       | Notes x rest own added ↦
           let before = server_noted run in
-          let noted_is = past (x ∷ rest) before.0 programs.server.before old.events new.events noted added before.1 is in
+          let noted_is = past (x ∷ rest) before.0 programs.server.start.events old.events new.events noted added before.1 is in
           server_steps before.1 does (split [] x rest tt own added noted_is (sym seen_is ∙ noted_is))
     ]
 
@@ -214,53 +211,57 @@ module _ {S F D G K : Type 0} {stores : StoreMeaning S D} {sources : SourceMeani
         at.2 ∙ ap (λ (ip : List ℕ). endpoint ip port) (sym (same_Some client.ip at.0 (sym own ∙ at.1)))
 
     -- the client makes a step
-    client_goes : {s s' : State} {files files' : Files G K} (noted : List Event) → Joint programs (At (Has_asked s files noted)) → ClientDoes inputs outputs client.port s files s' files' → (added : List Event) →
-        s'.events ≡ added ++ s.events → CanTake programs (At (Has_asked s files noted)) client.ip added → Joint programs (At (Has_asked s' files' (added ++ noted)))
-    client_goes {s = s} {s' = s'} {files = files} {files' = files'} noted joint does added is takes =
-        subst (λ (stages : List (ClientStage G K)). Joint programs (With stages)) (set_again sn.clients k (Has_asked s files noted) (Has_asked s' files' (added ++ noted)))
-        (Client_does joint k client is_client (stage_is (Has_asked s files noted)) does added is takes)
+    client_goes : {s s' : State} {files files' : Files G K} (noted : List Event) (moved : Moved) → Joint programs (At (Has_asked s files noted moved)) → (does : ClientDoes inputs outputs client.port s files s' files') → (added : List Event) →
+        s'.events ≡ added ++ s.events → CanTake programs (At (Has_asked s files noted moved)) client.ip added → Joint programs (At (Has_asked s' files' (added ++ noted) (client_moves does moved)))
+    client_goes {s = s} {s' = s'} {files = files} {files' = files'} noted moved joint does added is takes =
+        subst (λ (stages : List (ClientStage G K)). Joint programs (With stages)) (set_again sn.clients k (Has_asked s files noted moved) (Has_asked s' files' (added ++ noted) (client_moves does moved)))
+        (Client_does joint k client is_client (stage_is (Has_asked s files noted moved)) does added is takes)
 
     -- the last step of the client has noted the event
-    client_steps : {s s' : State} {files files' : Files G K} {old_noted noted : List Event} → Conversed client s files → s.events ≡ old_noted ++ client.before → ClientDoes inputs outputs client.port s files s' files' →
-        Split s.events s'.events old_noted noted (e ∷ events_of (suc k) earlier) → Joint programs (At (Has_asked s' files' noted))
-    client_steps {s = s} {s' = s'} {files = files} {files' = files'} {old_noted = old_noted} {noted = noted} run is does (split ahead x [] others_are own added noted_is seen_is) =
-        let h = heads e x (events_of (suc k) earlier) old_noted seen_is in
-        let fits = all_fit k client sn earlier is_client others (Has_asked s files old_noted) (Conversed_so run is (sym h.1)) in
-        let takes = can_take (At (Has_asked s files old_noted)) earlier fits (suc k) client.ip at_ip e comes ahead x others_are h.0 in
-        subst (λ (es : List Event). Joint programs (At (Has_asked s' files' es))) (sym noted_is) (client_goes old_noted (ih (At (Has_asked s files old_noted)) fits) does (ahead ++ x ∷ []) added takes)
-    client_steps {s' = s'} {files' = files'} {old_noted = old_noted} {noted = noted} run is does (split ahead x (y ∷ rest) others_are own added noted_is seen_is) =
-        let h = heads e x (events_of (suc k) earlier) ((y ∷ rest) ++ old_noted) seen_is in
-        ih (At (Has_asked s' files' noted)) (all_fit k client sn earlier is_client others (Has_asked s' files' noted) (Conversing run is does (step_back ahead x y rest (events_of (suc k) earlier) others_are own added noted_is h.1)))
+    client_steps : {s s' : State} {files files' : Files G K} {noted : List Event} (old_noted : List Event) (run : Conversed client s files) → s.events ≡ old_noted ++ client.before → (waits : List Event) → AllByRecursion IsQuiet waits →
+        (does : ClientDoes inputs outputs client.port s files s' files') → Split (waits ++ s.events) s'.events (waits ++ old_noted) noted (e ∷ events_of (suc k) earlier) → Joint programs (At (Has_asked s' files' noted (client_moves does (moved_in run))))
+    client_steps {s = s} {s' = s'} {files = files} {files' = files'} {noted = noted} old_noted run is waits quiet does (split ahead x [] others_are own added noted_is seen_is) =
+        let h = heads e x (events_of (suc k) earlier) (waits ++ old_noted) seen_is in
+        let fits = all_fit k client sn earlier is_client others (Has_asked s files old_noted (moved_in run)) (Conversed_so run is waits quiet (sym h.1)) in
+        let takes = can_take (At (Has_asked s files old_noted (moved_in run))) earlier fits (suc k) client.ip at_ip e comes ahead x others_are h.0 in
+        let all : CanTake programs (At (Has_asked s files old_noted (moved_in run))) client.ip ((ahead ++ x ∷ []) ++ waits) =
+        λ port from bytes i. takes port from bytes (before_waits (ahead ++ x ∷ []) waits (Received port from bytes) quiet (λ q. q) i) in
+        subst (λ (es : List Event). Joint programs (At (Has_asked s' files' es (client_moves does (moved_in run))))) (sym (noted_is ∙ sym (append_assoc (ahead ++ x ∷ []) waits old_noted)))
+        (client_goes old_noted (moved_in run) (ih (At (Has_asked s files old_noted (moved_in run))) fits) does ((ahead ++ x ∷ []) ++ waits) (added ∙ sym (append_assoc (ahead ++ x ∷ []) waits s.events)) all)
+    client_steps {s' = s'} {files' = files'} {noted = noted} old_noted run is waits quiet does (split ahead x (y ∷ rest) others_are own added noted_is seen_is) =
+        let h = heads e x (events_of (suc k) earlier) ((y ∷ rest) ++ (waits ++ old_noted)) seen_is in
+        ih (At (Has_asked s' files' noted (client_moves does (moved_in run)))) (all_fit k client sn earlier is_client others (Has_asked s' files' noted (client_moves does (moved_in run))) (Conversing old_noted run is waits quiet does (step_back ahead x y rest (events_of (suc k) earlier) others_are own added noted_is h.1)))
 
     -- the event is the last that the client has noted, by its last step or before
-    client_last : {s s' : State} {files files' : Files G K} → Conversed client s files → ClientDoes inputs outputs client.port s files s' files' → (noted : List Event) → s'.events ≡ noted ++ client.before →
-        noted ≡ e ∷ events_of (suc k) earlier → ((older : List Event) → s.events ≡ older ++ client.before → older ≡ e ∷ events_of (suc k) earlier → Joint programs (At (Has_asked s files older))) → Joint programs (At (Has_asked s' files' noted))
+    client_last : {s s' : State} {files files' : Files G K} (run : Conversed client s files) (does : ClientDoes inputs outputs client.port s files s' files') → (noted : List Event) → s'.events ≡ noted ++ client.before →
+        noted ≡ e ∷ events_of (suc k) earlier → ((older : List Event) → s.events ≡ older ++ client.before → older ≡ e ∷ events_of (suc k) earlier → Joint programs (At (Has_asked s files older (moved_in run)))) → Joint programs (At (Has_asked s' files' noted (client_moves does (moved_in run))))
     client_last {s = s} {s' = s'} run does noted is seen_is rest_of = elim (client_adds does) [
-      | Silent same ↦ client_goes noted (rest_of noted (sym same ∙ is) seen_is) does [] same (λ port from bytes i. absurd (let l = i.1 in omega arith))
-      | Notes x rest own added ↦
+      | Rests same ↦ client_goes noted (moved_in run) (rest_of noted (sym same ∙ is) seen_is) does [] same (λ port from bytes i. absurd (let l = i.1 in omega arith))
+      | Acts x rest waits own quiet added ↦
           let before = client_noted client run in
           let old_noted = before.0 ++ before.1 ∷ [] in
-          let noted_is = past (x ∷ rest) old_noted client.before s.events s'.events noted added before.2 is in
-          client_steps run before.2 does (split [] x rest tt own added noted_is (sym seen_is ∙ noted_is))
+          let old_is : waits ++ s.events ≡ (waits ++ old_noted) ++ client.before = ap (λ (es : List Event). waits ++ es) before.2 ∙ sym (append_assoc waits old_noted client.before) in
+          let noted_is = past (x ∷ rest) (waits ++ old_noted) client.before (waits ++ s.events) s'.events noted added old_is is in
+          client_steps old_noted run before.2 waits quiet does (split [] x rest tt own added noted_is (sym seen_is ∙ noted_is))
     ]
 
-    client_back : {s : State} {files : Files G K} (run : Conversed client s files) (noted : List Event) → s.events ≡ noted ++ client.before → noted ≡ e ∷ events_of (suc k) earlier → Joint programs (At (Has_asked s files noted))
-    client_back Begins noted is seen_is =
+    client_back : {s : State} {files : Files G K} (run : Conversed client s files) (noted : List Event) → s.events ≡ noted ++ client.before → noted ≡ e ∷ events_of (suc k) earlier → Joint programs (At (Has_asked s files noted (moved_in run)))
+    client_back Starts noted is seen_is =
         let request = Sent client.port client.first.position.last_sent_to client.first.position.last_sent in
         let noted_is : noted ≡ request ∷ [] = append_cancel_right noted (request ∷ []) client.before (sym is) in
         let none = (heads e request (events_of (suc k) earlier) [] (sym seen_is ∙ noted_is)).1 in
         let joint = ih (At Unasked) (all_fit k client sn earlier is_client others Unasked (Not_yet none)) in
         let asks = subst (λ (stages : List (ClientStage G K)). Joint programs (With stages)) (set_again sn.clients k Unasked (just_asked client)) (Client_asks joint k client is_client (stage_is Unasked)) in
-        subst (λ (es : List Event). Joint programs (At (Has_asked (begun client.port client.first client.before) client.runs.file es))) (sym noted_is) asks
-    client_back (Receives run later handles) noted is seen_is = client_last run (Receives_one later handles) noted is seen_is (λ older i seen. client_back run older i seen)
-    client_back (Waits run later) noted is seen_is = client_last run (Waits_until later) noted is seen_is (λ older i seen. client_back run older i seen)
-    client_back (Times run elapses) noted is seen_is = client_last run (Times_out elapses) noted is seen_is (λ older i seen. client_back run older i seen)
-    client_back (Rests run works) noted is seen_is = client_last run (File_works works) noted is seen_is (λ older i seen. client_back run older i seen)
+        subst (λ (es : List Event). Joint programs (At (Has_asked (begun client.port client.first client.before) client.file es nothing_moved))) (sym noted_is) asks
+    client_back (Goes_on run does) noted is seen_is = client_last run does noted is seen_is (λ older i seen. client_back run older i seen)
 
     client_any : {stage : ClientStage G K} → ClientFits client (e ∷ events_of (suc k) earlier) stage → Joint programs (At stage)
     client_any (Not_yet none) = no_more e (events_of (suc k) earlier) (sym none)
-    client_any (Conversed_so {noted = noted} run is seen_is) = client_back run noted is seen_is
-    client_any (Conversing run is does s) = client_steps run is does s
+    client_any (Conversed_so {noted = noted} run is [] quiet seen_is) = client_back run noted is seen_is
+    client_any (Conversed_so {s = s} {files = files} {noted = noted} run is (w ∷ waits) quiet seen_is) =
+        let h = heads w e (waits ++ noted) (events_of (suc k) earlier) seen_is in
+        ih (At (Has_asked s files noted (moved_in run))) (all_fit k client sn earlier is_client others (Has_asked s files noted (moved_in run)) (Conversed_so run is waits quiet.1 h.1))
+    client_any (Conversing old_noted run is waits quiet does s) = client_steps old_noted run is waits quiet does s
 
   -- ---- all programs
 
@@ -303,10 +304,11 @@ module _ {S F D G K : Type 0} {stores : StoreMeaning S D} {sources : SourceMeani
   -- at the beginning of the order no client has sent its request
   client_first : (client : Client) {stage : ClientStage G K} → ClientFits client [] stage → stage ≡ Unasked
   client_first client (Not_yet none) = refl
-  client_first client (Conversed_so {noted = noted} run is none) =
+  client_first client (Conversed_so run is (w ∷ waits) quiet none) = no_more w (waits ++ _) (sym none)
+  client_first client (Conversed_so {noted = noted} run is [] quiet none) =
       let before = client_noted client run in
       ends_with before.0 before.1 (sym none ∙ append_cancel_right noted (before.0 ++ before.1 ∷ []) client.before (sym is ∙ before.2))
-  client_first client (Conversing run is does (split ahead x rest others own added noted_is none)) = no_more x (rest ++ _) none
+  client_first client (Conversing old_noted run is waits quiet does (split ahead x rest others own added noted_is none)) = no_more x (rest ++ _) none
 
   all_first : (clients : List (ClientStage G K)) {state : LoopState S F D} {run : ServerRun state} {noted : List Event} → map (λ (client : Client). Unasked) programs.clients ≡ clients → ServerFits [] state run noted →
       Joint programs (snap run noted clients)
@@ -320,12 +322,12 @@ module _ {S F D G K : Type 0} {stores : StoreMeaning S D} {sources : SourceMeani
 
   pub all_joint : (order : List Noted) → IsOrder stores sources inputs outputs programs order → IsHonest stores sources inputs outputs programs order → Joint programs (all_of programs)
   all_joint order is_order honest =
-      let stage_of : Client → ClientStage G K = λ client. Has_asked client.last client.files client.noted in
+      let stage_of : Client → ClientStage G K = λ client. Has_asked client.last client.files client.noted (moved_in client.runs) in
       joint_to order honest (all_of programs) (record {
-        server = Served (sym programs.server.serves.2 ∙ programs.server.is_noted) (sym is_order.server);
+        server = Served programs.server.is_noted (sym is_order.server);
         count = length-map programs.clients stage_of;
         clients = λ k client is.
-            (stage_of client, slice_get-map stage_of programs.clients k ∙ ap (λ (o : Option Client). option_map stage_of o) is, Conversed_so client.runs.converses client.is_noted (sym (is_order.clients k client is)));
+            (stage_of client, slice_get-map stage_of programs.clients k ∙ ap (λ (o : Option Client). option_map stage_of o) is, Conversed_so client.runs client.is_noted [] tt (sym (is_order.clients k client is)));
       })
 
 pub journals_joint : {S F D G K : Type 0} (stores : StoreMeaning S D) (sources : SourceMeaning F) (inputs : SourceMeaning G) (outputs : SinkMeaning K) → JournalsAreJoint stores sources inputs outputs

@@ -1,6 +1,8 @@
 -- The invariant of the programs between two of their steps: rules of the guarded machine lead to the views of all ends that were opened, and each datagram that was sent is one of its messages. That a message is there (`IsThere`) is said as for the turns of an end.
-use Rattle.std.specs.Prelude.{ℕ, ◌≡◌, ◌≢◌, ◌⊎◌, true, false, List, [], ◌∷◌, slice_get, Some, None, IsSome}
+use Rattle.std.specs.Prelude.{ℕ, ◌≡◌, ◌≢◌, ◌⊎◌, true, false, List, [], ◌∷◌, ◌++◌, slice_get, Option, Some, None, IsSome}
 use Rattle.std.specs.List.{Contains}
+use Rattle.tftp_file.specs.Block.{IsBeginningOf}
+use Rattle.tftp_file.specs.Netascii.{wire_text}
 use Rattle.tftp_file.specs.Sink.{SinkMeaning}
 use Rattle.tftp_file.specs.Source.{SourceMeaning}
 use Rattle.tftp_file.specs.declared.files.Files.{Files}
@@ -8,7 +10,7 @@ use Rattle.tftp_file.specs.declared.files.Files.TheVariants.{Source, Sink}
 use Rattle.tftp_ends.specs.End.{is_sender, is_client, is_complete, outcome_of}
 use Rattle.tftp_store.specs.Store.{StoreMeaning}
 use Rattle.tftp_machine.specs.EndKept.{EndKept}
-pub use Rattle.tftp_machine.specs.EndShown.{IsThere}
+pub use Rattle.tftp_machine.specs.EndShown.{IsThere, HasArrived}
 use Rattle.tftp_machine.specs.KnownFiles.{HasLeft}
 use Rattle.tftp_machine.specs.Machine.{Endpoint, Message, Network}
 use Rattle.tftp_machine.specs.OpenEnds.{OpenEnd, holding_of, open_view}
@@ -17,12 +19,17 @@ use Rattle.tftp_machine.specs.ViewSafety.{IsAmong}
 use Rattle.tftp_server.specs.State.{HeldTransfer, at}
 use Rattle.tftp_sockets.specs.Journal.{Event}
 use Rattle.tftp_client.specs.Converses.{State}
+use Rattle.tftp_loop.specs.Serves.{LoopState}
+use Rattle.tftp_network.specs.ClientRuns.{moved_in}
 use Rattle.tftp_network.specs.Joint.{WasSentBefore}
+use Rattle.tftp_network.specs.Modelled.{AreModelled}
+use Rattle.tftp_network.specs.Moved.{Moved, moved_at, opened_at}
 use Rattle.tftp_network.specs.Order.{Programs}
 use Rattle.tftp_network.specs.Ports.{IsStored, WasStored, HasClosed, opened_ports, AreDistinct}
 use Rattle.tftp_network.specs.Programs.{endpoint, requests_at, ClientProgram, client_at}
 use Rattle.tftp_network.specs.Promises.{joined}
 use Rattle.tftp_network.specs.Snapshots.{Snapshot, ClientStage, Unasked, Has_asked}
+use Rattle.tftp_network.proofs.Texts.{pad_to}
 
 -- no identifier is there twice
 abbrev pub AreKeyedOnce : {T : Type 0} → List (ℕ × T) → Type 0
@@ -36,29 +43,80 @@ pub record IsViewed (network : Network) (views : List EndView) (messages : List 
   pub viewed : slice_get views index ≡ Some (open_view x)
   pub last_sent : IsThere messages x.address x.state.position.last_sent_to x.state.position.last_sent
 
--- the file of a client's end: of a closed one only a sink is known, and a source may be one that must fail
-abbrev pub HasFile : {G K : Type 0} → SourceMeaning G → SinkMeaning K → OpenEnd → Files G K → Type 0
-HasFile inputs outputs x (Source source) =
-    (is_sender x.state.role.side ≡ true) × (outcome_of x.state.position.phase ≡ None → HasLeft inputs source x.left)
-HasFile inputs outputs x (Sink sink) = (is_sender x.state.role.side ≡ false) × (outputs.held sink ≡ Some (holding_of x))
+-- what a sender gave begins its text, and as long as the end is open what is left comes after it
+pub record GaveSo (x : OpenEnd) (moved : Moved) : Type 0 where
+  pub beginning : IsBeginningOf moved.bytes x.text
+  pub left : outcome_of x.state.position.phase ≡ None → moved.bytes ++ x.left ≡ x.text
+
+-- what a receiver stored is what its sink was handed
+pub record TookSo (x : OpenEnd) (moved : Moved) : Type 0 where
+  pub stored : x.stored ≡ moved.bytes
+  pub committed : x.committed ≡ true → moved.committed ≡ true
+  pub refuses : x.refuses ≡ false
+
+-- the length of a transfer's file, as it was measured when the transfer opened
+abbrev pub length_of : {F D : Type 0} → Option (HeldTransfer F D) → ℕ
+length_of None = 0
+length_of (Some held) = held.end.role.length
 
 module _ {S F D G K : Type 0} {stores : StoreMeaning S D} {sources : SourceMeaning F} {inputs : SourceMeaning G} {outputs : SinkMeaning K}
     (programs : Programs stores sources inputs outputs) where
+  -- what is known of the files: their models, or what the finished run moved; a sender's text is then that, padded by this byte
+  pub data How : Type 0 where
+    By_models : AreModelled programs → How
+    By_run : ℕ → How
+
+  -- the text of a client that sends, by the run
+  abbrev pub client_text : ℕ → ClientProgram inputs outputs (requests_at stores sources programs.server) → List ℕ
+  client_text pad client = pad_to pad client.first.role.length (moved_in client.runs).bytes
+
+  -- the text of a transfer that sends
+  abbrev pub port_text : ℕ → ℕ → List ℕ
+  port_text pad port = pad_to pad (length_of (opened_at port programs.server.run)) (moved_at port programs.server.run).bytes
+
+  -- a client that sends, by the models and by the run; of a closed one a source may be one that must fail
+  pub record ClientSends (file : List ℕ) (x : OpenEnd) (source : G) : Type 0 where
+    pub sender : is_sender x.state.role.side ≡ true
+    pub file_is : x.file ≡ file
+    pub text : x.text ≡ wire_text x.state.role.mode x.file
+    pub left : outcome_of x.state.position.phase ≡ None → HasLeft inputs source x.left
+
+  pub record ClientGave (pad : ℕ) (client : ClientProgram inputs outputs (requests_at stores sources programs.server)) (x : OpenEnd) (moved : Moved) : Type 0 where
+    pub sender : is_sender x.state.role.side ≡ true
+    pub role : x.state.role ≡ client.first.role
+    pub text : x.text ≡ client_text pad client
+    pub gave : GaveSo x moved
+
+  -- one that receives
+  pub record ClientStores (x : OpenEnd) (sink : K) : Type 0 where
+    pub receiver : is_sender x.state.role.side ≡ false
+    pub held : outputs.held sink ≡ Some (holding_of x)
+
+  pub record ClientTook (x : OpenEnd) (moved : Moved) : Type 0 where
+    pub receiver : is_sender x.state.role.side ≡ false
+    pub took : TookSo x moved
+
+  -- what is known of the file of a client's end
+  abbrev pub HasFile : How → ClientProgram inputs outputs (requests_at stores sources programs.server) → OpenEnd → Files G K → Moved → Type 0
+  HasFile (By_models models) client x (Source source) moved = ClientSends (models.file_of client) x source
+  HasFile (By_models models) client x (Sink sink) moved = ClientStores x sink
+  HasFile (By_run pad) client x (Source source) moved = ClientGave pad client x moved
+  HasFile (By_run pad) client x (Sink sink) moved = ClientTook x moved
+
   -- the end of a client that has asked
-  pub record ClientKept (views : List EndView) (messages : List Message) (client : ClientProgram inputs outputs (requests_at stores sources programs.server))
-      (s : State) (files : Files G K) : Type 0 where
+  pub record ClientKept (how : How) (views : List EndView) (messages : List Message) (client : ClientProgram inputs outputs (requests_at stores sources programs.server))
+      (s : State) (files : Files G K) (moved : Moved) : Type 0 where
     pub end : OpenEnd
     pub address : end.address ≡ client_at inputs outputs (requests_at stores sources programs.server) client
     pub state : end.state ≡ s.end
-    pub file : end.file ≡ client.file
     pub side : is_client end.state.role.side ≡ true
     pub viewed : IsViewed (joined programs) views messages end
-    pub has : HasFile inputs outputs end files
+    pub has : HasFile how client end files moved
 
   -- the end of a client, once it has asked
-  abbrev pub StageKept : List EndView → List Message → ClientProgram inputs outputs (requests_at stores sources programs.server) → ClientStage G K → Type 0
-  StageKept views messages client Unasked = Unit {0}
-  StageKept views messages client (Has_asked s files noted) = ClientKept views messages client s files
+  abbrev pub StageKept : How → List EndView → List Message → ClientProgram inputs outputs (requests_at stores sources programs.server) → ClientStage G K → Type 0
+  StageKept how views messages client Unasked = Unit {0}
+  StageKept how views messages client (Has_asked s files noted moved) = ClientKept how views messages client s files moved
 
   -- the server holds the transfer, or has removed it
   abbrev pub HasTransferBy : Snapshot programs → ℕ → HeldTransfer F D → Type 0
@@ -68,22 +126,45 @@ module _ {S F D G K : Type 0} {stores : StoreMeaning S D} {sources : SourceMeani
   -- what a transfer sends was under its path, and still is unless writes may replace files; an open one has this left, or must fail
   pub record SendsKept (snapshot : Snapshot programs) (x : OpenEnd) (source : F) : Type 0 where
     pub sender : is_sender x.state.role.side ≡ true
+    pub text : x.text ≡ wire_text x.state.role.mode x.file
     pub left : outcome_of x.state.position.phase ≡ None → HasLeft sources source x.left
     pub was : WasStored snapshot.run x.path x.file
-    pub stays : programs.server.first.config.overwrite ≡ false → IsStored stores snapshot.state x.path x.file
+    pub stays : programs.server.start.server.config.overwrite ≡ false → IsStored stores snapshot.state x.path x.file
 
   -- what a transfer has stored; once it is complete that is under its path, unless writes may replace files
   pub record StoresKept (snapshot : Snapshot programs) (x : OpenEnd) (draft : D) : Type 0 where
     pub receiver : is_sender x.state.role.side ≡ false
     pub drafted : stores.drafted draft ≡ Some (record { bytes = x.stored; committed = x.committed })
-    pub stays : programs.server.first.config.overwrite ≡ false → is_complete x.state.position.phase ≡ true → IsStored stores snapshot.state x.path x.stored
+    pub stays : programs.server.start.server.config.overwrite ≡ false → is_complete x.state.position.phase ≡ true → IsStored stores snapshot.state x.path x.stored
 
-  abbrev pub HasStored : Snapshot programs → OpenEnd → Files F D → Type 0
-  HasStored snapshot x (Source source) = SendsKept snapshot x source
-  HasStored snapshot x (Sink draft) = StoresKept snapshot x draft
+  -- the transfer was opened so at its port
+  pub record IsOpened (snapshot : Snapshot programs) (x : OpenEnd) : Type 0 where
+    pub opening : HeldTransfer F D
+    pub opened : opened_at x.address.port snapshot.run ≡ Some opening
+    pub path : opening.path ≡ x.path
+    pub role : opening.end.role ≡ x.state.role
+
+  -- what a transfer sends, and what it stored, by the run
+  pub record SendsMoved (pad : ℕ) (snapshot : Snapshot programs) (x : OpenEnd) : Type 0 where
+    pub sender : is_sender x.state.role.side ≡ true
+    pub opened : IsOpened snapshot x
+    pub text : x.text ≡ port_text pad x.address.port
+    pub gave : GaveSo x (moved_at x.address.port snapshot.run)
+
+  pub record StoresMoved (snapshot : Snapshot programs) (x : OpenEnd) : Type 0 where
+    pub receiver : is_sender x.state.role.side ≡ false
+    pub opened : IsOpened snapshot x
+    pub took : TookSo x (moved_at x.address.port snapshot.run)
+
+  -- what is known of the file of a transfer
+  abbrev pub HasStored : How → Snapshot programs → OpenEnd → Files F D → Type 0
+  HasStored (By_models models) snapshot x (Source source) = SendsKept snapshot x source
+  HasStored (By_models models) snapshot x (Sink draft) = StoresKept snapshot x draft
+  HasStored (By_run pad) snapshot x (Source source) = SendsMoved pad snapshot x
+  HasStored (By_run pad) snapshot x (Sink draft) = StoresMoved snapshot x
 
   -- the end of a transfer, held or removed
-  pub record TransferKept (views : List EndView) (messages : List Message) (snapshot : Snapshot programs) (port : ℕ) (transfer : HeldTransfer F D) : Type 0 where
+  pub record TransferKept (how : How) (views : List EndView) (messages : List Message) (snapshot : Snapshot programs) (port : ℕ) (transfer : HeldTransfer F D) : Type 0 where
     pub end : OpenEnd
     pub address : end.address ≡ endpoint programs.server.ip port
     pub state : end.state ≡ transfer.end
@@ -91,15 +172,20 @@ module _ {S F D G K : Type 0} {stores : StoreMeaning S D} {sources : SourceMeani
     pub request : end.request ≡ transfer.request
     pub side : is_client end.state.role.side ≡ false
     pub viewed : IsViewed (joined programs) views messages end
-    pub has : HasStored snapshot end transfer.files
+    pub has : HasStored how snapshot end transfer.files
+
+  -- the content of the store is known, by the models
+  abbrev pub IsKnown : How → LoopState S F D → Type 0
+  IsKnown (By_models models) state = IsSome (stores.stored state.server.store)
+  IsKnown (By_run pad) state = Unit {0}
 
   -- the server
-  pub record ServerKept (messages : List Message) (snapshot : Snapshot programs) : Type 0 where
-    pub requests : snapshot.state.requests ≡ programs.server.port
-    pub config : snapshot.state.server.config ≡ programs.server.first.config
-    pub known : IsSome (stores.stored snapshot.state.server.store)
+  pub record ServerKept (how : How) (messages : List Message) (snapshot : Snapshot programs) : Type 0 where
+    pub requests : snapshot.state.requests ≡ programs.server.start.requests
+    pub config : snapshot.state.server.config ≡ programs.server.start.server.config
+    pub known : IsKnown how snapshot.state
     pub pending : (from : Endpoint) (bytes : List ℕ) → snapshot.state.pending ≡ Some (from, bytes) →
-        IsThere messages from (requests_at stores sources programs.server) bytes
+        HasArrived messages from (requests_at stores sources programs.server) bytes
     pub once : AreKeyedOnce snapshot.state.server.held
     -- a port whose transfer was removed has none
     pub gone : (port : ℕ) (transfer : HeldTransfer F D) → HasClosed snapshot.run port transfer → at port snapshot.state.server.held ≡ None
@@ -113,7 +199,8 @@ module _ {S F D G K : Type 0} {stores : StoreMeaning S D} {sources : SourceMeani
     pub s : State
     pub files : Files G K
     pub noted : List Event
-    pub is_stage : slice_get snapshot.clients k ≡ Some (Has_asked s files noted)
+    pub moved : Moved
+    pub is_stage : slice_get snapshot.clients k ≡ Some (Has_asked s files noted moved)
     pub address : a ≡ client_at inputs outputs (requests_at stores sources programs.server) client
 
   -- the endpoint of a transfer, held or removed
@@ -124,24 +211,33 @@ module _ {S F D G K : Type 0} {stores : StoreMeaning S D} {sources : SourceMeani
     pub address : a ≡ endpoint programs.server.ip port
 
   -- the invariant
-  pub record IsKept (snapshot : Snapshot programs) : Type 0 where
+  pub record IsKept (how : How) (snapshot : Snapshot programs) : Type 0 where
     pub views : List EndView
     pub messages : List Message
     pub shown : IsShown (joined programs) views messages
     pub sent : (from to : Endpoint) (bytes : List ℕ) → WasSentBefore programs snapshot from to bytes → IsThere messages from to bytes
-    pub server : ServerKept messages snapshot
+    pub server : ServerKept how messages snapshot
     pub clients : (k : ℕ) (client : ClientProgram inputs outputs (requests_at stores sources programs.server)) (stage : ClientStage G K) →
-        slice_get programs.clients k ≡ Some client → slice_get snapshot.clients k ≡ Some stage → StageKept views messages client stage
-    pub transfers : (port : ℕ) (transfer : HeldTransfer F D) → HasTransferBy snapshot port transfer → TransferKept views messages snapshot port transfer
+        slice_get programs.clients k ≡ Some client → slice_get snapshot.clients k ≡ Some stage → StageKept how views messages client stage
+    pub transfers : (port : ℕ) (transfer : HeldTransfer F D) → HasTransferBy snapshot port transfer → TransferKept how views messages snapshot port transfer
     -- the view of an end at an endpoint is the only one there, so this determines it
     pub only : (view : EndView) → IsAmong views view → IsOfClient snapshot view.address ⊎ IsOfTransfer snapshot view.address
 
-  -- what the steps need: ports of the server so far that no two ends have
+  -- what has moved so far at a port that was opened begins what moved there in all, at the same transfer
+  pub record IsToldAt (snapshot : Snapshot programs) (port : ℕ) : Type 0 where
+    pub bytes : IsBeginningOf (moved_at port snapshot.run).bytes (moved_at port programs.server.run).bytes
+    pub opened : opened_at port snapshot.run ≡ opened_at port programs.server.run
+
+  -- what the steps need: ports of the server so far that no two ends have, and that what has moved so far begins what moved in all
   pub record IsFreshBy (snapshot : Snapshot programs) : Type 0 where
-    pub server : AreDistinct (programs.server.port ∷ opened_ports snapshot.run)
+    pub server : AreDistinct (programs.server.start.requests ∷ opened_ports snapshot.run)
     pub clients : (j k : ℕ) (x y : ClientProgram inputs outputs (requests_at stores sources programs.server)) →
         slice_get programs.clients j ≡ Some x → slice_get programs.clients k ≡ Some y →
         client_at inputs outputs (requests_at stores sources programs.server) x ≡ client_at inputs outputs (requests_at stores sources programs.server) y → j ≡ k
     pub apart : (k port : ℕ) (x : ClientProgram inputs outputs (requests_at stores sources programs.server)) →
-        slice_get programs.clients k ≡ Some x → Contains (programs.server.port ∷ opened_ports snapshot.run) port →
+        slice_get programs.clients k ≡ Some x → Contains (programs.server.start.requests ∷ opened_ports snapshot.run) port →
         client_at inputs outputs (requests_at stores sources programs.server) x ≢ endpoint programs.server.ip port
+    pub told : (port : ℕ) → Contains (opened_ports snapshot.run) port → IsToldAt snapshot port
+    pub gave : (k : ℕ) (client : ClientProgram inputs outputs (requests_at stores sources programs.server)) (s : State) (files : Files G K) (noted : List Event) (moved : Moved) →
+        slice_get programs.clients k ≡ Some client → slice_get snapshot.clients k ≡ Some (Has_asked s files noted moved) →
+        IsBeginningOf moved.bytes (moved_in client.runs).bytes

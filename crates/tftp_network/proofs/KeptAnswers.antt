@@ -13,7 +13,7 @@ use Rattle.tftp_machine.specs.Said.{said}
 use Rattle.tftp_machine.specs.Shows.{EndView, IsShown}
 use Rattle.tftp_machine.proofs.Shown.{shown_by}
 
-module _ (network : Network) (somewhere : (a : Endpoint) → network.host_of a ≢ Elsewhere) where
+module _ (network : Network) where
   module _ (m : Machine) (holds : Holds network m) (from to : Endpoint) (at_client : network.host_of to ≡ At_client) where
     -- the peer of a client is at the server
     from_peer : (m.party from).is_open ≡ true → (m.party from).peer ≡ Some to → network.host_of from ≡ At_server
@@ -30,9 +30,9 @@ module _ (network : Network) (somewhere : (a : Endpoint) → network.host_of a �
     by_packet (Error code text) answer h = absurd answer
     by_packet (Oack options) answer h = from_peer h.is_open h.peer
 
-  pub answer_from_server : (views : List EndView) (messages : List Message) → IsShown network views messages → (from to : Endpoint) → network.host_of to ≡ At_client →
+  pub answer_from_server : (views : List EndView) (messages : List Message) → IsShown network views messages → (from to : Endpoint) → network.host_of from ≢ Elsewhere → network.host_of to ≡ At_client →
       (p : WirePacket) → IsAnswer p → Contains messages (message from to (said p)) → network.host_of from ≡ At_server
-  answer_from_server views messages shown from to at_client p answer come =
+  answer_from_server views messages shown from to somewhere at_client p answer come =
       let by = shown_by network views messages shown in
       let sent = subst (λ (ms : List Message). Contains ms (message from to (said p))) (sym by.3.sent) come in
-      by_packet by.0 by.1 from to at_client p answer (by.1.attested (message from to (said p)) sent (somewhere from))
+      by_packet by.0 by.1 from to at_client p answer (by.1.attested (message from to (said p)) sent somewhere)

@@ -20,13 +20,14 @@ use Rattle.tftp_machine.specs.Shows.{EndView, IsShown}
 use Rattle.tftp_machine.specs.ViewSafety.{IsAmong}
 use Rattle.tftp_machine.proofs.Indices.{slice_get-set_cases, slice_get-set_same, slice_get-set_other}
 use Rattle.tftp_network.specs.Joint.{WasSentBefore}
+use Rattle.tftp_network.specs.Moved.{Moved}
 use Rattle.tftp_network.specs.Order.{Programs}
 use Rattle.tftp_network.specs.Ports.{opened_ports}
 use Rattle.tftp_network.specs.Programs.{endpoint, requests_at, ClientProgram, client_at}
 use Rattle.tftp_network.specs.Promises.{joined}
 use Rattle.tftp_network.specs.Snapshots.{Snapshot, ClientStage, Unasked, Has_asked, noted_by, client_did}
-use Rattle.tftp_network.proofs.Kept.{IsThere, IsViewed, HasStored, HasTransferBy, ClientKept, StageKept, TransferKept, ServerKept, IsOfClient, IsOfTransfer, IsKept, IsFreshBy}
-use Rattle.tftp_network.proofs.KeptViews.{there_still}
+use Rattle.tftp_network.proofs.Kept.{How, By_models, By_run, IsOpened, IsThere, IsViewed, HasStored, HasTransferBy, ClientKept, StageKept, TransferKept, ServerKept, IsOfClient, IsOfTransfer, IsKept, IsFreshBy}
+use Rattle.tftp_network.proofs.KeptViews.{arrived_still, there_still}
 
 module _ {S F D G K : Type 0} {stores : StoreMeaning S D} {sources : SourceMeaning F} {inputs : SourceMeaning G} {outputs : SinkMeaning K}
     (programs : Programs stores sources inputs outputs) where
@@ -38,17 +39,23 @@ module _ {S F D G K : Type 0} {stores : StoreMeaning S D} {sources : SourceMeani
   there client = client_at inputs outputs (requests_at stores sources programs.server) client
 
   -- what a transfer stores does not depend on the clients
-  stored_still : (old : Snapshot programs) (k : ℕ) (stage : ClientStage G K) (x : OpenEnd) (files : Files F D) → HasStored programs old x files → HasStored programs (client_did programs old k stage) x files
-  stored_still old k stage x (Source source) h = record { sender = h.sender; left = h.left; was = h.was; stays = h.stays }
-  stored_still old k stage x (Sink draft) h = record { receiver = h.receiver; drafted = h.drafted; stays = h.stays }
+  opened_still : (old : Snapshot programs) (k : ℕ) (stage : ClientStage G K) (x : OpenEnd) → IsOpened programs old x → IsOpened programs (client_did programs old k stage) x
+  opened_still old k stage x h = record { opening = h.opening; opened = h.opened; path = h.path; role = h.role }
+
+  stored_still : (how : How programs) (old : Snapshot programs) (k : ℕ) (stage : ClientStage G K) (x : OpenEnd) (files : Files F D) → HasStored programs how old x files →
+      HasStored programs how (client_did programs old k stage) x files
+  stored_still (By_models models) old k stage x (Source source) h = record { sender = h.sender; text = h.text; left = h.left; was = h.was; stays = h.stays }
+  stored_still (By_models models) old k stage x (Sink draft) h = record { receiver = h.receiver; drafted = h.drafted; stays = h.stays }
+  stored_still (By_run pad) old k stage x (Source source) h = record { sender = h.sender; opened = opened_still old k stage x h.opened; text = h.text; gave = h.gave }
+  stored_still (By_run pad) old k stage x (Sink draft) h = record { receiver = h.receiver; opened = opened_still old k stage x h.opened; took = h.took }
 
   -- the port of a transfer is one of the server
-  pub port_known : (old : Snapshot programs) (messages : List Message) → ServerKept programs messages old → (port : ℕ) (transfer : HeldTransfer F D) → HasTransferBy programs old port transfer →
-      Contains (programs.server.port ∷ opened_ports old.run) port
-  port_known old messages h port transfer is = Contains-append_right (programs.server.port ∷ []) (opened_ports old.run) port (h.opened port transfer is)
+  pub port_known : {how : How programs} (old : Snapshot programs) (messages : List Message) → ServerKept programs how messages old → (port : ℕ) (transfer : HeldTransfer F D) → HasTransferBy programs old port transfer →
+      Contains (programs.server.start.requests ∷ opened_ports old.run) port
+  port_known old messages h port transfer is = Contains-append_right (programs.server.start.requests ∷ []) (opened_ports old.run) port (h.opened port transfer is)
 
   -- a transfer is at no client's endpoint
-  pub transfer_apart : (old : Snapshot programs) (kept : IsKept programs old) → IsFreshBy programs old → (k : ℕ) (client : Client) → slice_get programs.clients k ≡ Some client →
+  pub transfer_apart : {how : How programs} (old : Snapshot programs) (kept : IsKept programs how old) → IsFreshBy programs old → (k : ℕ) (client : Client) → slice_get programs.clients k ≡ Some client →
       (a : Endpoint) → IsOfTransfer programs old a → there client ≢ a
   transfer_apart old kept fresh k client found a h same =
       fresh.apart k h.port client found (port_known old kept.messages kept.server h.port h.transfer h.is_transfer) (same ∙ h.address)
@@ -58,20 +65,20 @@ module _ {S F D G K : Type 0} {stores : StoreMeaning S D} {sources : SourceMeani
   one_client j k c client at found same = same_Some c client (sym at ∙ (ap (slice_get programs.clients) same ∙ found))
 
   -- what a step of the client at this index does, after which it is there
-  pub record ClientTurns (old : Snapshot programs) (kept : IsKept programs old) (k : ℕ) (client : Client) (s : State) (files : Files G K) (noted : List Event) : Type 0 where
+  pub record ClientTurns {how : How programs} (old : Snapshot programs) (kept : IsKept programs how old) (k : ℕ) (client : Client) (s : State) (files : Files G K) (noted : List Event) (moved : Moved) : Type 0 where
     pub views : List EndView
     pub said_now : List Message
     pub shown : IsShown (joined programs) views (kept.messages ++ said_now)
     pub others : (z : OpenEnd) → there client ≢ z.address → IsViewed (joined programs) kept.views kept.messages z → IsViewed (joined programs) views (kept.messages ++ said_now) z
-    pub own : ClientKept programs views (kept.messages ++ said_now) client s files
+    pub own : ClientKept programs how views (kept.messages ++ said_now) client s files moved
     pub notes : (port : ℕ) (to : Endpoint) (bytes : List ℕ) → Contains noted (Sent port to bytes) →
         WasSentBefore programs old (endpoint client.ip port) to bytes ⊎ IsThere (kept.messages ++ said_now) (endpoint client.ip port) to bytes
     pub only : (view : EndView) → IsAmong views view → IsAmong kept.views view ⊎ (view.address ≡ there client)
 
-  module _ (old : Snapshot programs) (kept : IsKept programs old) (fresh : IsFreshBy programs old) (k : ℕ) (client : Client) (found : slice_get programs.clients k ≡ Some client)
-      (was : ClientStage G K) (is_stage : slice_get old.clients k ≡ Some was) (s : State) (files : Files G K) (noted : List Event) (turns : ClientTurns old kept k client s files noted) where
+  module _ {how : How programs} (old : Snapshot programs) (kept : IsKept programs how old) (fresh : IsFreshBy programs old) (k : ℕ) (client : Client) (found : slice_get programs.clients k ≡ Some client)
+      (was : ClientStage G K) (is_stage : slice_get old.clients k ≡ Some was) (s : State) (files : Files G K) (noted : List Event) (moved : Moved) (turns : ClientTurns old kept k client s files noted moved) where
     abbrev next : ClientStage G K
-    next = Has_asked s files noted
+    next = Has_asked s files noted moved
 
     abbrev new : Snapshot programs
     new = client_did programs old k next
@@ -102,26 +109,25 @@ module _ {S F D G K : Type 0} {stores : StoreMeaning S D} {sources : SourceMeani
     ]
 
     -- another client
-    other : (j : ℕ) (c : Client) (stage : ClientStage G K) → slice_get programs.clients j ≡ Some c → j ≢ k → StageKept programs kept.views kept.messages c stage → StageKept programs turns.views messages c stage
+    other : (j : ℕ) (c : Client) (stage : ClientStage G K) → slice_get programs.clients j ≡ Some c → j ≢ k → StageKept programs how kept.views kept.messages c stage → StageKept programs how turns.views messages c stage
     other j c Unasked at n h = tt
-    other j c (Has_asked s' files' noted') at n h = record {
+    other j c (Has_asked s' files' noted' moved') at n h = record {
       end = h.end;
       address = h.address;
       state = h.state;
-      file = h.file;
       side = h.side;
       viewed = turns.others h.end (λ same. n (fresh.clients j k c client at found (sym (same ∙ h.address)))) h.viewed;
       has = h.has;
     }
 
-    all_clients : (j : ℕ) (c : Client) (stage : ClientStage G K) → slice_get programs.clients j ≡ Some c → slice_get (set old.clients k next) j ≡ Some stage → StageKept programs turns.views messages c stage
+    all_clients : (j : ℕ) (c : Client) (stage : ClientStage G K) → slice_get programs.clients j ≡ Some c → slice_get (set old.clients k next) j ≡ Some stage → StageKept programs how turns.views messages c stage
     all_clients j c stage at e = elim (slice_get-set_cases old.clients k j next stage e) [
-      | inl h ↦ subst (λ (z : ClientStage G K). StageKept programs turns.views messages c z) (sym h.1)
-          (subst (λ (z : Client). ClientKept programs turns.views messages z s files) (sym (one_client j k c client at found h.0)) turns.own)
+      | inl h ↦ subst (λ (z : ClientStage G K). StageKept programs how turns.views messages c z) (sym h.1)
+          (subst (λ (z : Client). ClientKept programs how turns.views messages z s files moved) (sym (one_client j k c client at found h.0)) turns.own)
       | inr h ↦ other j c stage at h.0 (kept.clients j c stage at h.1)
     ]
 
-    all_transfers : (port : ℕ) (transfer : HeldTransfer F D) → HasTransferBy programs new port transfer → TransferKept programs turns.views messages new port transfer
+    all_transfers : (port : ℕ) (transfer : HeldTransfer F D) → HasTransferBy programs new port transfer → TransferKept programs how turns.views messages new port transfer
     all_transfers port transfer is =
         let h = kept.transfers port transfer is in
         record {
@@ -132,15 +138,15 @@ module _ {S F D G K : Type 0} {stores : StoreMeaning S D} {sources : SourceMeani
           request = h.request;
           side = h.side;
           viewed = turns.others h.end (transfer_apart old kept fresh k client found h.end.address (record { port = port; transfer = transfer; is_transfer = is; address = h.address })) h.viewed;
-          has = stored_still old k next h.end transfer.files h.has;
+          has = stored_still how old k next h.end transfer.files h.has;
         }
 
-    server_kept : ServerKept programs messages new
+    server_kept : ServerKept programs how messages new
     server_kept = record {
       requests = kept.server.requests;
       config = kept.server.config;
       known = kept.server.known;
-      pending = λ from bytes e. there_still kept.messages turns.said_now from (requests_at stores sources programs.server) bytes (kept.server.pending from bytes e);
+      pending = λ from bytes e. arrived_still kept.messages turns.said_now from (requests_at stores sources programs.server) bytes (kept.server.pending from bytes e);
       once = kept.server.once;
       gone = kept.server.gone;
       opened = kept.server.opened;
@@ -156,6 +162,7 @@ module _ {S F D G K : Type 0} {stores : StoreMeaning S D} {sources : SourceMeani
         s = s;
         files = files;
         noted = noted;
+        moved = moved;
         is_stage = slice_get-set_same old.clients k next was is_stage;
         address = h.address ∙ ap there (one_client h.k k h.client client h.found found same);
       }
@@ -166,6 +173,7 @@ module _ {S F D G K : Type 0} {stores : StoreMeaning S D} {sources : SourceMeani
         s = h.s;
         files = h.files;
         noted = h.noted;
+        moved = h.moved;
         is_stage = slice_get-set_other old.clients k h.k next n ∙ h.is_stage;
         address = h.address;
       }
@@ -184,12 +192,13 @@ module _ {S F D G K : Type 0} {stores : StoreMeaning S D} {sources : SourceMeani
         s = s;
         files = files;
         noted = noted;
+        moved = moved;
         is_stage = slice_get-set_same old.clients k next was is_stage;
         address = here;
       })
     ]
 
-    pub client_keeps : IsKept programs new
+    pub client_keeps : IsKept programs how new
     client_keeps = record {
       views = turns.views;
       messages = messages;

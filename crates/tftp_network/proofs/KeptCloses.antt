@@ -1,6 +1,5 @@
 -- A transfer that the server removes keeps the invariant: its end stays among the views.
-use Rattle.std.proofs.Common.{◌≡◌, ℕ, List, [], ◌++◌, Some, None, sym, ap, ◌∙◌, subst, inl, inr}
-use Rattle.std.specs.Prelude.{IsSome}
+use Rattle.std.proofs.Common.{◌≡◌, ℕ, List, [], ◌++◌, Some, None, refl, sym, ap, ◌∙◌, subst, inl, inr}
 use Rattle.std.proofs.lemmas.Bool.{cases_eq}
 use Rattle.std.proofs.lemmas.List.{append-nil}
 use Rattle.tftp_file.specs.Sink.{SinkMeaning}
@@ -17,14 +16,15 @@ use Rattle.tftp_network.specs.Programs.{requests_at}
 use Rattle.tftp_network.specs.Promises.{joined}
 use Rattle.tftp_network.specs.Snapshots.{Snapshot, server_did}
 use Rattle.tftp_network.proofs.Identifiers.{at-without, at-without_other, at-without_cases, none-without, once-without}
-use Rattle.tftp_network.proofs.Kept.{AreKeyedOnce, HasTransferBy, TransferKept, ServerKept, IsKept}
+use Rattle.tftp_network.proofs.Kept.{How, AreKeyedOnce, HasTransferBy, TransferKept, ServerKept, IsKept}
 use Rattle.tftp_network.proofs.KeptEvents.{IsSilent}
 use Rattle.tftp_network.proofs.KeptServer.{ServerTurns, server_keeps}
-use Rattle.tftp_network.proofs.KeptViews.{there_still, viewed_still}
-use Rattle.tftp_network.proofs.ServerStays.{FilesStay, stored_after}
+use Rattle.tftp_network.proofs.KeptViews.{arrived_still, viewed_still}
+use Rattle.tftp_network.proofs.MovedSteps.{MovesNone}
+use Rattle.tftp_network.proofs.ServerStays.{FilesStay, stay_if, known_if, stored_after}
 
 module _ {S F D G K : Type 0} {stores : StoreMeaning S D} {sources : SourceMeaning F} {inputs : SourceMeaning G} {outputs : SinkMeaning K}
-    (programs : Programs stores sources inputs outputs) (old : Snapshot programs) (kept : IsKept programs old) {new : LoopState S F D}
+    (programs : Programs stores sources inputs outputs) {how : How programs} (old : Snapshot programs) (kept : IsKept programs how old) {new : LoopState S F D}
     (closes : Closes stores sources old.state new) (added : List Event) (silent : IsSilent added) where
   abbrev does : Does stores sources old.state new
   does = Transfer_closed closes
@@ -48,8 +48,12 @@ module _ {S F D G K : Type 0} {stores : StoreMeaning S D} {sources : SourceMeani
   held : new.server.held ≡ without port old.state.server.held
   held = ap (λ (s : ServerState S F D). s.held) server_is
 
-  files : FilesStay programs old.state new
-  files o path file h = (h.0, ap (λ (s : ServerState S F D). files_of (stores.stored s.store)) server_is ∙ h.1, h.2)
+  files : FilesStay programs how old.state new
+  files = stay_if programs how old.state new (λ o path file h. (h.0, ap (λ (s : ServerState S F D). files_of (stores.stored s.store)) server_is ∙ h.1, h.2))
+
+  -- nothing moves
+  none : (q : ℕ) → MovesNone does q
+  none q = record { opens = refl; moves = λ moved. refl }
 
   -- a transfer that is held or was removed was held before, or removed
   held_before : (q : ℕ) (transfer : HeldTransfer F D) → HasTransferBy programs now q transfer → HasTransferBy programs old q transfer
@@ -72,7 +76,7 @@ module _ {S F D G K : Type 0} {stores : StoreMeaning S D} {sources : SourceMeani
   gone q transfer (inl removes) = ap (at q) held ∙ (ap (λ (p : ℕ). at p (without port old.state.server.held)) removes.0 ∙ at-without port old.state.server.held kept.server.once)
   gone q transfer (inr closed) = ap (at q) held ∙ none-without port q old.state.server.held (kept.server.gone q transfer closed)
 
-  all_transfers : (q : ℕ) (transfer : HeldTransfer F D) → HasTransferBy programs now q transfer → TransferKept programs kept.views messages now q transfer
+  all_transfers : (q : ℕ) (transfer : HeldTransfer F D) → HasTransferBy programs now q transfer → TransferKept programs how kept.views messages now q transfer
   all_transfers q transfer is =
       let h = kept.transfers q transfer (held_before q transfer is) in
       record {
@@ -83,16 +87,16 @@ module _ {S F D G K : Type 0} {stores : StoreMeaning S D} {sources : SourceMeani
         request = h.request;
         side = h.side;
         viewed = viewed_still (joined programs) kept.views kept.messages [] h.end h.viewed;
-        has = stored_after programs old does added files h.end transfer.files h.has;
+        has = stored_after programs how old does added files h.end (none h.end.address.port) transfer.files h.has;
       }
 
-  server_kept : ServerKept programs messages now
+  server_kept : ServerKept programs how messages now
   server_kept = record {
     requests = ap (λ (s : LoopState S F D). s.requests) closes.is ∙ kept.server.requests;
     config = ap (λ (s : ServerState S F D). s.config) server_is ∙ kept.server.config;
-    known = subst (λ (s : ServerState S F D). IsSome (stores.stored s.store)) (sym server_is) kept.server.known;
+    known = known_if programs how old.state new (ap (λ (s : ServerState S F D). stores.stored s.store) server_is) kept.server.known;
     pending = λ from bytes e.
-        there_still kept.messages [] from (requests_at stores sources programs.server) bytes
+        arrived_still kept.messages [] from (requests_at stores sources programs.server) bytes
         (kept.server.pending from bytes (ap (λ (s : LoopState S F D). s.pending) (sym closes.is) ∙ e));
     once = subst (λ (hs : List (ℕ × HeldTransfer F D)). AreKeyedOnce hs) (sym held) (once-without port old.state.server.held kept.server.once);
     gone = gone;
@@ -112,5 +116,5 @@ module _ {S F D G K : Type 0} {stores : StoreMeaning S D} {sources : SourceMeani
     were = λ a h. record { port = h.port; transfer = h.transfer; is_transfer = held_after h.port h.transfer h.is_transfer; address = h.address };
   }
 
-  pub closing_keeps : IsKept programs now
+  pub closing_keeps : IsKept programs how now
   closing_keeps = server_keeps programs old kept does added close_turns

@@ -1,13 +1,13 @@
 -- The events of one step: what was sent is the answer.
 use Rattle.std.proofs.Common.{◌≡◌, ℕ, List, [], ◌∷◌, ◌++◌, Option, Some, None, inl, inr, arith}
 use Rattle.std.specs.Prelude.{◌⊎◌}
-use Rattle.std.specs.List.{Contains}
+use Rattle.std.specs.List.{Contains, AllByRecursion}
 use Rattle.std.proofs.lemmas.List.{append_cancel_right}
-use Rattle.std.proofs.lemmas.List.Elements.{Contains-append_cases, Contains-append_right, Contains-push_cases}
+use Rattle.std.proofs.lemmas.List.Elements.{Contains-append_cases, Contains-append_right, Contains-push_cases, All-from_recursion, All-contains}
 use Rattle.tftp_ends.specs.Step.{Reply}
 use Rattle.tftp_machine.specs.Machine.{Endpoint}
 use Rattle.tftp_sockets.specs.Journal.{Event, answered}
-use Rattle.tftp_sockets.specs.Journal.Event.{Received, Sent, Watched, Elapsed}
+use Rattle.tftp_sockets.specs.Journal.Event.{Received, Sent, Watched, Elapsed, Printed, Quiet}
 
 pub nothing_in : {X : Type 0} (x : X) → Contains [] x → ⊥
 nothing_in x h = let l = h.1 in omega arith
@@ -58,16 +58,17 @@ answered_sends own (Some reply) events silent port to bytes c = elim (first_or_m
   | inr more ↦ absurd (silent port to bytes more)
 ]
 
--- a datagram was received, and the clock was read
-pub received_silent : (own : ℕ) (from : Endpoint) (datagram : List ℕ) (time : ℕ) → IsSilent (Watched time ∷ Received own from datagram ∷ [])
-received_silent own from datagram time port to bytes c = elim (first_or_more (Watched time) (Sent port to bytes) (Received own from datagram ∷ []) c) [
-  | inl e ↦ absurd (let f : Watched time ≡ Sent port to bytes = e in cc)
-  | inr more ↦ let f : Received own from datagram ≡ Sent port to bytes = only_one (Received own from datagram) (Sent port to bytes) more in cc
-]
+-- no datagram that was sent
+abbrev pub IsUnsent : Event → Type 0
+IsUnsent (Received port from bytes) = Unit {0}
+IsUnsent (Sent port to bytes) = ⊥
+IsUnsent (Watched time) = Unit {0}
+IsUnsent (Elapsed port time) = Unit {0}
+IsUnsent (Printed line) = Unit {0}
+IsUnsent (Quiet event) = Unit {0}
 
--- the clock was read
-pub watched_silent : (time : ℕ) → IsSilent (Watched time ∷ [])
-watched_silent time port to bytes c = let f : Watched time ≡ Sent port to bytes = only_one (Watched time) (Sent port to bytes) c in cc
+pub unsent_silent : (events : List Event) → AllByRecursion IsUnsent events → IsSilent events
+unsent_silent events unsent port to bytes c = All-contains IsUnsent events (Sent port to bytes) (All-from_recursion IsUnsent events unsent) c
 
 -- a timeout was due
 pub elapsed_silent : (own time : ℕ) → IsSilent (Elapsed own time ∷ [])
@@ -79,3 +80,7 @@ none_silent port to bytes c = nothing_in (Sent port to bytes) c
 -- a step that adds no event
 pub added_none : (events added : List Event) → events ≡ added ++ events → [] ≡ added
 added_none events added e = append_cancel_right [] added events e
+
+-- a line was printed
+pub printed_silent : (line : List ℕ) → IsSilent (Printed line ∷ [])
+printed_silent line port to bytes c = let f : Printed line ≡ Sent port to bytes = only_one (Printed line) (Sent port to bytes) c in cc

@@ -1,55 +1,65 @@
 -- A request that a transfer answers keeps the invariant.
-use Rattle.std.proofs.Common.{◌≡◌, ◌≢◌, ℕ, suc, zero, Bool, true, false, List, [], ◌∷◌, ◌++◌, length, Option, Some, None, refl, sym, ap, ◌∙◌, subst, inl, inr, arith}
+use Rattle.std.proofs.Common.{◌≡◌, ◌≢◌, ℕ, suc, zero, ◌*◌, ◌<◌, ◌≤◌, Bool, true, false, List, [], ◌∷◌, ◌++◌, length, take, drop, min, Option, Some, None, refl, sym, ap, ◌∙◌, subst, inl, inr, arith}
 use Rattle.std.specs.Prelude.{◌⊎◌, IsSome, if◌then◌else◌, option_to_list, slice_get}
 use Rattle.std.specs.List.{Contains}
-use Rattle.std.proofs.lemmas.Bool.{true≢false}
-use Rattle.std.proofs.lemmas.List.{append_cancel_right}
+use Rattle.std.proofs.lemmas.Bool.{true≢false, eq-eqb}
+use Rattle.std.proofs.lemmas.List.{append_cancel_right, take_min, drop_min}
 use Rattle.std.proofs.lemmas.List.Elements.{Contains-append_left, Contains-append_right, Contains-push}
 use Rattle.std.proofs.lemmas.Option.{slice_get_read}
 use Rattle.tftp_wire.specs.Spelling.{Spells}
 use Rattle.tftp_wire.specs.declared.mode.Mode.{Mode}
 use Rattle.tftp_wire.specs.declared.options.RawOption.{RawOption}
 use Rattle.tftp_wire.specs.declared.packet.Packet.{Packet as WirePacket}
+use Rattle.tftp_wire.specs.declared.packet.Request.{Request as WireRequest}
 use Rattle.tftp_negotiate.specs.declared.known.Known.{Known}
+use Rattle.tftp_negotiate.specs.declared.limits.TheConstants.{DEFAULT_BLOCK}
+use Rattle.tftp_negotiate.specs.Agreed.{size}
 use Rattle.tftp_negotiate.specs.Ranges.{IsBlockSize}
+use Rattle.tftp_file.specs.Block.{Fits, IsBeginningOf, block}
 use Rattle.tftp_file.specs.Netascii.{wire_text}
 use Rattle.tftp_file.specs.Sink.{SinkMeaning}
 use Rattle.tftp_file.specs.Source.{SourceMeaning}
 use Rattle.tftp_file.specs.declared.files.Files.TheVariants.{Source, Sink}
 use Rattle.tftp_ends.specs.Action.{Decodes}
 use Rattle.tftp_ends.specs.End.{EndState, is_complete, is_sender}
-use Rattle.tftp_ends.specs.Opening.{serving_write}
-use Rattle.tftp_store.specs.Store.{StoreMeaning, Stored, files_of}
+use Rattle.tftp_ends.specs.Opening.{serving_read, serving_write}
+use Rattle.tftp_ends.specs.Step.{block_length}
+use Rattle.tftp_store.specs.Store.{StoreMeaning, Stored, files_of, new_draft}
 use Rattle.tftp_server.specs.Request.{A_transfer, Left, left_by}
 use Rattle.tftp_server.specs.State.{HeldTransfer, ServerState, at, with_new}
 use Rattle.tftp_server.specs.declared.config.Config.{Config}
 use Rattle.tftp_sockets.specs.Journal.{Event}
 use Rattle.tftp_sockets.specs.Journal.Event.{Sent}
 use Rattle.tftp_loop.specs.Serves.{AnswersRequest, Does, LoopState, Request_answered, after_request}
-use Rattle.tftp_machine.specs.Machine.{At_client, At_server, Endpoint, Message, Packet}
+use Rattle.tftp_machine.specs.Machine.{At_server, Endpoint, Message, Packet}
 use Rattle.tftp_machine.specs.OpenEnds.{OpenEnd, open_view}
 use Rattle.tftp_machine.specs.Rules.{message}
 use Rattle.tftp_machine.specs.Said.{said}
 use Rattle.tftp_machine.specs.Shows.{EndView, NoneAt, requested}
 use Rattle.tftp_machine.proofs.Indices.{slice_get-push_new}
 use Rattle.tftp_machine.proofs.SaidLemmas.{spells_own}
+use Rattle.tftp_network.specs.Modelled.{AreModelled}
+use Rattle.tftp_network.specs.Moved.{Moved, came_at, first_moved, moved_at, opened_at, opening_moves, or_before}
 use Rattle.tftp_network.specs.Order.{Programs}
 use Rattle.tftp_network.specs.Ports.{AreDistinct, HasClosed, IsStored, opened_by, opened_ports}
-use Rattle.tftp_network.specs.Programs.{endpoint, requests_at}
+use Rattle.tftp_network.specs.Programs.{endpoint}
 use Rattle.tftp_network.specs.Promises.{joined}
 use Rattle.tftp_network.specs.Snapshots.{Snapshot, server_did}
-use Rattle.tftp_network.proofs.FirstSent.{sending}
-use Rattle.tftp_network.proofs.Kept.{AreKeyedOnce, HasStored, HasTransferBy, IsFreshBy, IsKept, IsThere, ServerKept, TransferKept}
+use Rattle.tftp_network.proofs.FirstSent.{first_want, left_at_first, sending}
+use Rattle.tftp_network.proofs.Kept.{How, By_models, By_run, AreKeyedOnce, GaveSo, HasStored, HasTransferBy, IsFreshBy, IsKept, IsKnown, IsThere, ServerKept, TookSo, TransferKept, length_of, port_text}
 use Rattle.tftp_network.proofs.KeptAsks.{says_request}
-use Rattle.tftp_network.proofs.KeptRefusals.{closed_earlier, files_stay, left_is, new_is, one_sent, refusal_keeps, silent_keeps}
+use Rattle.tftp_network.proofs.KeptEvents.{only_one}
+use Rattle.tftp_network.proofs.KeptRefusals.{closed_earlier, left_is, new_is, one_sent, refusal_keeps, silent_keeps}
 use Rattle.tftp_network.proofs.KeptServer.{ServerTurns, server_keeps}
-use Rattle.tftp_network.proofs.KeptViews.{among_push, there_says, viewed_before}
+use Rattle.tftp_network.proofs.KeptViews.{among_push, viewed_before}
+use Rattle.tftp_network.proofs.MovedSteps.{MovesNone, none_answered}
 use Rattle.tftp_network.proofs.NewEnds.{IsNewly, EndOpens, new_receiver, new_sender, opens_to_send, opens_to_store}
 use Rattle.tftp_network.proofs.NewIdentifiers.{at-with_new, at-with_new_cases, at-with_new_other, once-with_new}
-use Rattle.tftp_network.proofs.Places.{has_none}
-use Rattle.tftp_network.proofs.PortAnswers.{Begins_to_send, Begins_to_store, OpensToSend, OpensToStore, PortAnswers, Says_error, Silent, port_answers}
+use Rattle.tftp_network.proofs.Places.{at_port}
+use Rattle.tftp_network.proofs.PortAnswers.{Begins_to_send, Begins_to_store, IfKnown, IsFirst, OpensToSend, OpensToStore, PortAnswers, Says_error, SendsFile, Silent, port_answers}
 use Rattle.tftp_network.proofs.Requested.{IsAsked}
-use Rattle.tftp_network.proofs.ServerStays.{stored_after}
+use Rattle.tftp_network.proofs.ServerStays.{SameStored, content_by, content_known, files_same, if_some, known_same, same_if, same_if_known, same_then, stored_after}
+use Rattle.tftp_network.proofs.Texts.{begins_by_take, begins_padded, pad_length, then_rest}
 use Rattle.tftp_network.proofs.Unanswered.{none_answers}
 
 -- the end of a read sends, and that of a write has stored nothing yet
@@ -65,6 +75,40 @@ write_begins : (agreed : List Known) (peer : Endpoint) (mode : Mode) (retries : 
 write_begins [] peer mode retries = refl
 write_begins (known ∷ agreed) peer mode retries = refl
 
+read_mode : (agreed : List Known) (peer : Endpoint) (mode : Mode) (text : List ℕ) (retries : ℕ) → (sending agreed peer mode text retries).role.mode ≡ mode
+read_mode [] peer mode text retries = refl
+read_mode (known ∷ agreed) peer mode text retries = refl
+
+read_length : (agreed : List Known) (peer : Endpoint) (mode : Mode) (measured retries : ℕ) (piece : List ℕ) → (serving_read agreed peer mode measured retries piece).role.length ≡ measured
+read_length [] peer mode measured retries piece = refl
+read_length (known ∷ agreed) peer mode measured retries piece = refl
+
+write_moves_none : (agreed : List Known) (peer : Endpoint) (mode : Mode) (retries : ℕ) → (first_moved (serving_write agreed peer mode retries)).bytes ≡ []
+write_moves_none [] peer mode retries = refl
+write_moves_none (known ∷ agreed) peer mode retries = refl
+
+-- what a read sends first is of the text that begins so
+first_of_text : (agreed : List Known) (peer : Endpoint) (mode : Mode) (measured retries : ℕ) (piece text : List ℕ) → IsFirst agreed measured piece → length text ≡ measured →
+    (length (first_moved (serving_read agreed peer mode measured retries piece)).bytes ≤ measured → IsBeginningOf (first_moved (serving_read agreed peer mode measured retries piece)).bytes text) →
+    (serving_read agreed peer mode measured retries piece ≡ sending agreed peer mode text retries)
+    × IsBeginningOf (first_moved (serving_read agreed peer mode measured retries piece)).bytes text
+    × ((first_moved (serving_read agreed peer mode measured retries piece)).bytes ++ left_at_first agreed text ≡ text)
+first_of_text [] peer mode measured retries piece text first long begins =
+    let want : block_length measured DEFAULT_BLOCK 1 ≡ min DEFAULT_BLOCK (length text) = first_want measured (length text) (sym long) in
+    let short : length piece ≤ measured = omega (arith, first, want, long) in
+    let b : IsBeginningOf piece text = begins short in
+    let is : piece ≡ block text DEFAULT_BLOCK 1 =
+    sym (begins_by_take piece text b) ∙ (ap (λ (n : ℕ). take n text) (first ∙ want) ∙ take_min DEFAULT_BLOCK text) in (
+      ap (λ (n : ℕ). serving_read [] peer mode n retries piece) (sym long) ∙ ap (λ (p : List ℕ). serving_read [] peer mode (length text) retries p) is,
+      b,
+      ap (λ (ts : List ℕ). piece ++ ts) (sym (drop_min DEFAULT_BLOCK text) ∙ ap (λ (n : ℕ). drop n text) (sym (first ∙ want))) ∙ then_rest piece text b,
+    )
+first_of_text (known ∷ agreed) peer mode measured retries piece text first long begins = (
+  ap (λ (n : ℕ). serving_read (known ∷ agreed) peer mode n retries piece) (sym long),
+  (text, refl),
+  refl,
+)
+
 -- the second of distinct ports is none of those after it
 second_apart : (first second port : ℕ) (ports : List ℕ) → AreDistinct (first ∷ (second ∷ ports)) → Contains ports port → port ≢ second
 second_apart first second port ports distinct c same =
@@ -73,7 +117,7 @@ second_apart first second port ports distinct c same =
     omega (arith, one)
 
 module _ {S F D G K : Type 0} {stores : StoreMeaning S D} {sources : SourceMeaning F} {inputs : SourceMeaning G} {outputs : SinkMeaning K}
-    (programs : Programs stores sources inputs outputs) (old : Snapshot programs) (kept : IsKept programs old) {new : LoopState S F D} (answers : AnswersRequest stores sources old.state new)
+    (programs : Programs stores sources inputs outputs) {how : How programs} (old : Snapshot programs) (kept : IsKept programs how old) {new : LoopState S F D} (answers : AnswersRequest stores sources old.state new)
     (added : List Event) (noted : new.events ≡ added ++ old.state.events) (fresh : IsFreshBy programs (server_did programs old (Request_answered answers) added)) where
   abbrev server : ServerState S F D
   server = old.state.server
@@ -105,22 +149,24 @@ module _ {S F D G K : Type 0} {stores : StoreMeaning S D} {sources : SourceMeani
     its_port : Contains (opened_ports now.run) tid
     its_port = subst (λ (ports : List ℕ). Contains ports tid) (sym ports_are) (Contains-append_left (tid ∷ []) opened tid (Contains-push [] tid))
 
+    -- it is what came at this port
+    came_here : came_at tid answers.tid answers.steps.came ≡ Some transfer
+    came_here = ap (came_at tid tid) is ∙ ap (λ (b : Bool). if b then Some transfer else None) (eq-eqb tid tid refl)
+
     -- no transfer before had this port
     port_is_new : (port : ℕ) → Contains opened port → port ≢ tid
     port_is_new port c =
-        second_apart programs.server.port tid port opened (subst (λ (ports : List ℕ). AreDistinct (programs.server.port ∷ ports)) ports_are fresh.server) c
+        second_apart programs.server.start.requests tid port opened (subst (λ (ports : List ℕ). AreDistinct (programs.server.start.requests ∷ ports)) ports_are fresh.server) c
 
     none_there : NoneAt kept.views a
     none_there k view at same = elim (kept.only view (k, at)) [
-      | inl h ↦ fresh.apart h.k tid h.client h.found (Contains-append_right (programs.server.port ∷ []) (opened_ports now.run) tid its_port) (sym h.address ∙ same)
+      | inl h ↦ fresh.apart h.k tid h.client h.found (Contains-append_right (programs.server.start.requests ∷ []) (opened_ports now.run) tid its_port) (sym h.address ∙ same)
       | inr h ↦ port_is_new h.port (kept.server.opened h.port h.transfer h.is_transfer) (ap (λ (e : Endpoint). e.port) (sym h.address ∙ same))
     ]
 
     -- it is at the server
     at_server : (joined programs).host_of a ≡ At_server
-    at_server =
-        ap (λ (client : Bool). if client then At_client else At_server)
-        (has_none programs.clients a (λ k client found. fresh.apart k tid client found (Contains-append_right (programs.server.port ∷ []) (opened_ports now.run) tid its_port)))
+    at_server = at_port programs tid (λ k client found. fresh.apart k tid client found (Contains-append_right (programs.server.start.requests ∷ []) (opened_ports now.run) tid its_port))
 
     state_is : new ≡ after_request old.state answers.from (left_by (A_transfer transfer store) server answers.from tid)
     state_is = new_is programs old kept answers (A_transfer transfer store) is
@@ -131,8 +177,8 @@ module _ {S F D G K : Type 0} {stores : StoreMeaning S D} {sources : SourceMeani
     store_is : new.server.store ≡ store
     store_is = ap (λ (s : LoopState S F D). s.server.store) state_is
 
-    module _ (same : stores.stored store ≡ stores.stored server.store) (x : OpenEnd) (address : x.address ≡ a) (state : x.state ≡ transfer.end) (path : x.path ≡ transfer.path) (request : x.request ≡ transfer.request)
-        (opens : EndOpens (joined programs) kept.views kept.messages kept.shown a answers.from answers.bytes x) (has : HasStored programs now x transfer.files) where
+    module _ (same : SameStored programs how server.store store) (x : OpenEnd) (address : x.address ≡ a) (state : x.state ≡ transfer.end) (path : x.path ≡ transfer.path) (request : x.request ≡ transfer.request)
+        (opens : EndOpens (joined programs) kept.views kept.messages kept.shown a answers.from answers.bytes x) (has : HasStored programs how now x transfer.files) where
       abbrev said_now : List Message
       said_now = message a answers.from (said opens.packet) ∷ []
 
@@ -142,8 +188,8 @@ module _ {S F D G K : Type 0} {stores : StoreMeaning S D} {sources : SourceMeani
       abbrev views : List EndView
       views = kept.views ++ open_view x ∷ []
 
-      stored : stores.stored new.server.store ≡ stores.stored server.store
-      stored = ap stores.stored store_is ∙ same
+      stored : SameStored programs how server.store new.server.store
+      stored = same_then programs how server.store store new.server.store store_is same
 
       -- its first datagram is among the messages
       spelled : Spells opens.packet x.state.position.last_sent
@@ -162,7 +208,7 @@ module _ {S F D G K : Type 0} {stores : StoreMeaning S D} {sources : SourceMeani
           ap (λ (e : EndState). Sent tid answers.from e.position.last_sent ∷ []) state
           ∙ append_cancel_right (Sent tid answers.from transfer.end.position.last_sent ∷ []) added old.state.events (sym (ap (λ (s : LoopState S F D). s.events) state_is) ∙ noted)
 
-      own : TransferKept programs views messages now tid transfer
+      own : TransferKept programs how views messages now tid transfer
       own = record {
         end = x;
         address = address;
@@ -174,7 +220,11 @@ module _ {S F D G K : Type 0} {stores : StoreMeaning S D} {sources : SourceMeani
         has = has;
       }
 
-      other : (port : ℕ) (t : HeldTransfer F D) → HasTransferBy programs old port t → TransferKept programs views messages now port t
+      -- nothing moves at another port
+      beside : (port : ℕ) → Contains opened port → MovesNone does port
+      beside port c = none_answered answers port (λ d. port_is_new port c (sym (only_one tid port (subst (λ (ports : List ℕ). Contains ports port) opens_port d))))
+
+      other : (port : ℕ) (t : HeldTransfer F D) → HasTransferBy programs old port t → TransferKept programs how views messages now port t
       other port t was =
           let h = kept.transfers port t was in
           record {
@@ -185,17 +235,17 @@ module _ {S F D G K : Type 0} {stores : StoreMeaning S D} {sources : SourceMeani
             request = h.request;
             side = h.side;
             viewed = viewed_before (joined programs) kept.views kept.messages said_now (open_view x) h.end h.viewed;
-            has = stored_after programs old does added (files_stay programs old kept answers stored) h.end t.files h.has;
+            has = stored_after programs how old does added (files_same programs how old.state new stored) h.end (subst (λ (p : Endpoint). MovesNone does p.port) (sym h.address) (beside port (kept.server.opened port t was))) t.files h.has;
           }
 
-      new_own : (port : ℕ) (t : HeldTransfer F D) → port ≡ tid → transfer ≡ t → TransferKept programs views messages now port t
+      new_own : (port : ℕ) (t : HeldTransfer F D) → port ≡ tid → transfer ≡ t → TransferKept programs how views messages now port t
       new_own port t here this =
-          subst (λ (n : ℕ). TransferKept programs views messages now n t) (sym here) (subst (λ (u : HeldTransfer F D). TransferKept programs views messages now tid u) this own)
+          subst (λ (n : ℕ). TransferKept programs how views messages now n t) (sym here) (subst (λ (u : HeldTransfer F D). TransferKept programs how views messages now tid u) this own)
 
       found_now : (port : ℕ) (t : HeldTransfer F D) → at port new.server.held ≡ Some t → ((port ≡ tid) × (transfer ≡ t)) ⊎ ((port ≢ tid) × (at port server.held ≡ Some t))
       found_now port t found = at-with_new_cases tid port transfer t server.held (ap (at port) (sym held_is) ∙ found)
 
-      all_transfers : (port : ℕ) (t : HeldTransfer F D) → HasTransferBy programs now port t → TransferKept programs views messages now port t
+      all_transfers : (port : ℕ) (t : HeldTransfer F D) → HasTransferBy programs now port t → TransferKept programs how views messages now port t
       all_transfers port t (inl found) = elim (found_now port t found) [
         | inl this ↦ new_own port t this.0 this.1
         | inr was ↦ other port t (inl was.1)
@@ -218,11 +268,11 @@ module _ {S F D G K : Type 0} {stores : StoreMeaning S D} {sources : SourceMeani
           let n : port ≢ tid = port_is_new port (kept.server.opened port t (inr was)) in
           ap (at port) held_is ∙ (at-with_new_other tid port transfer server.held n ∙ kept.server.gone port t was)
 
-      server_kept : ServerKept programs messages now
+      server_kept : ServerKept programs how messages now
       server_kept = record {
         requests = ap (λ (s : LoopState S F D). s.requests) state_is ∙ kept.server.requests;
         config = ap (λ (s : LoopState S F D). s.server.config) state_is ∙ kept.server.config;
-        known = subst (λ (s : Option Stored). IsSome s) (sym stored) kept.server.known;
+        known = known_same programs how old.state new stored kept.server.known;
         pending = λ from bytes e. absurd (let f : None ≡ Some (from, bytes) = sym (ap (λ (s : LoopState S F D). s.pending) state_is) ∙ e in cc);
         once = subst (λ (held : List (ℕ × HeldTransfer F D)). AreKeyedOnce held) (sym held_is) (once-with_new tid transfer server.held answers.free kept.server.once);
         gone = still_gone;
@@ -254,7 +304,7 @@ module _ {S F D G K : Type 0} {stores : StoreMeaning S D} {sources : SourceMeani
         were = λ e h. record { port = h.port; transfer = h.transfer; is_transfer = still_there h.port h.transfer h.is_transfer; address = h.address };
       }
 
-      pub opening_keeps : IsKept programs now
+      pub opening_keeps : IsKept programs how now
       opening_keeps = server_keeps programs old kept does added turns
 
   -- ---- what the request is
@@ -267,52 +317,147 @@ module _ {S F D G K : Type 0} {stores : StoreMeaning S D} {sources : SourceMeani
       let come = kept.server.pending answers.from answers.bytes answers.pending in
       record {
         sent = subst (λ (p : Packet). Contains kept.messages (message answers.from (joined programs).request_port p)) (says_request write asked.request)
-            (there_says kept.messages answers.from (requests_at stores sources programs.server) answers.bytes come packet spells);
+            (come packet spells);
         spells = spells;
         unanswered = none_answers programs old kept answers.from packet answers.steps.repeated answers.steps.decoded answers.steps.repeats asked.packet asked.new;
       }
 
   -- a read
-  sending_keeps : (path : List ℕ) (mode : Mode) (options : List RawOption) → IsAsked answers.steps.decoded answers.steps.repeated false mode options →
-      OpensToSend stores sources server answers.from answers.bytes path mode answers.steps.came → IsKept programs now
-  sending_keeps path mode options asked opens =
-      let r = asked.request in
-      let o = subst (λ (m : Mode). OpensToSend stores sources server answers.from answers.bytes path m answers.steps.came) (sym asked.same_mode) opens in
-      let x = new_sender a answers.bytes o.agreed answers.from r.mode path o.file server.config.retries in
-      let transfer : HeldTransfer F D = record { end = x.state; files = Source o.rest; path = path; request = answers.bytes } in
-      let under : IsStored stores new path o.file = (o.stored.files, ap (λ (s : S). files_of (stores.stored s)) (store_is transfer server.store o.is) ∙ ap files_of o.is_stored, o.there) in
-      opening_keeps transfer server.store o.is refl x refl refl refl refl
-      (opens_to_send (joined programs) kept.views kept.messages kept.shown a answers.from answers.bytes (at_server transfer server.store o.is) (none_there transfer server.store o.is)
-      r path o.file o.agreed server.config.retries (newly false mode options asked) o.granted o.fits)
-      (record { sender = read_sends o.agreed answers.from r.mode (wire_text r.mode o.file) server.config.retries; left = λ _. inl o.left; was = inl under; stays = λ _. under })
+  module _ (path : List ℕ) (mode : Mode) (options : List RawOption) (asked : IsAsked answers.steps.decoded answers.steps.repeated false mode options)
+      (o : OpensToSend stores sources server answers.from answers.bytes (content_by programs how old.state) path asked.request.mode answers.steps.came) where
+    abbrev r : WireRequest
+    r = asked.request
+
+    -- its transfer
+    abbrev sent : HeldTransfer F D
+    sent = record { end = serving_read o.agreed answers.from r.mode o.measured server.config.retries o.piece; files = Source o.rest; path = path; request = answers.bytes }
+
+    send_text : (file text : List ℕ) → length text ≡ o.measured → serving_read o.agreed answers.from r.mode o.measured server.config.retries o.piece ≡ sending o.agreed answers.from r.mode text server.config.retries →
+        HasStored programs how now (new_sender a answers.bytes o.agreed answers.from r.mode path file text server.config.retries) (Source o.rest) → IsKept programs how now
+    send_text file text long end has =
+        let x = new_sender a answers.bytes o.agreed answers.from r.mode path file text server.config.retries in
+        let fits : Fits text (size o.agreed) = subst (λ (n : ℕ). n < 65535 * size o.agreed) (sym long) o.fits in
+        opening_keeps sent server.store o.is (same_if programs how server.store server.store refl) x refl (sym end) refl refl
+        (opens_to_send (joined programs) kept.views kept.messages kept.shown a answers.from answers.bytes (at_server sent server.store o.is) (none_there sent server.store o.is)
+        r path file text o.agreed server.config.retries (newly false mode options asked) o.granted fits)
+        has
+
+    -- by the models
+    send_file : (models : AreModelled programs) → how ≡ By_models models → (stored : Stored) → stores.stored server.store ≡ Some stored →
+        SendsFile stores sources server answers.from answers.bytes (content_by programs how old.state) stored path r.mode o.agreed o.measured o.piece o.rest → IsKept programs how now
+    send_file models is stored known f =
+        let text = wire_text r.mode f.file in
+        let x = new_sender a answers.bytes o.agreed answers.from r.mode path f.file text server.config.retries in
+        let under : IsStored stores new path f.file = (stored.files, ap (λ (s : S). files_of (stores.stored s)) (store_is sent server.store o.is) ∙ ap files_of known, f.there) in
+        send_text f.file text (sym f.whole) f.end
+        (subst (λ (w : How programs). HasStored programs w now x (Source o.rest)) (sym is)
+        (record {
+          sender = read_sends o.agreed answers.from r.mode text server.config.retries;
+          text = ap (λ (m : Mode). wire_text m f.file) (sym (read_mode o.agreed answers.from r.mode text server.config.retries));
+          left = λ _. inl f.left;
+          was = inl under;
+          stays = λ _. under;
+        }))
+
+    -- by the run
+    its_opening : opened_at tid now.run ≡ Some sent
+    its_opening = ap (λ (z : Option (HeldTransfer F D)). or_before z (opened_at tid old.run)) (came_here sent server.store o.is)
+
+    its_moved : moved_at tid now.run ≡ first_moved sent.end
+    its_moved = ap (λ (z : Option (HeldTransfer F D)). opening_moves z (moved_at tid old.run)) (came_here sent server.store o.is)
+
+    send_moved : (pad : ℕ) → how ≡ By_run pad → IsKept programs how now
+    send_moved pad is =
+        let text = port_text programs pad tid in
+        let told = fresh.told tid (its_port sent server.store o.is) in
+        let long : length_of (opened_at tid programs.server.run) ≡ o.measured =
+        ap length_of (sym told.opened) ∙ (ap length_of its_opening ∙ read_length o.agreed answers.from r.mode o.measured server.config.retries o.piece) in
+        let measured : length text ≡ o.measured = pad_length pad (length_of (opened_at tid programs.server.run)) (moved_at tid programs.server.run).bytes ∙ long in
+        let all : List ℕ = (moved_at tid programs.server.run).bytes in
+        let begins : IsBeginningOf (first_moved sent.end).bytes all = subst (λ (m : Moved). IsBeginningOf m.bytes all) its_moved told.bytes in
+        let f = first_of_text o.agreed answers.from r.mode o.measured server.config.retries o.piece text o.first measured
+        (λ short. begins_padded pad (length_of (opened_at tid programs.server.run)) (first_moved sent.end).bytes all begins (subst (λ (n : ℕ). length (first_moved sent.end).bytes ≤ n) (sym long) short)) in
+        let x = new_sender a answers.bytes o.agreed answers.from r.mode path [] text server.config.retries in
+        let gave : GaveSo x (moved_at tid now.run) = subst (λ (m : Moved). GaveSo x m) (sym its_moved) (record { beginning = f.1; left = λ _. f.2 }) in
+        send_text [] text measured f.0
+        (subst (λ (w : How programs). HasStored programs w now x (Source o.rest)) (sym is)
+        (record {
+          sender = read_sends o.agreed answers.from r.mode text server.config.retries;
+          opened = record { opening = sent; opened = its_opening; path = refl; role = ap (λ (e : EndState). e.role) f.0 };
+          text = refl;
+          gave = gave;
+        }))
+
+    sending_by : (w : How programs) → how ≡ w → IsKept programs how now
+    sending_by (By_models models) is =
+        let P : Stored → Type 0 = λ (stored : Stored). SendsFile stores sources server answers.from answers.bytes (content_by programs how old.state) stored path r.mode o.agreed o.measured o.piece o.rest in
+        let known : IsSome (stores.stored server.store) = subst (λ (w : How programs). IsKnown programs w old.state) is kept.server.known in
+        let file : IfKnown (stores.stored server.store) P = subst (λ (w : How programs). IfKnown (content_by programs w old.state) P) is o.file in
+        let f = if_some programs (stores.stored server.store) P known file in
+        send_file models is f.0 f.1 f.2
+    sending_by (By_run pad) is = send_moved pad is
+
+    sending_keeps : IsKept programs how now
+    sending_keeps = sending_by how refl
 
   -- a write
-  storing_keeps : (path : List ℕ) (mode : Mode) (options : List RawOption) → IsAsked answers.steps.decoded answers.steps.repeated true mode options →
-      OpensToStore stores sources server answers.from answers.bytes path mode answers.steps.came → IsKept programs now
-  storing_keeps path mode options asked opens =
-      let r = asked.request in
-      let o = subst (λ (m : Mode). OpensToStore stores sources server answers.from answers.bytes path m answers.steps.came) (sym asked.same_mode) opens in
-      let x = new_receiver a answers.bytes o.agreed answers.from r.mode path server.config.retries in
-      let transfer : HeldTransfer F D = record { end = x.state; files = Sink o.draft; path = path; request = answers.bytes } in
-      opening_keeps transfer o.store o.is o.same x refl refl refl refl
-      (opens_to_store (joined programs) kept.views kept.messages kept.shown a answers.from answers.bytes (at_server transfer o.store o.is) (none_there transfer o.store o.is)
-      r path o.agreed server.config.retries (newly true mode options asked) o.granted)
-      (record {
-        receiver = write_stores o.agreed answers.from r.mode server.config.retries;
-        drafted = o.drafted;
-        stays = λ _ done. absurd (true≢false (sym done ∙ write_begins o.agreed answers.from r.mode server.config.retries));
-      })
+  module _ (path : List ℕ) (mode : Mode) (options : List RawOption) (asked : IsAsked answers.steps.decoded answers.steps.repeated true mode options)
+      (o : OpensToStore stores sources server answers.from answers.bytes (content_by programs how old.state) path asked.request.mode answers.steps.came) where
+    -- its transfer, and its end
+    abbrev stored_by : HeldTransfer F D
+    stored_by = record { end = serving_write o.agreed answers.from asked.request.mode server.config.retries; files = Sink o.draft; path = path; request = answers.bytes }
+
+    abbrev receiver : OpenEnd
+    receiver = new_receiver a answers.bytes o.agreed answers.from asked.request.mode path server.config.retries
+
+    store_has : HasStored programs how now receiver (Sink o.draft) → IsKept programs how now
+    store_has has =
+        opening_keeps stored_by o.store o.is (same_if_known programs how old.state o.store kept.server.known o.same) receiver refl refl refl refl
+        (opens_to_store (joined programs) kept.views kept.messages kept.shown a answers.from answers.bytes (at_server stored_by o.store o.is) (none_there stored_by o.store o.is)
+        asked.request path o.agreed server.config.retries (newly true mode options asked) o.granted)
+        has
+
+    storing_by : (w : How programs) → how ≡ w → IsKept programs how now
+    storing_by (By_models models) is =
+        let known : IsSome (stores.stored server.store) = subst (λ (w : How programs). IsKnown programs w old.state) is kept.server.known in
+        let drafted : IfKnown (stores.stored server.store) (λ stored. stores.drafted o.draft ≡ Some new_draft) =
+        subst (λ (w : How programs). IfKnown (content_by programs w old.state) (λ stored. stores.drafted o.draft ≡ Some new_draft)) is o.drafted in
+        store_has (subst (λ (w : How programs). HasStored programs w now receiver (Sink o.draft)) (sym is) (record {
+          receiver = write_stores o.agreed answers.from asked.request.mode server.config.retries;
+          drafted = (if_some programs (stores.stored server.store) (λ stored. stores.drafted o.draft ≡ Some new_draft) known drafted).2;
+          stays = λ _ done. absurd (true≢false (sym done ∙ write_begins o.agreed answers.from asked.request.mode server.config.retries));
+        }))
+    storing_by (By_run pad) is =
+        let moved : moved_at tid now.run ≡ first_moved stored_by.end = ap (λ (z : Option (HeldTransfer F D)). opening_moves z (moved_at tid old.run)) (came_here stored_by o.store o.is) in
+        let none : (first_moved stored_by.end).bytes ≡ [] = write_moves_none o.agreed answers.from asked.request.mode server.config.retries in
+        store_has (subst (λ (w : How programs). HasStored programs w now receiver (Sink o.draft)) (sym is) (record {
+          receiver = write_stores o.agreed answers.from asked.request.mode server.config.retries;
+          opened = record {
+            opening = stored_by;
+            opened = ap (λ (z : Option (HeldTransfer F D)). or_before z (opened_at tid old.run)) (came_here stored_by o.store o.is);
+            path = refl;
+            role = refl;
+          };
+          took = subst (λ (m : Moved). TookSo receiver m) (sym moved) (record { stored = sym none; committed = λ c. absurd (true≢false (sym c)); refuses = refl });
+        }))
+
+    storing_keeps : IsKept programs how now
+    storing_keeps = storing_by how refl
 
   -- ---- the answer
-  kept_by : PortAnswers stores sources server answers.from answers.bytes answers.steps.decoded answers.steps.repeated answers.steps.came → IsKept programs now
+  kept_by : PortAnswers stores sources server answers.from answers.bytes (content_by programs how old.state) answers.steps.decoded answers.steps.repeated answers.steps.came → IsKept programs how now
   kept_by (Silent is) = silent_keeps programs old kept answers added noted is
   kept_by (Says_error r) = refusal_keeps programs old kept answers added noted r
-  kept_by (Begins_to_send path mode options asked opens) = sending_keeps path mode options asked opens
-  kept_by (Begins_to_store path mode options asked opens) = storing_keeps path mode options asked opens
+  kept_by (Begins_to_send path mode options asked opens) =
+      sending_keeps path mode options asked
+      (subst (λ (m : Mode). OpensToSend stores sources server answers.from answers.bytes (content_by programs how old.state) path m answers.steps.came) (sym asked.same_mode) opens)
+  kept_by (Begins_to_store path mode options asked opens) =
+      storing_keeps path mode options asked
+      (subst (λ (m : Mode). OpensToStore stores sources server answers.from answers.bytes (content_by programs how old.state) path m answers.steps.came) (sym asked.same_mode) opens)
 
   max_block : IsBlockSize server.config.limits.max_block
   max_block = subst (λ (c : Config). IsBlockSize c.limits.max_block) (sym kept.server.config) programs.server.max_block
 
   -- each answer to a request keeps the invariant
-  pub request_keeps : IsKept programs now
-  request_keeps = kept_by (port_answers stores sources server answers.from answers.bytes max_block kept.server.known tid answers.left answers.steps)
+  pub request_keeps : IsKept programs how now
+  request_keeps = kept_by (port_answers stores sources server answers.from answers.bytes (content_by programs how old.state) max_block (content_known programs how old.state) answers.tid answers.left answers.steps)

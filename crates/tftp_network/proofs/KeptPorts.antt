@@ -23,16 +23,17 @@ use Rattle.tftp_network.specs.Programs.{endpoint, requests_at}
 use Rattle.tftp_network.specs.Promises.{joined}
 use Rattle.tftp_network.specs.Snapshots.{Snapshot, server_did}
 use Rattle.tftp_network.proofs.Identifiers.{at-with_next, at-with_next_other, at-with_next_cases, none-with_next, once-with_next}
-use Rattle.tftp_network.proofs.Kept.{AreKeyedOnce, IsThere, IsViewed, HasStored, HasTransferBy, TransferKept, ServerKept, IsOfTransfer, IsKept, IsFreshBy}
+use Rattle.tftp_network.proofs.Kept.{How, AreKeyedOnce, IsThere, IsViewed, HasStored, HasTransferBy, TransferKept, ServerKept, IsOfTransfer, IsKept, IsFreshBy}
 use Rattle.tftp_network.proofs.KeptClients.{port_known}
 use Rattle.tftp_network.proofs.KeptServer.{ServerTurns, server_keeps}
-use Rattle.tftp_network.proofs.KeptViews.{there_still, viewed_beside, among_set}
+use Rattle.tftp_network.proofs.KeptViews.{arrived_still, viewed_beside, among_set}
+use Rattle.tftp_network.proofs.MovedSteps.{MovesNone}
 use Rattle.tftp_network.proofs.ServerStays.{ServerStays, stored_after, closed_before, opened_still}
 
 module _ {S F D G K : Type 0} {stores : StoreMeaning S D} {sources : SourceMeaning F} {inputs : SourceMeaning G} {outputs : SinkMeaning K}
-    (programs : Programs stores sources inputs outputs) where
+    (programs : Programs stores sources inputs outputs) {how : How programs} where
   -- what a step at the port did to the transfer there
-  pub record PortTurns (old : Snapshot programs) (kept : IsKept programs old) {new : LoopState S F D} (does : Does stores sources old.state new) (added : List Event)
+  pub record PortTurns (old : Snapshot programs) (kept : IsKept programs how old) {new : LoopState S F D} (does : Does stores sources old.state new) (added : List Event)
       (port : ℕ) (transfer : HeldTransfer F D) (found : at port old.state.server.held ≡ Some transfer) : Type 0 where
     pub next : HeldTransfer F D
     pub held : new.server.held ≡ with_next port next old.state.server.held
@@ -48,10 +49,10 @@ module _ {S F D G K : Type 0} {stores : StoreMeaning S D} {sources : SourceMeani
     pub shown : IsShown (joined programs) (set kept.views (kept.transfers port transfer (inl found)).viewed.index (open_view end)) (kept.messages ++ said_now)
     pub is_kept : EndKept (joined programs) end
     pub last_sent : IsThere (kept.messages ++ said_now) end.address end.state.position.last_sent_to end.state.position.last_sent
-    pub has : HasStored programs (server_did programs old does added) end next.files
+    pub has : HasStored programs how (server_did programs old does added) end next.files
 
-  module _ (old : Snapshot programs) (kept : IsKept programs old) (fresh : IsFreshBy programs old) {new : LoopState S F D} (does : Does stores sources old.state new) (stays : ServerStays programs old kept does)
-      (added : List Event) (port : ℕ) (transfer : HeldTransfer F D) (found : at port old.state.server.held ≡ Some transfer) (turns : PortTurns old kept does added port transfer found) where
+  module _ (old : Snapshot programs) (kept : IsKept programs how old) (fresh : IsFreshBy programs old) {new : LoopState S F D} (does : Does stores sources old.state new) (stays : ServerStays programs old kept does)
+      (added : List Event) (port : ℕ) (transfer : HeldTransfer F D) (found : at port old.state.server.held ≡ Some transfer) (turns : PortTurns old kept does added port transfer found) (none : (q : ℕ) → q ≢ port → MovesNone does q) where
     abbrev now : Snapshot programs
     now = server_did programs old does added
 
@@ -86,7 +87,7 @@ module _ {S F D G K : Type 0} {stores : StoreMeaning S D} {sources : SourceMeani
     beside : (z : OpenEnd) → endpoint programs.server.ip port ≢ z.address → IsViewed (joined programs) kept.views kept.messages z → IsViewed (joined programs) views messages z
     beside z apart h = viewed_beside (joined programs) kept.views kept.messages turns.said_now index (open_view was) (open_view turns.end) z viewed (λ same. apart (sym was_there ∙ same)) h
 
-    own : TransferKept programs views messages now port turns.next
+    own : TransferKept programs how views messages now port turns.next
     own = record {
       end = turns.end;
       address = turns.address;
@@ -98,7 +99,7 @@ module _ {S F D G K : Type 0} {stores : StoreMeaning S D} {sources : SourceMeani
       has = turns.has;
     }
 
-    other : (q : ℕ) (t : HeldTransfer F D) → q ≢ port → HasTransferBy programs old q t → TransferKept programs views messages now q t
+    other : (q : ℕ) (t : HeldTransfer F D) → q ≢ port → HasTransferBy programs old q t → TransferKept programs how views messages now q t
     other q t n is =
         let h = kept.transfers q t is in
         record {
@@ -109,7 +110,7 @@ module _ {S F D G K : Type 0} {stores : StoreMeaning S D} {sources : SourceMeani
           request = h.request;
           side = h.side;
           viewed = beside h.end (λ same. n (ap (λ (a : Endpoint). a.port) (sym (same ∙ h.address)))) h.viewed;
-          has = stored_after programs old does added stays.files h.end t.files h.has;
+          has = stored_after programs how old does added stays.files h.end (subst (λ (a : Endpoint). MovesNone does a.port) (sym h.address) (none q n)) t.files h.has;
         }
 
     -- which transfer it is
@@ -121,9 +122,9 @@ module _ {S F D G K : Type 0} {stores : StoreMeaning S D} {sources : SourceMeani
     found_cases q t (inr closed) =
         let c = closed_before programs old kept does stays added q t closed in inr (gone_apart q t c, inr c)
 
-    all_transfers : (q : ℕ) (t : HeldTransfer F D) → HasTransferBy programs now q t → TransferKept programs views messages now q t
+    all_transfers : (q : ℕ) (t : HeldTransfer F D) → HasTransferBy programs now q t → TransferKept programs how views messages now q t
     all_transfers q t is = elim (found_cases q t is) [
-      | inl h ↦ subst (λ (p : ℕ). TransferKept programs views messages now p t) (sym h.0) (subst (λ (u : HeldTransfer F D). TransferKept programs views messages now port u) (sym h.1) own)
+      | inl h ↦ subst (λ (p : ℕ). TransferKept programs how views messages now p t) (sym h.0) (subst (λ (u : HeldTransfer F D). TransferKept programs how views messages now port u) (sym h.1) own)
       | inr h ↦ other q t h.0 h.1
     ]
 
@@ -133,12 +134,12 @@ module _ {S F D G K : Type 0} {stores : StoreMeaning S D} {sources : SourceMeani
       | inr h ↦ kept.server.opened q t h.1
     ]
 
-    server_kept : ServerKept programs messages now
+    server_kept : ServerKept programs how messages now
     server_kept = record {
       requests = stays.requests ∙ kept.server.requests;
       config = stays.config ∙ kept.server.config;
       known = stays.known;
-      pending = λ from bytes e. there_still kept.messages turns.said_now from (requests_at stores sources programs.server) bytes (stays.pending from bytes e);
+      pending = λ from bytes e. arrived_still kept.messages turns.said_now from (requests_at stores sources programs.server) bytes (stays.pending from bytes e);
       once = subst (λ (held : List (ℕ × HeldTransfer F D)). AreKeyedOnce held) (sym turns.held) (once-with_next port turns.next old.state.server.held kept.server.once);
       gone = λ q t closed. ap (at q) turns.held ∙ none-with_next port q turns.next old.state.server.held (kept.server.gone q t (closed_before programs old kept does stays added q t closed));
       opened = λ q t is. opened_still programs old kept does stays added q (all_opened q t is);
@@ -174,5 +175,5 @@ module _ {S F D G K : Type 0} {stores : StoreMeaning S D} {sources : SourceMeani
       were = were;
     }
 
-    pub port_keeps : IsKept programs now
+    pub port_keeps : IsKept programs how now
     port_keeps = server_keeps programs old kept does added port_turns

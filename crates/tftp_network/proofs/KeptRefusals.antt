@@ -1,6 +1,6 @@
 -- A datagram that the request port ignores, or answers by an ERROR, keeps the invariant.
-use Rattle.std.proofs.Common.{◌≡◌, ℕ, List, [], ◌∷◌, ◌++◌, Option, Some, None, sym, ap, ◌∙◌, subst, inl, inr}
-use Rattle.std.specs.Prelude.{IsSome, option_to_list}
+use Rattle.std.proofs.Common.{◌≡◌, ℕ, List, [], ◌∷◌, ◌++◌, Some, None, sym, ap, ◌∙◌, subst, inl, inr}
+use Rattle.std.specs.Prelude.{option_to_list}
 use Rattle.std.specs.List.{Contains}
 use Rattle.std.proofs.lemmas.List.{append_cancel_right}
 use Rattle.std.proofs.lemmas.List.Elements.{Contains-push}
@@ -9,7 +9,7 @@ use Rattle.tftp_file.specs.Sink.{SinkMeaning}
 use Rattle.tftp_file.specs.Source.{SourceMeaning}
 use Rattle.tftp_ends.specs.ErrorReply.{error_packet}
 use Rattle.tftp_ends.specs.Step.{Reply, error_bytes}
-use Rattle.tftp_store.specs.Store.{StoreMeaning, Stored, files_of}
+use Rattle.tftp_store.specs.Store.{StoreMeaning}
 use Rattle.tftp_server.specs.Request.{Came, Nothing, An_error, Left, left_by}
 use Rattle.tftp_server.specs.State.{HeldTransfer, ServerState}
 use Rattle.tftp_sockets.specs.Journal.{Event}
@@ -25,14 +25,15 @@ use Rattle.tftp_network.specs.Ports.{HasClosed, opened_by}
 use Rattle.tftp_network.specs.Programs.{endpoint, requests_at}
 use Rattle.tftp_network.specs.Promises.{joined}
 use Rattle.tftp_network.specs.Snapshots.{Snapshot, server_did}
-use Rattle.tftp_network.proofs.Kept.{IsKept, IsThere}
-use Rattle.tftp_network.proofs.KeptEvents.{IsSilent, added_none, answered_sends, none_silent}
+use Rattle.tftp_network.proofs.Kept.{How, IsKept, IsThere}
+use Rattle.tftp_network.proofs.KeptEvents.{IsSilent, added_none, answered_sends, none_silent, nothing_in}
 use Rattle.tftp_network.proofs.KeptStill.{says_keeps, still_keeps}
 use Rattle.tftp_network.proofs.PortAnswers.{IsRefused}
-use Rattle.tftp_network.proofs.ServerStays.{FilesStay, ServerStays}
+use Rattle.tftp_network.proofs.MovedSteps.{MovesNone, none_answered}
+use Rattle.tftp_network.proofs.ServerStays.{SameStored, ServerStays, content_by, files_same, known_same, same_if, same_if_known, same_then}
 
 module _ {S F D G K : Type 0} {stores : StoreMeaning S D} {sources : SourceMeaning F} {inputs : SourceMeaning G} {outputs : SinkMeaning K}
-    (programs : Programs stores sources inputs outputs) (old : Snapshot programs) (kept : IsKept programs old) {new : LoopState S F D} (answers : AnswersRequest stores sources old.state new) where
+    (programs : Programs stores sources inputs outputs) {how : How programs} (old : Snapshot programs) (kept : IsKept programs how old) {new : LoopState S F D} (answers : AnswersRequest stores sources old.state new) where
   abbrev server : ServerState S F D
   server = old.state.server
 
@@ -46,10 +47,6 @@ module _ {S F D G K : Type 0} {stores : StoreMeaning S D} {sources : SourceMeani
   -- and the state of the loop
   pub new_is : (came : Came S F D) → answers.steps.came ≡ came → new ≡ after_request old.state answers.from (left_by came server answers.from answers.tid)
   new_is came is = answers.is ∙ ap (λ (l : Left S F D). after_request old.state answers.from l) (left_is came is)
-
-  -- the files stay if the store's content does
-  pub files_stay : stores.stored new.server.store ≡ stores.stored server.store → FilesStay programs old.state new
-  files_stay same o path file h = (h.0, ap files_of same ∙ h.1, h.2)
 
   -- a request removes no transfer
   pub closed_earlier : (added : List Event) (port : ℕ) (transfer : HeldTransfer F D) → HasClosed (server_did programs old does added).run port transfer → HasClosed old.run port transfer
@@ -65,30 +62,34 @@ module _ {S F D G K : Type 0} {stores : StoreMeaning S D} {sources : SourceMeani
       (subst (λ (n : ℕ). IsThere messages (endpoint programs.server.ip n) reply.to reply.bytes) s.0 there)
 
   -- if no transfer opens and the store's content stays, all else is as it was
-  stays_so : opened_by does ≡ [] → new.requests ≡ old.state.requests → new.server.config ≡ server.config → stores.stored new.server.store ≡ stores.stored server.store → new.pending ≡ None →
+  stays_so : opened_by does ≡ [] → new.requests ≡ old.state.requests → new.server.config ≡ server.config → SameStored programs how server.store new.server.store → new.pending ≡ None →
       ServerStays programs old kept does
   stays_so opens requests config stored pending = record {
     opens = opens;
     removes = λ port transfer removes. removes;
     requests = requests;
     config = config;
-    known = subst (λ (s : Option Stored). IsSome s) (sym stored) kept.server.known;
+    known = known_same programs how old.state new stored kept.server.known;
     pending = λ from bytes e. absurd (let f : None ≡ Some (from, bytes) = sym pending ∙ e in cc);
-    files = files_stay stored;
+    files = files_same programs how old.state new stored;
   }
 
+  -- nothing moves then
+  moves_none : opened_by does ≡ [] → (port : ℕ) → MovesNone does port
+  moves_none opens port = none_answered answers port (λ c. nothing_in port (subst (λ (ports : List ℕ). Contains ports port) opens c))
+
   -- a datagram that is ignored
-  pub silent_keeps : (added : List Event) → new.events ≡ added ++ old.state.events → answers.steps.came ≡ Nothing → IsKept programs (server_did programs old does added)
+  pub silent_keeps : (added : List Event) → new.events ≡ added ++ old.state.events → answers.steps.came ≡ Nothing → IsKept programs how (server_did programs old does added)
   silent_keeps added noted is =
       let e = new_is Nothing is in
       let none : [] ≡ added = added_none old.state.events added (sym (ap (λ (s : LoopState S F D). s.events) e) ∙ noted) in
       let stays = stays_so (ap (λ (l : Left S F D). option_to_list l.opened.tid) (left_is Nothing is)) (ap (λ (s : LoopState S F D). s.requests) e) (ap (λ (s : LoopState S F D). s.server.config) e)
-      (ap (λ (s : LoopState S F D). stores.stored s.server.store) e) (ap (λ (s : LoopState S F D). s.pending) e) in
-      still_keeps programs old kept does stays (ap (λ (s : LoopState S F D). s.server.held) e) added (subst IsSilent none none_silent)
+      (same_if programs how server.store new.server.store (ap (λ (s : LoopState S F D). stores.stored s.server.store) e)) (ap (λ (s : LoopState S F D). s.pending) e) in
+      still_keeps programs old kept does stays (moves_none stays.opens) (ap (λ (s : LoopState S F D). s.server.held) e) added (subst IsSilent none none_silent)
 
   -- one that is answered by an ERROR
-  pub refusal_keeps : (added : List Event) → new.events ≡ added ++ old.state.events → IsRefused stores sources server answers.from answers.bytes answers.steps.came →
-      IsKept programs (server_did programs old does added)
+  pub refusal_keeps : (added : List Event) → new.events ≡ added ++ old.state.events → IsRefused stores sources server answers.from answers.bytes (content_by programs how old.state) answers.steps.came →
+      IsKept programs how (server_did programs old does added)
   refusal_keeps added noted r =
       let e = new_is (An_error r.reply r.store) r.is in
       let own = old.state.requests in
@@ -97,12 +98,12 @@ module _ {S F D G K : Type 0} {stores : StoreMeaning S D} {sources : SourceMeani
       let a = requests_at stores sources programs.server in
       let m : Message = message a from Error in
       let one : Sent own from bytes ∷ [] ≡ added = append_cancel_right (Sent own from bytes ∷ []) added old.state.events (sym (ap (λ (s : LoopState S F D). s.events) e) ∙ noted) in
-      let said : IsThere (kept.messages ++ m ∷ []) (endpoint programs.server.ip programs.server.port) from bytes =
+      let said : IsThere (kept.messages ++ m ∷ []) (endpoint programs.server.ip programs.server.start.requests) from bytes =
       (error_packet r.reply, spells_own (error_packet r.reply) (valid_error r.reply), Contains-push kept.messages m) in
       let there : IsThere (kept.messages ++ m ∷ []) (endpoint programs.server.ip own) from bytes =
       subst (λ (n : ℕ). IsThere (kept.messages ++ m ∷ []) (endpoint programs.server.ip n) from bytes) (sym kept.server.requests) said in
       let stays = stays_so (ap (λ (l : Left S F D). option_to_list l.opened.tid) (left_is (An_error r.reply r.store) r.is)) (ap (λ (s : LoopState S F D). s.requests) e) (ap (λ (s : LoopState S F D). s.server.config) e)
-      (ap (λ (s : LoopState S F D). stores.stored s.server.store) e ∙ r.same) (ap (λ (s : LoopState S F D). s.pending) e) in
+      (same_then programs how server.store r.store new.server.store (ap (λ (s : LoopState S F D). s.server.store) e) (same_if_known programs how old.state r.store kept.server.known r.same)) (ap (λ (s : LoopState S F D). s.pending) e) in
       let shown = says_error (joined programs) kept.shown.0 kept.views kept.messages kept.shown.1 a from in
-      says_keeps programs old kept does stays (ap (λ (s : LoopState S F D). s.server.held) e) added (m ∷ []) (kept.shown.0 ++ shown.0, shown.2)
+      says_keeps programs old kept does stays (moves_none stays.opens) (ap (λ (s : LoopState S F D). s.server.held) e) added (m ∷ []) (kept.shown.0 ++ shown.0, shown.2)
       (one_sent (kept.messages ++ m ∷ []) own (record { to = from; bytes = bytes }) added one there)

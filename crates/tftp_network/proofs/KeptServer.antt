@@ -19,27 +19,27 @@ use Rattle.tftp_network.specs.Order.{Programs}
 use Rattle.tftp_network.specs.Programs.{endpoint, requests_at, ClientProgram, client_at}
 use Rattle.tftp_network.specs.Promises.{joined}
 use Rattle.tftp_network.specs.Snapshots.{Snapshot, ClientStage, Unasked, Has_asked, server_did}
-use Rattle.tftp_network.proofs.Kept.{IsThere, IsViewed, HasTransferBy, StageKept, TransferKept, ServerKept, IsOfClient, IsOfTransfer, IsKept}
+use Rattle.tftp_network.proofs.Kept.{How, IsThere, IsViewed, HasTransferBy, StageKept, TransferKept, ServerKept, IsOfClient, IsOfTransfer, IsKept}
 use Rattle.tftp_network.proofs.KeptViews.{there_still}
 
 module _ {S F D G K : Type 0} {stores : StoreMeaning S D} {sources : SourceMeaning F} {inputs : SourceMeaning G} {outputs : SinkMeaning K}
-    (programs : Programs stores sources inputs outputs) where
+    (programs : Programs stores sources inputs outputs) {how : How programs} where
   -- what a step of the server did to the ends and the messages
-  pub record ServerTurns (old : Snapshot programs) (kept : IsKept programs old) (now : Snapshot programs) (added : List Event) : Type 0 where
+  pub record ServerTurns (old : Snapshot programs) (kept : IsKept programs how old) (now : Snapshot programs) (added : List Event) : Type 0 where
     pub views : List EndView
     pub said_now : List Message
     pub shown : IsShown (joined programs) views (kept.messages ++ said_now)
     pub sends : (port : ℕ) (to : Endpoint) (bytes : List ℕ) → Contains added (Sent port to bytes) → IsThere (kept.messages ++ said_now) (endpoint programs.server.ip port) to bytes
-    pub server : ServerKept programs (kept.messages ++ said_now) now
+    pub server : ServerKept programs how (kept.messages ++ said_now) now
     -- the end of a client stays viewed
     pub clients : (k : ℕ) (client : ClientProgram inputs outputs (requests_at stores sources programs.server)) → slice_get programs.clients k ≡ Some client →
         (z : OpenEnd) → z.address ≡ client_at inputs outputs (requests_at stores sources programs.server) client →
         IsViewed (joined programs) kept.views kept.messages z → IsViewed (joined programs) views (kept.messages ++ said_now) z
-    pub transfers : (port : ℕ) (transfer : HeldTransfer F D) → HasTransferBy programs now port transfer → TransferKept programs views (kept.messages ++ said_now) now port transfer
+    pub transfers : (port : ℕ) (transfer : HeldTransfer F D) → HasTransferBy programs now port transfer → TransferKept programs how views (kept.messages ++ said_now) now port transfer
     pub only : (view : EndView) → IsAmong views view → IsAmong kept.views view ⊎ IsOfTransfer programs now view.address
     pub were : (a : Endpoint) → IsOfTransfer programs old a → IsOfTransfer programs now a
 
-  module _ (old : Snapshot programs) (kept : IsKept programs old) {new : LoopState S F D} (does : Does stores sources old.state new) (added : List Event)
+  module _ (old : Snapshot programs) (kept : IsKept programs how old) {new : LoopState S F D} (does : Does stores sources old.state new) (added : List Event)
       (turns : ServerTurns old kept (server_did programs old does added) added) where
     abbrev messages : List Message
     messages = kept.messages ++ turns.said_now
@@ -58,20 +58,19 @@ module _ {S F D G K : Type 0} {stores : StoreMeaning S D} {sources : SourceMeani
     all_sent from to bytes (inr h) = before from to bytes (inr (record { k = h.k; client = h.client; is_client = h.is_client; stage = h.stage; is_stage = h.is_stage; port = h.port; at = h.at; sent = h.sent }))
 
     all_clients : (k : ℕ) (client : ClientProgram inputs outputs (requests_at stores sources programs.server)) (stage : ClientStage G K) →
-        slice_get programs.clients k ≡ Some client → StageKept programs kept.views kept.messages client stage → StageKept programs turns.views messages client stage
+        slice_get programs.clients k ≡ Some client → StageKept programs how kept.views kept.messages client stage → StageKept programs how turns.views messages client stage
     all_clients k client Unasked found h = tt
-    all_clients k client (Has_asked s files noted) found h = record {
+    all_clients k client (Has_asked s files noted moved) found h = record {
       end = h.end;
       address = h.address;
       state = h.state;
-      file = h.file;
       side = h.side;
       viewed = turns.clients k client found h.end h.address h.viewed;
       has = h.has;
     }
 
     asked_still : (a : Endpoint) → IsOfClient programs old a → IsOfClient programs now a
-    asked_still a h = record { k = h.k; client = h.client; found = h.found; s = h.s; files = h.files; noted = h.noted; is_stage = h.is_stage; address = h.address }
+    asked_still a h = record { k = h.k; client = h.client; found = h.found; s = h.s; files = h.files; noted = h.noted; moved = h.moved; is_stage = h.is_stage; address = h.address }
 
     all_views : (view : EndView) → IsAmong turns.views view → IsOfClient programs now view.address ⊎ IsOfTransfer programs now view.address
     all_views view among = elim (turns.only view among) [
@@ -82,7 +81,7 @@ module _ {S F D G K : Type 0} {stores : StoreMeaning S D} {sources : SourceMeani
       | inr h ↦ inr h
     ]
 
-    pub server_keeps : IsKept programs now
+    pub server_keeps : IsKept programs how now
     server_keeps = record {
       views = turns.views;
       messages = messages;

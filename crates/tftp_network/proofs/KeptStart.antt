@@ -13,7 +13,7 @@ use Rattle.tftp_network.specs.Joint.{WasSentBefore}
 use Rattle.tftp_network.specs.Order.{Programs}
 use Rattle.tftp_network.specs.Promises.{joined}
 use Rattle.tftp_network.specs.Snapshots.{ClientStage, Unasked, noted_by, nothing_done}
-use Rattle.tftp_network.proofs.Kept.{IsThere, AreKeyedOnce, HasTransferBy, StageKept, IsKept}
+use Rattle.tftp_network.proofs.Kept.{How, By_models, By_run, IsKnown, IsThere, AreKeyedOnce, HasTransferBy, StageKept, IsKept}
 use Rattle.tftp_network.proofs.KeptEvents.{nothing_in}
 
 -- no client has asked
@@ -31,15 +31,19 @@ module _ {S F D G K : Type 0} {stores : StoreMeaning S D} {sources : SourceMeani
       absurd (nothing_in (Sent h.port to bytes) (subst (λ (s : ClientStage G K). Contains (noted_by s) (Sent h.port to bytes)) (sym (unasked_at programs.clients h.k h.stage h.is_stage)) h.sent))
 
   -- no transfer is held, and none was removed
-  nothing_held : (port : ℕ) (transfer : HeldTransfer F D) → at port programs.server.first.held ≡ Some transfer → ⊥
+  nothing_held : (port : ℕ) (transfer : HeldTransfer F D) → at port programs.server.start.server.held ≡ Some transfer → ⊥
   nothing_held port transfer e = let f : None ≡ Some transfer = ap (at port) (sym programs.server.empty) ∙ e in cc
 
   no_transfer : (port : ℕ) (transfer : HeldTransfer F D) → HasTransferBy programs (nothing_done programs) port transfer → ⊥
   no_transfer port transfer (inl e) = nothing_held port transfer e
   no_transfer port transfer (inr closed) = closed
 
-  pub kept_at_first : IsKept programs (nothing_done programs)
-  kept_at_first = record {
+  known_at_first : (how : How programs) → IsKnown programs how (nothing_done programs).state
+  known_at_first (By_models models) = models.known
+  known_at_first (By_run pad) = tt
+
+  pub kept_at_first : (how : How programs) → IsKept programs how (nothing_done programs)
+  kept_at_first how = record {
     views = [];
     messages = [];
     shown = shown_start (joined programs);
@@ -47,13 +51,13 @@ module _ {S F D G K : Type 0} {stores : StoreMeaning S D} {sources : SourceMeani
     server = record {
       requests = refl;
       config = refl;
-      known = programs.server.known;
-      pending = λ from bytes e. absurd (let f : None ≡ Some (from, bytes) = e in cc);
+      known = known_at_first how;
+      pending = λ from bytes e. absurd (let f : None ≡ Some (from, bytes) = sym programs.server.idle ∙ e in cc);
       once = subst (λ (held : List (ℕ × HeldTransfer F D)). AreKeyedOnce held) (sym programs.server.empty) tt;
       gone = λ port transfer h. absurd h;
       opened = λ port transfer h. absurd (no_transfer port transfer h);
     };
-    clients = λ k client stage found e. subst (λ (s : ClientStage G K). StageKept programs [] [] client s) (unasked_at programs.clients k stage e) tt;
+    clients = λ k client stage found e. subst (λ (s : ClientStage G K). StageKept programs how [] [] client s) (unasked_at programs.clients k stage e) tt;
     transfers = λ port transfer h. absurd (no_transfer port transfer h);
     only = λ view among. absurd (let f : None ≡ Some view = among.1 in cc);
   }

@@ -15,15 +15,16 @@ use Rattle.tftp_network.specs.Order.{Programs}
 use Rattle.tftp_network.specs.Programs.{endpoint, requests_at}
 use Rattle.tftp_network.specs.Promises.{joined}
 use Rattle.tftp_network.specs.Snapshots.{Snapshot, server_did}
-use Rattle.tftp_network.proofs.Kept.{AreKeyedOnce, HasTransferBy, IsThere, TransferKept, ServerKept, IsKept}
+use Rattle.tftp_network.proofs.Kept.{How, AreKeyedOnce, HasTransferBy, IsThere, TransferKept, ServerKept, IsKept}
 use Rattle.tftp_network.proofs.KeptEvents.{IsSilent}
 use Rattle.tftp_network.proofs.KeptServer.{ServerTurns, server_keeps}
-use Rattle.tftp_network.proofs.KeptViews.{there_still, viewed_still}
+use Rattle.tftp_network.proofs.KeptViews.{arrived_still, viewed_still}
+use Rattle.tftp_network.proofs.MovedSteps.{MovesNone}
 use Rattle.tftp_network.proofs.ServerStays.{ServerStays, stored_after, closed_before, opened_still}
 
 module _ {S F D G K : Type 0} {stores : StoreMeaning S D} {sources : SourceMeaning F} {inputs : SourceMeaning G} {outputs : SinkMeaning K}
-    (programs : Programs stores sources inputs outputs) (old : Snapshot programs) (kept : IsKept programs old) {new : LoopState S F D} (does : Does stores sources old.state new)
-    (stays : ServerStays programs old kept does) (held : new.server.held ≡ old.state.server.held) (added : List Event) where
+    (programs : Programs stores sources inputs outputs) {how : How programs} (old : Snapshot programs) (kept : IsKept programs how old) {new : LoopState S F D} (does : Does stores sources old.state new)
+    (stays : ServerStays programs old kept does) (none : (port : ℕ) → MovesNone does port) (held : new.server.held ≡ old.state.server.held) (added : List Event) where
   abbrev now : Snapshot programs
   now = server_did programs old does added
 
@@ -41,7 +42,7 @@ module _ {S F D G K : Type 0} {stores : StoreMeaning S D} {sources : SourceMeani
     abbrev messages : List Message
     messages = kept.messages ++ said_now
 
-    all_transfers : (port : ℕ) (transfer : HeldTransfer F D) → HasTransferBy programs now port transfer → TransferKept programs kept.views messages now port transfer
+    all_transfers : (port : ℕ) (transfer : HeldTransfer F D) → HasTransferBy programs now port transfer → TransferKept programs how kept.views messages now port transfer
     all_transfers port transfer is =
         let h = kept.transfers port transfer (held_before port transfer is) in
         record {
@@ -52,15 +53,15 @@ module _ {S F D G K : Type 0} {stores : StoreMeaning S D} {sources : SourceMeani
           request = h.request;
           side = h.side;
           viewed = viewed_still (joined programs) kept.views kept.messages said_now h.end h.viewed;
-          has = stored_after programs old does added stays.files h.end transfer.files h.has;
+          has = stored_after programs how old does added stays.files h.end (none h.end.address.port) transfer.files h.has;
         }
 
-    server_kept : ServerKept programs messages now
+    server_kept : ServerKept programs how messages now
     server_kept = record {
       requests = stays.requests ∙ kept.server.requests;
       config = stays.config ∙ kept.server.config;
       known = stays.known;
-      pending = λ from bytes e. there_still kept.messages said_now from (requests_at stores sources programs.server) bytes (stays.pending from bytes e);
+      pending = λ from bytes e. arrived_still kept.messages said_now from (requests_at stores sources programs.server) bytes (stays.pending from bytes e);
       once = subst (λ (hs : List (ℕ × HeldTransfer F D)). AreKeyedOnce hs) (sym held) kept.server.once;
       gone = λ port transfer closed. ap (at port) held ∙ kept.server.gone port transfer (closed_before programs old kept does stays added port transfer closed);
       opened = λ port transfer is. opened_still programs old kept does stays added port (kept.server.opened port transfer (held_before port transfer is));
@@ -79,10 +80,10 @@ module _ {S F D G K : Type 0} {stores : StoreMeaning S D} {sources : SourceMeani
       were = λ a h. record { port = h.port; transfer = h.transfer; is_transfer = held_after h.port h.transfer h.is_transfer; address = h.address };
     }
 
-    pub says_keeps : IsKept programs now
+    pub says_keeps : IsKept programs how now
     says_keeps = server_keeps programs old kept does added turns
 
   -- it sends nothing
-  pub still_keeps : IsSilent added → IsKept programs now
+  pub still_keeps : IsSilent added → IsKept programs how now
   still_keeps silent =
       says_keeps [] (subst (λ (ms : List Message). IsShown (joined programs) kept.views ms) (sym (append-nil kept.messages)) kept.shown) (λ port to bytes c. absurd (silent port to bytes c))

@@ -22,20 +22,21 @@ use Rattle.tftp_machine.specs.Said.{said}
 use Rattle.tftp_machine.specs.Shows.{EndView, IsShown}
 use Rattle.tftp_machine.proofs.Indices.{slice_get-set_same}
 use Rattle.tftp_network.specs.Joint.{WasSentBefore}
+use Rattle.tftp_network.specs.Moved.{Moved}
 use Rattle.tftp_network.specs.Order.{Programs}
 use Rattle.tftp_network.specs.Programs.{endpoint, requests_at, ClientProgram, client_at}
 use Rattle.tftp_network.specs.Promises.{joined}
 use Rattle.tftp_network.specs.Snapshots.{Snapshot, Has_asked, client_did}
-use Rattle.tftp_network.proofs.Kept.{IsThere, HasFile, IsViewed, ClientKept, IsKept, IsFreshBy}
+use Rattle.tftp_network.proofs.Kept.{How, IsThere, HasFile, IsViewed, ClientKept, IsKept, IsFreshBy}
 use Rattle.tftp_network.proofs.KeptClients.{ClientTurns, client_keeps}
 use Rattle.tftp_network.proofs.KeptEvents.{SendsOnly, IsSilent}
 use Rattle.tftp_network.proofs.KeptViews.{there_still, viewed_beside, viewed_still, among_set}
 
 -- what an end is after a turn does not depend on its files
 pub after_files : (x : OpenEnd) (held : Files (List ℕ) Holding) →
-    ((with_files x held).address ≡ x.address) × ((with_files x held).file ≡ x.file) × ((with_files x held).state ≡ x.state)
-after_files x (Source left) = (refl, refl, refl)
-after_files x (Sink holding) = (refl, refl, refl)
+    ((with_files x held).address ≡ x.address) × ((with_files x held).state ≡ x.state)
+after_files x (Source left) = (refl, refl)
+after_files x (Sink holding) = (refl, refl)
 
 -- an answer is there
 pub reply_there : (messages said_now : List Message) (from : Endpoint) (reply : Option Reply) (to : Endpoint) (bytes : List ℕ) → Replies from reply said_now →
@@ -54,23 +55,23 @@ newest_there messages said_now x y turn r (inl e) old =
 newest_there messages said_now x y turn r (inr e) old = reply_there messages said_now x.address turn.reply y.state.position.last_sent_to y.state.position.last_sent r e
 
 module _ {S F D G K : Type 0} {stores : StoreMeaning S D} {sources : SourceMeaning F} {inputs : SourceMeaning G} {outputs : SinkMeaning K}
-    (programs : Programs stores sources inputs outputs) (old : Snapshot programs) (kept : IsKept programs old) (fresh : IsFreshBy programs old)
+    (programs : Programs stores sources inputs outputs) {how : How programs} (old : Snapshot programs) (kept : IsKept programs how old) (fresh : IsFreshBy programs old)
     (k : ℕ) (client : ClientProgram inputs outputs (requests_at stores sources programs.server)) (found : slice_get programs.clients k ≡ Some client)
-    (s : State) (files : Files G K) (noted : List Event) (is_stage : slice_get old.clients k ≡ Some (Has_asked s files noted)) where
+    (s : State) (files : Files G K) (noted : List Event) (moved : Moved) (is_stage : slice_get old.clients k ≡ Some (Has_asked s files noted moved)) where
   -- the end before the step
-  pub own : ClientKept programs kept.views kept.messages client s files
-  own = kept.clients k client (Has_asked s files noted) found is_stage
+  pub own : ClientKept programs how kept.views kept.messages client s files moved
+  own = kept.clients k client (Has_asked s files noted moved) found is_stage
 
   abbrev here : Endpoint
   here = client_at inputs outputs (requests_at stores sources programs.server) client
 
   -- what was noted before
   noted_before : (port : ℕ) (to : Endpoint) (bytes : List ℕ) → Contains noted (Sent port to bytes) → WasSentBefore programs old (endpoint client.ip port) to bytes
-  noted_before port to bytes sent = inr (record { k = k; client = client; is_client = found; stage = Has_asked s files noted; is_stage = is_stage; port = port; at = refl; sent = sent })
+  noted_before port to bytes sent = inr (record { k = k; client = client; is_client = found; stage = Has_asked s files noted moved; is_stage = is_stage; port = port; at = refl; sent = sent })
 
   -- a turn
   module _ (turn : Turn) (held : Files (List ℕ) Holding) (goes : Goes (joined programs) kept.shown.0 kept.views kept.messages own.viewed.index own.end turn (end_after own.end turn held))
-      (s' : State) (state : s'.end ≡ after_turn s.end turn) (files' : Files G K) (has : HasFile inputs outputs (end_after own.end turn held) files')
+      (s' : State) (state : s'.end ≡ after_turn s.end turn) (files' : Files G K) (moved' : Moved) (has : HasFile programs how client (end_after own.end turn held) files' moved')
       (added : List Event) (sends : SendsOnly client.port turn.reply added) where
     abbrev y : OpenEnd
     y = end_after own.end turn held
@@ -91,12 +92,11 @@ module _ {S F D G K : Type 0} {stores : StoreMeaning S D} {sources : SourceMeani
           (newest_there kept.messages goes.said_now own.end y turn goes.replies goes.last_sent own.viewed.last_sent);
     }
 
-    its_end : ClientKept programs (set kept.views own.viewed.index (open_view y)) messages client s' files'
+    its_end : ClientKept programs how (set kept.views own.viewed.index (open_view y)) messages client s' files' moved'
     its_end = record {
       end = y;
       address = address;
-      state = (after_files (in_state (after_turn own.end.state turn) own.end) held).2 ∙ (ap (λ (e : EndState). after_turn e turn) own.state ∙ sym state);
-      file = (after_files (in_state (after_turn own.end.state turn) own.end) held).1 ∙ own.file;
+      state = (after_files (in_state (after_turn own.end.state turn) own.end) held).1 ∙ (ap (λ (e : EndState). after_turn e turn) own.state ∙ sym state);
       side = ap is_client goes.side ∙ own.side;
       viewed = its_view;
       has = has;
@@ -112,7 +112,7 @@ module _ {S F D G K : Type 0} {stores : StoreMeaning S D} {sources : SourceMeani
       | inr before ↦ inl (noted_before port to bytes before)
     ]
 
-    turned : ClientTurns programs old kept k client s' files' (added ++ noted)
+    turned : ClientTurns programs old kept k client s' files' (added ++ noted) moved'
     turned = record {
       views = set kept.views own.viewed.index (open_view y);
       said_now = goes.said_now;
@@ -127,12 +127,12 @@ module _ {S F D G K : Type 0} {stores : StoreMeaning S D} {sources : SourceMeani
       ];
     }
 
-    pub turn_keeps : IsKept programs (client_did programs old k (Has_asked s' files' (added ++ noted)))
-    turn_keeps = client_keeps programs old kept fresh k client found (Has_asked s files noted) is_stage s' files' (added ++ noted) turned
+    pub turn_keeps : IsKept programs how (client_did programs old k (Has_asked s' files' (added ++ noted) moved'))
+    turn_keeps = client_keeps programs old kept fresh k client found (Has_asked s files noted moved) is_stage s' files' (added ++ noted) moved' turned
 
   -- the end as it was
-  module _ (s' : State) (state : s'.end ≡ s.end) (files' : Files G K) (has : HasFile inputs outputs own.end files') (added : List Event) (silent : IsSilent added) where
-    stays : ClientTurns programs old kept k client s' files' (added ++ noted)
+  module _ (s' : State) (state : s'.end ≡ s.end) (files' : Files G K) (moved' : Moved) (has : HasFile programs how client own.end files' moved') (added : List Event) (silent : IsSilent added) where
+    stays : ClientTurns programs old kept k client s' files' (added ++ noted) moved'
     stays = record {
       views = kept.views;
       said_now = [];
@@ -142,7 +142,6 @@ module _ {S F D G K : Type 0} {stores : StoreMeaning S D} {sources : SourceMeani
         end = own.end;
         address = own.address;
         state = own.state ∙ sym state;
-        file = own.file;
         side = own.side;
         viewed = viewed_still (joined programs) kept.views kept.messages [] own.end own.viewed;
         has = has;
@@ -154,5 +153,5 @@ module _ {S F D G K : Type 0} {stores : StoreMeaning S D} {sources : SourceMeani
       only = λ view among. inl among;
     }
 
-    pub stays_keeps : IsKept programs (client_did programs old k (Has_asked s' files' (added ++ noted)))
-    stays_keeps = client_keeps programs old kept fresh k client found (Has_asked s files noted) is_stage s' files' (added ++ noted) stays
+    pub stays_keeps : IsKept programs how (client_did programs old k (Has_asked s' files' (added ++ noted) moved'))
+    stays_keeps = client_keeps programs old kept fresh k client found (Has_asked s files noted moved) is_stage s' files' (added ++ noted) moved' stays

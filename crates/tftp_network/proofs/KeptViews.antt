@@ -14,11 +14,14 @@ use Rattle.tftp_machine.specs.Said.{said}
 use Rattle.tftp_machine.specs.Shows.{EndView, AreApart, IsShown}
 use Rattle.tftp_machine.specs.ViewSafety.{IsAmong}
 use Rattle.tftp_machine.proofs.Indices.{slice_get-set_cases, slice_get-set_other, slice_get-push_cases, slice_get-push_old}
-use Rattle.tftp_network.proofs.Kept.{IsThere, IsViewed}
+use Rattle.tftp_network.proofs.Kept.{IsThere, HasArrived, IsViewed}
 
 -- what was said is there still
 pub there_still : (messages more : List Message) (from to : Endpoint) (bytes : List ℕ) → IsThere messages from to bytes → IsThere (messages ++ more) from to bytes
 there_still messages more from to bytes h = (h.0, h.1, Contains-append_left messages more (message from to (said h.0)) h.2)
+
+pub arrived_still : (messages more : List Message) (from to : Endpoint) (bytes : List ℕ) → HasArrived messages from to bytes → HasArrived (messages ++ more) from to bytes
+arrived_still messages more from to bytes h p spells = Contains-append_left messages more (message from to (said p)) (h p spells)
 
 -- the message of a datagram says what its bytes spell
 pub there_says : (messages : List Message) (from to : Endpoint) (bytes : List ℕ) → IsThere messages from to bytes → (p : WirePacket) → Spells p bytes → Contains messages (message from to (said p))

@@ -1,6 +1,10 @@
 pub mod ClientJournals
 pub mod Places
-pub mod OneRequest
+pub mod ExchangeParts
+pub mod ExchangeReader
+pub mod ExchangeWriter
+pub mod ExchangeServer
+pub mod Exchange
 pub mod PortCounts
 pub mod OneTimerEach
 pub mod ClosedLines
@@ -49,3 +53,12 @@ pub mod PortTimeouts
 pub mod PortWork
 pub mod KeptServes
 pub mod KeptSteps
+pub mod Texts
+pub mod MovedSends
+pub mod MovedStores
+pub mod MovedSteps
+pub mod MovedFiles
+pub mod AnyKept
+pub mod KeptStrays
+pub mod ClientsRun
+pub mod ServersRun

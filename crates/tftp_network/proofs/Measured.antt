@@ -1,10 +1,9 @@
 -- The measured length of a file is its length, if its blocks can be numbered.
-use Rattle.std.proofs.Common.{◌≡◌, ℕ, ◌+◌, ◌*◌, ◌^◌, ◌<◌, ◌≤◌, List, length, arith}
+use Rattle.std.proofs.Common.{◌≡◌, ℕ, ◌+◌, ◌*◌, ◌<◌, ◌≤◌, List, length, arith}
 use Rattle.std.specs.Prelude.{min}
 use Rattle.tftp_wire.specs.declared.limits.TheConstants.{MAX_BLOCK}
 use Rattle.tftp_wire.specs.declared.mode.Mode.{Mode}
 use Rattle.tftp_file.specs.declared.length.TheConstants.{MAX_WIRE}
-use Rattle.tftp_file.specs.Block.{Fits}
 use Rattle.tftp_file.specs.Netascii.{wire_text}
 use Rattle.tftp_store.specs.Store.{measured}
 
@@ -15,13 +14,3 @@ counted_whole n size small few = omega arith
 -- a file whose blocks can be numbered was measured to its end
 pub measured_whole : (mode : Mode) (file : List ℕ) (size : ℕ) → size ≤ MAX_BLOCK → measured mode file < 65535 * size → measured mode file ≡ length (wire_text mode file)
 measured_whole mode file size small few = counted_whole (length (wire_text mode file)) size small few
-
-pub measured_fits : (mode : Mode) (file : List ℕ) (size : ℕ) → size ≤ MAX_BLOCK → measured mode file < 65535 * size → Fits (wire_text mode file) size
-measured_fits mode file size small few =
-    let whole = measured_whole mode file size small few in omega (arith, whole)
-
--- a measured length fits 64 bits
-pub measured_word : (mode : Mode) (file : List ℕ) → measured mode file < 2 ^ 64
-measured_word mode file = bounded (length (wire_text mode file)) where
-  bounded : (n : ℕ) → min n (MAX_WIRE + 1) < 2 ^ 64
-  bounded n = omega arith

@@ -26,14 +26,15 @@ use Rattle.tftp_network.proofs.Granted.{AreGranted}
 use Rattle.tftp_network.proofs.KeptAsks.{no_text, nothing_held}
 
 -- the end of a read as it opens, and that of a write
-abbrev pub new_sender : Endpoint → List ℕ → List Known → Endpoint → Mode → List ℕ → List ℕ → ℕ → OpenEnd
-new_sender a bytes agreed from mode path file retries =
+abbrev pub new_sender : Endpoint → List ℕ → List Known → Endpoint → Mode → List ℕ → List ℕ → List ℕ → ℕ → OpenEnd
+new_sender a bytes agreed from mode path file text retries =
     record {
       address = a;
-      state = sending agreed from mode (wire_text mode file) retries;
+      state = sending agreed from mode text retries;
       path = path;
       file = file;
-      left = left_at_first agreed (wire_text mode file);
+      text = text;
+      left = left_at_first agreed text;
       stored = [];
       committed = false;
       refuses = false;
@@ -47,6 +48,7 @@ new_receiver a bytes agreed from mode path retries =
       state = serving_write agreed from mode retries;
       path = path;
       file = [];
+      text = [];
       left = [];
       stored = [];
       committed = false;
@@ -73,10 +75,9 @@ module _ (network : Network) (views : List EndView) (messages : List Message) (s
 
   module _ (place : network.host_of a ≡ At_server) (new : NoneAt views a) where
     -- a read
-    pub opens_to_send : (request : WireRequest) (path file : List ℕ) (agreed : List Known) (retries : ℕ) → IsNewly false request → AreGranted agreed → Fits (wire_text request.mode file) (size agreed) →
-        EndOpens (new_sender a bytes agreed from request.mode path file retries)
-    opens_to_send request path file [] retries come granted fits =
-        let text = wire_text request.mode file in
+    pub opens_to_send : (request : WireRequest) (path file text : List ℕ) (agreed : List Known) (retries : ℕ) → IsNewly false request → AreGranted agreed → Fits text (size agreed) →
+        EndOpens (new_sender a bytes agreed from request.mode path file text retries)
+    opens_to_send request path file text [] retries come granted fits =
         let one : 1 ≤ block_count text DEFAULT_BLOCK = omega arith in
         let now = serves_plainly network shown.0 views messages shown.1 a from bytes false request text place new come.sent fits come.spells come.unanswered in
         record {
@@ -92,10 +93,9 @@ module _ (network : Network) (views : List EndView) (messages : List Message) (s
           side = refl;
           shown_now = (shown.0 ++ now.0, now.2);
         }
-    opens_to_send request path file (known ∷ others) retries come granted fits =
+    opens_to_send request path file text (known ∷ others) retries come granted fits =
         let agreed = known ∷ others in
-        let text = wire_text request.mode file in
-        let x = new_sender a bytes agreed from request.mode path file retries in
+        let x = new_sender a bytes agreed from request.mode path file text retries in
         let now = serves_with network shown.0 views messages shown.1 a from bytes false request text (size agreed) place new come.sent fits granted.positive come.spells come.unanswered in
         let none : 0 * size agreed ≡ 0 = omega arith in
         record {

@@ -1,5 +1,5 @@
 -- At each time of a run each held transfer has one timer.
-use Rattle.std.proofs.Common.{arith, ◌≡◌, ◌<◌, ◌≤◌, ℕ, Bool, true, false, List, [], ◌∷◌, ◌++◌, length, Option, Some, None, refl, sym, ap, subst, ◌∙◌, inl, inr}
+use Rattle.std.proofs.Common.{arith, ◌≡◌, ◌<◌, ◌≤◌, ℕ, Bool, true, false, List, [], ◌∷◌, ◌++◌, map, length, Option, Some, None, refl, sym, ap, subst, ◌∙◌, inl, inr}
 use Rattle.std.specs.Prelude.{slice_set, slice_index_or, IsSome}
 use Rattle.std.specs.List.{Contains, swap_remove}
 use Rattle.std.specs.BTreeMap.{is_at}
@@ -16,11 +16,12 @@ use Rattle.tftp_server.specs.Work.{WorksAt}
 use Rattle.tftp_sockets.specs.Journal.{Event}
 use Rattle.tftp_loop.specs.Run.{Run}
 use Rattle.tftp_loop.specs.Run.Run.{Start, Then}
-use Rattle.tftp_loop.specs.Serves.{Timer, PortState, LoopState, AtPort, Does, at_start, timer_after, with_timer, interval_at, started}
-use Rattle.tftp_loop.specs.Serves.AtPort.{A_datagram, A_lost_datagram, A_timeout, A_missed_timeout, Work}
-use Rattle.tftp_loop.specs.Serves.Does.{At_port, Request_received, Request_answered, Request_lost, Clock_read, Store_set, Transfer_closed}
+use Rattle.tftp_loop.specs.Serves.{Timer, PortState, LoopState, AtPort, Does, at_start, marked_by, timer_after, with_timer, interval_at, started}
+use Rattle.tftp_loop.specs.Serves.AtPort.{A_datagram, A_lost_datagram, Nothing_found, A_failed_receive, A_timeout, A_missed_timeout, Work}
+use Rattle.tftp_loop.specs.Serves.Does.{Waited, At_port, Request_received, No_request_found, Request_not_received, Request_answered, Request_lost, Clock_read, Store_set, Transfer_closed}
+use Rattle.tftp_loop.specs.declared.serving.Ending.{Ending}
 use Rattle.tftp_network.specs.Timers.{HasOneTimerEach, timer_ports}
-use Rattle.tftp_network.proofs.PortCounts.{hit, hit_same, hit_other, hits, hits_push, hits_swap_removed, hits_set, hits_apart, hits_contained, contains_hit, keyed, keyed_absent, keyed_present, keyed_found, keyed_inserted, keyed_set, keyed_removed}
+use Rattle.tftp_network.proofs.PortCounts.{hit, hit_same, hit_other, hits, hits_push, hits_map, hits_swap_removed, hits_set, hits_apart, hits_contained, contains_hit, keyed, keyed_absent, keyed_present, keyed_found, keyed_inserted, keyed_set, keyed_removed}
 
 -- how many timers have the port
 abbrev timed : ℕ → List Timer → ℕ
@@ -111,6 +112,14 @@ module _ {S F D : Type 0} (stores : StoreMeaning S D) (sources : SourceMeaning F
     port = ap (λ (t : Timer). t.port) d.timer;
     keys = keeps_keys old.timer.port (at old.timer.port old.server.held) old.server new.server d.loses.keeps;
   }
+  stays_at now old new (Nothing_found d) = record {
+    port = ap (λ (t : Timer). t.port) d.timer;
+    keys = λ p. ap (λ (s : ServerState S F D). keyed p s.held) d.server;
+  }
+  stays_at now old new (A_failed_receive d) = record {
+    port = ap (λ (t : Timer). t.port) d.timer;
+    keys = λ p. ap (λ (s : ServerState S F D). keyed p s.held) d.server;
+  }
   stays_at now old new (A_timeout d) = record {
     port = ap (λ (t : Timer). t.port) d.timer;
     keys = λ p. ap (keyed p) d.times_out.times_out.held ∙ keyed_set (is_at (nat_cmp old.timer.port)) p (record d.times_out.times_out.transfer { end = d.times_out.times_out.end }) old.server.held;
@@ -137,12 +146,17 @@ module _ {S F D : Type 0} (stores : StoreMeaning S D) (sources : SourceMeaning F
   IsMatched state = AreMatched state.timers state.server.held
 
   step_matched : (old new : LoopState S F D) → Does stores sources old new → IsMatched old → IsMatched new
+  step_matched old new (Waited d) matched =
+      subst IsMatched (sym d.is)
+      (stays_matched old.timers (map (marked_by d.ports) old.timers) old.server.held old.server.held (λ port. hits_map (λ (t : Timer). t.port) port old.timers (marked_by d.ports) (λ t. refl)) (λ port. refl) matched)
   step_matched old new (At_port d) matched =
       let stays = stays_at old.now (record { server = old.server; timer = d.timer; events = old.events }) d.next d.does in
       subst IsMatched (sym d.is)
       (stays_matched old.timers (slice_set old.timers d.index d.next.timer) old.server.held d.next.server.held
       (λ port. hits_set (λ (t : Timer). t.port) port old.timers d.index d.timer d.next.timer d.is_timer stays.port) stays.keys matched)
   step_matched old new (Request_received d) matched = subst IsMatched (sym d.is) matched
+  step_matched old new (No_request_found d) matched = subst IsMatched (sym d.is) matched
+  step_matched old new (Request_not_received d) matched = subst IsMatched (sym d.is) matched
   step_matched old new (Request_answered d) matched =
       subst IsMatched (sym d.is)
       (subst (λ (left : Left S F D). AreMatched (with_timer old.now d.from left.opened.tid left.new.held old.timers) left.new.held) (sym d.steps.left)
@@ -159,8 +173,8 @@ module _ {S F D : Type 0} (stores : StoreMeaning S D) (sources : SourceMeaning F
   run_matched Start matched = matched
   run_matched {now = now} (Then {middle} run does) matched = step_matched middle now does (run_matched run matched)
 
-  start_matched : (port : ℕ) (first : ServerState S F D) (before : List Event) → first.held ≡ [] → IsMatched (at_start port first before)
-  start_matched port first before none = subst (AreMatched []) (sym none) (record { same = λ p. refl; most = λ p. omega arith })
+  start_matched : (port : ℕ) (ending : Ending) (first : ServerState S F D) (before : List Event) → first.held ≡ [] → IsMatched (at_start port ending first before)
+  start_matched port ending first before none = subst (AreMatched []) (sym none) (record { same = λ p. refl; most = λ p. omega arith })
 
   -- a timer is of a held transfer, and a held transfer has a timer
   held_by : (state : LoopState S F D) → IsMatched state → (port : ℕ) → Contains (timer_ports state.timers) port → IsSome (at port state.server.held)
@@ -182,6 +196,6 @@ module _ {S F D : Type 0} (stores : StoreMeaning S D) (sources : SourceMeaning F
     same = λ port. (held_by state matched port, timed_by state matched port);
   }
 
-  pub one_timer_each : (port : ℕ) (first : ServerState S F D) (before : List Event) (now : LoopState S F D) → first.held ≡ [] →
-      Run (Does stores sources) (at_start port first before) now → HasOneTimerEach now
-  one_timer_each port first before now none run = one_each now (run_matched run (start_matched port first before none))
+  pub one_timer_each : (port : ℕ) (ending : Ending) (first : ServerState S F D) (before : List Event) (now : LoopState S F D) → first.held ≡ [] →
+      Run (Does stores sources) (at_start port ending first before) now → HasOneTimerEach now
+  one_timer_each port ending first before now none run = one_each now (run_matched run (start_matched port ending first before none))

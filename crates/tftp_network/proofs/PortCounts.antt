@@ -31,6 +31,12 @@ module _ {X : Type 0} (port_of : X → ℕ) where
   hits_push port [] x = omega arith
   hits_push port (y ∷ xs) x = let e = hits_push port xs x in omega (arith, e)
 
+  -- a change that keeps the ports
+  pub hits_map : (port : ℕ) (xs : List X) (f : X → X) → ((x : X) → port_of (f x) ≡ port_of x) → hits port (map f xs) ≡ hits port xs
+  hits_map port [] f same = refl
+  hits_map port (x ∷ xs) f same =
+      ap (λ (p : ℕ). hit port p + hits port (map f xs)) (same x) ∙ ap (λ (n : ℕ). hit port (port_of x) + n) (hits_map port xs f same)
+
   hits_sum : (port : ℕ) (xs : List X) → hits port xs ≡ sum_by (λ x. hit port (port_of x)) xs
   hits_sum port [] = refl
   hits_sum port (x ∷ xs) = ap (λ (n : ℕ). hit port (port_of x) + n) (hits_sum port xs) ∙ sym (sum_by-cons (λ x. hit port (port_of x)) x xs)

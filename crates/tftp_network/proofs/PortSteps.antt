@@ -1,6 +1,6 @@
 -- What a step of the server at the port of a transfer leaves as it was, and what it noted.
 use Rattle.std.proofs.Common.{◌≡◌, ℕ, false, List, [], ◌∷◌, ◌++◌, Option, Some, None, refl, sym, ap, ◌∙◌, subst}
-use Rattle.std.specs.Prelude.{is_some, IsSome}
+use Rattle.std.specs.Prelude.{◌⊎◌, is_some, IsSome}
 use Rattle.std.specs.List.{Contains}
 use Rattle.std.proofs.lemmas.Bool.{true≢false}
 use Rattle.tftp_file.specs.Sink.{SinkMeaning}
@@ -13,11 +13,11 @@ use Rattle.tftp_sockets.specs.Journal.{Event, answered}
 use Rattle.tftp_sockets.specs.Journal.Event.{Received, Sent}
 use Rattle.tftp_loop.specs.Serves.{LoopState, ServesPort, At_port}
 use Rattle.tftp_machine.specs.Machine.{Endpoint}
-use Rattle.tftp_network.specs.Joint.{CanTake}
-use Rattle.tftp_network.specs.Order.{Programs}
+use Rattle.tftp_network.specs.Joint.{CanTake, WasSentBefore}
+use Rattle.tftp_network.specs.Order.{Programs, IsStranger}
 use Rattle.tftp_network.specs.Programs.{endpoint}
 use Rattle.tftp_network.specs.Snapshots.{Snapshot}
-use Rattle.tftp_network.proofs.Kept.{IsThere, IsKept}
+use Rattle.tftp_network.proofs.Kept.{How, IsKnown, IsKept}
 use Rattle.tftp_network.proofs.KeptEvents.{IsSilent, SendsOnly, only_one, added_by, answered_has, answered_sends}
 use Rattle.tftp_network.proofs.ServerStays.{FilesStay, ServerStays}
 
@@ -36,13 +36,13 @@ pub datagram_silent : (own : ℕ) (from : Endpoint) (bytes : List ℕ) → IsSil
 datagram_silent own from bytes port to b c = let f : Received own from bytes ≡ Sent port to b = only_one (Received own from bytes) (Sent port to b) c in cc
 
 module _ {S F D G K : Type 0} {stores : StoreMeaning S D} {sources : SourceMeaning F} {inputs : SourceMeaning G} {outputs : SinkMeaning K}
-    (programs : Programs stores sources inputs outputs) (old : Snapshot programs) (kept : IsKept programs old) {new : LoopState S F D} (serves : ServesPort stores sources old.state new)
+    (programs : Programs stores sources inputs outputs) {how : How programs} (old : Snapshot programs) (kept : IsKept programs how old) {new : LoopState S F D} (serves : ServesPort stores sources old.state new)
     (added : List Event) (events : new.events ≡ added ++ old.state.events) where
   -- the server after it
   pub server_is : new.server ≡ serves.next.server
   server_is = ap (λ (s : LoopState S F D). s.server) serves.is
 
-  pub stays_by : serves.next.server.config ≡ old.state.server.config → IsSome (stores.stored new.server.store) → FilesStay programs old.state new → ServerStays programs old kept (At_port serves)
+  pub stays_by : serves.next.server.config ≡ old.state.server.config → IsKnown programs how new → FilesStay programs how old.state new → ServerStays programs old kept (At_port serves)
   stays_by config known files = record {
     opens = refl;
     removes = λ port transfer h. h;
@@ -65,12 +65,11 @@ module _ {S F D G K : Type 0} {stores : StoreMeaning S D} {sources : SourceMeani
     pub sends_only : IsSilent noted → SendsOnly serves.timer.port reply added
     sends_only silent = subst (λ (es : List Event). SendsOnly serves.timer.port reply es) added_is (answered_sends serves.timer.port reply noted silent)
 
-    -- what was received was sent there
+    -- what was received was sent there, or is a stranger's
     pub received_there : (port : ℕ) (from : Endpoint) (bytes : List ℕ) → Contains noted (Received port from bytes) → CanTake programs old programs.server.ip added →
-        IsThere kept.messages from (endpoint programs.server.ip port) bytes
+        WasSentBefore programs old from (endpoint programs.server.ip port) bytes ⊎ IsStranger stores sources inputs outputs programs from
     received_there port from bytes c take =
-        kept.sent from (endpoint programs.server.ip port) bytes
-        (take port from bytes (subst (λ (es : List Event). Contains es (Received port from bytes)) added_is (answered_has serves.timer.port reply noted (Received port from bytes) c)))
+        take port from bytes (subst (λ (es : List Event). Contains es (Received port from bytes)) added_is (answered_has serves.timer.port reply noted (Received port from bytes) c))
 
   -- nothing was sent
   pub silent_by : (noted : List Event) → serves.next.events ≡ noted ++ old.state.events → IsSilent noted → IsSilent added

@@ -1,8 +1,8 @@
 -- A timeout that the server delivers to a transfer keeps the invariant.
-use Rattle.std.proofs.Common.{◌≡◌, ℕ, Bool, true, List, [], ◌∷◌, ◌++◌, None, refl, sym, ap, ◌∙◌, subst, inl, inr}
-use Rattle.std.specs.Prelude.{◌==◌, if◌then◌else◌, is_some, IsSome}
+use Rattle.std.proofs.Common.{◌≡◌, ℕ, true, false, List, [], ◌∷◌, ◌++◌, Some, None, refl, sym, ap, ◌∙◌, subst, inl, inr}
+use Rattle.std.specs.Prelude.{◌==◌, is_some}
 use Rattle.std.proofs.lemmas.Bool.{true≢false, cases_Bool}
-use Rattle.tftp_file.specs.Sink.{SinkMeaning}
+use Rattle.tftp_file.specs.Sink.{Holding, SinkMeaning}
 use Rattle.tftp_file.specs.Source.{SourceMeaning}
 use Rattle.tftp_file.specs.declared.files.Files.{Files}
 use Rattle.tftp_file.specs.declared.files.Files.TheVariants.{Source, Sink}
@@ -22,18 +22,23 @@ use Rattle.tftp_sockets.specs.Journal.{Event}
 use Rattle.tftp_sockets.specs.Journal.Event.{Elapsed}
 use Rattle.tftp_loop.specs.Serves.{LoopState, ServesPort, At_port, AnswersTimeout}
 use Rattle.tftp_machine.specs.EndShown.{Stands, Goes}
+use Rattle.tftp_machine.specs.KnownFiles.{HasLeft}
 use Rattle.tftp_machine.specs.OpenEnds.{OpenEnd, files_of, holding_of, in_state, end_after, open_view}
 use Rattle.tftp_machine.proofs.EndTurns.{timeout_goes}
 use Rattle.tftp_machine.proofs.PhaseMoves.{if_acts}
+use Rattle.tftp_network.specs.Moved.{moved_at}
 use Rattle.tftp_network.specs.Order.{Programs}
+use Rattle.tftp_network.specs.Ports.{IsStored}
 use Rattle.tftp_network.specs.Promises.{joined}
 use Rattle.tftp_network.specs.Snapshots.{Snapshot, server_did}
 use Rattle.tftp_network.proofs.ClosedEnds.{closed_timeout_goes}
-use Rattle.tftp_network.proofs.Kept.{HasStored, TransferKept, IsKept, IsFreshBy}
+use Rattle.tftp_network.proofs.Kept.{How, By_models, By_run, HasStored, TransferKept, IsKept, IsFreshBy}
 use Rattle.tftp_network.proofs.KeptEvents.{SendsOnly, elapsed_silent}
+use Rattle.tftp_network.proofs.KeptFiles.{left_is, now_is, sink_is, sink_no_source, source_is}
+use Rattle.tftp_network.proofs.MovedSteps.{MovesNone}
 use Rattle.tftp_network.proofs.PortDatagrams.{after_rest}
 use Rattle.tftp_network.proofs.PortSteps.{no_outcome, server_is, stays_by, sends_only}
-use Rattle.tftp_network.proofs.ServerStays.{FilesStay}
+use Rattle.tftp_network.proofs.ServerStays.{AllStored, FilesStay, known_if, stay_if, stored_after}
 use Rattle.tftp_network.proofs.StoredFiles.{IsIn}
 use Rattle.tftp_network.proofs.TurnsAtPort.{Becomes, turn_keeps}
 
@@ -57,8 +62,8 @@ open_before e o = elim (cases_Bool (is_some (outcome_of e.position.phase))) [
 ]
 
 module _ {S F D G K : Type 0} {stores : StoreMeaning S D} {sources : SourceMeaning F} {inputs : SourceMeaning G} {outputs : SinkMeaning K}
-    (programs : Programs stores sources inputs outputs) (old : Snapshot programs) (kept : IsKept programs old) (fresh : IsFreshBy programs old)
-    {new : LoopState S F D} (serves : ServesPort stores sources old.state new) (added : List Event) (events : new.events ≡ added ++ old.state.events) where
+    (programs : Programs stores sources inputs outputs) {how : How programs} (old : Snapshot programs) (kept : IsKept programs how old) (fresh : IsFreshBy programs old)
+    {new : LoopState S F D} (serves : ServesPort stores sources old.state new) (added : List Event) (events : new.events ≡ added ++ old.state.events) (none : (q : ℕ) → MovesNone (At_port serves) q) where
   abbrev port : ℕ
   port = serves.timer.port
 
@@ -69,7 +74,7 @@ module _ {S F D G K : Type 0} {stores : StoreMeaning S D} {sources : SourceMeani
     abbrev timed : TimesOutLent port old.state.server.held serves.next.server.held step answers.outgoing
     timed = answers.times_out
 
-    abbrev was : TransferKept programs kept.views kept.messages old port timed.transfer
+    abbrev was : TransferKept programs how kept.views kept.messages old port timed.transfer
     was = kept.transfers port timed.transfer (inl timed.found)
 
     abbrev x : OpenEnd
@@ -94,25 +99,57 @@ module _ {S F D G K : Type 0} {stores : StoreMeaning S D} {sources : SourceMeani
     store_is : new.server.store ≡ old.state.server.store
     store_is = ap (λ (s : ServerState S F D). s.store) (server_is programs old kept serves added events ∙ answers.rest)
 
-    stay : FilesStay programs old.state new
-    stay o path file h = subst (λ (s : S). IsIn (stores.stored s) path file) (sym store_is) h
+    stay_all : AllStored programs old.state new
+    stay_all o path file h = subst (λ (s : S). IsIn (stores.stored s) path file) (sym store_is) h
 
-    -- so is the file
-    has : (files : Files F D) → HasStored programs old x files → Goes (joined programs) kept.shown.0 kept.views kept.messages was.viewed.index x turn y → HasStored programs now y files
-    has (Source source) h goes =
-        let P : Bool → Type 0 = λ (b : Bool). HasStored programs now (end_after x turn (if b then Source x.left else Sink (holding_of x))) (Source source) in
-        subst P (sym h.sender) (record { sender = h.sender; left = λ o. h.left (open_before x.state o); was = inr h.was; stays = λ o. stay o x.path x.file (h.stays o) })
-    has (Sink draft) h goes =
-        let committed : x.committed ≡ is_complete turn.position.phase =
-        subst (λ (b : Bool). (end_after x turn (if b then Source x.left else Sink (holding_of x))).committed ≡ is_complete (end_after x turn (if b then Source x.left else Sink (holding_of x))).state.position.phase) h.receiver
-        (goes.kept.committed (ap (λ (e : EndState). is_sender e.role.side) (after_rest (in_state (after_turn x.state turn) x) (files_of x)).1 ∙ h.receiver))
-        in
-        let P : Bool → Type 0 = λ (b : Bool). HasStored programs now (end_after x turn (if b then Source x.left else Sink (holding_of x))) (Sink draft) in
-        subst P (sym h.receiver) (record {
+    stay : FilesStay programs how old.state new
+    stay = stay_if programs how old.state new stay_all
+
+    -- so is the file: what a timeout leaves is what was there
+    has_left : (w : How programs) (files : Files F D) → HasStored programs w now x files → (content : Files (List ℕ) Holding) → content ≡ files_of x →
+        (outcome_of turn.position.phase ≡ None → outcome_of x.state.position.phase ≡ None) →
+        (is_sender x.state.role.side ≡ false → (end_after x turn content).committed ≡ is_complete turn.position.phase) → HasStored programs w now (end_after x turn content) files
+    has_left (By_models models) (Source source) h (Source left) e still done =
+        let l = left_is left x.left (e ∙ sym (source_is x h.sender)) in
+        record { sender = h.sender; text = h.text; left = λ o. subst (λ (t : List ℕ). HasLeft sources source t) (sym l) (h.left (still o)); was = h.was; stays = h.stays }
+    has_left (By_models models) (Sink draft) h (Sink held) e still done =
+        let n = now_is held (holding_of x) (e ∙ sym (sink_is x h.receiver)) in
+        record {
           receiver = h.receiver;
-          drafted = h.drafted;
-          stays = λ o c. stay o x.path x.stored (h.stays o (sym (was.viewed.kept.committed h.receiver) ∙ (committed ∙ c)));
-        })
+          drafted = h.drafted ∙ ap (λ (z : Holding). Some (record { bytes = z.bytes; committed = z.committed })) (sym n);
+          stays = λ o c.
+              subst (λ (bs : List ℕ). IsStored stores new x.path bs) (ap (λ (z : Holding). z.bytes) (sym n))
+              (h.stays o (sym (was.viewed.kept.committed h.receiver) ∙ (ap (λ (z : Holding). z.committed) (sym n) ∙ (done h.receiver ∙ c))));
+        }
+    has_left (By_run pad) (Source source) h (Source left) e still done =
+        let l = left_is left x.left (e ∙ sym (source_is x h.sender)) in
+        record {
+          sender = h.sender;
+          opened = record { opening = h.opened.opening; opened = h.opened.opened; path = h.opened.path; role = h.opened.role };
+          text = h.text;
+          gave = record { beginning = h.gave.beginning; left = λ o. ap (λ (t : List ℕ). (moved_at x.address.port now.run).bytes ++ t) l ∙ h.gave.left (still o) };
+        }
+    has_left (By_run pad) (Sink draft) h (Sink held) e still done =
+        let n = now_is held (holding_of x) (e ∙ sym (sink_is x h.receiver)) in
+        record {
+          receiver = h.receiver;
+          opened = record { opening = h.opened.opening; opened = h.opened.opened; path = h.opened.path; role = h.opened.role };
+          took = record {
+            stored = ap (λ (z : Holding). z.bytes) n ∙ h.took.stored;
+            committed = λ c. h.took.committed (ap (λ (z : Holding). z.committed) (sym n) ∙ c);
+            refuses = ap (λ (z : Holding). z.refuses) n ∙ h.took.refuses;
+          };
+        }
+    has_left (By_models models) (Source source) h (Sink held) e still done = absurd (sink_no_source held x.left (e ∙ sym (source_is x h.sender)))
+    has_left (By_run pad) (Source source) h (Sink held) e still done = absurd (sink_no_source held x.left (e ∙ sym (source_is x h.sender)))
+    has_left (By_models models) (Sink draft) h (Source left) e still done = absurd (sink_no_source (holding_of x) left (sym (e ∙ sym (sink_is x h.receiver))))
+    has_left (By_run pad) (Sink draft) h (Source left) e still done = absurd (sink_no_source (holding_of x) left (sym (e ∙ sym (sink_is x h.receiver))))
+
+    has : Goes (joined programs) kept.shown.0 kept.views kept.messages was.viewed.index x turn y → HasStored programs how now y timed.transfer.files
+    has goes =
+        has_left how timed.transfer.files (stored_after programs how old (At_port serves) added stay x (none x.address.port) timed.transfer.files was.has) (files_of x) refl (open_before x.state)
+        (λ r. subst (λ (e : EndState). (end_after x turn (files_of x)).committed ≡ is_complete e.position.phase) (after_rest (in_state (after_turn x.state turn) x) (files_of x)).1
+        (goes.kept.committed (ap (λ (e : EndState). is_sender e.role.side) (after_rest (in_state (after_turn x.state turn) x) (files_of x)).1 ∙ r)))
 
     becomes : Goes (joined programs) kept.shown.0 kept.views kept.messages was.viewed.index x turn y → Becomes programs old kept (At_port serves) added port timed.transfer timed.found x turn next
     becomes goes =
@@ -124,7 +161,7 @@ module _ {S F D G K : Type 0} {stores : StoreMeaning S D} {sources : SourceMeani
           state = rest.1 ∙ (ap (λ (e : EndState). after_turn e (timeout_turn e)) was.state ∙ sym timed.carries.state);
           path = rest.2 ∙ was.path;
           request = rest.3 ∙ was.request;
-          has = has timed.transfer.files was.has goes;
+          has = has goes;
         }
 
     stands : Stands (joined programs) kept.shown.0 kept.views kept.messages was.viewed.index (open_view x)
@@ -141,8 +178,8 @@ module _ {S F D G K : Type 0} {stores : StoreMeaning S D} {sources : SourceMeani
         subst (λ (e : EndState). SendsOnly port (timeout_turn e).reply added) (sym was.state)
         (sends_only programs old kept serves added events (timeout_turn timed.transfer.end).reply elapsed answers.events (elapsed_silent port old.state.now))
 
-    pub timeout_keeps : IsKept programs now
+    pub timeout_keeps : IsKept programs how now
     timeout_keeps =
         turn_keeps programs old kept (At_port serves) added port timed.transfer timed.found fresh
-        (stays_by programs old kept serves added events (ap (λ (s : ServerState S F D). s.config) answers.rest) (subst (λ (s : S). IsSome (stores.stored s)) (sym store_is) kept.server.known) stay)
-        x was.address was.side was.viewed.last_sent turn next held (becomes its_turn) only_reply
+        (stays_by programs old kept serves added events (ap (λ (s : ServerState S F D). s.config) answers.rest) (known_if programs how old.state new (ap stores.stored store_is) kept.server.known) stay)
+        x was.address was.side was.viewed.last_sent turn next held (becomes its_turn) only_reply (λ q n. none q)

@@ -7,7 +7,7 @@ use Rattle.tftp_machine.specs.Machine.{Endpoint}
 use Rattle.tftp_sockets.specs.Journal.{Event}
 use Rattle.tftp_sockets.specs.Journal.Event.{Received}
 use Rattle.tftp_network.proofs.Orders.{one_in}
-use Rattle.tftp_network.proofs.StepEvents.{IsOther, OldestOnly}
+use Rattle.tftp_network.proofs.StepEvents.{IsOther, IsQuiet, OldestOnly}
 
 -- the last step added `ahead ++ x ∷ rest`, of which what is seen of the journal has `x ∷ rest`
 pub data Split (old_events events old_noted noted seen : List Event) : Type 0 where
@@ -45,6 +45,19 @@ pub oldest_in : (ahead : List Event) (x : Event) (port : ℕ) (from : Endpoint) 
 oldest_in ahead x port from bytes others i = elim (Contains-append_cases ahead (x ∷ []) (Received port from bytes) i) [
   | inl early ↦ absurd (All-contains IsOther ahead (Received port from bytes) (All-from_recursion IsOther ahead others) early)
   | inr late ↦ one_in (Received port from bytes) x late
+]
+
+-- what is no wait is among the other events
+pub past_waits : (waits events : List Event) (e : Event) → AllByRecursion IsQuiet waits → (IsQuiet e → ⊥) → Contains (waits ++ events) e → Contains events e
+past_waits waits events e quiet other i = elim (Contains-append_cases waits events e i) [
+  | inl early ↦ absurd (other (All-contains IsQuiet waits e (All-from_recursion IsQuiet waits quiet) early))
+  | inr late ↦ late
+]
+
+pub before_waits : (events waits : List Event) (e : Event) → AllByRecursion IsQuiet waits → (IsQuiet e → ⊥) → Contains (events ++ waits) e → Contains events e
+before_waits events waits e quiet other i = elim (Contains-append_cases events waits e i) [
+  | inl early ↦ early
+  | inr late ↦ absurd (other (All-contains IsQuiet waits e (All-from_recursion IsQuiet waits quiet) late))
 ]
 
 -- what a journal has after a step, past where it began

@@ -21,12 +21,13 @@ use Rattle.tftp_machine.specs.OpenEnds.{OpenEnd, files_of, holding_of, end_after
 use Rattle.tftp_machine.specs.Rules.{Rule}
 use Rattle.tftp_machine.specs.Shows.{EndView}
 use Rattle.tftp_machine.proofs.KnownSteps.{HaveContentAfter}
+use Rattle.tftp_network.specs.Modelled.{AreModelled}
 use Rattle.tftp_network.specs.Order.{Programs}
 use Rattle.tftp_network.specs.Ports.{IsStored}
 use Rattle.tftp_network.specs.Promises.{joined}
 use Rattle.tftp_network.specs.Snapshots.{Snapshot, server_did}
 use Rattle.tftp_network.proofs.DraftSteps.{are_held, Leaves, HasPut, step_leaves}
-use Rattle.tftp_network.proofs.Kept.{HasStored}
+use Rattle.tftp_network.proofs.Kept.{By_models, HasStored}
 use Rattle.tftp_network.proofs.ServerStays.{FilesStay}
 use Rattle.tftp_network.proofs.StoredFiles.{IsIn, AllStay, same_stay, put_stays, put_is_in}
 
@@ -35,7 +36,7 @@ abbrev pub armed : Bool → OpenEnd → OpenEnd
 armed refuses x = record x { refuses = refuses }
 
 module _ {S F D G K : Type 0} {stores : StoreMeaning S D} {sources : SourceMeaning F} {inputs : SourceMeaning G} {outputs : SinkMeaning K}
-    (programs : Programs stores sources inputs outputs) (old : Snapshot programs) where
+    (programs : Programs stores sources inputs outputs) (models : AreModelled programs) (old : Snapshot programs) where
   -- a draft with its store
   pub draft_held : (x : OpenEnd) (store : S) (stored : Stored) → stores.stored store ≡ Some stored → (draft : D) → stores.drafted draft ≡ Some (record { bytes = x.stored; committed = x.committed }) →
       held_by (stores.stored store) (stores.drafted draft) ≡ Some (holding_of (armed stored.refuses x))
@@ -44,7 +45,7 @@ module _ {S F D G K : Type 0} {stores : StoreMeaning S D} {sources : SourceMeani
       (subst (λ (d : Option Drafted). held_by (Some stored) d ≡ Some (holding_of (armed stored.refuses x))) (sym drafted_is) refl)
 
   -- the content of an open transfer's file
-  pub content_of : (x : OpenEnd) (store : S) (stored : Stored) → stores.stored store ≡ Some stored → (path : List ℕ) (replace : Bool) (files : Files F D) → HasStored programs old x files →
+  pub content_of : (x : OpenEnd) (store : S) (stored : Stored) → stores.stored store ≡ Some stored → (path : List ℕ) (replace : Bool) (files : Files F D) → HasStored programs (By_models models) old x files →
       outcome_of x.state.position.phase ≡ None → HaveContent sources (drafting_sink stores) (files_in store path replace files) (files_of (armed stored.refuses x))
   content_of x store stored stored_is path replace (Source source) h o =
       let P : Bool → Type 0 = λ (b : Bool). HaveContent sources (drafting_sink stores) (Source source) (if b then Source x.left else Sink (holding_of (armed stored.refuses x))) in
@@ -57,9 +58,9 @@ module _ {S F D G K : Type 0} {stores : StoreMeaning S D} {sources : SourceMeani
   module _ {new : LoopState S F D} (does : Does stores sources old.state new) (added : List Event) where
     -- what a step left
     pub record FilesLeft (y : OpenEnd) (files' : Files F D) : Type 0 where
-      pub has : HasStored programs (server_did programs old does added) y files'
+      pub has : HasStored programs (By_models models) (server_did programs old does added) y files'
       pub known : IsSome (stores.stored new.server.store)
-      pub stay : FilesStay programs old.state new
+      pub stay : FilesStay programs (By_models models) old.state new
 
     module _ (store' : S) (store_is : new.server.store ≡ store') (stored : Stored) (stored_is : stores.stored old.state.server.store ≡ Some stored)
         (first : List Rule) (views : List EndView) (messages : List Message) (k : ℕ) (x : OpenEnd) (is_kept : EndKept (joined programs) x) (turn : Turn) where
@@ -70,24 +71,24 @@ module _ {S F D G K : Type 0} {stores : StoreMeaning S D} {sources : SourceMeani
       in_new : (path file : List ℕ) → IsIn (stores.stored store') path file → IsStored stores new path file
       in_new path file h = subst (λ (s : S). IsIn (stores.stored s) path file) (sym store_is) h
 
-      stay_new : (programs.server.first.config.overwrite ≡ false → AllStay (stores.stored old.state.server.store) (stores.stored store')) → FilesStay programs old.state new
+      stay_new : (programs.server.start.server.config.overwrite ≡ false → AllStay (stores.stored old.state.server.store) (stores.stored store')) → FilesStay programs (By_models models) old.state new
       stay_new stay o path file h = in_new path file (stay o path file h)
 
       -- ---- a transfer that sends
-      source_after : (source : F) (source' : F) (left : List ℕ) → HasStored programs old x (Source source) → store' ≡ old.state.server.store →
+      source_after : (source : F) (source' : F) (left : List ℕ) → HasStored programs (By_models models) old x (Source source) → store' ≡ old.state.server.store →
           HaveContentAfter sources (drafting_sink stores) turn (Source source') (Source left) → FilesLeft (y (Source left)) (Source source')
       source_after source source' left h same known =
-          let stay : FilesStay programs old.state new =
+          let stay : FilesStay programs (By_models models) old.state new =
           stay_new (λ o. same_stay (stores.stored old.state.server.store) (stores.stored store') (ap (λ (s : S). stored_files (stores.stored s)) same)) in
           record {
-            has = record { sender = h.sender; left = λ o. known (ap is_some o); was = inr h.was; stays = λ o. stay o x.path x.file (h.stays o) };
+            has = record { sender = h.sender; text = h.text; left = λ o. known (ap is_some o); was = inr h.was; stays = λ o. stay o x.path x.file (h.stays o) };
             known = subst (λ (s : Option Stored). IsSome s) (sym (ap stores.stored (store_is ∙ same) ∙ stored_is)) refl;
             stay = stay;
           }
 
       -- ---- a transfer that stores
-      module _ (draft draft' : D) (path path' : List ℕ) (replace : Bool) (path_is : path ≡ x.path) (replace_is : replace ≡ programs.server.first.config.overwrite)
-          (h : HasStored programs old x (Sink draft)) (now : Holding) where
+      module _ (draft draft' : D) (path path' : List ℕ) (replace : Bool) (path_is : path ≡ x.path) (replace_is : replace ≡ programs.server.start.server.config.overwrite)
+          (h : HasStored programs (By_models models) old x (Sink draft)) (now : Holding) where
         abbrev d : Drafting S D
         d = record { store = old.state.server.store; draft = draft; path = path; replace = replace }
 
@@ -98,17 +99,17 @@ module _ {S F D G K : Type 0} {stores : StoreMeaning S D} {sources : SourceMeani
         before = holding_of (armed stored.refuses x)
 
         -- nothing may be replaced
-        unreplaced : programs.server.first.config.overwrite ≡ false → (put : HasPut stores d d' now.bytes) → is_taken false path put.files ≡ false
+        unreplaced : programs.server.start.server.config.overwrite ≡ false → (put : HasPut stores d d' now.bytes) → is_taken false path put.files ≡ false
         unreplaced o put = subst (λ (b : Bool). is_taken b path put.files ≡ false) (replace_is ∙ o) put.free
 
-        all_stay : Leaves stores d d' before now → programs.server.first.config.overwrite ≡ false → AllStay (stores.stored old.state.server.store) (stores.stored store')
+        all_stay : Leaves stores d d' before now → programs.server.start.server.config.overwrite ≡ false → AllStay (stores.stored old.state.server.store) (stores.stored store')
         all_stay (inl u) o = same_stay (stores.stored old.state.server.store) (stores.stored store') u.files
         all_stay (inr put) o =
             put_stays (stores.stored old.state.server.store) (stores.stored store') path now.bytes put.files put.before put.after (unreplaced o put)
 
         -- once the end is complete, what it stored is there
-        complete_stays : Leaves stores d d' before now → Goes (joined programs) first views messages k (armed stored.refuses x) turn (y (Sink now)) → FilesStay programs old.state new →
-            programs.server.first.config.overwrite ≡ false → is_complete (y (Sink now)).state.position.phase ≡ true → IsStored stores new x.path now.bytes
+        complete_stays : Leaves stores d d' before now → Goes (joined programs) first views messages k (armed stored.refuses x) turn (y (Sink now)) → FilesStay programs (By_models models) old.state new →
+            programs.server.start.server.config.overwrite ≡ false → is_complete (y (Sink now)).state.position.phase ≡ true → IsStored stores new x.path now.bytes
         complete_stays (inr put) goes stay o c =
             in_new x.path now.bytes
             (subst (λ (p : List ℕ). IsIn (stores.stored store') p now.bytes) path_is
@@ -131,7 +132,7 @@ module _ {S F D G K : Type 0} {stores : StoreMeaning S D} {sources : SourceMeani
             }
 
       -- ---- either
-      pub files_left : (files files' : Files F D) (path path' : List ℕ) (replace : Bool) → path ≡ x.path → replace ≡ programs.server.first.config.overwrite → HasStored programs old x files →
+      pub files_left : (files files' : Files F D) (path path' : List ℕ) (replace : Bool) → path ≡ x.path → replace ≡ programs.server.start.server.config.overwrite → HasStored programs (By_models models) old x files →
           (from : Endpoint) (bytes : List ℕ) (e : EndState) → StepIn stores sources from bytes e (files_in old.state.server.store path replace files) turn (files_in store' path' replace files') →
           KeepsStore files old.state.server.store store' → AreSame (λ (a b : F). ⊤) (λ (a b : D). ⊤) files files' → (content : Files (List ℕ) Holding) →
           HaveContentAfter sources (drafting_sink stores) turn (files_in store' path' replace files') content → Goes (joined programs) first views messages k (armed stored.refuses x) turn (y content) → FilesLeft (y content) files'

@@ -1,5 +1,6 @@
 -- A turn of the end of a transfer that the server holds keeps the invariant.
 use Rattle.std.proofs.Common.{◌≡◌, ℕ, false, List, ◌++◌, Some, sym, ap, ◌∙◌, subst, inl}
+use Rattle.std.specs.Prelude.{◌≢◌}
 use Rattle.std.specs.List.{Contains}
 use Rattle.tftp_file.specs.Sink.{SinkMeaning}
 use Rattle.tftp_file.specs.Source.{SourceMeaning}
@@ -17,17 +18,18 @@ use Rattle.tftp_network.specs.Order.{Programs}
 use Rattle.tftp_network.specs.Programs.{endpoint}
 use Rattle.tftp_network.specs.Promises.{joined}
 use Rattle.tftp_network.specs.Snapshots.{Snapshot, server_did}
-use Rattle.tftp_network.proofs.Kept.{IsThere, HasStored, TransferKept, IsKept, IsFreshBy}
+use Rattle.tftp_network.proofs.Kept.{How, IsThere, HasStored, TransferKept, IsKept, IsFreshBy}
 use Rattle.tftp_network.proofs.KeptEvents.{SendsOnly}
 use Rattle.tftp_network.proofs.KeptPorts.{PortTurns, port_keeps}
 use Rattle.tftp_network.proofs.KeptTurns.{reply_there, newest_there}
+use Rattle.tftp_network.proofs.MovedSteps.{MovesNone}
 use Rattle.tftp_network.proofs.ServerStays.{ServerStays}
 
 module _ {S F D G K : Type 0} {stores : StoreMeaning S D} {sources : SourceMeaning F} {inputs : SourceMeaning G} {outputs : SinkMeaning K}
-    (programs : Programs stores sources inputs outputs) (old : Snapshot programs) (kept : IsKept programs old) {new : LoopState S F D} (does : Does stores sources old.state new) (added : List Event)
+    (programs : Programs stores sources inputs outputs) {how : How programs} (old : Snapshot programs) (kept : IsKept programs how old) {new : LoopState S F D} (does : Does stores sources old.state new) (added : List Event)
     (port : ℕ) (transfer : HeldTransfer F D) (found : at port old.state.server.held ≡ Some transfer) where
   -- the end before
-  abbrev was : TransferKept programs kept.views kept.messages old port transfer
+  abbrev was : TransferKept programs how kept.views kept.messages old port transfer
   was = kept.transfers port transfer (inl found)
 
   -- the end x and its transfer after a turn
@@ -38,11 +40,12 @@ module _ {S F D G K : Type 0} {stores : StoreMeaning S D} {sources : SourceMeani
     pub state : end.state ≡ next.end
     pub path : end.path ≡ next.path
     pub request : end.request ≡ next.request
-    pub has : HasStored programs (server_did programs old does added) end next.files
+    pub has : HasStored programs how (server_did programs old does added) end next.files
 
   module _ (fresh : IsFreshBy programs old) (stays : ServerStays programs old kept does) (x : OpenEnd) (address : x.address ≡ endpoint programs.server.ip port) (side : is_client x.state.role.side ≡ false)
       (last_sent : IsThere kept.messages x.address x.state.position.last_sent_to x.state.position.last_sent)
-      (turn : Turn) (next : HeldTransfer F D) (held : new.server.held ≡ with_next port next old.state.server.held) (becomes : Becomes x turn next) (sends : SendsOnly port turn.reply added) where
+      (turn : Turn) (next : HeldTransfer F D) (held : new.server.held ≡ with_next port next old.state.server.held) (becomes : Becomes x turn next) (sends : SendsOnly port turn.reply added)
+      (none : (q : ℕ) → q ≢ port → MovesNone does q) where
     sent_now : (own : ℕ) (to : Endpoint) (bytes : List ℕ) → Contains added (Sent own to bytes) → IsThere (kept.messages ++ becomes.goes.said_now) (endpoint programs.server.ip own) to bytes
     sent_now own to bytes c =
         let h = sends own to bytes c in
@@ -70,5 +73,5 @@ module _ {S F D G K : Type 0} {stores : StoreMeaning S D} {sources : SourceMeani
       has = becomes.has;
     }
 
-    pub turn_keeps : IsKept programs (server_did programs old does added)
-    turn_keeps = port_keeps programs old kept fresh does stays added port transfer found turns
+    pub turn_keeps : IsKept programs how (server_did programs old does added)
+    turn_keeps = port_keeps programs old kept fresh does stays added port transfer found turns none

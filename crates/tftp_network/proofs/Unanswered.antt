@@ -17,7 +17,7 @@ use Rattle.tftp_store.specs.Store.{StoreMeaning}
 use Rattle.tftp_server.specs.State.{AnyRepeats, HeldTransfer, IsRepeated, Repeats, at, draft_of, is_closed, taken_of}
 use Rattle.tftp_loop.specs.Run.{Run}
 use Rattle.tftp_loop.specs.Run.Run.{Start, Then}
-use Rattle.tftp_loop.specs.Serves.{Does, LoopState, At_port, Request_received, Request_answered, Request_lost, Clock_read, Store_set, Transfer_closed}
+use Rattle.tftp_loop.specs.Serves.{Does, LoopState, Waited, At_port, Request_received, No_request_found, Request_not_received, Request_answered, Request_lost, Clock_read, Store_set, Transfer_closed}
 use Rattle.tftp_machine.specs.Machine.{Endpoint}
 use Rattle.tftp_machine.specs.OpenEnds.{OpenEnd, has_failed, open_view, peer_of}
 use Rattle.tftp_machine.specs.Shows.{EndView, IsAnswering, IsInService, NoneAnswers}
@@ -26,7 +26,7 @@ use Rattle.tftp_network.specs.Order.{Programs}
 use Rattle.tftp_network.specs.Ports.{HasClosed, Removes}
 use Rattle.tftp_network.specs.Promises.{joined}
 use Rattle.tftp_network.specs.Snapshots.{Snapshot, Has_asked}
-use Rattle.tftp_network.proofs.Kept.{HasTransferBy, IsKept}
+use Rattle.tftp_network.proofs.Kept.{How, HasTransferBy, IsKept}
 use Rattle.tftp_network.proofs.KeptViews.{view_there}
 
 -- ---- the transfers that a server holds
@@ -60,8 +60,11 @@ module _ {F D : Type 0} where
 -- a transfer that was removed had closed
 module _ {S F D : Type 0} {stores : StoreMeaning S D} {sources : SourceMeaning F} where
   removed_closed : {old new : LoopState S F D} (does : Does stores sources old new) (port : ℕ) (t : HeldTransfer F D) → Removes does port t → is_closed t ≡ true
+  removed_closed (Waited x) port t removes = absurd removes
   removed_closed (At_port x) port t removes = absurd removes
   removed_closed (Request_received x) port t removes = absurd removes
+  removed_closed (No_request_found x) port t removes = absurd removes
+  removed_closed (Request_not_received x) port t removes = absurd removes
   removed_closed (Request_answered x) port t removes = absurd removes
   removed_closed (Request_lost x) port t removes = absurd removes
   removed_closed (Clock_read x) port t removes = absurd removes
@@ -87,7 +90,7 @@ closed_over : (x : OpenEnd) → is_some (outcome_of x.state.position.phase) ≡ 
 closed_over x closed busy = true≢false (sym (over_in x.state.position.phase closed busy.1) ∙ busy.2)
 
 module _ {S F D G K : Type 0} {stores : StoreMeaning S D} {sources : SourceMeaning F} {inputs : SourceMeaning G} {outputs : SinkMeaning K}
-    (programs : Programs stores sources inputs outputs) (old : Snapshot programs) (kept : IsKept programs old) (from : Endpoint) (packet : WirePacket) where
+    (programs : Programs stores sources inputs outputs) {how : How programs} (old : Snapshot programs) (kept : IsKept programs how old) (from : Endpoint) (packet : WirePacket) where
   -- a client answers no request
   not_a_client : (x : OpenEnd) → is_client x.state.role.side ≡ true → IsAnswering (open_view x) from packet → ⊥
   not_a_client x client a = true≢false (sym client ∙ a.serving.0)
@@ -115,7 +118,7 @@ module _ {S F D G K : Type 0} {stores : StoreMeaning S D} {sources : SourceMeani
   answers_repeat : (view : EndView) → IsAmong kept.views view → IsAnswering view from packet → AnyRepeats from packet old.state.server.held
   answers_repeat view among a = elim (kept.only view among) [
     | inl h ↦
-        let c = kept.clients h.k h.client (Has_asked h.s h.files h.noted) h.found h.is_stage in
+        let c = kept.clients h.k h.client (Has_asked h.s h.files h.noted h.moved) h.found h.is_stage in
         let is = view_there (joined programs) kept.views kept.messages c.end view kept.shown c.viewed among (h.address ∙ sym c.address) in
         absurd (not_a_client c.end c.side (subst (λ (v : EndView). IsAnswering v from packet) is a))
     | inr h ↦

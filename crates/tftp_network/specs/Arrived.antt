@@ -43,10 +43,11 @@ module _ {G K : Type 0} (inputs : SourceMeaning G) (outputs : SinkMeaning K) (to
   ViewsOwn e file (Source source) view = ViewsFile e file view
   ViewsOwn e file (Sink sink) view = ViewsSink e (outputs.held sink) view
 
-  -- the view is of the end of a client where its journal arrives
-  pub record ViewsClient (client : ClientProgram inputs outputs to) (view : EndView) : Type 0 where
+  -- the view is of the end of a client, which sends this file, where its journal arrives
+  pub record ViewsClient (client : ClientProgram inputs outputs to) (file : List ℕ)
+      (view : EndView) : Type 0 where
     pub end : ViewsEnd (client_at inputs outputs to client) client.last.end view
-    pub own : ViewsOwn client.last.end client.file client.files view
+    pub own : ViewsOwn client.last.end file client.files view
 
 module _ {S F D : Type 0} (stores : StoreMeaning S D) (sources : SourceMeaning F) where
   -- a transfer sends a file that was under its path, and still is unless writes may replace files
@@ -54,8 +55,8 @@ module _ {S F D : Type 0} (stores : StoreMeaning S D) (sources : SourceMeaning F
       (view : EndView) : Type 0 where
     pub file : List ℕ
     pub views : ViewsFile transfer.end file view
-    pub was : WasStored server.serves.1 transfer.path file
-    pub stays : server.first.config.overwrite ≡ false →
+    pub was : WasStored server.run transfer.path file
+    pub stays : server.start.server.config.overwrite ≡ false →
         IsStored stores (arrived stores sources server) transfer.path file
 
   -- a transfer has stored this; once it is complete that is under its path, unless writes may
@@ -65,7 +66,7 @@ module _ {S F D : Type 0} (stores : StoreMeaning S D) (sources : SourceMeaning F
     pub views : ViewsSink transfer.end
         (holding_of (stores.stored (arrived stores sources server).server.store)
         (stores.drafted draft)) view
-    pub stays : server.first.config.overwrite ≡ false →
+    pub stays : server.start.server.config.overwrite ≡ false →
         is_complete transfer.end.position.phase ≡ true →
         IsStored stores (arrived stores sources server) transfer.path views.holding.bytes
 

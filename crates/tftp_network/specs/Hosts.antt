@@ -1,11 +1,11 @@
 -- Where the programs are in their network.
-use Rattle.std.specs.Prelude.{ℕ, ◌≡◌, ◌≢◌, slice_get, Some}
+use Rattle.std.specs.Prelude.{ℕ, ◌≡◌, ◌↔◌, slice_get, Some}
 use Rattle.std.specs.List.{Contains}
 use Rattle.tftp_file.specs.Sink.{SinkMeaning}
 use Rattle.tftp_file.specs.Source.{SourceMeaning}
 use Rattle.tftp_store.specs.Store.{StoreMeaning}
 use Rattle.tftp_machine.specs.Machine.{Endpoint, At_server, At_client, Elsewhere}
-use Rattle.tftp_network.specs.Order.{Programs}
+use Rattle.tftp_network.specs.Order.{Programs, IsStranger}
 use Rattle.tftp_network.specs.Ports.{ArePortsFresh, server_ports}
 use Rattle.tftp_network.specs.Programs.{endpoint, requests_at, ClientProgram, client_at}
 use Rattle.tftp_network.specs.Promises.{joined}
@@ -27,6 +27,9 @@ module _ {S F D G K : Type 0} {stores : StoreMeaning S D} {sources : SourceMeani
       ArePortsFresh programs → (port : ℕ) → Contains (server_ports programs) port
       → (joined programs).host_of (endpoint programs.server.ip port) ≡ At_server
 
-  -- no endpoint is elsewhere, so that what is claimed of peers has no exception
-  abbrev pub NobodyIsElsewhere : Type 0
-  NobodyIsElsewhere = (a : Endpoint) → (joined programs).host_of a ≢ Elsewhere
+  -- only strangers are elsewhere, so that what is claimed of peers has no other exception
+  abbrev pub StrangersAreElsewhere : Type 0
+  StrangersAreElsewhere =
+      (a : Endpoint)
+      → ((joined programs).host_of a ≡ Elsewhere)
+      ↔ IsStranger stores sources inputs outputs programs a

@@ -3,6 +3,8 @@ use Rattle.std.specs.Prelude.{List}
 use Rattle.tftp_file.specs.Sink.{SinkMeaning}
 use Rattle.tftp_file.specs.Source.{SourceMeaning}
 use Rattle.tftp_store.specs.Store.{StoreMeaning}
+use Rattle.tftp_network.specs.AnyFiles.{KeepAnyFiles}
+use Rattle.tftp_network.specs.Modelled.{AreModelled}
 use Rattle.tftp_network.specs.Order.{Noted, Programs, IsOrder, IsHonest}
 use Rattle.tftp_network.specs.Ports.{ArePortsFresh}
 use Rattle.tftp_network.specs.Promises.{KeepPromises, AreShown}
@@ -16,15 +18,21 @@ module _ {S F D G K : Type 0} (stores : StoreMeaning S D) (sources : SourceMeani
     pub honest : IsHonest stores sources inputs outputs programs order
     pub fresh : ArePortsFresh programs
 
-  -- the journals of one server and of any number of clients: where they arrive, the ends keep the
-  -- promises
+  -- the journals of one server and of any number of clients, over files of known content: where
+  -- they arrive, the ends keep the promises
   abbrev pub ProgramsKeepPromises : Type 0
   ProgramsKeepPromises =
       (programs : Programs stores sources inputs outputs) (order : List Noted)
-      → AreJoined programs order → KeepPromises programs
+      → AreJoined programs order → (models : AreModelled programs) → KeepPromises programs models
 
-  -- rules of the guarded machine lead to these ends
+  -- over any files: what a receiver handed to its file is what its peer's file gave
+  abbrev pub ProgramsKeepAnyFiles : Type 0
+  ProgramsKeepAnyFiles =
+      (programs : Programs stores sources inputs outputs) (order : List Noted)
+      → AreJoined programs order → KeepAnyFiles programs
+
+  -- rules of the guarded machine lead to these ends, over files of known content
   abbrev pub ProgramsAreShown : Type 0
   ProgramsAreShown =
       (programs : Programs stores sources inputs outputs) (order : List Noted)
-      → AreJoined programs order → AreShown programs
+      → AreJoined programs order → (models : AreModelled programs) → AreShown programs models

@@ -1,5 +1,5 @@
 -- The joint run of all programs: whole steps of theirs, one at a time, each of which takes only
--- what was sent in the steps before it.
+-- what was sent in the steps before it, or what is a stranger's.
 use Rattle.std.specs.Prelude.{ℕ, ◌≡◌, ◌⊎◌, List, ◌++◌, slice_get, Some}
 use Rattle.std.specs.List.{Contains}
 use Rattle.tftp_file.specs.Sink.{SinkMeaning}
@@ -12,9 +12,11 @@ use Rattle.tftp_sockets.specs.Journal.Event.{Received, Sent}
 use Rattle.tftp_loop.specs.Serves.{LoopState, Does}
 use Rattle.tftp_client.specs.Converses.{State}
 use Rattle.tftp_network.specs.Joined.{AreJoined}
-use Rattle.tftp_network.specs.Order.{Noted, Programs}
+use Rattle.tftp_network.specs.Moved.{Moved}
+use Rattle.tftp_network.specs.Order.{Noted, Programs, IsStranger}
 use Rattle.tftp_network.specs.Programs.{endpoint, requests_at, ClientProgram}
-use Rattle.tftp_network.specs.Snapshots.{ClientDoes, ClientStage, Unasked, Has_asked, noted_by}
+use Rattle.tftp_network.specs.ClientRuns.{ClientDoes, client_moves}
+use Rattle.tftp_network.specs.Snapshots.{ClientStage, Unasked, Has_asked, noted_by}
 use Rattle.tftp_network.specs.Snapshots.{Snapshot, nothing_done, just_asked, server_did, client_did}
 use Rattle.tftp_network.specs.Snapshots.{all_of}
 
@@ -45,11 +47,12 @@ module _ {S F D G K : Type 0} {stores : StoreMeaning S D} {sources : SourceMeani
   WasSentBefore snapshot from to bytes =
       ServerHasSent snapshot from to bytes ⊎ ClientHasSent snapshot from to bytes
 
-  -- what a program at this address receives in these events was sent there
+  -- what a program at this address receives in these events was sent there, or is a stranger's
   abbrev pub CanTake : Snapshot programs → List ℕ → List Event → Type 0
   CanTake snapshot ip added =
       (port : ℕ) (from : Endpoint) (bytes : List ℕ) → Contains added (Received port from bytes)
       → WasSentBefore snapshot from (endpoint ip port) bytes
+      ⊎ IsStranger stores sources inputs outputs programs from
 
   -- the programs came there by whole steps, one at a time
   pub data Joint : Snapshot programs → Type 0 where
@@ -67,13 +70,14 @@ module _ {S F D G K : Type 0} {stores : StoreMeaning S D} {sources : SourceMeani
         → Joint (client_did programs old k (just_asked client))
     -- a step of a client after that
     Client_does : {old : Snapshot programs} {s s' : State} {files files' : Files G K}
-        {noted : List Event} → Joint old → (k : ℕ)
+        {noted : List Event} {moved : Moved} → Joint old → (k : ℕ)
         (client : ClientProgram inputs outputs (requests_at stores sources programs.server))
         → slice_get programs.clients k ≡ Some client
-        → slice_get old.clients k ≡ Some (Has_asked s files noted)
-        → ClientDoes inputs outputs client.port s files s' files' → (added : List Event)
+        → slice_get old.clients k ≡ Some (Has_asked s files noted moved)
+        → (does : ClientDoes inputs outputs client.port s files s' files') → (added : List Event)
         → s'.events ≡ added ++ s.events → CanTake old client.ip added
-        → Joint (client_did programs old k (Has_asked s' files' (added ++ noted)))
+        → Joint
+        (client_did programs old k (Has_asked s' files' (added ++ noted) (client_moves does moved)))
 
 module _ {S F D G K : Type 0} (stores : StoreMeaning S D) (sources : SourceMeaning F)
     (inputs : SourceMeaning G) (outputs : SinkMeaning K) where

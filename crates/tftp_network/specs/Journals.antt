@@ -1,22 +1,32 @@
--- What a client notes: its request first, and then only events of its own port.
+-- What a client notes: its request first, and then only events of its own port, waits, and lines.
 use Rattle.std.specs.Prelude.{ℕ, ◌≡◌, List, [], ◌∷◌, ◌++◌}
 use Rattle.std.specs.List.{AllByRecursion}
 use Rattle.tftp_file.specs.Sink.{SinkMeaning}
 use Rattle.tftp_file.specs.Source.{SourceMeaning}
 use Rattle.tftp_machine.specs.Machine.{Endpoint}
-use Rattle.tftp_sockets.specs.Journal.{Event}
-use Rattle.tftp_sockets.specs.Journal.Event.{Received, Sent, Watched, Elapsed, Printed}
+use Rattle.tftp_sockets.specs.Journal.{Event, QuietEvent}
+use Rattle.tftp_sockets.specs.Journal.Event.{Received, Sent, Watched, Elapsed, Printed, Quiet}
+use Rattle.tftp_sockets.specs.Journal.QuietEvent.{Empty, Failed, Slept, Woke}
 use Rattle.tftp_network.specs.Programs.{ClientProgram}
 
--- a datagram or a timeout of this port, or a reading of the clock; nothing is printed
+-- a receive at this port without a datagram, or the begin of a wait; a client's waits report none
+abbrev pub IsQuietAt : ℕ → QuietEvent → Type 0
+IsQuietAt port (Empty at) = at ≡ port
+IsQuietAt port (Failed at) = at ≡ port
+IsQuietAt port (Slept millis) = Unit {0}
+IsQuietAt port (Woke ports) = ⊥
+
+-- a datagram, a receive or a timeout of this port, a wait, a reading of the clock, or a line
 abbrev pub IsOfPort : ℕ → Event → Type 0
 IsOfPort port (Received at from bytes) = at ≡ port
 IsOfPort port (Sent at to bytes) = at ≡ port
 IsOfPort port (Watched time) = Unit {0}
 IsOfPort port (Elapsed at time) = at ≡ port
-IsOfPort port (Printed line) = ⊥
+IsOfPort port (Printed line) = Unit {0}
+IsOfPort port (Quiet event) = IsQuietAt port event
 
--- a client sends its request to the server, and then notes only events of its port
+-- a client sends its request to the server, and then notes only events of its port, waits, and
+-- lines
 pub record AsksFirst {G K : Type 0} {inputs : SourceMeaning G} {outputs : SinkMeaning K}
     {to : Endpoint} (client : ClientProgram inputs outputs to) : Type 0 where
   pub more : List Event

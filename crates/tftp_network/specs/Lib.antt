@@ -1,8 +1,12 @@
+pub mod Moved
+pub mod ClientRuns
 pub mod Programs
 pub mod Order
 pub mod Ports
+pub mod Modelled
 pub mod Arrived
 pub mod Promises
+pub mod AnyFiles
 pub mod Hosts
 pub mod Journals
 pub mod Joined

@@ -1,5 +1,6 @@
 -- One order of all events of the programs, and a network that delivers only what was sent.
-use Rattle.std.specs.Prelude.{ℕ, ◌≡◌, ◌==◌, zero, suc, if◌then◌else◌, List, [], ◌∷◌, slice_get}
+use Rattle.std.specs.Prelude.{ℕ, ◌≡◌, ◌≢◌, ◌⊎◌, ◌==◌, zero, suc, if◌then◌else◌, List, [], ◌∷◌}
+use Rattle.std.specs.Prelude.{slice_get}
 use Rattle.std.specs.Prelude.{Option, Some, option_map}
 use Rattle.std.specs.List.{Contains}
 use Rattle.tftp_file.specs.Sink.{SinkMeaning}
@@ -7,8 +8,9 @@ use Rattle.tftp_file.specs.Source.{SourceMeaning}
 use Rattle.tftp_store.specs.Store.{StoreMeaning}
 use Rattle.tftp_machine.specs.Machine.{Endpoint}
 use Rattle.tftp_sockets.specs.Journal.{Event}
-use Rattle.tftp_sockets.specs.Journal.Event.{Received, Sent, Watched, Elapsed, Printed}
+use Rattle.tftp_sockets.specs.Journal.Event.{Received, Sent, Watched, Elapsed, Printed, Quiet}
 use Rattle.tftp_network.specs.Programs.{endpoint, ServerProgram, requests_at, ClientProgram}
+use Rattle.tftp_network.specs.Programs.{client_at}
 
 -- an event and its program: 0 is the server, and k + 1 the client at index k
 abbrev pub Noted : Type 0
@@ -52,17 +54,27 @@ module _ {S F D G K : Type 0} (stores : StoreMeaning S D) (sources : SourceMeani
       pub is_at : IsAt program port from
       pub sent : Contains earlier (program, Sent port to bytes)
 
-    -- what a program receives was sent to it before
+    -- a stranger: an endpoint of another program, at another address than the server's
+    pub record IsStranger (a : Endpoint) : Type 0 where
+      pub server : a.ip ≢ programs.server.ip
+      pub clients : (k : ℕ)
+          (client : ClientProgram inputs outputs (requests_at stores sources programs.server)) →
+          slice_get programs.clients k ≡ Some client →
+          client_at inputs outputs (requests_at stores sources programs.server) client ≢ a
+
+    -- what a program receives was sent to it before, or is a stranger's
     abbrev pub CanCome : ℕ → Event → List Noted → Type 0
     CanCome program (Received port from bytes) earlier =
-        (to : Endpoint) × IsAt program port to × WasSent earlier from to bytes
+        (to : Endpoint) × IsAt program port to × (WasSent earlier from to bytes ⊎ IsStranger from)
     CanCome program (Sent port to bytes) earlier = Unit {0}
     CanCome program (Watched time) earlier = Unit {0}
     CanCome program (Elapsed port time) earlier = Unit {0}
     CanCome program (Printed line) earlier = Unit {0}
+    CanCome program (Quiet event) earlier = Unit {0}
 
     -- an honest network: each datagram that was received was sent to that endpoint before, from the
-    -- endpoint that it bears; it may come any number of times, in any order, or never
+    -- endpoint that it bears; it may come any number of times, in any order, or never. Those of
+    -- strangers may come at any time, with any bytes
     abbrev pub IsHonest : List Noted → Type 0
     IsHonest [] = Unit {0}
     IsHonest (e ∷ earlier) = CanCome e.0 e.1 earlier × IsHonest earlier

@@ -63,7 +63,7 @@ module _ {S F D G K : Type 0} {stores : StoreMeaning S D} {sources : SourceMeani
     (programs : Programs stores sources inputs outputs) where
   -- the ports of the server: that of its requests, and those of all its transfers
   abbrev pub server_ports : List ℕ
-  server_ports = programs.server.port ∷ opened_ports programs.server.serves.1
+  server_ports = programs.server.start.requests ∷ opened_ports programs.server.run
 
   -- no two ends ever have one endpoint, and none has the request port
   pub record ArePortsFresh : Type 0 where

@@ -1,4 +1,5 @@
--- The promises of a transfer, for the ends at which the journals arrive.
+-- The promises of a transfer, for the ends at which the journals arrive, over files of known
+-- content.
 use Rattle.std.specs.Prelude.{ℕ, ◌≡◌, ◌⊎◌, List, slice_get, Some}
 use Rattle.tftp_file.specs.Sink.{SinkMeaning}
 use Rattle.tftp_file.specs.Source.{SourceMeaning}
@@ -8,6 +9,7 @@ use Rattle.tftp_machine.specs.Shows.{EndView, IsShown}
 use Rattle.tftp_machine.specs.ViewSafety.{IsAmong, IsSafeViews}
 use Rattle.tftp_server.specs.State.{HeldTransfer, at}
 use Rattle.tftp_network.specs.Arrived.{ViewsClient, ViewsTransfer}
+use Rattle.tftp_network.specs.Modelled.{AreModelled}
 use Rattle.tftp_network.specs.Order.{Programs}
 use Rattle.tftp_network.specs.Ports.{HasClosed}
 use Rattle.tftp_network.specs.Programs.{requests_at, arrived, ClientProgram, network_of}
@@ -25,48 +27,51 @@ module _ {S F D G K : Type 0} {stores : StoreMeaning S D} {sources : SourceMeani
       (view : EndView) × IsAmong views view
       × ViewsTransfer stores sources programs.server port transfer view
 
-  -- one of the views is of the end of this client
-  abbrev pub HasClient : List EndView
-      → ClientProgram inputs outputs (requests_at stores sources programs.server) → Type 0
-  HasClient views client =
-      (view : EndView) × IsAmong views view
-      × ViewsClient inputs outputs (requests_at stores sources programs.server) client view
-
   -- the server holds the transfer, or has closed it
   abbrev pub HasOpened : ℕ → HeldTransfer F D → Type 0
   HasOpened port transfer =
       (at port (arrived stores sources programs.server).server.held ≡ Some transfer)
-      ⊎ HasClosed programs.server.serves.1 port transfer
+      ⊎ HasClosed programs.server.run port transfer
 
-  -- the view is of the end of a client, or of a transfer
-  abbrev pub IsOfSome : EndView → Type 0
-  IsOfSome view =
-      ((k : ℕ) × (client : ClientProgram inputs outputs
-      (requests_at stores sources programs.server))
-      × (slice_get programs.clients k ≡ Some client)
-      × ViewsClient inputs outputs (requests_at stores sources programs.server) client view)
-      ⊎ ((port : ℕ) × (transfer : HeldTransfer F D) × HasOpened port transfer
-      × ViewsTransfer stores sources programs.server port transfer view)
+  module _ (models : AreModelled programs) where
+    -- one of the views is of the end of this client
+    abbrev pub HasClient : List EndView
+        → ClientProgram inputs outputs (requests_at stores sources programs.server) → Type 0
+    HasClient views client =
+        (view : EndView) × IsAmong views view
+        × ViewsClient inputs outputs (requests_at stores sources programs.server) client
+        (models.file_of client) view
 
-  -- the views are those of all clients and of all transfers that the server opened, and no others
-  pub record AreViewed (views : List EndView) : Type 0 where
-    pub clients : (k : ℕ)
-        (client : ClientProgram inputs outputs (requests_at stores sources programs.server)) →
-        slice_get programs.clients k ≡ Some client → HasClient views client
-    pub transfers : (port : ℕ) (transfer : HeldTransfer F D) → HasOpened port transfer →
-        HasTransfer views port transfer
-    pub only : (view : EndView) → IsAmong views view → IsOfSome view
+    -- the view is of the end of a client, or of a transfer
+    abbrev pub IsOfSome : EndView → Type 0
+    IsOfSome view =
+        ((k : ℕ) × (client : ClientProgram inputs outputs
+        (requests_at stores sources programs.server))
+        × (slice_get programs.clients k ≡ Some client)
+        × ViewsClient inputs outputs (requests_at stores sources programs.server) client
+        (models.file_of client) view)
+        ⊎ ((port : ℕ) × (transfer : HeldTransfer F D) × HasOpened port transfer
+        × ViewsTransfer stores sources programs.server port transfer view)
 
-  -- they are safe: one block size, a beginning of the peer's text and all of it at a receiver that
-  -- is complete, and a sender complete only after its receiver
-  pub record KeepPromises : Type 0 where
-    pub views : List EndView
-    pub viewed : AreViewed views
-    pub safe : IsSafeViews joined views
+    -- the views are those of all clients and of all transfers that the server opened, and no others
+    pub record AreViewed (views : List EndView) : Type 0 where
+      pub clients : (k : ℕ)
+          (client : ClientProgram inputs outputs (requests_at stores sources programs.server)) →
+          slice_get programs.clients k ≡ Some client → HasClient views client
+      pub transfers : (port : ℕ) (transfer : HeldTransfer F D) → HasOpened port transfer →
+          HasTransfer views port transfer
+      pub only : (view : EndView) → IsAmong views view → IsOfSome view
 
-  -- rules of the guarded machine lead to them
-  pub record AreShown : Type 0 where
-    pub views : List EndView
-    pub messages : List Message
-    pub viewed : AreViewed views
-    pub shown : IsShown joined views messages
+    -- they are safe: one block size, a beginning of the peer's text and all of it at a receiver
+    -- that is complete, and a sender complete only after its receiver
+    pub record KeepPromises : Type 0 where
+      pub views : List EndView
+      pub viewed : AreViewed views
+      pub safe : IsSafeViews joined views
+
+    -- rules of the guarded machine lead to them
+    pub record AreShown : Type 0 where
+      pub views : List EndView
+      pub messages : List Message
+      pub viewed : AreViewed views
+      pub shown : IsShown joined views messages

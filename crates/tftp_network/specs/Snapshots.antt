@@ -1,5 +1,5 @@
 -- The programs of a network between two of their steps.
-use Rattle.std.specs.Prelude.{ℕ, ◌≤◌, List, [], ◌∷◌, ◌++◌, map, slice_set}
+use Rattle.std.specs.Prelude.{ℕ, List, [], ◌∷◌, ◌++◌, map, slice_set}
 use Rattle.tftp_file.specs.Sink.{SinkMeaning}
 use Rattle.tftp_file.specs.Source.{SourceMeaning}
 use Rattle.tftp_file.specs.declared.files.Files.{Files}
@@ -9,50 +9,34 @@ use Rattle.tftp_sockets.specs.Journal.{Event}
 use Rattle.tftp_sockets.specs.Journal.Event.{Sent}
 use Rattle.tftp_loop.specs.Run.{Run}
 use Rattle.tftp_loop.specs.Run.Run.{Start, Then}
-use Rattle.tftp_loop.specs.Serves.{LoopState, Does, at_start}
-use Rattle.tftp_client.specs.Converses.{State, HandlesReceived, MayElapse, WorksOnFile, received}
-use Rattle.tftp_client.specs.Converses.{watched}
+use Rattle.tftp_loop.specs.Serves.{LoopState, Does}
+use Rattle.tftp_client.specs.Converses.{State}
 use Rattle.tftp_client.specs.Runs.{begun}
+use Rattle.tftp_network.specs.ClientRuns.{moved_in}
+use Rattle.tftp_network.specs.Moved.{Moved, nothing_moved}
 use Rattle.tftp_network.specs.Order.{Programs}
 use Rattle.tftp_network.specs.Programs.{ClientProgram}
-
--- one step of a client, apart from the run before it
-pub data ClientDoes {G K : Type 0} (inputs : SourceMeaning G) (outputs : SinkMeaning K) (port : ℕ)
-    (s : State) (files : Files G K) : State → Files G K → Type 0 where
-  -- a datagram was received
-  Receives_one : {next : State} {files' : Files G K} {from : Endpoint} {bytes : List ℕ} {time : ℕ}
-      → s.now ≤ time
-      → HandlesReceived inputs outputs port from bytes (received port from bytes time s) files next
-      files'
-      → ClientDoes inputs outputs port s files next files'
-  -- none was received until this time
-  Waits_until : {time : ℕ} → s.now ≤ time
-      → ClientDoes inputs outputs port s files (watched time s) files
-  -- a timeout was due
-  Times_out : {next : State} → MayElapse port s next
-      → ClientDoes inputs outputs port s files next files
-  -- the file did its work
-  File_works : {files' : Files G K} → WorksOnFile inputs outputs files files'
-      → ClientDoes inputs outputs port s files s files'
 
 -- how far a client is
 pub data ClientStage (G K : Type 0) : Type 0 where
   -- it has not sent its request
   Unasked : ClientStage G K
-  -- it has: its state, its file, and the events from the request on, the newest first
-  Has_asked : State → Files G K → List Event → ClientStage G K
+  -- it has: its state, its file, the events from the request on, the newest first, and what has
+  -- moved
+  Has_asked : State → Files G K → List Event → Moved → ClientStage G K
 
 -- what it has noted
 abbrev pub noted_by : {G K : Type 0} → ClientStage G K → List Event
 noted_by Unasked = []
-noted_by (Has_asked s files noted) = noted
+noted_by (Has_asked s files noted moved) = noted
 
 module _ {G K : Type 0} {inputs : SourceMeaning G} {outputs : SinkMeaning K} where
   -- a client that has sent its request, and no more
   abbrev pub just_asked : {to : Endpoint} → ClientProgram inputs outputs to → ClientStage G K
   just_asked client =
-      Has_asked (begun client.port client.first client.before) client.runs.file
+      Has_asked (begun client.port client.first client.before) client.file
       (Sent client.port client.first.position.last_sent_to client.first.position.last_sent ∷ [])
+      nothing_moved
 
 module _ {S F D G K : Type 0} {stores : StoreMeaning S D} {sources : SourceMeaning F}
     {inputs : SourceMeaning G} {outputs : SinkMeaning K}
@@ -62,7 +46,7 @@ module _ {S F D G K : Type 0} {stores : StoreMeaning S D} {sources : SourceMeani
     -- the server, and its run so far
     pub state : LoopState S F D
     pub run : Run (Does stores sources)
-        (at_start programs.server.port programs.server.first programs.server.before) state
+        programs.server.start state
     -- the events of that run, the newest first
     pub noted : List Event
     -- one for each client, by its index
@@ -72,7 +56,7 @@ module _ {S F D G K : Type 0} {stores : StoreMeaning S D} {sources : SourceMeani
   abbrev pub nothing_done : Snapshot
   nothing_done =
       record {
-        state = at_start programs.server.port programs.server.first programs.server.before;
+        state = programs.server.start;
         run = Start;
         noted = [];
         clients = map (λ client. Unasked) programs.clients;
@@ -97,9 +81,11 @@ module _ {S F D G K : Type 0} {stores : StoreMeaning S D} {sources : SourceMeani
   abbrev pub all_of : Snapshot
   all_of =
       record {
-        state = programs.server.serves.0;
-        run = programs.server.serves.1;
+        state = programs.server.last;
+        run = programs.server.run;
         noted = programs.server.noted;
         clients =
-            map (λ client. Has_asked client.last client.files client.noted) programs.clients;
+            map
+            (λ client. Has_asked client.last client.files client.noted
+            (moved_in client.runs)) programs.clients;
       }

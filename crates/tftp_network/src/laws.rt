@@ -1,55 +1,74 @@
 //! Laws of programs in an honest network, over the definitions alone. A program's files are of any
-//! types with models: those of a store, and of the clients' sources and sinks.
+//! types: those of a store, and of the clients' sources and sinks.
 
 ghost use Rattle.tftp_machine.specs.Machine.{Endpoint};
-ghost use Rattle.tftp_network.specs.Hosts.{ClientsAreThere, ServerIsThere, NobodyIsElsewhere};
-ghost use Rattle.tftp_network.specs.Joined.{ProgramsAreShown, ProgramsKeepPromises};
+ghost use Rattle.tftp_network.specs.ClientRuns.{ClientsAreRuns};
+ghost use Rattle.tftp_network.specs.Hosts.{ClientsAreThere, ServerIsThere, StrangersAreElsewhere};
+ghost use Rattle.tftp_network.specs.Joined.{ProgramsAreShown, ProgramsKeepAnyFiles};
+ghost use Rattle.tftp_network.specs.Joined.{ProgramsKeepPromises};
 ghost use Rattle.tftp_network.specs.Joint.{JournalsAreJoint};
 ghost use Rattle.tftp_network.specs.Journals.{AsksFirst};
 ghost use Rattle.tftp_network.specs.Lines.{EachLineIsAClose};
 ghost use Rattle.tftp_network.specs.Order.{Programs};
-ghost use Rattle.tftp_network.specs.Programs.{ClientProgram};
+ghost use Rattle.tftp_network.specs.Programs.{ClientProgram, ServersAreRuns};
 ghost use Rattle.tftp_network.specs.Timers.{EachHasOneTimer};
 ghost use Rattle.tftp_network.specs.Witness.{SomeAreJoined};
 
 use tftp_file::{Sink, Source};
 use tftp_store::Store;
 
-/// The ends of a server and its clients in an honest network keep the promises of a transfer: where
-/// their journals arrive they have one block size, what a receiver has is a beginning of its peer's
-/// text, and all of it, committed, once it is complete, and a sender is complete only after its
-/// receiver. Rules of the guarded machine lead to these ends (RFC 1350, sections 2, 4 and 6).
+/// The ends of a server and its clients in an honest network keep the promises of a transfer. Over
+/// any store and any files, where their journals arrive: they have one block size; what a receiver
+/// handed to its file is a beginning of what its peer's file gave, and all of it, committed, once
+/// it is complete; a sender is complete only after its receiver. Over files with models the same
+/// holds of what these hold, and rules of the guarded machine lead to these ends (RFC 1350,
+/// sections 2, 4 and 6).
 pub fn programs_keep_promises<T: Store, G: Source, K: Sink>()
+    ensures any_files { ProgramsKeepAnyFiles T.meaning T.Source.meaning G.meaning K.meaning }
     ensures promises { ProgramsKeepPromises T.meaning T.Source.meaning G.meaning K.meaning }
     ensures shown { ProgramsAreShown T.meaning T.Source.meaning G.meaning K.meaning }
 {}
 
 /// The programs of a network come to where their journals arrive by whole steps, one at a time, and
-/// each step receives only what was sent in the steps before it (RFC 1350, sections 2 and 4).
+/// each step receives only what was sent in the steps before it, or what is a stranger's (RFC 1350,
+/// sections 2 and 4).
 pub fn journals_are_joint<T: Store, G: Source, K: Sink>()
     ensures { JournalsAreJoint T.meaning T.Source.meaning G.meaning K.meaning }
 {}
 
 /// In the network of the programs each client is at a client's endpoint, each port of the server at
-/// the server, and no endpoint elsewhere. The rules that open ends need the first two, and by the
-/// third what is claimed of peers has no exception.
+/// the server, and only strangers are elsewhere. The rules that open ends need the first two, and by
+/// the third what is claimed of peers has no other exception.
 pub fn programs_are_in_their_network<T: Store, G: Source, K: Sink>()
     ensures clients { (programs : Programs T.meaning T.Source.meaning G.meaning K.meaning)
         → ClientsAreThere programs }
     ensures server { (programs : Programs T.meaning T.Source.meaning G.meaning K.meaning)
         → ServerIsThere programs }
-    ensures nobody { (programs : Programs T.meaning T.Source.meaning G.meaning K.meaning)
-        → NobodyIsElsewhere programs }
+    ensures strangers { (programs : Programs T.meaning T.Source.meaning G.meaning K.meaning)
+        → StrangersAreElsewhere programs }
+{}
+
+/// What `tftp_client` proves of a client is one run, as the laws here take it: from its request on,
+/// and of one that is complete also its line and what it did after it (RFC 1350, section 6).
+pub fn a_client_is_one_run<G: Source, K: Sink>()
+    ensures { ClientsAreRuns G.meaning K.meaning }
+{}
+
+/// What `tftp_loop` proves of a server is the run of a server here, from its start or from any later
+/// time at which it holds no transfer and no datagram is pending.
+pub fn a_server_is_one_run<T: Store>()
+    ensures { ServersAreRuns T.meaning T.Source.meaning }
 {}
 
 /// A client sends its request to the server first (RFC 1350, section 4), and then notes only events
-/// of its own port.
+/// of its own port, its waits, which report no other port, and the lines that it prints.
 pub fn a_client_asks_first<G: Source, K: Sink>()
     ensures { (to : Endpoint) (client : ClientProgram G.meaning K.meaning to) → AsksFirst client }
 {}
 
-/// The premises of the law over both ends can be met: a client at one address with its server has
-/// sent its request, and the server has received it.
+/// The premises of the law over both ends can be met, by a real exchange: a client reads a file by
+/// an OACK, and its last acknowledgement is lost, so that the block is sent again; another writes a
+/// file, which is committed; a stranger sends a datagram between (RFC 1350, sections 2, 4 and 6).
 pub fn some_programs_are_joined()
     ensures { SomeAreJoined }
 {}

@@ -23,6 +23,7 @@ getting_client port name mode asked limit retries =
       state = getting request_port name mode asked limit retries;
       path = [];
       file = [];
+      text = wire_text mode [];
       left = [];
       stored = [];
       committed = false;
@@ -32,7 +33,8 @@ getting_client port name mode asked limit retries =
 
 pub reading_is : (w : WorldState) (name : List ℕ) (mode : Mode) (asked : Asked) →
     reading_client w name mode asked ≡ getting_client (next_port w) name mode asked w.limits.max_file w.retries
-reading_is w name mode asked = ap (λ (left : List ℕ). record (reading_client w name mode asked) { left = left }) (no_wire mode)
+reading_is w name mode asked =
+    ap (λ (left : List ℕ). record (reading_client w name mode asked) { left = left }) (no_wire mode)
 
 -- a client that writes, as it opens
 abbrev pub putting_client : ℕ → List ℕ → Mode → Asked → List ℕ → ℕ → ℕ → OpenEnd
@@ -42,6 +44,7 @@ putting_client port name mode asked file limit retries =
       state = putting request_port name mode asked (length (wire_text mode file)) limit retries;
       path = [];
       file = file;
+      text = wire_text mode file;
       left = wire_text mode file;
       stored = [];
       committed = false;
@@ -50,5 +53,6 @@ putting_client port name mode asked file limit retries =
     }
 
 pub writing_is : (w : WorldState) (name : List ℕ) (mode : Mode) (asked : Asked) (file : List ℕ) →
-    writing_client w name mode asked file ≡ putting_client (next_port w) name mode asked file w.limits.max_file w.retries
+    writing_client w name mode asked file
+    ≡ putting_client (next_port w) name mode asked file w.limits.max_file w.retries
 writing_is w name mode asked file = refl

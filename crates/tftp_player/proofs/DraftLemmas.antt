@@ -1,5 +1,6 @@
 -- The effect of a turn of a server's end on its draft and on the server's files.
-use Rattle.std.proofs.Common.{length, ◌≡◌, ℕ, Bool, true, false, List, [], ◌∷◌, Option, Some, None, Result, Ok, Err, refl, sym, ap, ◌∙◌, subst}
+use Rattle.std.proofs.Common.{length, ◌≡◌, ℕ, Bool, true, false, List, [], ◌∷◌, Option, Some, None, Result, Ok, Err}
+use Rattle.std.proofs.Common.{refl, sym, ap, ◌∙◌, subst}
 use Rattle.std.specs.Prelude.{◌&&◌, ◌==◌, not, if◌then◌else◌, is_none, is_ok, nat_lt, ⊤}
 use Rattle.std.proofs.lemmas.Bool.{true≢false}
 use Rattle.std.proofs.lemmas.Option.{same_Some}
@@ -54,7 +55,8 @@ module _ (from : Endpoint) (bytes : List ℕ) (e0 : EndState) where
   abbrev RestsIn : Phase → Action → Type 0
   RestsIn phase action = Rests action from (end_in phase)
 
-  rests_if : (phase : Phase) (b : Bool) (one two : Action) → RestsIn phase one → RestsIn phase two → RestsIn phase (if b then one else two)
+  rests_if : (phase : Phase) (b : Bool) (one two : Action) → RestsIn phase one → RestsIn phase two →
+      RestsIn phase (if b then one else two)
   rests_if phase true one two h k = h
   rests_if phase false one two h k = k
 
@@ -62,7 +64,9 @@ module _ (from : Endpoint) (bytes : List ℕ) (e0 : EndState) where
   ignores phase = record { response = Ignore; is = refl; same = refl }
 
   strange : (phase : Phase) → RestsIn phase (if has_error_opcode bytes then Respond Ignore else Respond Stranger)
-  strange phase = rests_if phase (has_error_opcode bytes) (Respond Ignore) (Respond Stranger) (ignores phase) (record { response = Stranger; is = refl; same = refl })
+  strange phase =
+      rests_if phase (has_error_opcode bytes) (Respond Ignore) (Respond Stranger) (ignores phase)
+      (record { response = Stranger; is = refl; same = refl })
 
   again_if : (phase : Phase) (b : Bool) → RestsIn phase (Respond (if b then ResendReply else Ignore))
   again_if phase true = record { response = ResendReply; is = refl; same = refl }
@@ -77,7 +81,8 @@ module _ (from : Endpoint) (bytes : List ℕ) (e0 : EndState) where
   dallies phase n (Some (Oack options)) = ignores phase
   dallies phase n None = ignores phase
 
-  complete_rests : (phase : Phase) (decoded : Option Packet) → is_complete phase ≡ true → RestsIn phase (datagram_action (end_in phase) from bytes decoded)
+  complete_rests : (phase : Phase) (decoded : Option Packet) → is_complete phase ≡ true →
+      RestsIn phase (datagram_action (end_in phase) from bytes decoded)
   complete_rests (Waiting asked limit) decoded c = absurd (true≢false (sym c))
   complete_rests (Sending terms n) decoded c = absurd (true≢false (sym c))
   complete_rests (Receiving terms n) decoded c = absurd (true≢false (sym c))
@@ -93,7 +98,9 @@ module _ (from : Endpoint) (bytes : List ℕ) (e0 : EndState) where
 -- ---- a datagram
 -- a draft after a turn, and the server's files
 pub record Leaves (turn : Turn) (d d' : Drafts) : Type 0 where
-  pub files : FilesAfter d.replace (not d.draft.committed && d'.draft.committed) d.path d'.draft.bytes d.store.files d'.store.files
+  pub files :
+      FilesAfter d.replace (not d.draft.committed && d'.draft.committed) d.path d'.draft.bytes d.store.files
+      d'.store.files
   pub commits : is_complete turn.position.phase ≡ false → d'.draft.committed ≡ false
 
 -- nothing was committed
@@ -111,43 +118,66 @@ none_put : (b : Bool) → (not b && false) ≡ false
 none_put true = refl
 none_put false = refl
 
-leaves_same : (turn : Turn) (d d' : Drafts) → d' ≡ d → (is_complete turn.position.phase ≡ false → d.draft.committed ≡ false) → Leaves turn d d'
+leaves_same : (turn : Turn) (d d' : Drafts) → d' ≡ d →
+    (is_complete turn.position.phase ≡ false → d.draft.committed ≡ false) → Leaves turn d d'
 leaves_same turn d d' same commits =
-    subst (Leaves turn d) (sym same) (record { files = subst (λ (b : Bool). FilesAfter d.replace b d.path d.draft.bytes d.store.files d.store.files) (sym (none_new d.draft.committed)) refl; commits = commits })
+    subst (Leaves turn d) (sym same)
+    (record {
+      files =
+          subst (λ (b : Bool). FilesAfter d.replace b d.path d.draft.bytes d.store.files d.store.files)
+          (sym (none_new d.draft.committed)) refl;
+      commits = commits;
+    })
 
 leaves_uncommitted : (turn : Turn) (d d' : Drafts) → IsUncommitted d d' → Leaves turn d d'
 leaves_uncommitted turn d d' u = record {
-  files = subst (λ (b : Bool). FilesAfter d.replace b d.path d'.draft.bytes d.store.files d'.store.files) (sym (ap (λ (b : Bool). not d.draft.committed && b) u.not_yet ∙ none_put d.draft.committed)) u.files;
+  files =
+      subst (λ (b : Bool). FilesAfter d.replace b d.path d'.draft.bytes d.store.files d'.store.files)
+      (sym (ap (λ (b : Bool). not d.draft.committed && b) u.not_yet ∙ none_put d.draft.committed)) u.files;
   commits = λ incomplete. u.not_yet;
 }
 
 -- ---- an append
-kept_some : (before after now : Holding) → after ≡ now → (now.committed ≡ true → now ≡ before) → before.committed ≡ false → after.committed ≡ false
+kept_some : (before after now : Holding) → after ≡ now → (now.committed ≡ true → now ≡ before) →
+    before.committed ≡ false → after.committed ≡ false
 kept_some before after now is kept un = by_committed now.committed refl where
   by_committed : (b : Bool) → now.committed ≡ b → after.committed ≡ false
   by_committed true c = ap (λ (z : Holding). z.committed) (is ∙ kept c) ∙ un
   by_committed false c = ap (λ (z : Holding). z.committed) is ∙ c
 
-free_append : (before after : Holding) (piece : List ℕ) (answer : Result Done StoreFault) → AppendsFreely before (Some after) piece answer → before.committed ≡ false → after.committed ≡ false
-free_append before after piece (Ok done) h un = ap (λ (z : Holding). z.committed) (same_Some after (with_piece before piece) h)
-free_append before after piece (Err faults.Memory) h un = ap (λ (z : Holding). z.committed) (same_Some after before h) ∙ un
-free_append before after piece (Err faults.Missing) h un = kept_some before after h.holding (same_Some after h.holding h.leaves) h.uncommitted un
-free_append before after piece (Err faults.Exists) h un = kept_some before after h.holding (same_Some after h.holding h.leaves) h.uncommitted un
-free_append before after piece (Err faults.Full) h un = kept_some before after h.holding (same_Some after h.holding h.leaves) h.uncommitted un
-free_append before after piece (Err faults.Io) h un = kept_some before after h.holding (same_Some after h.holding h.leaves) h.uncommitted un
+free_append : (before after : Holding) (piece : List ℕ) (answer : Result Done StoreFault) →
+    AppendsFreely before (Some after) piece answer → before.committed ≡ false → after.committed ≡ false
+free_append before after piece (Ok done) h un =
+    ap (λ (z : Holding). z.committed) (same_Some after (with_piece before piece) h)
+free_append before after piece (Err faults.Memory) h un =
+    ap (λ (z : Holding). z.committed) (same_Some after before h) ∙ un
+free_append before after piece (Err faults.Missing) h un =
+    kept_some before after h.holding (same_Some after h.holding h.leaves) h.uncommitted un
+free_append before after piece (Err faults.Exists) h un =
+    kept_some before after h.holding (same_Some after h.holding h.leaves) h.uncommitted un
+free_append before after piece (Err faults.Full) h un =
+    kept_some before after h.holding (same_Some after h.holding h.leaves) h.uncommitted un
+free_append before after piece (Err faults.Io) h un =
+    kept_some before after h.holding (same_Some after h.holding h.leaves) h.uncommitted un
 
-append_by : (armed : Bool) (before after : Holding) (piece : List ℕ) (answer : Result Done StoreFault) → UnlessArmed armed before (Some after) answer (AppendsFreely before (Some after) piece answer) →
+append_by : (armed : Bool) (before after : Holding) (piece : List ℕ) (answer : Result Done StoreFault) →
+    UnlessArmed armed before (Some after) answer (AppendsFreely before (Some after) piece answer) →
     before.committed ≡ false → after.committed ≡ false
-append_by true before after piece answer h un = ap (λ (z : Holding). z.committed) (same_Some after (disarmed before) h.leaves) ∙ un
+append_by true before after piece answer h un =
+    ap (λ (z : Holding). z.committed) (same_Some after (disarmed before) h.leaves) ∙ un
 append_by false before after piece answer h un = free_append before after piece answer h un
 
 -- ---- a commit
-refused_by : (armed : Bool) (before after : Holding) (fault : StoreFault) → UnlessArmed armed before (Some after) (let r : Result Done StoreFault = Err fault in r) (CommitsFreely before (Some after) (let r : Result Done StoreFault = Err fault in r)) →
+refused_by : (armed : Bool) (before after : Holding) (fault : StoreFault) →
+    UnlessArmed armed before (Some after) (let r : Result Done StoreFault = Err fault in r)
+    (CommitsFreely before (Some after) (let r : Result Done StoreFault = Err fault in r)) →
     after.committed ≡ before.committed
 refused_by true before after fault h = ap (λ (z : Holding). z.committed) (same_Some after (disarmed before) h.leaves)
 refused_by false before after fault h = ap (λ (z : Holding). z.committed) (same_Some after before h)
 
-taken_by : (armed : Bool) (before after : Holding) → UnlessArmed armed before (Some after) (let r : Result Done StoreFault = Ok tt in r) (CommitsFreely before (Some after) (let r : Result Done StoreFault = Ok tt in r)) →
+taken_by : (armed : Bool) (before after : Holding) →
+    UnlessArmed armed before (Some after) (let r : Result Done StoreFault = Ok tt in r)
+    (CommitsFreely before (Some after) (let r : Result Done StoreFault = Ok tt in r)) →
     after ≡ as_committed before
 taken_by true before after h = absurd (not_refused h.answer) where
   not_refused : (let r : Result Done StoreFault = Ok tt in r) ≡ Err faults.Full → ⊥
@@ -157,7 +187,8 @@ taken_by false before after h = same_Some after (as_committed before) h
 module _ (from : Endpoint) (bytes : List ℕ) (e : EndState) (turn : Turn) (d d' : Drafts) where
   appended_un : (piece : List ℕ) (mid : Drafts) (answer : Result Done StoreFault) → d.draft.committed ≡ false →
       Appended (drafting_sink memory_meaning) piece d mid answer → IsUncommitted d mid
-  appended_un [] mid answer un h = subst (IsUncommitted d) (sym h.1) (record { path = refl; replace = refl; files = refl; not_yet = un })
+  appended_un [] mid answer un h =
+      subst (IsUncommitted d) (sym h.1) (record { path = refl; replace = refl; files = refl; not_yet = un })
   appended_un (b ∷ piece) mid answer un h = record {
     path = h.2.path;
     replace = h.2.replace;
@@ -166,15 +197,19 @@ module _ (from : Endpoint) (bytes : List ℕ) (e : EndState) (turn : Turn) (d d'
   }
 
   -- the last block was committed, or was not
-  committed_leaves : (terms : Terms) (number : ℕ) (held : List ℕ) (mid : Drafts) (answer : Result Done StoreFault) → d.draft.committed ≡ false → IsUncommitted d mid →
-      UnlessArmed mid.store.refuses (seen mid) (Some (seen d')) answer (CommitsFreely (seen mid) (Some (seen d')) answer) → DraftingBecomes memory_meaning mid d' (is_ok answer) →
+  committed_leaves : (terms : Terms) (number : ℕ) (held : List ℕ) (mid : Drafts) (answer : Result Done StoreFault) →
+      d.draft.committed ≡ false → IsUncommitted d mid →
+      UnlessArmed mid.store.refuses (seen mid) (Some (seen d')) answer
+      (CommitsFreely (seen mid) (Some (seen d')) answer) → DraftingBecomes memory_meaning mid d' (is_ok answer) →
       turn ≡ committed_turn terms number from (holding held e) answer → Leaves turn d d'
   committed_leaves terms number held mid (Ok done) un u h becomes is =
       let now : seen d' ≡ as_committed (seen mid) = taken_by mid.store.refuses (seen mid) (seen d') h in
       let whole : d'.draft.bytes ≡ mid.draft.bytes = ap (λ (z : Holding). z.bytes) now in
-      let put : d'.store.files ≡ with_file mid.store.files mid.path mid.draft.bytes = same_Some d'.store.files _ becomes.files.0 in
+      let put : d'.store.files ≡ with_file mid.store.files mid.path mid.draft.bytes =
+      same_Some d'.store.files _ becomes.files.0 in
       let stored : IsStored mid.replace mid.path mid.draft.bytes mid.store.files d'.store.files =
-      subst (IsStored mid.replace mid.path mid.draft.bytes mid.store.files) (sym put) (stored_so mid.replace mid.path mid.draft.bytes mid.store.files becomes.files.1) in
+      subst (IsStored mid.replace mid.path mid.draft.bytes mid.store.files) (sym put)
+      (stored_so mid.replace mid.path mid.draft.bytes mid.store.files becomes.files.1) in
       let here : IsStored d.replace d.path d'.draft.bytes d.store.files d'.store.files =
       subst (λ (b : Bool). IsStored b d.path d'.draft.bytes d.store.files d'.store.files) u.replace
       (subst (λ (p : List ℕ). IsStored mid.replace p d'.draft.bytes d.store.files d'.store.files) u.path
@@ -183,7 +218,8 @@ module _ (from : Endpoint) (bytes : List ℕ) (e : EndState) (turn : Turn) (d d'
       record {
         files = subst (λ (b : Bool). FilesAfter d.replace b d.path d'.draft.bytes d.store.files d'.store.files)
             (sym (ap (λ (b : Bool). not b && d'.draft.committed) un ∙ ap (λ (z : Holding). z.committed) now)) here;
-        commits = λ incomplete. absurd (true≢false (ap (λ (t : Turn). is_complete t.position.phase) (sym is) ∙ incomplete));
+        commits =
+            λ incomplete. absurd (true≢false (ap (λ (t : Turn). is_complete t.position.phase) (sym is) ∙ incomplete));
       }
   committed_leaves terms number held mid (Err fault) un u h becomes is = leaves_uncommitted turn d d' (record {
     path = becomes.path ∙ u.path;
@@ -192,11 +228,16 @@ module _ (from : Endpoint) (bytes : List ℕ) (e : EndState) (turn : Turn) (d d'
     not_yet = refused_by mid.store.refuses (seen mid) (seen d') fault h ∙ u.not_yet;
   })
 
-  goes_leaves : (terms : Terms) (number : ℕ) (last : Bool) (held : List ℕ) (mid : Drafts) (answer : Result Done StoreFault) → d.draft.committed ≡ false → IsUncommitted d mid →
+  goes_leaves :
+      (terms : Terms) (number : ℕ) (last : Bool) (held : List ℕ) (mid : Drafts) (answer : Result Done StoreFault) →
+      d.draft.committed ≡ false → IsUncommitted d mid →
       GoesOn (drafting_sink memory_meaning) terms number from e last held mid answer turn d' → Leaves turn d d'
-  goes_leaves terms number last held mid (Err fault) un u h = leaves_uncommitted turn d d' (subst (IsUncommitted d) (sym h.1) u)
-  goes_leaves terms number true held mid (Ok done) un u h = committed_leaves terms number held mid h.answer un u h.commits h.leaves h.answers
-  goes_leaves terms number false held mid (Ok done) un u h = leaves_uncommitted turn d d' (subst (IsUncommitted d) (sym h.1) u)
+  goes_leaves terms number last held mid (Err fault) un u h =
+      leaves_uncommitted turn d d' (subst (IsUncommitted d) (sym h.1) u)
+  goes_leaves terms number true held mid (Ok done) un u h =
+      committed_leaves terms number held mid h.answer un u h.commits h.leaves h.answers
+  goes_leaves terms number false held mid (Ok done) un u h =
+      leaves_uncommitted turn d d' (subst (IsUncommitted d) (sym h.1) u)
 
   abbrev ActsSo : Action → Type 0
   ActsSo action =
@@ -210,29 +251,44 @@ module _ (from : Endpoint) (bytes : List ℕ) (e : EndState) (turn : Turn) (d d'
   acts_leaves : (action : Action) → d.draft.committed ≡ false → ActsSo action → Leaves turn d d'
   acts_leaves (Respond response) un h = leaves_same turn d d' (ap sink_in h.1) (λ incomplete. un)
   acts_leaves (Send terms number) un h = absurd h
-  acts_leaves (Store terms number) un h = goes_leaves terms number (nat_lt (length h.0) terms.size) h.2.after h.2.mid h.2.answer un (appended_un h.2.bytes h.2.mid h.2.answer un h.2.appended) h.2.rest
+  acts_leaves (Store terms number) un h =
+      goes_leaves terms number (nat_lt (length h.0) terms.size) h.2.after h.2.mid h.2.answer un
+      (appended_un h.2.bytes h.2.mid h.2.answer un h.2.appended) h.2.rest
 
-  rests_leaves : (action : Action) → Rests action from e → (is_complete e.position.phase ≡ false → d.draft.committed ≡ false) → ActsSo action → Leaves turn d d'
+  rests_leaves : (action : Action) → Rests action from e →
+      (is_complete e.position.phase ≡ false → d.draft.committed ≡ false) → ActsSo action → Leaves turn d d'
   rests_leaves action r commits h =
       let acts : ActsSo (Respond r.response) = subst ActsSo r.is h in
       let same : turn.position ≡ e.position = ap (λ (t : Turn). t.position) acts.0 ∙ r.same in
-      leaves_same turn d d' (ap sink_in acts.1) (λ incomplete. commits (sym (ap (λ (p : Position). is_complete p.phase) same) ∙ incomplete))
+      leaves_same turn d d' (ap sink_in acts.1)
+      (λ incomplete. commits (sym (ap (λ (p : Position). is_complete p.phase) same) ∙ incomplete))
 
-  leaves_by : (decoded : Option Packet) (complete : Bool) → is_complete e.position.phase ≡ complete → (is_complete e.position.phase ≡ false → d.draft.committed ≡ false) →
+  leaves_by : (decoded : Option Packet) (complete : Bool) → is_complete e.position.phase ≡ complete →
+      (is_complete e.position.phase ≡ false → d.draft.committed ≡ false) →
       ActsSo (datagram_action e from bytes decoded) → Leaves turn d d'
-  leaves_by decoded true c commits h = rests_leaves (datagram_action e from bytes decoded) (complete_rests from bytes e e.position.phase decoded c) commits h
+  leaves_by decoded true c commits h =
+      rests_leaves (datagram_action e from bytes decoded) (complete_rests from bytes e e.position.phase decoded c)
+      commits h
   leaves_by decoded false c commits h = acts_leaves (datagram_action e from bytes decoded) (commits c) h
 
 -- of the end in the world whose transfer this is
-pub record ServedLeaves (x : OpenEnd) (turn : Turn) (held : Files (List ℕ) Holding) (next : Files (List ℕ) Drafted) (overwrite : Bool) (files files' : List StoredFile) : Type 0 where
-  pub files_after : FilesAfter overwrite (has_committed x (end_after x turn held)) x.path (end_after x turn held).stored files files'
+pub record ServedLeaves (x : OpenEnd) (turn : Turn) (held : Files (List ℕ) Holding) (next : Files (List ℕ) Drafted)
+    (overwrite : Bool) (files files' : List StoredFile) : Type 0 where
+  pub files_after :
+      FilesAfter overwrite (has_committed x (end_after x turn held)) x.path (end_after x turn held).stored files files'
   pub commits : CommitsLast next turn.position.phase
 
-module _ (port : ℕ) (s : Served) (from : Endpoint) (bytes : List ℕ) (e : EndState) (request : List ℕ) (store store' : Stored) (path' : List ℕ) (replace : Bool) (turn : Turn) where
-  pub served_leaves : (files files' : Files (List ℕ) Drafted) → StepIn memory_meaning memory_source from bytes e (files_in store s.path replace files) turn (files_in store' path' replace files') →
-      KeepsStore files store store' → AreSame (λ (a b : List ℕ). ⊤) (λ (a b : Drafted). ⊤) files files' → CommitsLast files e.position.phase →
-      ServedLeaves (served_as port s e (left_in files) (draft_of files) request) turn (held_files store'.refuses files') files' replace store.files store'.files
-  served_leaves (Source left) (Source left') h stays kind k = record { files_after = ap (λ (st : Stored). st.files) stays; commits = tt }
+module _ (port : ℕ) (s : Served) (from : Endpoint) (bytes : List ℕ) (e : EndState) (request : List ℕ)
+    (store store' : Stored) (path' : List ℕ) (replace : Bool) (turn : Turn) where
+  pub served_leaves : (files files' : Files (List ℕ) Drafted) →
+      StepIn memory_meaning memory_source from bytes e (files_in store s.path replace files) turn
+      (files_in store' path' replace files') →
+      KeepsStore files store store' → AreSame (λ (a b : List ℕ). ⊤) (λ (a b : Drafted). ⊤) files files' →
+      CommitsLast files e.position.phase →
+      ServedLeaves (served_as port s e (left_in files) (draft_of files) request) turn (held_files store'.refuses files')
+      files' replace store.files store'.files
+  served_leaves (Source left) (Source left') h stays kind k =
+      record { files_after = ap (λ (st : Stored). st.files) stays; commits = tt }
   served_leaves (Sink draft) (Sink draft') h stays kind k =
       let l = leaves_by from bytes e turn _ _ h.decoded (is_complete e.position.phase) refl k h.acts in
       record { files_after = l.files; commits = l.commits }

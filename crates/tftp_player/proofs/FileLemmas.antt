@@ -1,5 +1,6 @@
 -- The server's files by path, after one was added.
-use Rattle.std.proofs.Common.{◌≡◌, ◌≢◌, ℕ, Bool, true, false, List, [], ◌∷◌, cond, Option, Some, None, refl, sym, ap, ◌∙◌}
+use Rattle.std.proofs.Common.{◌≡◌, ◌≢◌, ℕ, Bool, true, false, List, [], ◌∷◌, cond, Option, Some, None, refl, sym, ap}
+use Rattle.std.proofs.Common.{◌∙◌}
 use Rattle.std.specs.Prelude.{◌&&◌, not, is_some}
 use Rattle.std.proofs.lemmas.Bool.{true≢false}
 use Rattle.std.proofs.lemmas.Cmp.{nat_list_cmp_total, tied_itself}
@@ -24,11 +25,14 @@ at_another q path n = by_order (path_cmp q path) refl where
   by_order Greater e = refl
 
 module _ (path bytes : List ℕ) where
-  put_here : (o : Ordering) (e : StoredFile) (files more : FileList) → path_cmp path e.0 ≡ o → file_at more path ≡ Some bytes →
+  put_here : (o : Ordering) (e : StoredFile) (files more : FileList) → path_cmp path e.0 ≡ o →
+      file_at more path ≡ Some bytes →
       file_at (match_ordering o ((path, bytes) ∷ e ∷ files) ((e.0, bytes) ∷ files) (e ∷ more)) path ≡ Some bytes
-  put_here Less e files more order rest = ap (λ (b : Bool). cond b (Some bytes) (file_at (e ∷ files) path)) (at_itself path)
+  put_here Less e files more order rest =
+      ap (λ (b : Bool). cond b (Some bytes) (file_at (e ∷ files) path)) (at_itself path)
   put_here Equal e files more order rest = ap (λ (o : Ordering). cond (is_eq o) (Some bytes) (file_at files path)) order
-  put_here Greater e files more order rest = ap (λ (o : Ordering). cond (is_eq o) (Some e.1) (file_at more path)) order ∙ rest
+  put_here Greater e files more order rest =
+      ap (λ (o : Ordering). cond (is_eq o) (Some e.1) (file_at more path)) order ∙ rest
 
   -- the file that was added
   here : (files : FileList) → file_at (with_file files path bytes) path ≡ Some bytes
@@ -36,12 +40,17 @@ module _ (path bytes : List ℕ) where
   here (e ∷ files) = put_here (path_cmp path e.0) e files (with_file files path bytes) refl (here files)
 
   module _ (q : List ℕ) (n : q ≢ path) where
-    put_elsewhere : (o : Ordering) (e : StoredFile) (files more : FileList) → path_cmp path e.0 ≡ o → file_at more q ≡ file_at files q →
-        file_at (match_ordering o ((path, bytes) ∷ e ∷ files) ((e.0, bytes) ∷ files) (e ∷ more)) q ≡ file_at (e ∷ files) q
-    put_elsewhere Less e files more order rest = ap (λ (b : Bool). cond b (Some bytes) (file_at (e ∷ files) q)) (at_another q path n)
+    put_elsewhere : (o : Ordering) (e : StoredFile) (files more : FileList) → path_cmp path e.0 ≡ o →
+        file_at more q ≡ file_at files q →
+        file_at (match_ordering o ((path, bytes) ∷ e ∷ files) ((e.0, bytes) ∷ files) (e ∷ more)) q
+        ≡ file_at (e ∷ files) q
+    put_elsewhere Less e files more order rest =
+        ap (λ (b : Bool). cond b (Some bytes) (file_at (e ∷ files) q)) (at_another q path n)
     put_elsewhere Equal e files more order rest =
-        let none : is_at (path_cmp q) e.0 ≡ false = at_another q e.0 (λ same. n (same ∙ sym (exact_bytes path e.0 order))) in
-        ap (λ (b : Bool). cond b (Some bytes) (file_at files q)) none ∙ sym (ap (λ (b : Bool). cond b (Some e.1) (file_at files q)) none)
+        let none : is_at (path_cmp q) e.0 ≡ false =
+        at_another q e.0 (λ same. n (same ∙ sym (exact_bytes path e.0 order))) in
+        ap (λ (b : Bool). cond b (Some bytes) (file_at files q)) none
+        ∙ sym (ap (λ (b : Bool). cond b (Some e.1) (file_at files q)) none)
     put_elsewhere Greater e files more order rest = ap (cond (is_at (path_cmp q) e.0) (Some e.1)) rest
 
     -- every other
@@ -60,12 +69,20 @@ taken_by true o e none = absurd (true≢false (sym e))
 taken_by false None e none = absurd (true≢false (sym e))
 taken_by false (Some file) e none = absurd (cc)
 
-pub not_taken : (replace : Bool) (path : List ℕ) (files : FileList) → is_taken replace path files ≡ false → in_the_way replace (file_at files path) ≡ None
+pub not_taken : (replace : Bool) (path : List ℕ) (files : FileList) → is_taken replace path files ≡ false →
+    in_the_way replace (file_at files path) ≡ None
 not_taken replace path files e = free_by replace (file_at files path) e
 
-pub is_in_the_way : (replace : Bool) (path : List ℕ) (files : FileList) → is_taken replace path files ≡ true → in_the_way replace (file_at files path) ≢ None
+pub is_in_the_way : (replace : Bool) (path : List ℕ) (files : FileList) → is_taken replace path files ≡ true →
+    in_the_way replace (file_at files path) ≢ None
 is_in_the_way replace path files e = taken_by replace (file_at files path) e
 
 -- a file that was added is stored, if its path was free
-pub stored_so : (replace : Bool) (path bytes : List ℕ) (files : FileList) → is_taken replace path files ≡ false → IsStored replace path bytes files (with_file files path bytes)
-stored_so replace path bytes files free = record { free = not_taken replace path files free; here = here path bytes files; others = λ q n. others path bytes q n files }
+pub stored_so : (replace : Bool) (path bytes : List ℕ) (files : FileList) → is_taken replace path files ≡ false →
+    IsStored replace path bytes files (with_file files path bytes)
+stored_so replace path bytes files free =
+    record {
+      free = not_taken replace path files free;
+      here = here path bytes files;
+      others = λ q n. others path bytes q n files;
+    }

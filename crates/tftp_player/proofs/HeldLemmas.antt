@@ -1,5 +1,6 @@
 -- The transfers that a server holds, in rising order of their identifiers.
-use Rattle.std.proofs.Common.{◌≡◌, ◌≢◌, ℕ, suc, ◌+◌, ◌<◌, Bool, true, false, List, [], ◌∷◌, ◌++◌, length, cond, Option, Some, None, refl, sym, ap, ◌∙◌, subst, arith}
+use Rattle.std.proofs.Common.{◌≡◌, ◌≢◌, ℕ, suc, ◌+◌, ◌<◌, Bool, true, false, List, [], ◌∷◌, ◌++◌, length, cond, Option}
+use Rattle.std.proofs.Common.{Some, None, refl, sym, ap, ◌∙◌, subst, arith}
 use Rattle.std.proofs.lemmas.Bool.{true≢false}
 use Rattle.std.proofs.lemmas.Bool.Decides.{nat_tests}
 use Rattle.std.specs.BTreeMap.{is_at}
@@ -27,177 +28,231 @@ module _ {T : Type 0} where
   AreBelow tid held = AllByRecursion (λ (e : ℕ × T). e.0 < tid) held
 
   -- a transfer whose identifier is above all others is the last
-  pub with_new-last : (tid : ℕ) (new : T) (held : List (ℕ × T)) → AreBelow tid held → with_new tid new held ≡ held ++ (tid, new) ∷ []
+  pub with_new-last : (tid : ℕ) (new : T) (held : List (ℕ × T)) → AreBelow tid held →
+      with_new tid new held ≡ held ++ (tid, new) ∷ []
   with_new-last tid new [] below = refl
   with_new-last tid new (e ∷ held) below =
-      ap (λ (o : Ordering). match_ordering o ((tid, new) ∷ e ∷ held) ((e.0, new) ∷ held) (e ∷ with_new tid new held)) (sym (nat_cmp_is tid e.0 Greater below.0))
+      ap (λ (o : Ordering). match_ordering o ((tid, new) ∷ e ∷ held) ((e.0, new) ∷ held) (e ∷ with_new tid new held))
+      (sym (nat_cmp_is tid e.0 Greater below.0))
       ∙ ap (λ (es : List (ℕ × T)). e ∷ es) (with_new-last tid new held below.1)
 
   -- the last one is found, and every other as before
-  pub at-last : (tid : ℕ) (new : T) (held : List (ℕ × T)) → AreBelow tid held → at tid (held ++ (tid, new) ∷ []) ≡ Some new
+  pub at-last : (tid : ℕ) (new : T) (held : List (ℕ × T)) → AreBelow tid held →
+      at tid (held ++ (tid, new) ∷ []) ≡ Some new
   at-last tid new [] below = ap (λ (b : Bool). cond b (Some new) None) (at_same tid tid refl)
   at-last tid new (e ∷ held) below =
-      ap (λ (b : Bool). cond b (Some e.1) (at tid (held ++ (tid, new) ∷ []))) (at_other tid e.0 (let l = below.0 in let n : e.0 ≢ tid = omega arith in n)) ∙ at-last tid new held below.1
+      ap (λ (b : Bool). cond b (Some e.1) (at tid (held ++ (tid, new) ∷ [])))
+      (at_other tid e.0 (let l = below.0 in let n : e.0 ≢ tid = omega arith in n)) ∙ at-last tid new held below.1
 
-  pub at-last_other : (tid other : ℕ) (new : T) (held : List (ℕ × T)) → other ≢ tid → at other (held ++ (tid, new) ∷ []) ≡ at other held
+  pub at-last_other : (tid other : ℕ) (new : T) (held : List (ℕ × T)) → other ≢ tid →
+      at other (held ++ (tid, new) ∷ []) ≡ at other held
   at-last_other tid other new [] n = ap (λ (b : Bool). cond b (Some new) None) (at_other other tid (λ e. n (sym e)))
-  at-last_other tid other new (e ∷ held) n = ap (λ (o : Option T). cond (is_at (nat_cmp other) e.0) (Some e.1) o) (at-last_other tid other new held n)
+  at-last_other tid other new (e ∷ held) n =
+      ap (λ (o : Option T). cond (is_at (nat_cmp other) e.0) (Some e.1) o) (at-last_other tid other new held n)
 
-  pub at-with_new : (tid : ℕ) (new : T) (held : List (ℕ × T)) → AreBelow tid held → at tid (with_new tid new held) ≡ Some new
+  pub at-with_new : (tid : ℕ) (new : T) (held : List (ℕ × T)) → AreBelow tid held →
+      at tid (with_new tid new held) ≡ Some new
   at-with_new tid new held below = ap (at tid) (with_new-last tid new held below) ∙ at-last tid new held below
 
-  pub at-with_new_other : (tid other : ℕ) (new : T) (held : List (ℕ × T)) → AreBelow tid held → other ≢ tid → at other (with_new tid new held) ≡ at other held
-  at-with_new_other tid other new held below n = ap (at other) (with_new-last tid new held below) ∙ at-last_other tid other new held n
+  pub at-with_new_other : (tid other : ℕ) (new : T) (held : List (ℕ × T)) → AreBelow tid held → other ≢ tid →
+      at other (with_new tid new held) ≡ at other held
+  at-with_new_other tid other new held below n =
+      ap (at other) (with_new-last tid new held below) ∙ at-last_other tid other new held n
 
   -- the transfer that replaced another is found at its identifier, and every other as before
-  next_at : (tid : ℕ) (next : T) (e : ℕ × T) (held more : List (ℕ × T)) (b : Bool) → is_at (nat_cmp tid) e.0 ≡ b → (b ≡ false → at tid more ≡ Some next) →
+  next_at : (tid : ℕ) (next : T) (e : ℕ × T) (held more : List (ℕ × T)) (b : Bool) → is_at (nat_cmp tid) e.0 ≡ b →
+      (b ≡ false → at tid more ≡ Some next) →
       at tid (cond b ((e.0, next) ∷ held) (e ∷ more)) ≡ Some next
   next_at tid next e held more true h rest = ap (λ (c : Bool). cond c (Some next) (at tid held)) h
   next_at tid next e held more false h rest = ap (λ (c : Bool). cond c (Some e.1) (at tid more)) h ∙ rest refl
 
-  rest_found : (tid : ℕ) (e : ℕ × T) (held : List (ℕ × T)) (was : T) → at tid (e ∷ held) ≡ Some was → is_at (nat_cmp tid) e.0 ≡ false → at tid held ≡ Some was
+  rest_found : (tid : ℕ) (e : ℕ × T) (held : List (ℕ × T)) (was : T) → at tid (e ∷ held) ≡ Some was →
+      is_at (nat_cmp tid) e.0 ≡ false → at tid held ≡ Some was
   rest_found tid e held was found h = ap (λ (c : Bool). cond c (Some e.1) (at tid held)) (sym h) ∙ found
 
-  pub at-with_next : (tid : ℕ) (was next : T) (held : List (ℕ × T)) → at tid held ≡ Some was → at tid (with_next tid next held) ≡ Some next
+  pub at-with_next : (tid : ℕ) (was next : T) (held : List (ℕ × T)) → at tid held ≡ Some was →
+      at tid (with_next tid next held) ≡ Some next
   at-with_next tid was next [] found = absurd (let f : None ≡ Some was = found in cc)
   at-with_next tid was next (e ∷ held) found =
-      next_at tid next e held (with_next tid next held) (is_at (nat_cmp tid) e.0) refl (λ h. at-with_next tid was next held (rest_found tid e held was found h))
+      next_at tid next e held (with_next tid next held) (is_at (nat_cmp tid) e.0) refl
+      (λ h. at-with_next tid was next held (rest_found tid e held was found h))
 
-  next_other : (other : ℕ) (next : T) (e : ℕ × T) (held more : List (ℕ × T)) (b : Bool) → (b ≡ true → is_at (nat_cmp other) e.0 ≡ false) → at other more ≡ at other held →
+  next_other : (other : ℕ) (next : T) (e : ℕ × T) (held more : List (ℕ × T)) (b : Bool) →
+      (b ≡ true → is_at (nat_cmp other) e.0 ≡ false) → at other more ≡ at other held →
       at other (cond b ((e.0, next) ∷ held) (e ∷ more)) ≡ at other (e ∷ held)
   next_other other next e held more true h rest =
-      ap (λ (c : Bool). cond c (Some next) (at other held)) (h refl) ∙ sym (ap (λ (c : Bool). cond c (Some e.1) (at other held)) (h refl))
-  next_other other next e held more false h rest = ap (λ (o : Option T). cond (is_at (nat_cmp other) e.0) (Some e.1) o) rest
+      ap (λ (c : Bool). cond c (Some next) (at other held)) (h refl)
+      ∙ sym (ap (λ (c : Bool). cond c (Some e.1) (at other held)) (h refl))
+  next_other other next e held more false h rest =
+      ap (λ (o : Option T). cond (is_at (nat_cmp other) e.0) (Some e.1) o) rest
 
-  pub at-with_next_other : (tid other : ℕ) (next : T) (held : List (ℕ × T)) → other ≢ tid → at other (with_next tid next held) ≡ at other held
+  pub at-with_next_other : (tid other : ℕ) (next : T) (held : List (ℕ × T)) → other ≢ tid →
+      at other (with_next tid next held) ≡ at other held
   at-with_next_other tid other next [] n = refl
   at-with_next_other tid other next (e ∷ held) n =
       next_other other next e held (with_next tid next held) (is_at (nat_cmp tid) e.0)
       (λ h. at_other other e.0 (λ f. n (sym f ∙ same_at tid e.0 h))) (at-with_next_other tid other next held n)
 
   -- after one is removed, every other is found as before
-  out_other : (other : ℕ) (e : ℕ × T) (held more : List (ℕ × T)) (b : Bool) → (b ≡ true → is_at (nat_cmp other) e.0 ≡ false) → at other more ≡ at other held →
+  out_other : (other : ℕ) (e : ℕ × T) (held more : List (ℕ × T)) (b : Bool) →
+      (b ≡ true → is_at (nat_cmp other) e.0 ≡ false) → at other more ≡ at other held →
       at other (cond b held (e ∷ more)) ≡ at other (e ∷ held)
   out_other other e held more true h rest = sym (ap (λ (c : Bool). cond c (Some e.1) (at other held)) (h refl))
   out_other other e held more false h rest = ap (λ (o : Option T). cond (is_at (nat_cmp other) e.0) (Some e.1) o) rest
 
-  pub at-without_other : (tid other : ℕ) (held : List (ℕ × T)) → other ≢ tid → at other (without tid held) ≡ at other held
+  pub at-without_other : (tid other : ℕ) (held : List (ℕ × T)) → other ≢ tid →
+      at other (without tid held) ≡ at other held
   at-without_other tid other [] n = refl
   at-without_other tid other (e ∷ held) n =
       out_other other e held (without tid held) (is_at (nat_cmp tid) e.0)
       (λ h. at_other other e.0 (λ f. n (sym f ∙ same_at tid e.0 h))) (at-without_other tid other held n)
 
   -- the number of transfers
-  next_length : (next : T) (e : ℕ × T) (held more : List (ℕ × T)) (b : Bool) → length more ≡ length held → length (cond b ((e.0, next) ∷ held) (e ∷ more)) ≡ length (e ∷ held)
+  next_length : (next : T) (e : ℕ × T) (held more : List (ℕ × T)) (b : Bool) → length more ≡ length held →
+      length (cond b ((e.0, next) ∷ held) (e ∷ more)) ≡ length (e ∷ held)
   next_length next e held more true rest = refl
   next_length next e held more false rest = ap suc rest
 
   pub length-with_next : (tid : ℕ) (next : T) (held : List (ℕ × T)) → length (with_next tid next held) ≡ length held
   length-with_next tid next [] = refl
-  length-with_next tid next (e ∷ held) = next_length next e held (with_next tid next held) (is_at (nat_cmp tid) e.0) (length-with_next tid next held)
+  length-with_next tid next (e ∷ held) =
+      next_length next e held (with_next tid next held) (is_at (nat_cmp tid) e.0) (length-with_next tid next held)
 
-  out_length : (tid : ℕ) (e : ℕ × T) (held more : List (ℕ × T)) (b : Bool) → is_at (nat_cmp tid) e.0 ≡ b → (b ≡ false → suc (length more) ≡ length held) →
+  out_length : (tid : ℕ) (e : ℕ × T) (held more : List (ℕ × T)) (b : Bool) → is_at (nat_cmp tid) e.0 ≡ b →
+      (b ≡ false → suc (length more) ≡ length held) →
       suc (length (cond b held (e ∷ more))) ≡ length (e ∷ held)
   out_length tid e held more true h rest = refl
   out_length tid e held more false h rest = ap suc (rest refl)
 
-  pub length-without : (tid : ℕ) (was : T) (held : List (ℕ × T)) → at tid held ≡ Some was → suc (length (without tid held)) ≡ length held
+  pub length-without : (tid : ℕ) (was : T) (held : List (ℕ × T)) → at tid held ≡ Some was →
+      suc (length (without tid held)) ≡ length held
   length-without tid was [] found = absurd (let f : None ≡ Some was = found in cc)
   length-without tid was (e ∷ held) found =
-      out_length tid e held (without tid held) (is_at (nat_cmp tid) e.0) refl (λ h. length-without tid was held (rest_found tid e held was found h))
+      out_length tid e held (without tid held) (is_at (nat_cmp tid) e.0) refl
+      (λ h. length-without tid was held (rest_found tid e held was found h))
 
   -- what holds of all identifiers still does
-  all_pushed : (P : ℕ × T → Type 0) (tid : ℕ) (new : T) (held : List (ℕ × T)) → AllByRecursion P held → P (tid, new) → AllByRecursion P (held ++ (tid, new) ∷ [])
+  all_pushed : (P : ℕ × T → Type 0) (tid : ℕ) (new : T) (held : List (ℕ × T)) → AllByRecursion P held → P (tid, new) →
+      AllByRecursion P (held ++ (tid, new) ∷ [])
   all_pushed P tid new [] all p = (p, tt)
   all_pushed P tid new (e ∷ held) all p = (all.0, all_pushed P tid new held all.1 p)
 
-  all_next : (P : ℕ → Type 0) (next : T) (e : ℕ × T) (held more : List (ℕ × T)) (b : Bool) → AllByRecursion (λ (f : ℕ × T). P f.0) (e ∷ held) → AllByRecursion (λ (f : ℕ × T). P f.0) more →
+  all_next : (P : ℕ → Type 0) (next : T) (e : ℕ × T) (held more : List (ℕ × T)) (b : Bool) →
+      AllByRecursion (λ (f : ℕ × T). P f.0) (e ∷ held) → AllByRecursion (λ (f : ℕ × T). P f.0) more →
       AllByRecursion (λ (f : ℕ × T). P f.0) (cond b ((e.0, next) ∷ held) (e ∷ more))
   all_next P next e held more true all rest = (all.0, all.1)
   all_next P next e held more false all rest = (all.0, rest)
 
-  pub AllKeys-with_next : (P : ℕ → Type 0) (tid : ℕ) (next : T) (held : List (ℕ × T)) → AllByRecursion (λ (f : ℕ × T). P f.0) held → AllByRecursion (λ (f : ℕ × T). P f.0) (with_next tid next held)
+  pub AllKeys-with_next : (P : ℕ → Type 0) (tid : ℕ) (next : T) (held : List (ℕ × T)) →
+      AllByRecursion (λ (f : ℕ × T). P f.0) held → AllByRecursion (λ (f : ℕ × T). P f.0) (with_next tid next held)
   AllKeys-with_next P tid next [] all = tt
   AllKeys-with_next P tid next (e ∷ held) all =
-      all_next P next e held (with_next tid next held) (is_at (nat_cmp tid) e.0) all (AllKeys-with_next P tid next held all.1)
+      all_next P next e held (with_next tid next held) (is_at (nat_cmp tid) e.0) all
+      (AllKeys-with_next P tid next held all.1)
 
-  all_out : (P : ℕ → Type 0) (e : ℕ × T) (held more : List (ℕ × T)) (b : Bool) → AllByRecursion (λ (f : ℕ × T). P f.0) (e ∷ held) → AllByRecursion (λ (f : ℕ × T). P f.0) more →
+  all_out : (P : ℕ → Type 0) (e : ℕ × T) (held more : List (ℕ × T)) (b : Bool) →
+      AllByRecursion (λ (f : ℕ × T). P f.0) (e ∷ held) → AllByRecursion (λ (f : ℕ × T). P f.0) more →
       AllByRecursion (λ (f : ℕ × T). P f.0) (cond b held (e ∷ more))
   all_out P e held more true all rest = all.1
   all_out P e held more false all rest = (all.0, rest)
 
-  pub AllKeys-without : (P : ℕ → Type 0) (tid : ℕ) (held : List (ℕ × T)) → AllByRecursion (λ (f : ℕ × T). P f.0) held → AllByRecursion (λ (f : ℕ × T). P f.0) (without tid held)
+  pub AllKeys-without : (P : ℕ → Type 0) (tid : ℕ) (held : List (ℕ × T)) → AllByRecursion (λ (f : ℕ × T). P f.0) held →
+      AllByRecursion (λ (f : ℕ × T). P f.0) (without tid held)
   AllKeys-without P tid [] all = tt
-  AllKeys-without P tid (e ∷ held) all = all_out P e held (without tid held) (is_at (nat_cmp tid) e.0) all (AllKeys-without P tid held all.1)
+  AllKeys-without P tid (e ∷ held) all =
+      all_out P e held (without tid held) (is_at (nat_cmp tid) e.0) all (AllKeys-without P tid held all.1)
 
-  pub AllKeys-with_new : (P : ℕ → Type 0) (tid : ℕ) (new : T) (held : List (ℕ × T)) → AreBelow tid held → AllByRecursion (λ (f : ℕ × T). P f.0) held → P tid →
+  pub AllKeys-with_new : (P : ℕ → Type 0) (tid : ℕ) (new : T) (held : List (ℕ × T)) → AreBelow tid held →
+      AllByRecursion (λ (f : ℕ × T). P f.0) held → P tid →
       AllByRecursion (λ (f : ℕ × T). P f.0) (with_new tid new held)
   AllKeys-with_new P tid new held below all p =
-      subst (AllByRecursion (λ (f : ℕ × T). P f.0)) (sym (with_new-last tid new held below)) (all_pushed (λ (f : ℕ × T). P f.0) tid new held all p)
+      subst (AllByRecursion (λ (f : ℕ × T). P f.0)) (sym (with_new-last tid new held below))
+      (all_pushed (λ (f : ℕ × T). P f.0) tid new held all p)
 
   -- what follows of it holds of all, and what follows of two things
-  pub AllKeys-weaker : (P Q : ℕ → Type 0) (held : List (ℕ × T)) → ((k : ℕ) → P k → Q k) → AllByRecursion (λ (f : ℕ × T). P f.0) held → AllByRecursion (λ (f : ℕ × T). Q f.0) held
+  pub AllKeys-weaker : (P Q : ℕ → Type 0) (held : List (ℕ × T)) → ((k : ℕ) → P k → Q k) →
+      AllByRecursion (λ (f : ℕ × T). P f.0) held → AllByRecursion (λ (f : ℕ × T). Q f.0) held
   AllKeys-weaker P Q [] f all = tt
   AllKeys-weaker P Q (e ∷ held) f all = (f e.0 all.0, AllKeys-weaker P Q held f all.1)
 
-  pub all_both : (P Q R : ℕ × T → Type 0) (held : List (ℕ × T)) → ((e : ℕ × T) → P e → Q e → R e) → AllByRecursion P held → AllByRecursion Q held → AllByRecursion R held
+  pub all_both : (P Q R : ℕ × T → Type 0) (held : List (ℕ × T)) → ((e : ℕ × T) → P e → Q e → R e) →
+      AllByRecursion P held → AllByRecursion Q held → AllByRecursion R held
   all_both P Q R [] f all also = tt
   all_both P Q R (e ∷ held) f all also = (f e all.0 also.0, all_both P Q R held f all.1 also.1)
 
   -- the identifiers still rise
-  rising_next : (next : T) (e : ℕ × T) (held more : List (ℕ × T)) (b : Bool) → IsRising (e ∷ held) → IsRising more → AllByRecursion (λ (f : ℕ × T). e.0 < f.0) more →
+  rising_next : (next : T) (e : ℕ × T) (held more : List (ℕ × T)) (b : Bool) → IsRising (e ∷ held) → IsRising more →
+      AllByRecursion (λ (f : ℕ × T). e.0 < f.0) more →
       IsRising (cond b ((e.0, next) ∷ held) (e ∷ more))
   rising_next next e held more true rises rest above = (rises.0, rises.1)
   rising_next next e held more false rises rest above = (above, rest)
 
-  pub IsRising-with_next : (tid : ℕ) (next : T) (held : List (ℕ × T)) → IsRising held → IsRising (with_next tid next held)
+  pub IsRising-with_next : (tid : ℕ) (next : T) (held : List (ℕ × T)) → IsRising held →
+      IsRising (with_next tid next held)
   IsRising-with_next tid next [] rises = tt
   IsRising-with_next tid next (e ∷ held) rises =
-      rising_next next e held (with_next tid next held) (is_at (nat_cmp tid) e.0) rises (IsRising-with_next tid next held rises.1) (AllKeys-with_next (λ (k : ℕ). e.0 < k) tid next held rises.0)
+      rising_next next e held (with_next tid next held) (is_at (nat_cmp tid) e.0) rises
+      (IsRising-with_next tid next held rises.1) (AllKeys-with_next (λ (k : ℕ). e.0 < k) tid next held rises.0)
 
-  rising_out : (e : ℕ × T) (held more : List (ℕ × T)) (b : Bool) → IsRising (e ∷ held) → IsRising more → AllByRecursion (λ (f : ℕ × T). e.0 < f.0) more → IsRising (cond b held (e ∷ more))
+  rising_out : (e : ℕ × T) (held more : List (ℕ × T)) (b : Bool) → IsRising (e ∷ held) → IsRising more →
+      AllByRecursion (λ (f : ℕ × T). e.0 < f.0) more → IsRising (cond b held (e ∷ more))
   rising_out e held more true rises rest above = rises.1
   rising_out e held more false rises rest above = (above, rest)
 
   pub IsRising-without : (tid : ℕ) (held : List (ℕ × T)) → IsRising held → IsRising (without tid held)
   IsRising-without tid [] rises = tt
   IsRising-without tid (e ∷ held) rises =
-      rising_out e held (without tid held) (is_at (nat_cmp tid) e.0) rises (IsRising-without tid held rises.1) (AllKeys-without (λ (k : ℕ). e.0 < k) tid held rises.0)
+      rising_out e held (without tid held) (is_at (nat_cmp tid) e.0) rises (IsRising-without tid held rises.1)
+      (AllKeys-without (λ (k : ℕ). e.0 < k) tid held rises.0)
 
-  rising_pushed : (tid : ℕ) (new : T) (held : List (ℕ × T)) → AreBelow tid held → IsRising held → IsRising (held ++ (tid, new) ∷ [])
+  rising_pushed : (tid : ℕ) (new : T) (held : List (ℕ × T)) → AreBelow tid held → IsRising held →
+      IsRising (held ++ (tid, new) ∷ [])
   rising_pushed tid new [] below rises = (tt, tt)
-  rising_pushed tid new (e ∷ held) below rises = (all_pushed (λ (f : ℕ × T). e.0 < f.0) tid new held rises.0 below.0, rising_pushed tid new held below.1 rises.1)
+  rising_pushed tid new (e ∷ held) below rises =
+      (all_pushed (λ (f : ℕ × T). e.0 < f.0) tid new held rises.0 below.0, rising_pushed tid new held below.1 rises.1)
 
-  pub IsRising-with_new : (tid : ℕ) (new : T) (held : List (ℕ × T)) → AreBelow tid held → IsRising held → IsRising (with_new tid new held)
-  IsRising-with_new tid new held below rises = subst IsRising (sym (with_new-last tid new held below)) (rising_pushed tid new held below rises)
+  pub IsRising-with_new : (tid : ℕ) (new : T) (held : List (ℕ × T)) → AreBelow tid held → IsRising held →
+      IsRising (with_new tid new held)
+  IsRising-with_new tid new held below rises =
+      subst IsRising (sym (with_new-last tid new held below)) (rising_pushed tid new held below rises)
 
   -- the one that is removed from a rising list is gone
-  gone_out : (tid : ℕ) (e : ℕ × T) (held more : List (ℕ × T)) (b : Bool) → is_at (nat_cmp tid) e.0 ≡ b → AllByRecursion (λ (f : ℕ × T). e.0 < f.0) held → AllByRecursion (λ (f : ℕ × T). f.0 ≢ tid) more →
+  gone_out : (tid : ℕ) (e : ℕ × T) (held more : List (ℕ × T)) (b : Bool) → is_at (nat_cmp tid) e.0 ≡ b →
+      AllByRecursion (λ (f : ℕ × T). e.0 < f.0) held → AllByRecursion (λ (f : ℕ × T). f.0 ≢ tid) more →
       AllByRecursion (λ (f : ℕ × T). f.0 ≢ tid) (cond b held (e ∷ more))
   gone_out tid e held more true h above rest =
       let here = same_at tid e.0 h in
-      AllKeys-weaker (λ (k : ℕ). e.0 < k) (λ (k : ℕ). k ≢ tid) held (λ k l. let n : k ≢ tid = omega (arith, here, l) in n) above
+      AllKeys-weaker (λ (k : ℕ). e.0 < k) (λ (k : ℕ). k ≢ tid) held
+      (λ k l. let n : k ≢ tid = omega (arith, here, l) in n) above
   gone_out tid e held more false h above rest = ((λ same. true≢false (sym (at_same tid e.0 same) ∙ h)), rest)
 
-  pub gone-without : (tid : ℕ) (held : List (ℕ × T)) → IsRising held → AllByRecursion (λ (f : ℕ × T). f.0 ≢ tid) (without tid held)
+  pub gone-without : (tid : ℕ) (held : List (ℕ × T)) → IsRising held →
+      AllByRecursion (λ (f : ℕ × T). f.0 ≢ tid) (without tid held)
   gone-without tid [] rises = tt
-  gone-without tid (e ∷ held) rises = gone_out tid e held (without tid held) (is_at (nat_cmp tid) e.0) refl rises.0 (gone-without tid held rises.1)
+  gone-without tid (e ∷ held) rises =
+      gone_out tid e held (without tid held) (is_at (nat_cmp tid) e.0) refl rises.0 (gone-without tid held rises.1)
 
   -- and each one is found
   pub each_found : (held : List (ℕ × T)) → IsRising held → AllByRecursion (λ (f : ℕ × T). at f.0 held ≡ Some f.1) held
   each_found [] rises = tt
   each_found (e ∷ held) rises = (
     ap (λ (b : Bool). cond b (Some e.1) (at e.0 held)) (at_same e.0 e.0 refl),
-    all_both (λ (f : ℕ × T). e.0 < f.0) (λ (f : ℕ × T). at f.0 held ≡ Some f.1) (λ (f : ℕ × T). at f.0 (e ∷ held) ≡ Some f.1) held
-        (λ f above found. ap (λ (b : Bool). cond b (Some e.1) (at f.0 held)) (at_other f.0 e.0 (let n : e.0 ≢ f.0 = omega (arith, above) in n)) ∙ found) rises.0 (each_found held rises.1),
+    all_both (λ (f : ℕ × T). e.0 < f.0) (λ (f : ℕ × T). at f.0 held ≡ Some f.1)
+        (λ (f : ℕ × T). at f.0 (e ∷ held) ≡ Some f.1) held
+        (λ f above found.
+        ap (λ (b : Bool). cond b (Some e.1) (at f.0 held))
+        (at_other f.0 e.0 (let n : e.0 ≢ f.0 = omega (arith, above) in n)) ∙ found) rises.0 (each_found held rises.1),
   )
 
   -- below the next identifier, if below this one
 
   pub AreBelow-more : (tid more : ℕ) (held : List (ℕ × T)) → tid < more → AreBelow tid held → AreBelow more held
-  AreBelow-more tid more held l below = AllKeys-weaker (λ (k : ℕ). k < tid) (λ (k : ℕ). k < more) held (λ k h. omega arith) below
+  AreBelow-more tid more held l below =
+      AllKeys-weaker (λ (k : ℕ). k < tid) (λ (k : ℕ). k < more) held (λ k h. omega arith) below
 
-  pub AreBelow-with_new : (tid : ℕ) (new : T) (held : List (ℕ × T)) → AreBelow tid held → AreBelow (tid + 1) (with_new tid new held)
+  pub AreBelow-with_new : (tid : ℕ) (new : T) (held : List (ℕ × T)) → AreBelow tid held →
+      AreBelow (tid + 1) (with_new tid new held)
   AreBelow-with_new tid new held below =
       subst (AreBelow (tid + 1)) (sym (with_new-last tid new held below))
-      (all_pushed (λ (f : ℕ × T). f.0 < tid + 1) tid new held (AreBelow-more tid (tid + 1) held (omega arith) below) (omega arith))
+      (all_pushed (λ (f : ℕ × T). f.0 < tid + 1) tid new held (AreBelow-more tid (tid + 1) held (omega arith) below)
+      (omega arith))

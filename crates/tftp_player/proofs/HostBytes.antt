@@ -18,7 +18,8 @@ byte_form : (x : ℕ) → ByteForm x
 byte_form x = elim (cases_eq x 10) [
   | inl e ↦ Line e (cond-true (x == 10) (13 ∷ 10 ∷ []) (if x == 13 then 13 ∷ 0 ∷ [] else x ∷ []) (eq-eqb x 10 e))
   | inr n ↦
-      let first : wire_byte x ≡ (if x == 13 then 13 ∷ 0 ∷ [] else x ∷ []) = cond-false (x == 10) (13 ∷ 10 ∷ []) (if x == 13 then 13 ∷ 0 ∷ [] else x ∷ []) (ne_eqb x 10 n) in
+      let first : wire_byte x ≡ (if x == 13 then 13 ∷ 0 ∷ [] else x ∷ []) =
+      cond-false (x == 10) (13 ∷ 10 ∷ []) (if x == 13 then 13 ∷ 0 ∷ [] else x ∷ []) (ne_eqb x 10 n) in
       elim (cases_eq x 13) [
         | inl e ↦ Return e (first ∙ cond-true (x == 13) (13 ∷ 0 ∷ []) (x ∷ []) (eq-eqb x 13 e))
         | inr m ↦ Itself m (first ∙ cond-false (x == 13) (13 ∷ 0 ∷ []) (x ∷ []) (ne_eqb x 13 m))
@@ -32,7 +33,8 @@ tails : (x y : ℕ) (xs ys : List ℕ) → x ∷ xs ≡ y ∷ ys → xs ≡ ys
 tails x y xs ys e = cc
 
 -- the next byte is determined by the wire text
-next_byte : (x y : ℕ) (xs ys : List ℕ) → ByteForm x → ByteForm y → wire_byte x ++ xs ≡ wire_byte y ++ ys → (x ≡ y) × (xs ≡ ys)
+next_byte : (x y : ℕ) (xs ys : List ℕ) → ByteForm x → ByteForm y → wire_byte x ++ xs ≡ wire_byte y ++ ys →
+    (x ≡ y) × (xs ≡ ys)
 next_byte x y xs ys (Line a b) (Line c d) e =
     let f : 13 ∷ 10 ∷ xs ≡ 13 ∷ 10 ∷ ys = rw (b, d) at e in (a ∙ sym c, cc)
 next_byte x y xs ys (Return a b) (Return c d) e =
@@ -40,9 +42,11 @@ next_byte x y xs ys (Return a b) (Return c d) e =
 next_byte x y xs ys (Itself a b) (Itself c d) e =
     let f : x ∷ xs ≡ y ∷ ys = rw (b, d) at e in (cc, cc)
 next_byte x y xs ys (Line a b) (Return c d) e =
-    let f : 13 ∷ 10 ∷ xs ≡ 13 ∷ 0 ∷ ys = rw (b, d) at e in absurd (let g : 10 ≡ 0 = heads 10 0 xs ys (tails 13 13 (10 ∷ xs) (0 ∷ ys) f) in omega arith)
+    let f : 13 ∷ 10 ∷ xs ≡ 13 ∷ 0 ∷ ys = rw (b, d) at e in
+    absurd (let g : 10 ≡ 0 = heads 10 0 xs ys (tails 13 13 (10 ∷ xs) (0 ∷ ys) f) in omega arith)
 next_byte x y xs ys (Return a b) (Line c d) e =
-    let f : 13 ∷ 0 ∷ xs ≡ 13 ∷ 10 ∷ ys = rw (b, d) at e in absurd (let g : 0 ≡ 10 = heads 0 10 xs ys (tails 13 13 (0 ∷ xs) (10 ∷ ys) f) in omega arith)
+    let f : 13 ∷ 0 ∷ xs ≡ 13 ∷ 10 ∷ ys = rw (b, d) at e in
+    absurd (let g : 0 ≡ 10 = heads 0 10 xs ys (tails 13 13 (0 ∷ xs) (10 ∷ ys) f) in omega arith)
 next_byte x y xs ys (Itself a b) (Line c d) e =
     let f : x ∷ xs ≡ 13 ∷ 10 ∷ ys = rw (b, d) at e in absurd (a (heads x 13 xs (10 ∷ ys) f))
 next_byte x y xs ys (Itself a b) (Return c d) e =
@@ -62,14 +66,18 @@ joined x xs rest = append_assoc (wire_byte x) (netascii_text xs) rest
 
 netascii_beginning : (xs ys rest : List ℕ) → netascii_text xs ++ rest ≡ netascii_text ys → IsBeginningOf xs ys
 netascii_beginning [] ys rest e = (ys, refl)
-netascii_beginning (x ∷ xs) [] rest e = absurd (not_empty x (netascii_text xs ++ rest) (byte_form x) (sym (joined x xs rest) ∙ e))
+netascii_beginning (x ∷ xs) [] rest e =
+    absurd (not_empty x (netascii_text xs ++ rest) (byte_form x) (sym (joined x xs rest) ∙ e))
 netascii_beginning (x ∷ xs) (y ∷ ys) rest e =
-    let n = next_byte x y (netascii_text xs ++ rest) (netascii_text ys) (byte_form x) (byte_form y) (sym (joined x xs rest) ∙ e) in
+    let n =
+    next_byte x y (netascii_text xs ++ rest) (netascii_text ys) (byte_form x) (byte_form y)
+    (sym (joined x xs rest) ∙ e) in
     let h = netascii_beginning xs ys rest n.1 in
     (h.0, ap (λ (k : ℕ). k ∷ (xs ++ h.0)) n.0 ∙ ap (λ (zs : List ℕ). y ∷ zs) h.1)
 
 -- a beginning on the wire is a beginning of the file
-pub wire_beginning : (mode : Mode) (xs ys : List ℕ) → IsBeginningOf (wire_text mode xs) (wire_text mode ys) → IsBeginningOf xs ys
+pub wire_beginning : (mode : Mode) (xs ys : List ℕ) → IsBeginningOf (wire_text mode xs) (wire_text mode ys) →
+    IsBeginningOf xs ys
 wire_beginning Octet xs ys h = h
 wire_beginning Netascii xs ys h = netascii_beginning xs ys h.0 h.1
 
@@ -85,4 +93,5 @@ both_beginnings xs ys a b =
 -- two files with one wire text are the same
 pub wire_same : (mode : Mode) (xs ys : List ℕ) → wire_text mode xs ≡ wire_text mode ys → xs ≡ ys
 wire_same mode xs ys e =
-    both_beginnings xs ys (wire_beginning mode xs ys ([], append-nil (wire_text mode xs) ∙ e)) (wire_beginning mode ys xs ([], append-nil (wire_text mode ys) ∙ sym e))
+    both_beginnings xs ys (wire_beginning mode xs ys ([], append-nil (wire_text mode xs) ∙ e))
+    (wire_beginning mode ys xs ([], append-nil (wire_text mode ys) ∙ sym e))

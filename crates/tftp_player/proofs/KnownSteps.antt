@@ -33,16 +33,29 @@ module _ (may_commit : Holding → StoreFault → Type 0) where
     appends = λ holding bytes fault h may. tt;
     commits = λ holding fault h may. tt;
     leaves = λ before after committed h b. tt;
+    after_append = λ before after piece fault h a. tt;
+    after_commit = λ before after fault h a. tt;
   }
 
   -- the step with a file in memory
-  pub known_step : (from : Endpoint) (bytes : List ℕ) (e : EndState) (files : Files (List ℕ) Holding) (turn : Turn) (files' : Files (List ℕ) Holding) →
-      DatagramStep memory_source (world_sink may_commit) from bytes e files turn files' → DatagramStep known_source known_sink from bytes e files turn files'
+  pub known_step :
+      (from : Endpoint) (bytes : List ℕ) (e : EndState) (files : Files (List ℕ) Holding) (turn : Turn)
+      (files' : Files (List ℕ) Holding) →
+      DatagramStep memory_source (world_sink may_commit) from bytes e files turn files' →
+      DatagramStep known_source known_sink from bytes e files turn files'
   known_step from bytes e (Source s) turn (Source t) h =
-      step_as memory_source (world_sink may_commit) known_source known_sink (λ (text : List ℕ). text) (λ (holding : Holding). holding) (λ holding. Unit {0}) sources_known sinks_known from bytes e (Source s) turn (Source t) tt h
+      step_as memory_source (world_sink may_commit) known_source known_sink (λ (text : List ℕ). text)
+      (λ (holding : Holding). holding) (λ holding. Unit {0}) sources_known sinks_known from bytes e (Source s) turn
+      (Source t) tt h
   known_step from bytes e (Source s) turn (Sink l) h =
-      step_as memory_source (world_sink may_commit) known_source known_sink (λ (text : List ℕ). text) (λ (holding : Holding). holding) (λ holding. Unit {0}) sources_known sinks_known from bytes e (Source s) turn (Sink l) tt h
+      step_as memory_source (world_sink may_commit) known_source known_sink (λ (text : List ℕ). text)
+      (λ (holding : Holding). holding) (λ holding. Unit {0}) sources_known sinks_known from bytes e (Source s) turn
+      (Sink l) tt h
   known_step from bytes e (Sink k) turn (Source t) h =
-      step_as memory_source (world_sink may_commit) known_source known_sink (λ (text : List ℕ). text) (λ (holding : Holding). holding) (λ holding. Unit {0}) sources_known sinks_known from bytes e (Sink k) turn (Source t) tt h
+      step_as memory_source (world_sink may_commit) known_source known_sink (λ (text : List ℕ). text)
+      (λ (holding : Holding). holding) (λ holding. Unit {0}) sources_known sinks_known from bytes e (Sink k) turn
+      (Source t) tt h
   known_step from bytes e (Sink k) turn (Sink l) h =
-      step_as memory_source (world_sink may_commit) known_source known_sink (λ (text : List ℕ). text) (λ (holding : Holding). holding) (λ holding. Unit {0}) sources_known sinks_known from bytes e (Sink k) turn (Sink l) tt h
+      step_as memory_source (world_sink may_commit) known_source known_sink (λ (text : List ℕ). text)
+      (λ (holding : Holding). holding) (λ holding. Unit {0}) sources_known sinks_known from bytes e (Sink k) turn
+      (Sink l) tt h

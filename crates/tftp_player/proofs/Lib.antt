@@ -8,10 +8,7 @@ pub mod OwnedLemmas
 pub mod OneLemmas
 pub mod StrangerLemmas
 pub mod Witness
-pub mod ReadWitness
-pub mod WriteWitness
-pub mod NetasciiWitness
-pub mod OptionsWitness
+pub mod Witnesses
 pub mod SentLemmas
 pub mod ServerLemmas
 pub mod FileLemmas
@@ -46,6 +43,4 @@ mod StraightSteps
 mod StraightRuns
 mod StraightPort
 mod StraightOpenings
-pub mod BlocksWitness
-pub mod OackWitness
 pub mod SettledLemmas

@@ -9,7 +9,8 @@ use Rattle.tftp_machine.specs.Machine.{Endpoint}
 use Rattle.tftp_machine.specs.OpenEnds.{OpenEnd}
 use Rattle.tftp_player.specs.OneAtMost.{AddsOneAtMost, EventsAddOneAtMost}
 use Rattle.tftp_player.specs.World.{WorldState, WorldEnd, Open_end, Closed_end, replied}
-use Rattle.tftp_player.specs.WorldSteps.{ServiceStep, Arrives, At_request_port, At_open_end, At_closed_end, At_nobody, OpeningStep, Stays, Turns, TimeoutStep}
+use Rattle.tftp_player.specs.WorldSteps.{ServiceStep, Arrives, At_request_port, At_open_end, At_closed_end, At_nobody}
+use Rattle.tftp_player.specs.WorldSteps.{OpeningStep, Stays, Turns, TimeoutStep}
 use Rattle.tftp_player.specs.declared.event.Event.TheVariants.{Get, Put, Deliver, Timeout, RefuseStore, Stray}
 use Rattle.tftp_player.specs.declared.report.Report.{Report}
 
@@ -33,26 +34,33 @@ few_replied : (at : Endpoint) (reply : Option Reply) → length (replied at repl
 few_replied at None = omega arith
 few_replied at (Some reply) = omega arith
 
-turns : (old new : WorldState) (k : ℕ) (x : OpenEnd) (turn : Turn) (held : Files (List ℕ) Holding) (report : Report) → Turns old k x turn held report new → AddsOneAtMost old new
+turns : (old new : WorldState) (k : ℕ) (x : OpenEnd) (turn : Turn) (held : Files (List ℕ) Holding) (report : Report) →
+    Turns old k x turn held report new → AddsOneAtMost old new
 turns old new k x turn held report t = record {
   said = replied x.address turn.reply;
   few = few_replied x.address turn.reply;
   sent = ap (λ (w : WorldState). w.sent) t.is;
 }
 
-serves : (service : Service) (old new : WorldState) (from : Endpoint) (bytes : List ℕ) (report : Report) → ServiceStep service old from bytes report new → AddsOneAtMost old new
+serves : (service : Service) (old new : WorldState) (from : Endpoint) (bytes : List ℕ) (report : Report) →
+    ServiceStep service old from bytes report new → AddsOneAtMost old new
 serves Silent old new from bytes report s = stays old new report s
-serves (Refused reply) old new from bytes report s = record { said = _; few = omega arith; sent = ap (λ (w : WorldState). w.sent) s.1 }
+serves (Refused reply) old new from bytes report s =
+    record { said = _; few = omega arith; sent = ap (λ (w : WorldState). w.sent) s.1 }
 serves (Sends path mode length agreed) old new from bytes report s = opens old new _ report s.2
 serves (Takes path mode agreed) old new from bytes report s = opens old new _ report s
 
-arrives : (old new : WorldState) (from to : Endpoint) (bytes : List ℕ) (report : Report) → Arrives old from to bytes report new → AddsOneAtMost old new
-arrives old new from to bytes report (At_request_port here port decoded says repeated same served) = serves _ old new from bytes report served
-arrives old new from to bytes report (At_open_end k x there at takes) = turns old new k x takes.turn takes.held report takes.turns
+arrives : (old new : WorldState) (from to : Endpoint) (bytes : List ℕ) (report : Report) →
+    Arrives old from to bytes report new → AddsOneAtMost old new
+arrives old new from to bytes report (At_request_port here port decoded says repeated same served) =
+    serves _ old new from bytes report served
+arrives old new from to bytes report (At_open_end k x there at takes) =
+    turns old new k x takes.turn takes.held report takes.turns
 arrives old new from to bytes report (At_closed_end k x there at s) = stays old new report s
 arrives old new from to bytes report (At_nobody away nobody s) = stays old new report s
 
-times_out : (old new : WorldState) (k : ℕ) (x : WorldEnd) (report : Report) → TimeoutStep old k x report new → AddsOneAtMost old new
+times_out : (old new : WorldState) (k : ℕ) (x : WorldEnd) (report : Report) → TimeoutStep old k x report new →
+    AddsOneAtMost old new
 times_out old new k (Closed_end x) report s = stays old new report s
 times_out old new k (Open_end x) report t = turns old new k x _ _ report t
 

@@ -1,10 +1,12 @@
 -- A client that opens.
-use Rattle.std.proofs.Common.{◌≡◌, ℕ, suc, zero, ◌+◌, ◌<◌, ◌≤◌, true, List, [], ◌∷◌, ◌++◌, length, Some, None, refl, sym, ap, ◌∙◌, subst, arith, length-append}
+use Rattle.std.proofs.Common.{◌≡◌, ℕ, suc, zero, ◌+◌, ◌<◌, ◌≤◌, true, List, [], ◌∷◌, ◌++◌, length, Some, None, refl}
+use Rattle.std.proofs.Common.{sym, ap, ◌∙◌, subst, arith, length-append}
 use Rattle.tftp_machine.specs.OpenEnds.{OpenEnd}
 use Rattle.tftp_player.specs.Clients.{AskRefuses}
 use Rattle.tftp_player.specs.WorldSteps.{EventRefuses, WorldRefuses}
 use Rattle.tftp_player.specs.declared.fault.WorldFault.{WorldFault}
-use Rattle.tftp_player.specs.declared.fault.WorldFault.TheVariants.{NoSuchDatagram, NoSuchEnd, NoPort, BadRequest, Memory}
+use Rattle.tftp_player.specs.declared.fault.WorldFault.TheVariants.{NoSuchDatagram, NoSuchEnd, NoPort, BadRequest}
+use Rattle.tftp_player.specs.declared.fault.WorldFault.TheVariants.{Memory}
 use Rattle.tftp_wire.specs.declared.mode.Mode.{Mode}
 use Rattle.tftp_negotiate.specs.declared.asked.Asked.{Asked}
 use Rattle.tftp_file.specs.Netascii.{wire_text}
@@ -21,7 +23,8 @@ use Rattle.tftp_player.specs.Played.{client_end, end_at, ends_from, records_from
 use Rattle.tftp_player.specs.Requests.{open_transfers}
 use Rattle.tftp_player.specs.Serving.{PlayedServer}
 use Rattle.tftp_player.specs.Stage.{ends_of, IsStaged, Enters, world_of}
-use Rattle.tftp_player.specs.World.{WorldState, next_port, sent_report, opened_in, WorldEnd, Open_end, end_record, standing}
+use Rattle.tftp_player.specs.World.{WorldState, next_port, sent_report, opened_in, WorldEnd, Open_end, end_record}
+use Rattle.tftp_player.specs.World.{standing}
 use Rattle.tftp_player.specs.WorldSteps.{WorldStep, HasPort}
 use Rattle.tftp_player.specs.Openings.{reading_client, writing_client}
 use Rattle.tftp_player.specs.declared.datagram.Datagram.{Datagram}
@@ -40,10 +43,12 @@ use Rattle.tftp_player.proofs.Standing.{standing_record}
 use Rattle.tftp_player.proofs.StageLemmas.{kept_by_port, no_transfer}
 use Rattle.tftp_player.proofs.StepLemmas.{get_step, put_step}
 
-pub ends_push : (server : PlayedServer) (ps : List Player) (p : Player) → ends_of server (ps ++ p ∷ []) ≡ ends_of server ps ++ end_at (1024 + length ps) server.held p ∷ []
+pub ends_push : (server : PlayedServer) (ps : List Player) (p : Player) →
+    ends_of server (ps ++ p ∷ []) ≡ ends_of server ps ++ end_at (1024 + length ps) server.held p ∷ []
 ends_push server ps p = mapped-push end_at ends_from (λ port h. refl) (λ port h q qs. refl) 1024 server.held ps p
 
-pub records_push : (port : ℕ) (ends : List WorldEnd) (x : WorldEnd) → records_from port (ends ++ x ∷ []) ≡ records_from port ends ++ (port + length ends, end_record x) ∷ []
+pub records_push : (port : ℕ) (ends : List WorldEnd) (x : WorldEnd) →
+    records_from port (ends ++ x ∷ []) ≡ records_from port ends ++ (port + length ends, end_record x) ∷ []
 records_push port [] x = let here : port ≡ port + zero = omega arith in ap (λ (n : ℕ). (n, end_record x) ∷ []) here
 records_push port (y ∷ ends) x =
     let there : port + 1 + length ends ≡ port + suc (length ends) = omega arith in
@@ -54,22 +59,32 @@ length_push : (ps : List Player) (p : Player) → length (ps ++ p ∷ []) ≡ su
 length_push ps p = omega (arith, length-append ps (p ∷ []))
 
 -- another client
-pub client_staged : (server : PlayedServer) (ps : List Player) (records : List (ℕ × Record)) (c : PlayedClient) (port : ℕ) (r : Record) →
-    IsStaged server ps records → port ≡ 1024 + length ps → r ≡ record_of c.end → is_client c.end.role.side ≡ true → AreFilesOf c.end.role.side c.files →
+pub client_staged :
+    (server : PlayedServer) (ps : List Player) (records : List (ℕ × Record)) (c : PlayedClient) (port : ℕ)
+    (r : Record) →
+    IsStaged server ps records → port ≡ 1024 + length ps → r ≡ record_of c.end → is_client c.end.role.side ≡ true →
+    AreFilesOf c.end.role.side c.files →
     IsStaged server (ps ++ Client c ∷ []) (records ++ (port, r) ∷ [])
 client_staged server ps records c port r staged is record_is client fits =
     let x = end_at (1024 + length ps) server.held (Client c) in
     let more : 1024 + length ps < 1024 + suc (length ps) = omega arith in
     let action : (port, r) ≡ (1024 + length (ends_of server ps), end_record x) =
     ap (λ (n : ℕ). (n, r)) (is ∙ ap (λ (n : ℕ). 1024 + n) (sym (ends_length server.held ps)))
-    ∙ ap (λ (q : Record). (1024 + length (ends_of server ps), q)) (record_is ∙ sym (standing_record (client_end (1024 + length ps) c))) in
+    ∙ ap (λ (q : Record). (1024 + length (ends_of server ps), q))
+    (record_is ∙ sym (standing_record (client_end (1024 + length ps) c))) in
     record {
-      kept = from_kept 1024 server.held (ps ++ Client c ∷ []) (kept-push PlayerKept kept_by_port 1024 server.held server.held ps (Client c) (λ other l u. refl) (to_kept 1024 server.held ps staged.kept) (client, fits));
+      kept =
+          from_kept 1024 server.held (ps ++ Client c ∷ [])
+          (kept-push PlayerKept kept_by_port 1024 server.held server.held ps (Client c) (λ other l u. refl)
+          (to_kept 1024 server.held ps staged.kept) (client, fits));
       recorded =
           ap (λ (rs : List (ℕ × Record)). rs ++ (port, r) ∷ []) staged.recorded
           ∙ (ap (λ (e : ℕ × Record). records_from 1024 (ends_of server ps) ++ e ∷ []) action
-          ∙ (sym (records_push 1024 (ends_of server ps) x) ∙ ap (records_from 1024) (sym (ends_push server ps (Client c)))));
-      below = subst (λ (n : ℕ). AreBelow (1024 + n) server.held) (sym (length_push ps (Client c))) (AreBelow-more (1024 + length ps) (1024 + suc (length ps)) server.held more staged.below);
+          ∙ (sym (records_push 1024 (ends_of server ps) x)
+          ∙ ap (records_from 1024) (sym (ends_push server ps (Client c)))));
+      below =
+          subst (λ (n : ℕ). AreBelow (1024 + n) server.held) (sym (length_push ps (Client c)))
+          (AreBelow-more (1024 + length ps) (1024 + suc (length ps)) server.held more staged.below);
       count = staged.count
           ∙ (sym (transfers-push_other (ends_of server ps) x (no_transfer (client_end (1024 + length ps) c) client))
           ∙ ap open_transfers (sym (ends_push server ps (Client c))));
@@ -79,16 +94,25 @@ client_staged server ps records c port r staged is record_is client fits =
     }
 
 -- the same, by equations
-pub client_entered : (server : PlayedServer) (ps ps0 ps1 : List Player) (records records0 records1 : List (ℕ × Record)) (c : PlayedClient) (port : ℕ) (r : Record) →
-    IsStaged server ps records → port ≡ 1024 + length (ends_of server ps) → is_client c.end.role.side ≡ true → AreFilesOf c.end.role.side c.files → r ≡ record_of c.end →
-    ps0 ≡ ps → ps1 ≡ ps0 ++ Client c ∷ [] → records0 ≡ records → records1 ≡ records0 ++ (port, r) ∷ [] → IsStaged server ps1 records1
+pub client_entered :
+    (server : PlayedServer) (ps ps0 ps1 : List Player) (records records0 records1 : List (ℕ × Record))
+    (c : PlayedClient) (port : ℕ) (r : Record) →
+    IsStaged server ps records → port ≡ 1024 + length (ends_of server ps) → is_client c.end.role.side ≡ true →
+    AreFilesOf c.end.role.side c.files → r ≡ record_of c.end →
+    ps0 ≡ ps → ps1 ≡ ps0 ++ Client c ∷ [] → records0 ≡ records → records1 ≡ records0 ++ (port, r) ∷ [] →
+    IsStaged server ps1 records1
 client_entered server ps ps0 ps1 records records0 records1 c port r staged is client fits record_is a b d e =
-    subst (λ (qs : List Player). IsStaged server qs records1) (sym (b ∙ ap (λ (qs : List Player). qs ++ Client c ∷ []) a))
-    (subst (λ (rs : List (ℕ × Record)). IsStaged server (ps ++ Client c ∷ []) rs) (sym (e ∙ ap (λ (rs : List (ℕ × Record)). rs ++ (port, r) ∷ []) d))
-    (client_staged server ps records c port r staged (is ∙ ap (λ (n : ℕ). 1024 + n) (ends_length server.held ps)) record_is client fits))
+    subst (λ (qs : List Player). IsStaged server qs records1)
+    (sym (b ∙ ap (λ (qs : List Player). qs ++ Client c ∷ []) a))
+    (subst (λ (rs : List (ℕ × Record)). IsStaged server (ps ++ Client c ∷ []) rs)
+    (sym (e ∙ ap (λ (rs : List (ℕ × Record)). rs ++ (port, r) ∷ []) d))
+    (client_staged server ps records c port r staged (is ∙ ap (λ (n : ℕ). 1024 + n) (ends_length server.held ps))
+    record_is client fits))
 
 -- the world that a client entered
-pub entered : (config : Config) (sent sent0 sent1 : List Datagram) (server server1 : PlayedServer) (ps ps1 : List Player) (old : WorldState) (c : PlayedClient) (effect : Effect) (port : ℕ) (report : Report) →
+pub entered :
+    (config : Config) (sent sent0 sent1 : List Datagram) (server server1 : PlayedServer) (ps ps1 : List Player)
+    (old : WorldState) (c : PlayedClient) (effect : Effect) (port : ℕ) (report : Report) →
     world_of config sent server ps ≡ old → port ≡ next_port old → server1 ≡ server → ps1 ≡ ps ++ Client c ∷ [] →
     sent0 ≡ sent → sent1 ≡ sent0 ++ said_by effect.from effect.to effect.bytes → report ≡ report_by sent0 effect →
     Enters old port c effect report (world_of config sent1 server1 ps1)
@@ -97,9 +121,14 @@ entered config sent sent0 sent1 server server1 ps ps1 old c effect port report v
       reports = reports ∙ ap (λ (ds : List Datagram). report_by ds effect) same;
       is =
           ap (λ (v : PlayedServer). world_of config sent1 v ps1) a
-          ∙ (ap (λ (ds : List Datagram). world_of config ds server ps1) (more ∙ ap (λ (ds : List Datagram). ds ++ said_by effect.from effect.to effect.bytes) same)
+          ∙ (ap (λ (ds : List Datagram). world_of config ds server ps1)
+          (more ∙ ap (λ (ds : List Datagram). ds ++ said_by effect.from effect.to effect.bytes) same)
           ∙ (ap (λ (qs : List Player). world_of config (sent ++ said_by effect.from effect.to effect.bytes) server qs) b
-          ∙ ap (λ (xs : List WorldEnd). record (world_of config sent server ps) { sent = sent ++ said_by effect.from effect.to effect.bytes; ends = xs }) ends));
+          ∙ ap
+          (λ (xs : List WorldEnd). record (world_of config sent server ps) {
+            sent = sent ++ said_by effect.from effect.to effect.bytes;
+            ends = xs;
+          }) ends));
     }) where
       here : 1024 + length ps ≡ port
       here = ap (λ (n : ℕ). 1024 + n) (sym (ends_length server.held ps)) ∙ (ap next_port view ∙ sym at)
@@ -109,73 +138,118 @@ entered config sent sent0 sent1 server server1 ps ps1 old c effect port report v
 
 -- what a new end sends
 abbrev first_effect : OpenEnd → Effect
-first_effect x = record { from = x.address; to = Some x.state.position.last_sent_to; bytes = x.state.position.last_sent; closed = None }
+first_effect x =
+    record {
+      from = x.address;
+      to = Some x.state.position.last_sent_to;
+      bytes = x.state.position.last_sent;
+      closed = None;
+    }
 
 -- a client that entered is the end that its event opens
-opens_so : (w : WorldState) (event : Event) (c : PlayedClient) (effect : Effect) (port : ℕ) (report : Report) (new : WorldState) (x : OpenEnd) →
-    standing (client_end port c) ≡ Open_end x → effect ≡ first_effect x → Enters w port c effect report new → WorldStep w event (sent_report w) (opened_in w x) →
+opens_so :
+    (w : WorldState) (event : Event) (c : PlayedClient) (effect : Effect) (port : ℕ) (report : Report)
+    (new : WorldState) (x : OpenEnd) →
+    standing (client_end port c) ≡ Open_end x → effect ≡ first_effect x → Enters w port c effect report new →
+    WorldStep w event (sent_report w) (opened_in w x) →
     WorldStep w event report new
 opens_so w event c effect port report new x is effects e step =
     subst (λ (r : Report). WorldStep w event r new) (sym (e.reports ∙ ap (report_by w.sent) effects))
     (subst (λ (v : WorldState). WorldStep w event (sent_report w) v)
     (sym (e.is
-    ∙ (ap (λ (f : Effect). record w { sent = w.sent ++ said_by f.from f.to f.bytes; ends = w.ends ++ standing (client_end port c) ∷ [] }) effects
-    ∙ ap (λ (y : WorldEnd). record w { sent = w.sent ++ said_by x.address (Some x.state.position.last_sent_to) x.state.position.last_sent; ends = w.ends ++ y ∷ [] }) is)))
+    ∙ (ap
+    (λ (f : Effect). record w {
+      sent = w.sent ++ said_by f.from f.to f.bytes;
+      ends = w.ends ++ standing (client_end port c) ∷ [];
+    }) effects
+    ∙ ap
+    (λ (y : WorldEnd). record w {
+      sent = w.sent ++ said_by x.address (Some x.state.position.last_sent_to) x.state.position.last_sent;
+      ends = w.ends ++ y ∷ [];
+    }) is)))
     step)
 
-module _ (config : Config) (sent : List Datagram) (server : PlayedServer) (ps : List Player) (records : List (ℕ × Record)) (old : WorldState)
-    (view : world_of config sent server ps ≡ old) (staged : IsStaged server ps records) (name : List ℕ) (mode : Mode) (asked : Asked) (c : PlayedClient) (effect : Effect) (port : ℕ)
+module _ (config : Config) (sent : List Datagram) (server : PlayedServer) (ps : List Player)
+    (records : List (ℕ × Record)) (old : WorldState)
+    (view : world_of config sent server ps ≡ old) (staged : IsStaged server ps records) (name : List ℕ) (mode : Mode)
+    (asked : Asked) (c : PlayedClient) (effect : Effect) (port : ℕ)
     (at : port ≡ next_port old) (fits : port < 65536) (report : Report) (new : WorldState) where
   has : HasPort old
   has = let p = at in omega (arith, p, fits)
 
   -- a client sent a read request
-  pub got : MayGet name mode asked → c ≡ asking_client (getting request_port name mode asked config.limits.max_file config.retries) → effect ≡ asking_effect port name mode asked →
+  pub got : MayGet name mode asked →
+      c ≡ asking_client (getting request_port name mode asked config.limits.max_file config.retries) →
+      effect ≡ asking_effect port name mode asked →
       Enters old port c effect report new → WorldStep old (Get name mode asked) report new
   got can client effects e =
       let x = reading_client old name mode asked in
       let own : c ≡ asking_client (getting request_port name mode asked old.limits.max_file old.retries) =
-      subst (λ (w : WorldState). c ≡ asking_client (getting request_port name mode asked w.limits.max_file w.retries)) view client in
+      subst (λ (w : WorldState). c ≡ asking_client (getting request_port name mode asked w.limits.max_file w.retries))
+      view client in
       let is : standing (client_end port c) ≡ Open_end x =
       ap (λ (k : PlayedClient). standing (client_end port k)) own
-      ∙ ap Open_end (ap (λ (n : ℕ). getting_client n name mode asked old.limits.max_file old.retries) at ∙ sym (reading_is old name mode asked)) in
-      opens_so old (Get name mode asked) c effect port report new x is (effects ∙ ap (λ (n : ℕ). asking_effect n name mode asked) at) e
+      ∙ ap Open_end
+      (ap (λ (n : ℕ). getting_client n name mode asked old.limits.max_file old.retries) at
+      ∙ sym (reading_is old name mode asked)) in
+      opens_so old (Get name mode asked) c effect port report new x is
+      (effects ∙ ap (λ (n : ℕ). asking_effect n name mode asked) at) e
       (get_step old name mode asked has can)
 
   -- a client sent a write request
   pub has_put : (file : List ℕ) → MayPut name mode asked (length (wire_text mode file)) →
-      c ≡ sending_client (putting request_port name mode asked (length (wire_text mode file)) config.limits.max_file config.retries) (wire_text mode file) file →
-      effect ≡ sending_effect port name mode asked → Enters old port c effect report new → WorldStep old (Put name mode asked file) report new
+      c ≡ sending_client
+      (putting request_port name mode asked (length (wire_text mode file)) config.limits.max_file config.retries)
+      (wire_text mode file) file →
+      effect ≡ sending_effect port name mode asked → Enters old port c effect report new →
+      WorldStep old (Put name mode asked file) report new
   has_put file can client effects e =
       let text = wire_text mode file in
       let x = writing_client old name mode asked file in
-      let own : c ≡ sending_client (putting request_port name mode asked (length text) old.limits.max_file old.retries) text file =
-      subst (λ (w : WorldState). c ≡ sending_client (putting request_port name mode asked (length text) w.limits.max_file w.retries) text file) view client in
+      let own : c
+      ≡ sending_client (putting request_port name mode asked (length text) old.limits.max_file old.retries) text file =
+      subst
+      (λ (w : WorldState). c
+      ≡ sending_client (putting request_port name mode asked (length text) w.limits.max_file w.retries) text file) view
+      client in
       let is : standing (client_end port c) ≡ Open_end x =
       ap (λ (k : PlayedClient). standing (client_end port k)) own
-      ∙ ap Open_end (ap (λ (n : ℕ). putting_client n name mode asked file old.limits.max_file old.retries) at ∙ sym (writing_is old name mode asked file)) in
-      opens_so old (Put name mode asked file) c effect port report new x is (effects ∙ ap (λ (n : ℕ). sending_effect n name mode asked) at) e
+      ∙ ap Open_end
+      (ap (λ (n : ℕ). putting_client n name mode asked file old.limits.max_file old.retries) at
+      ∙ sym (writing_is old name mode asked file)) in
+      opens_so old (Put name mode asked file) c effect port report new x is
+      (effects ∙ ap (λ (n : ℕ). sending_effect n name mode asked) at) e
       (put_step old name mode asked file has can)
 
-pub no_port : (config : Config) (sent : List Datagram) (server : PlayedServer) (ps : List Player) (old : WorldState) (count : ℕ) → world_of config sent server ps ≡ old → count ≡ length ps → 65535 < 1024 + count → 65535 < next_port old
+pub no_port :
+    (config : Config) (sent : List Datagram) (server : PlayedServer) (ps : List Player) (old : WorldState) (count : ℕ) →
+    world_of config sent server ps ≡ old → count ≡ length ps → 65535 < 1024 + count → 65535 < next_port old
 no_port config sent server ps old count view e h =
     let n = ends_length server.held ps in
     let l : 65535 < 1024 + length (ends_of server ps) = omega (arith, n, e, h) in
     subst (λ (w : WorldState). 65535 < next_port w) view l
 
-pub has_port : (config : Config) (sent : List Datagram) (server : PlayedServer) (ps : List Player) (old : WorldState) (count port : ℕ) → world_of config sent server ps ≡ old → count ≡ length ps → port ≡ 1024 + count → port < 65536 → HasPort old
+pub has_port :
+    (config : Config) (sent : List Datagram) (server : PlayedServer) (ps : List Player) (old : WorldState)
+    (count port : ℕ) → world_of config sent server ps ≡ old → count ≡ length ps → port ≡ 1024 + count → port < 65536 →
+    HasPort old
 has_port config sent server ps old count port view e is fits =
     let n = ends_length server.held ps in
     let l : 1024 + length (ends_of server ps) ≤ 65535 = omega (arith, n, e, is, fits) in
     subst HasPort view l
 
 -- the next port is the one that was found
-pub port_found : (config : Config) (sent : List Datagram) (server : PlayedServer) (ps : List Player) (old : WorldState) (count port : ℕ) → world_of config sent server ps ≡ old → count ≡ length ps → port ≡ 1024 + count → port ≡ next_port old
-port_found config sent server ps old count port view e is = is ∙ (ap (λ (n : ℕ). 1024 + n) (e ∙ sym (ends_length server.held ps)) ∙ ap next_port view)
+pub port_found :
+    (config : Config) (sent : List Datagram) (server : PlayedServer) (ps : List Player) (old : WorldState)
+    (count port : ℕ) → world_of config sent server ps ≡ old → count ≡ length ps → port ≡ 1024 + count →
+    port ≡ next_port old
+port_found config sent server ps old count port view e is =
+    is ∙ (ap (λ (n : ℕ). 1024 + n) (e ∙ sym (ends_length server.held ps)) ∙ ap next_port view)
 
 -- why a client did not open
 module _ (old : WorldState) (name : List ℕ) (mode : Mode) (asked : Asked) (has : HasPort old) where
-  pub get_refused : (fault : WorldFault) → AskRefuses (MayGet name mode asked) fault → WorldRefuses old (Get name mode asked) fault
+  pub get_refused : (fault : WorldFault) → AskRefuses (MayGet name mode asked) fault →
+      WorldRefuses old (Get name mode asked) fault
   get_refused BadRequest cannot = (has, cannot)
   get_refused Memory can = none where
     none : (f : WorldFault) → EventRefuses old (Get name mode asked) f → ⊥
@@ -188,7 +262,9 @@ module _ (old : WorldState) (name : List ℕ) (mode : Mode) (asked : Asked) (has
   get_refused NoSuchEnd h = absurd h
   get_refused NoPort h = absurd h
 
-  pub put_refused : (file : List ℕ) (fault : WorldFault) → AskRefuses (MayPut name mode asked (length (wire_text mode file))) fault → WorldRefuses old (Put name mode asked file) fault
+  pub put_refused : (file : List ℕ) (fault : WorldFault) →
+      AskRefuses (MayPut name mode asked (length (wire_text mode file))) fault →
+      WorldRefuses old (Put name mode asked file) fault
   put_refused file BadRequest cannot = (has, cannot)
   put_refused file Memory can = none where
     none : (f : WorldFault) → EventRefuses old (Put name mode asked file) f → ⊥

@@ -1,5 +1,6 @@
 -- What a world that is played keeps, by whether a stray has arrived.
-use Rattle.std.proofs.Common.{◌≡◌, ℕ, ◌+◌, suc, arith, Bool, true, false, List, [], ◌∷◌, ◌++◌, length, refl, sym, ap, subst, ◌∙◌}
+use Rattle.std.proofs.Common.{◌≡◌, ℕ, ◌+◌, suc, arith, Bool, true, false, List, [], ◌∷◌, ◌++◌, length, refl, sym, ap}
+use Rattle.std.proofs.Common.{subst, ◌∙◌}
 use Rattle.std.proofs.lemmas.Bool.{true≢false}
 use Rattle.std.proofs.lemmas.List.{length-append}
 use Rattle.tftp_player.specs.PlayedWorld.{strayed_after}
@@ -33,31 +34,47 @@ kept_anyway w ok =
     }
 
 -- each event keeps the world, by whether a stray has arrived
-pub played_keeps : (strayed : Bool) (w v : WorldState) (event : Event) (report : Report) → IsOk strayed w → WorldStep w event report v → IsOk (strayed_after strayed event) v
+pub played_keeps : (strayed : Bool) (w v : WorldState) (event : Event) (report : Report) → IsOk strayed w →
+    WorldStep w event report v → IsOk (strayed_after strayed event) v
 played_keeps true w v event report ok s = step_keeps true w v event report tt ok s
 played_keeps false w v (Get name mode asked) report ok s = step_keeps false w v (Get name mode asked) report tt ok s
-played_keeps false w v (Put name mode asked bytes) report ok s = step_keeps false w v (Put name mode asked bytes) report tt ok s
+played_keeps false w v (Put name mode asked bytes) report ok s =
+    step_keeps false w v (Put name mode asked bytes) report tt ok s
 played_keeps false w v (Deliver i) report ok s = step_keeps false w v (Deliver i) report tt ok s
 played_keeps false w v (Timeout port) report ok s = step_keeps false w v (Timeout port) report tt ok s
 played_keeps false w v (RefuseStore port) report ok s = step_keeps false w v (RefuseStore port) report tt ok s
-played_keeps false w v (Stray from to bytes) report ok s = step_keeps true w v (Stray from to bytes) report tt (kept_anyway w ok) s
+played_keeps false w v (Stray from to bytes) report ok s =
+    step_keeps true w v (Stray from to bytes) report tt (kept_anyway w ok) s
 
 -- without strays every peer is at home
 pub home_of : (strayed : Bool) (w : WorldState) → IsOk strayed w → strayed ≡ false → HasPeersAtHome w
 home_of strayed w ok e = ok_at_home w (subst (λ (b : Bool). IsOk b w) e ok)
 
 -- one more delivery
-pub delivered_more : (old mid new : WorldState) (from : ℕ) (reports : List Report) (report : Report) → Settles old from reports mid → WorldStep mid (Deliver (from + length reports)) report new → Settles old from (reports ++ report ∷ []) new
-delivered_more old mid new from [] report d s =
-    (new, subst (λ (w : WorldState). WorldStep w (Deliver from) report new) d (subst (λ (n : ℕ). WorldStep mid (Deliver n) report new) (add_0 from) s), refl)
-delivered_more old mid new from (r ∷ reports) report d s =
-    (d.0, d.1, delivered_more d.0 mid new (from + 1) reports report d.2 (subst (λ (n : ℕ). WorldStep mid (Deliver n) report new) (shifted from (length reports)) s))
+pub delivered_more : (old mid new : WorldState) (from : ℕ) (reports : List Report) (report : Report) →
+    Settles old from reports mid → WorldStep mid (Deliver (from + length reports)) report new →
+    Settles old from (reports ++ report ∷ []) new
+delivered_more old mid new from [] report d s = (
+  new,
+  subst (λ (w : WorldState). WorldStep w (Deliver from) report new) d
+      (subst (λ (n : ℕ). WorldStep mid (Deliver n) report new) (add_0 from) s),
+  refl,
+)
+delivered_more old mid new from (r ∷ reports) report d s = (
+  d.0,
+  d.1,
+  delivered_more d.0 mid new (from + 1) reports report d.2
+      (subst (λ (n : ℕ). WorldStep mid (Deliver n) report new) (shifted from (length reports)) s),
+)
 
 -- a run of deliveries continues
-pub delivers_on : (old mid new : WorldState) (from count : ℕ) (report : Report) → ((reports : List Report) × Settles old from reports mid × (length reports ≡ count)) → WorldStep mid (Deliver (from + count)) report new →
+pub delivers_on : (old mid new : WorldState) (from count : ℕ) (report : Report) →
+    ((reports : List Report) × Settles old from reports mid × (length reports ≡ count)) →
+    WorldStep mid (Deliver (from + count)) report new →
     (reports : List Report) × Settles old from reports new × (length reports ≡ count + 1)
 delivers_on old mid new from count report d s = (
   d.0 ++ report ∷ [],
-  delivered_more old mid new from d.0 report d.1 (subst (λ (n : ℕ). WorldStep mid (Deliver (from + n)) report new) (sym d.2) s),
+  delivered_more old mid new from d.0 report d.1
+      (subst (λ (n : ℕ). WorldStep mid (Deliver (from + n)) report new) (sym d.2) s),
   length-append d.0 (report ∷ []) ∙ ap (λ (n : ℕ). n + 1) d.2,
 )

@@ -1,5 +1,6 @@
 -- What is visible of what the server's request port did.
-use Rattle.std.proofs.Common.{◌≡◌, ℕ, Bool, true, false, List, [], ◌∷◌, Option, Some, None, Result, Ok, Err, refl, sym, ap, ◌∙◌, inl, inr}
+use Rattle.std.proofs.Common.{◌≡◌, ℕ, Bool, true, false, List, [], ◌∷◌, Option, Some, None, Result, Ok, Err, refl, sym}
+use Rattle.std.proofs.Common.{ap, ◌∙◌, inl, inr}
 use Rattle.std.specs.Prelude.{◌⊎◌, ◌*◌, if◌then◌else◌, nat_lt, nat_le, is_some, option_map}
 use Rattle.tftp_wire.specs.declared.mode.Mode.{Mode}
 use Rattle.tftp_wire.specs.declared.options.RawOption.{RawOption}
@@ -17,7 +18,8 @@ use Rattle.tftp_ends.specs.declared.error_reply.ErrorReply.TheVariants.{FileTooL
 use Rattle.tftp_ends.specs.End.{is_client, outcome_of, terms_of}
 use Rattle.tftp_ends.specs.Files.{AreFilesOf}
 use Rattle.tftp_wire.specs.Reading.{has_error_opcode}
-use Rattle.tftp_server.specs.Port.{Ask, Ignores, Refuses, Reads, Writes, Service, Silent, Refused, Sends, Takes, asks_store, by_draft, by_file, by_length, by_name, by_options, by_packet}
+use Rattle.tftp_server.specs.Port.{Ask, Ignores, Refuses, Reads, Writes, Service, Silent, Refused, Sends, Takes}
+use Rattle.tftp_server.specs.Port.{asks_store, by_draft, by_file, by_length, by_name, by_options, by_packet}
 use Rattle.tftp_server.specs.State.{draft_of, with_new}
 use Rattle.tftp_store.specs.Store.{measured}
 use Rattle.tftp_machine.specs.OpenEnds.{OpenEnd}
@@ -29,7 +31,8 @@ use Rattle.tftp_player.specs.Played.{served_as}
 use Rattle.tftp_player.specs.Requested.{new_served, receiver_at, requested_by, sender_at}
 use Rattle.tftp_player.specs.Requests.{begun_of, open_transfers, opened_of, served, service}
 use Rattle.tftp_player.specs.Serving.{Transfer, CommitsLast}
-use Rattle.tftp_player.specs.World.{WorldState, file_at, in_the_way, next_port, datagram, no_report, opened_in, said_in, sent_report}
+use Rattle.tftp_player.specs.World.{WorldState, file_at, in_the_way, next_port, datagram, no_report, opened_in, said_in}
+use Rattle.tftp_player.specs.World.{sent_report}
 use Rattle.tftp_player.specs.WorldSteps.{ServiceStep}
 use Rattle.tftp_player.specs.declared.served.Served.{Served}
 use Rattle.tftp_player.proofs.ServerLemmas.{PortAsking, PortLeft, PortDid, held_sender, held_receiver}
@@ -54,62 +57,91 @@ module _ (w : WorldState) (mode : Mode) (path file : List ℕ) where
   other_way true this that none h = absurd (none h)
   other_way false this that none h = h
 
-  first_way : (b : Bool) (this that : Service) → (OpensFor w mode path file that → ⊥) → OpensFor w mode path file (if b then this else that) → OpensFor w mode path file this
+  first_way : (b : Bool) (this that : Service) → (OpensFor w mode path file that → ⊥) →
+      OpensFor w mode path file (if b then this else that) → OpensFor w mode path file this
   first_way true this that none h = h
   first_way false this that none h = absurd (none h)
 
-  by_answer : (p : List ℕ) (m : Mode) (n : ℕ) (a : Result (List Known) Refusal) → OpensFor w mode path file (by_length p m n a) → (p ≡ path) × (m ≡ mode) × (file_at w.files path ≡ Some file)
+  by_answer : (p : List ℕ) (m : Mode) (n : ℕ) (a : Result (List Known) Refusal) →
+      OpensFor w mode path file (by_length p m n a) → (p ≡ path) × (m ≡ mode) × (file_at w.files path ≡ Some file)
   by_answer p m n (Err refusal) h = absurd h
-  by_answer p m n (Ok known) h = first_way (nat_lt n (65535 * size known)) (Sends p m n known) (Refused FileTooLarge) (λ f. f) h
+  by_answer p m n (Ok known) h =
+      first_way (nat_lt n (65535 * size known)) (Sends p m n known) (Refused FileTooLarge) (λ f. f) h
 
-  by_opened : (p : List ℕ) (m : Mode) (options : List RawOption) (there : Option (List ℕ)) → OpensFor w mode path file (by_file w.limits p m options (opened_of m there)) →
+  by_opened : (p : List ℕ) (m : Mode) (options : List RawOption) (there : Option (List ℕ)) →
+      OpensFor w mode path file (by_file w.limits p m options (opened_of m there)) →
       (p ≡ path) × (m ≡ mode) × (file_at w.files path ≡ Some file)
   by_opened p m options None h = absurd h
-  by_opened p m options (Some f) h = by_answer p m (measured m f) (answer options kinds.Read m (measured m f) w.limits) h
+  by_opened p m options (Some f) h =
+      by_answer p m (measured m f) (answer options kinds.Read m (measured m f) w.limits) h
 
-  by_begun : (p : List ℕ) (m : Mode) (agreed : List Known) (there : Option (List ℕ)) → OpensFor w mode path file (by_draft p m agreed (begun_of there)) → (p ≡ path) × (m ≡ mode) × (file ≡ [])
+  by_begun : (p : List ℕ) (m : Mode) (agreed : List Known) (there : Option (List ℕ)) →
+      OpensFor w mode path file (by_draft p m agreed (begun_of there)) → (p ≡ path) × (m ≡ mode) × (file ≡ [])
   by_begun p m agreed None h = h
   by_begun p m agreed (Some f) h = absurd h
 
-  by_accepted : (p : List ℕ) (m : Mode) (a : Result (List Known) Refusal) → Is_asked (by_options p m a) → (p ≡ path) × (m ≡ mode) × (file ≡ [])
+  by_accepted : (p : List ℕ) (m : Mode) (a : Result (List Known) Refusal) → Is_asked (by_options p m a) →
+      (p ≡ path) × (m ≡ mode) × (file ≡ [])
   by_accepted p m (Err refusal) h = absurd h
   by_accepted p m (Ok agreed) h = by_begun p m agreed (in_the_way w.overwrite (file_at w.files p)) h
 
   -- a read, and a write
-  read_named : (request : Request) (name : Result (List ℕ) PathFault) → Is_asked (by_name w.cap (open_transfers w.ends) (λ p. Reads p request.mode request.options) name) → AskedFor (sender_at w.files request.mode name)
+  read_named : (request : Request) (name : Result (List ℕ) PathFault) →
+      Is_asked (by_name w.cap (open_transfers w.ends) (λ p. Reads p request.mode request.options) name) →
+      AskedFor (sender_at w.files request.mode name)
   read_named request (Err fault) h = absurd h
   read_named request (Ok p) h =
-      let b = by_opened p request.mode request.options (file_at w.files p) (other_way (nat_le w.cap (open_transfers w.ends)) (Refuses ServerBusy) (Reads p request.mode request.options) (λ f. f) h) in
+      let b =
+      by_opened p request.mode request.options (file_at w.files p)
+      (other_way (nat_le w.cap (open_transfers w.ends)) (Refuses ServerBusy) (Reads p request.mode request.options)
+      (λ f. f) h) in
       ap (λ (q : List ℕ). sender_at w.files request.mode (Ok q)) b.0
-      ∙ (ap (λ (m : Mode). sender_at w.files m (Ok path)) b.1 ∙ ap (λ (f : Option (List ℕ)). option_map (λ (g : List ℕ). new_served mode path g) f) b.2)
+      ∙ (ap (λ (m : Mode). sender_at w.files m (Ok path)) b.1
+      ∙ ap (λ (f : Option (List ℕ)). option_map (λ (g : List ℕ). new_served mode path g) f) b.2)
 
   write_named : (request : Request) (name : Result (List ℕ) PathFault) →
-      Is_asked (by_name w.cap (open_transfers w.ends) (λ p. by_options p request.mode (answer request.options kinds.Write request.mode 0 w.limits)) name) → AskedFor (receiver_at request.mode name)
+      Is_asked
+      (by_name w.cap (open_transfers w.ends)
+      (λ p. by_options p request.mode (answer request.options kinds.Write request.mode 0 w.limits)) name) →
+      AskedFor (receiver_at request.mode name)
   write_named request (Err fault) h = absurd h
   write_named request (Ok p) h =
       let accepted = answer request.options kinds.Write request.mode 0 w.limits in
-      let b = by_accepted p request.mode accepted (other_way (nat_le w.cap (open_transfers w.ends)) (Refuses ServerBusy) (by_options p request.mode accepted) (λ f. f) h) in
+      let b =
+      by_accepted p request.mode accepted
+      (other_way (nat_le w.cap (open_transfers w.ends)) (Refuses ServerBusy) (by_options p request.mode accepted)
+      (λ f. f) h) in
       ap (λ (q : List ℕ). receiver_at request.mode (Ok q)) b.0
       ∙ (ap (λ (m : Mode). receiver_at m (Ok path)) b.1 ∙ ap (λ (f : List ℕ). Some (new_served mode path f)) (sym b.2))
 
-  by_asked : (repeated : Bool) (decoded : Option Packet) → Is_asked (by_packet w.cap (open_transfers w.ends) repeated w.limits decoded) → AskedFor (requested_by w.files decoded)
+  by_asked : (repeated : Bool) (decoded : Option Packet) →
+      Is_asked (by_packet w.cap (open_transfers w.ends) repeated w.limits decoded) →
+      AskedFor (requested_by w.files decoded)
   by_asked repeated None h = absurd h
   by_asked repeated (Some (Read request)) h =
       read_named request (path_of_name request.name)
-      (other_way repeated Ignores (by_name w.cap (open_transfers w.ends) (λ p. Reads p request.mode request.options) (path_of_name request.name)) (λ f. f) h)
+      (other_way repeated Ignores
+      (by_name w.cap (open_transfers w.ends) (λ p. Reads p request.mode request.options) (path_of_name request.name))
+      (λ f. f) h)
   by_asked repeated (Some (Write request)) h =
       write_named request (path_of_name request.name)
       (other_way repeated Ignores
-      (by_name w.cap (open_transfers w.ends) (λ p. by_options p request.mode (answer request.options kinds.Write request.mode 0 w.limits)) (path_of_name request.name)) (λ f. f) h)
+      (by_name w.cap (open_transfers w.ends)
+      (λ p. by_options p request.mode (answer request.options kinds.Write request.mode 0 w.limits))
+      (path_of_name request.name)) (λ f. f) h)
   by_asked repeated (Some (Data number bytes)) h = absurd h
   by_asked repeated (Some (Ack number)) h = absurd h
   by_asked repeated (Some (Error code text)) h = absurd h
   by_asked repeated (Some (Oack options)) h = absurd h
 
   -- the end that opens is the one that the packet asks for
-  pub service_opens : (repeated : Bool) (bytes : List ℕ) (decoded : Option Packet) → OpensFor w mode path file (service w repeated bytes decoded) → requested_by w.files decoded ≡ Some (new_served mode path file)
+  pub service_opens : (repeated : Bool) (bytes : List ℕ) (decoded : Option Packet) →
+      OpensFor w mode path file (service w repeated bytes decoded) →
+      requested_by w.files decoded ≡ Some (new_served mode path file)
   service_opens repeated bytes decoded h =
-      by_asked repeated decoded (other_way (has_error_opcode bytes) Ignores (by_packet w.cap (open_transfers w.ends) repeated w.limits decoded) (λ f. f) h)
+      by_asked repeated decoded
+      (other_way (has_error_opcode bytes) Ignores (by_packet w.cap (open_transfers w.ends) repeated w.limits decoded)
+      (λ f. f) h)
 
   -- and the store was asked
   pub opens_asks : (ask : Ask) → OpensFor w mode path file (served w ask) → asks_store ask ≡ true
@@ -122,7 +154,8 @@ module _ (w : WorldState) (mode : Mode) (path file : List ℕ) where
 -- it is consistent with what the server holds
 pub record IsNewEnd (w : WorldState) (from : Endpoint) (s : Served) (transfer : Transfer) (x : OpenEnd) : Type 0 where
   pub state : transfer.end ≡ x.state
-  pub end : served_as (next_port w) s transfer.end (left_in transfer.files) (draft_of transfer.files) transfer.request ≡ x
+  pub end : served_as (next_port w) s transfer.end (left_in transfer.files) (draft_of transfer.files) transfer.request
+      ≡ x
   pub address : x.address ≡ server_at (next_port w)
   pub still : outcome_of x.state.position.phase ≡ None
   pub to : x.state.position.last_sent_to ≡ from
@@ -134,8 +167,10 @@ pub record IsNewEnd (w : WorldState) (from : Endpoint) (s : Served) (transfer : 
   pub path : transfer.path ≡ s.path
   pub ended : s.ended ≡ None
 
-pub new_sender : (w : WorldState) (from : Endpoint) (bytes : List ℕ) (mode : Mode) (path file : List ℕ) (agreed : List Known) →
-    IsNewEnd w from (new_served mode path file) (held_sender (sending_end w from bytes mode path file agreed)) (sending_end w from bytes mode path file agreed)
+pub new_sender :
+    (w : WorldState) (from : Endpoint) (bytes : List ℕ) (mode : Mode) (path file : List ℕ) (agreed : List Known) →
+    IsNewEnd w from (new_served mode path file) (held_sender (sending_end w from bytes mode path file agreed))
+    (sending_end w from bytes mode path file agreed)
 new_sender w from bytes mode path file [] = record {
   state = refl;
   end = refl;
@@ -165,8 +200,10 @@ new_sender w from bytes mode path file (known ∷ agreed) = record {
   ended = refl;
 }
 
-pub new_receiver : (w : WorldState) (from : Endpoint) (bytes : List ℕ) (mode : Mode) (path : List ℕ) (agreed : List Known) →
-    IsNewEnd w from (new_served mode path []) (held_receiver (receiving_end w from bytes mode path agreed)) (receiving_end w from bytes mode path agreed)
+pub new_receiver :
+    (w : WorldState) (from : Endpoint) (bytes : List ℕ) (mode : Mode) (path : List ℕ) (agreed : List Known) →
+    IsNewEnd w from (new_served mode path []) (held_receiver (receiving_end w from bytes mode path agreed))
+    (receiving_end w from bytes mode path agreed)
 new_receiver w from bytes mode path [] = record {
   state = refl;
   end = refl;
@@ -218,7 +255,9 @@ module _ (w : WorldState) (asking : PortAsking) (result : PortLeft) where
     pub tid : result.opened.tid ≡ None
     pub to : result.opened.to ≡ Some asking.from
     pub new : result.new ≡ asking.old
-    pub serves : ServiceStep what w asking.from asking.bytes (sent_report w) (said_in w (datagram request_port asking.from result.sent))
+    pub serves :
+        ServiceStep what w asking.from asking.bytes (sent_report w)
+        (said_in w (datagram request_port asking.from result.sent))
 
   -- nothing happened
   pub record PortSilent (what : Service) : Type 0 where
@@ -229,7 +268,8 @@ module _ (w : WorldState) (asking : PortAsking) (result : PortLeft) where
     pub serves : ServiceStep what w asking.from asking.bytes no_report w
 
   -- one of the three
-  pub port_seen : (what : Service) → PortDid w what asking result → PortOpened what ⊎ (PortRefused what ⊎ PortSilent what)
+  pub port_seen : (what : Service) → PortDid w what asking result →
+      PortOpened what ⊎ (PortRefused what ⊎ PortSilent what)
   port_seen Silent h = inr (inr (record {
     tid = ap (λ (r : PortLeft). r.opened.tid) h;
     to = ap (λ (r : PortLeft). r.opened.to) h;
@@ -241,7 +281,10 @@ module _ (w : WorldState) (asking : PortAsking) (result : PortLeft) where
     tid = ap (λ (r : PortLeft). r.opened.tid) h;
     to = ap (λ (r : PortLeft). r.opened.to) h;
     new = ap (λ (r : PortLeft). r.new) h;
-    serves = (refl, ap (λ (bytes : List ℕ). said_in w (datagram request_port asking.from bytes)) (ap (λ (r : PortLeft). r.sent) h));
+    serves = (
+      refl,
+      ap (λ (bytes : List ℕ). said_in w (datagram request_port asking.from bytes)) (ap (λ (r : PortLeft). r.sent) h),
+    );
   }))
   port_seen (Sends path mode count agreed) h = inl (record {
     mode = mode;
@@ -273,7 +316,8 @@ module _ (w : WorldState) (asking : PortAsking) (result : PortLeft) where
   })
 
   -- by whether the call returned an identifier
-  pub port_opened : (what : Service) (tid : ℕ) → PortDid w what asking result → result.opened.tid ≡ Some tid → PortOpened what
+  pub port_opened : (what : Service) (tid : ℕ) → PortDid w what asking result → result.opened.tid ≡ Some tid →
+      PortOpened what
   port_opened what tid did tid_is = elim (port_seen what did) [
     | inl opened ↦ opened
     | inr other ↦ absurd (elim other [
@@ -282,7 +326,8 @@ module _ (w : WorldState) (asking : PortAsking) (result : PortLeft) where
     ])
   ]
 
-  pub port_not_opened : (what : Service) → PortDid w what asking result → result.opened.tid ≡ None → PortRefused what ⊎ PortSilent what
+  pub port_not_opened : (what : Service) → PortDid w what asking result → result.opened.tid ≡ None →
+      PortRefused what ⊎ PortSilent what
   port_not_opened what did tid_is = elim (port_seen what did) [
     | inl opened ↦ absurd (let f : None ≡ Some asking.tid = sym tid_is ∙ opened.tid in cc)
     | inr other ↦ other

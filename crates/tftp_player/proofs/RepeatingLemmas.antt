@@ -1,5 +1,6 @@
 -- A request that repeats that of an open transfer opens nothing, and repeats it while that transfer is open.
-use Rattle.std.proofs.Common.{◌≡◌, ℕ, ◌<◌, Bool, true, false, List, [], ◌∷◌, ◌++◌, length, Option, Some, None, refl, sym, ap, ◌∙◌, subst, inl, inr, arith}
+use Rattle.std.proofs.Common.{◌≡◌, ℕ, ◌<◌, Bool, true, false, List, [], ◌∷◌, ◌++◌, length, Option, Some, None, refl}
+use Rattle.std.proofs.Common.{sym, ap, ◌∙◌, subst, inl, inr, arith}
 use Rattle.std.specs.Prelude.{if◌then◌else◌, option_map, slice_get, slice_set}
 use Rattle.std.proofs.Math.ListN.{length-set}
 use Rattle.std.proofs.lemmas.Bool.{true≢false}
@@ -25,11 +26,13 @@ use Rattle.tftp_machine.specs.Hosts.{request_port}
 use Rattle.tftp_machine.specs.Machine.{Endpoint}
 use Rattle.tftp_machine.specs.OpenEnds.{OpenEnd, files_of, end_after, peer_of}
 use Rattle.tftp_player.specs.Openings.{sending_end, receiving_end}
-use Rattle.tftp_player.specs.Repeating.{AsksForTransfer, RepeatsOpenNothing, IsNewRequest, OnlyNewRequestsOpen, RequestsLast}
+use Rattle.tftp_player.specs.Repeating.{AsksForTransfer, RepeatsOpenNothing, IsNewRequest, OnlyNewRequestsOpen}
+use Rattle.tftp_player.specs.Repeating.{RequestsLast}
 use Rattle.tftp_player.specs.Requests.{IsRepeated, WasAskedBy, Repeats, AnyRepeats, served, service}
 use Rattle.tftp_player.specs.World.{WorldState, WorldEnd, Open_end, Closed_end, by_outcome, standing, is_closed}
 use Rattle.tftp_player.specs.WorldKept.{IsOk}
-use Rattle.tftp_player.specs.WorldSteps.{ServiceStep, Arrives, At_request_port, At_open_end, At_closed_end, At_nobody, OpeningStep, Stays, Turns, TimeoutStep, armed_end, WorldStep}
+use Rattle.tftp_player.specs.WorldSteps.{ServiceStep, Arrives, At_request_port, At_open_end, At_closed_end, At_nobody}
+use Rattle.tftp_player.specs.WorldSteps.{OpeningStep, Stays, Turns, TimeoutStep, armed_end, WorldStep}
 use Rattle.tftp_player.specs.declared.event.Event.{Event}
 use Rattle.tftp_player.specs.declared.event.Event.TheVariants.{Get, Put, Deliver, Timeout, RefuseStore, Stray}
 use Rattle.tftp_player.specs.declared.report.Report.{Report}
@@ -40,7 +43,8 @@ use Rattle.tftp_player.proofs.TermsKept.{step_has, timeout_has}
 -- ---- what repeats a request is ignored
 
 -- no end is at the request port
-none_at_port : (strangers : Bool) (w : WorldState) (k : ℕ) (x : OpenEnd) → IsOk strangers w → slice_get w.ends k ≡ Some (Open_end x) → x.address ≡ request_port → ⊥
+none_at_port : (strangers : Bool) (w : WorldState) (k : ℕ) (x : OpenEnd) → IsOk strangers w →
+    slice_get w.ends k ≡ Some (Open_end x) → x.address ≡ request_port → ⊥
 none_at_port strangers w k x ok there at =
     let p = ok.ports k (Open_end x) there in
     let q : x.address.port ≡ 69 = ap (λ (e : Endpoint). e.port) at in
@@ -51,7 +55,8 @@ ignored_by : (w : WorldState) (b : Bool) → served w (if b then Ignores else Ig
 ignored_by w true = refl
 ignored_by w false = refl
 
-repeat_silent : (w : WorldState) (bytes : List ℕ) (packet : Packet) → AsksForTransfer packet → service w true bytes (Some packet) ≡ Silent
+repeat_silent : (w : WorldState) (bytes : List ℕ) (packet : Packet) → AsksForTransfer packet →
+    service w true bytes (Some packet) ≡ Silent
 repeat_silent w bytes (Read request) asks = ignored_by w (has_error_opcode bytes)
 repeat_silent w bytes (Write request) asks = ignored_by w (has_error_opcode bytes)
 repeat_silent w bytes (Data number piece) asks = absurd asks
@@ -59,12 +64,16 @@ repeat_silent w bytes (Ack number) asks = absurd asks
 repeat_silent w bytes (Error code text) asks = absurd asks
 repeat_silent w bytes (Oack options) asks = absurd asks
 
-module _ (old new : WorldState) (from : Endpoint) (packet : Packet) (bytes : List ℕ) (report : Report) (asks : AsksForTransfer packet) (spells : Spells packet bytes) (any : AnyRepeats from packet old.ends) where
-  at_port : (repeated : Bool) → IsRepeated repeated from (Some packet) old.ends → ServiceStep (service old repeated bytes (Some packet)) old from bytes report new → Stays old report new
-  at_port true same s = subst (λ (what : Service). ServiceStep what old from bytes report new) (repeat_silent old bytes packet asks) s
+module _ (old new : WorldState) (from : Endpoint) (packet : Packet) (bytes : List ℕ) (report : Report)
+    (asks : AsksForTransfer packet) (spells : Spells packet bytes) (any : AnyRepeats from packet old.ends) where
+  at_port : (repeated : Bool) → IsRepeated repeated from (Some packet) old.ends →
+      ServiceStep (service old repeated bytes (Some packet)) old from bytes report new → Stays old report new
+  at_port true same s =
+      subst (λ (what : Service). ServiceStep what old from bytes report new) (repeat_silent old bytes packet asks) s
   at_port false same s = absurd (true≢false (sym (same.1 any)))
 
-  stays : (strangers : Bool) (to : Endpoint) → IsOk strangers old → to ≡ request_port → Arrives old from to bytes report new → Stays old report new
+  stays : (strangers : Bool) (to : Endpoint) → IsOk strangers old → to ≡ request_port →
+      Arrives old from to bytes report new → Stays old report new
   stays strangers to ok here (At_request_port _ port decoded says repeated same s) =
       let e = says_one bytes decoded (Some packet) says spells in
       at_port repeated (subst (λ (d : Option Packet). IsRepeated repeated from d old.ends) e same)
@@ -80,21 +89,29 @@ repeats_open_nothing strangers old new from packet bytes report ok asks spells a
 
 -- ---- what opens an end
 
-any_last : (from : Endpoint) (packet : Packet) (ends : List WorldEnd) (x : WorldEnd) → Repeats from packet x → AnyRepeats from packet (ends ++ x ∷ [])
+any_last : (from : Endpoint) (packet : Packet) (ends : List WorldEnd) (x : WorldEnd) → Repeats from packet x →
+    AnyRepeats from packet (ends ++ x ∷ [])
 any_last from packet [] x r = inl r
 any_last from packet (y ∷ ends) x r = inr (any_last from packet ends x r)
 
-sender_repeats : (w : WorldState) (from : Endpoint) (bytes : List ℕ) (mode : Mode) (path file : List ℕ) (agreed : List Known) (packet : Packet) → Spells packet bytes →
+sender_repeats :
+    (w : WorldState) (from : Endpoint) (bytes : List ℕ) (mode : Mode) (path file : List ℕ) (agreed : List Known)
+    (packet : Packet) → Spells packet bytes →
     WasAskedBy from packet (sending_end w from bytes mode path file agreed)
 sender_repeats w from bytes mode path file [] packet spells = record { server = refl; peer = refl; same = spells }
-sender_repeats w from bytes mode path file (known ∷ agreed) packet spells = record { server = refl; peer = refl; same = spells }
+sender_repeats w from bytes mode path file (known ∷ agreed) packet spells =
+    record { server = refl; peer = refl; same = spells }
 
-receiver_repeats : (w : WorldState) (from : Endpoint) (bytes : List ℕ) (mode : Mode) (path : List ℕ) (agreed : List Known) (packet : Packet) → Spells packet bytes →
+receiver_repeats :
+    (w : WorldState) (from : Endpoint) (bytes : List ℕ) (mode : Mode) (path : List ℕ) (agreed : List Known)
+    (packet : Packet) → Spells packet bytes →
     WasAskedBy from packet (receiving_end w from bytes mode path agreed)
 receiver_repeats w from bytes mode path [] packet spells = record { server = refl; peer = refl; same = spells }
-receiver_repeats w from bytes mode path (known ∷ agreed) packet spells = record { server = refl; peer = refl; same = spells }
+receiver_repeats w from bytes mode path (known ∷ agreed) packet spells =
+    record { server = refl; peer = refl; same = spells }
 
-module _ (old new : WorldState) (from : Endpoint) (bytes : List ℕ) (report : Report) (more : length old.ends < length new.ends) where
+module _ (old new : WorldState) (from : Endpoint) (bytes : List ℕ) (report : Report)
+    (more : length old.ends < length new.ends) where
   abbrev Serves_so : Service → Type 0
   Serves_so what = ServiceStep what old from bytes report new
 
@@ -108,23 +125,31 @@ module _ (old new : WorldState) (from : Endpoint) (bytes : List ℕ) (report : R
   said : (w : WorldState) → new ≡ w → w.ends ≡ old.ends → ⊥
   said w is e = same (ap (λ (v : WorldState). length v.ends) is ∙ ap length e)
 
-  opened_repeats : (packet : Packet) (x : OpenEnd) → OpeningStep old x report new → WasAskedBy from packet x → AnyRepeats from packet new.ends
-  opened_repeats packet x o r = subst (λ (w : WorldState). AnyRepeats from packet w.ends) (sym o.is) (any_last from packet old.ends (Open_end x) r)
+  opened_repeats : (packet : Packet) (x : OpenEnd) → OpeningStep old x report new → WasAskedBy from packet x →
+      AnyRepeats from packet new.ends
+  opened_repeats packet x o r =
+      subst (λ (w : WorldState). AnyRepeats from packet w.ends) (sym o.is)
+      (any_last from packet old.ends (Open_end x) r)
 
-  served_repeats : (what : Service) (packet : Packet) → Spells packet bytes → Serves_so what → AnyRepeats from packet new.ends
+  served_repeats : (what : Service) (packet : Packet) → Spells packet bytes → Serves_so what →
+      AnyRepeats from packet new.ends
   served_repeats Silent packet spells s = absurd (still s)
   served_repeats (Refused reply) packet spells s = absurd (said _ s.1 refl)
-  served_repeats (Sends path mode count agreed) packet spells s = opened_repeats packet _ s.2 (sender_repeats old from bytes mode path s.0 agreed packet spells)
-  served_repeats (Takes path mode agreed) packet spells s = opened_repeats packet _ s (receiver_repeats old from bytes mode path agreed packet spells)
+  served_repeats (Sends path mode count agreed) packet spells s =
+      opened_repeats packet _ s.2 (sender_repeats old from bytes mode path s.0 agreed packet spells)
+  served_repeats (Takes path mode agreed) packet spells s =
+      opened_repeats packet _ s (receiver_repeats old from bytes mode path agreed packet spells)
 
   -- no request: an ERROR or nothing
   no_request : (b : Bool) → Serves_so (served old (if b then Ignores else Refuses IllegalOperation)) → ⊥
   no_request true s = still s
   no_request false s = said _ s.1 refl
 
-  asked : (to : Endpoint) → to ≡ request_port → (packet : Packet) → AsksForTransfer packet → Spells packet bytes → (repeated : Bool) → IsRepeated repeated from (Some packet) old.ends →
+  asked : (to : Endpoint) → to ≡ request_port → (packet : Packet) → AsksForTransfer packet → Spells packet bytes →
+      (repeated : Bool) → IsRepeated repeated from (Some packet) old.ends →
       Serves_so (service old repeated bytes (Some packet)) → IsNewRequest from to bytes old new
-  asked to here packet asks spells true same s = absurd (still (subst Serves_so (repeat_silent old bytes packet asks) s))
+  asked to here packet asks spells true same s =
+      absurd (still (subst Serves_so (repeat_silent old bytes packet asks) s))
   asked to here packet asks spells false same s = record {
     packet = packet;
     asks = asks;
@@ -134,7 +159,8 @@ module _ (old new : WorldState) (from : Endpoint) (bytes : List ℕ) (report : R
     now = served_repeats (service old false bytes (Some packet)) packet spells s;
   }
 
-  port_opens : (to : Endpoint) → to ≡ request_port → (decoded : Option Packet) → Decodes bytes decoded → (repeated : Bool) → IsRepeated repeated from decoded old.ends →
+  port_opens : (to : Endpoint) → to ≡ request_port → (decoded : Option Packet) → Decodes bytes decoded →
+      (repeated : Bool) → IsRepeated repeated from decoded old.ends →
       Serves_so (service old repeated bytes decoded) → IsNewRequest from to bytes old new
   port_opens to here None says repeated same s = absurd (no_request (has_error_opcode bytes) s)
   port_opens to here (Some (Read request)) says repeated same s = asked to here (Read request) tt says repeated same s
@@ -145,7 +171,8 @@ module _ (old new : WorldState) (from : Endpoint) (bytes : List ℕ) (report : R
   port_opens to here (Some (Oack options)) says repeated same s = absurd (no_request (has_error_opcode bytes) s)
 
   turned : (k : ℕ) (x : OpenEnd) (turn : Turn) (held : Files (List ℕ) Holding) → Turns old k x turn held report new → ⊥
-  turned k x turn held t = same (ap (λ (w : WorldState). length w.ends) t.is ∙ length-set old.ends k (standing (end_after x turn held)))
+  turned k x turn held t =
+      same (ap (λ (w : WorldState). length w.ends) t.is ∙ length-set old.ends k (standing (end_after x turn held)))
 
   opens : (to : Endpoint) → Arrives old from to bytes report new → IsNewRequest from to bytes old new
   opens to (At_request_port here port decoded says repeated same s) = port_opens to here decoded says repeated same s
@@ -159,9 +186,11 @@ only_new_requests_open old new from to bytes report l more = opens old new from 
 -- ---- a request lasts as long as the end that it opened is open
 
 -- the peer stays with what was agreed on
-same_peer : (phase phase' : Phase) (from : Endpoint) → peer_of phase ≡ Some from → ((agreed : Terms) → terms_of phase ≡ Some agreed → terms_of phase' ≡ Some agreed) → peer_of phase' ≡ Some from
+same_peer : (phase phase' : Phase) (from : Endpoint) → peer_of phase ≡ Some from →
+    ((agreed : Terms) → terms_of phase ≡ Some agreed → terms_of phase' ≡ Some agreed) → peer_of phase' ≡ Some from
 same_peer phase phase' from peer stays = by_terms (terms_of phase) refl peer where
-  by_terms : (terms : Option Terms) → terms_of phase ≡ terms → option_map (λ t. t.peer) terms ≡ Some from → peer_of phase' ≡ Some from
+  by_terms : (terms : Option Terms) → terms_of phase ≡ terms → option_map (λ t. t.peer) terms ≡ Some from →
+      peer_of phase' ≡ Some from
   by_terms None is h = absurd (let f : None ≡ Some from = h in cc)
   by_terms (Some agreed) is h = ap (option_map (λ t. t.peer)) (stays agreed is) ∙ h
 
@@ -171,11 +200,22 @@ module _ (from : Endpoint) (packet : Packet) where
   Lasts x = is_closed x ≡ false → Repeats from packet x
 
   turn_lasts : (x : OpenEnd) (turn : Turn) (held : Files (List ℕ) Holding) →
-      ((agreed : Terms) → terms_of x.state.position.phase ≡ Some agreed → terms_of turn.position.phase ≡ Some agreed) → WasAskedBy from packet x → Lasts (standing (end_after x turn held))
+      ((agreed : Terms) → terms_of x.state.position.phase ≡ Some agreed → terms_of turn.position.phase ≡ Some agreed) →
+      WasAskedBy from packet x → Lasts (standing (end_after x turn held))
   turn_lasts x turn held stays r = by_case (outcome_of (end_after x turn held).state.position.phase) where
     by_files : (files : Files (List ℕ) Holding) → WasAskedBy from packet (end_after x turn files)
-    by_files (Source left) = record { server = r.server; peer = same_peer x.state.position.phase turn.position.phase from r.peer stays; same = r.same }
-    by_files (Sink holding) = record { server = r.server; peer = same_peer x.state.position.phase turn.position.phase from r.peer stays; same = r.same }
+    by_files (Source left) =
+        record {
+          server = r.server;
+          peer = same_peer x.state.position.phase turn.position.phase from r.peer stays;
+          same = r.same;
+        }
+    by_files (Sink holding) =
+        record {
+          server = r.server;
+          peer = same_peer x.state.position.phase turn.position.phase from r.peer stays;
+          same = r.same;
+        }
 
     by_case : (o : Option Outcome) → Lasts (by_outcome o (end_after x turn held))
     by_case None open_now = by_files held
@@ -188,24 +228,36 @@ module _ (from : Endpoint) (packet : Packet) where
     by_test false = record { server = r.server; peer = r.peer; same = r.same }
   armed_lasts (Closed_end x) r = r
 
-  module _ (old new : WorldState) (report : Report) (k : ℕ) (x z : WorldEnd) (there : slice_get old.ends k ≡ Some x) (r : Repeats from packet x) (here : slice_get new.ends k ≡ Some z) where
+  module _ (old new : WorldState) (report : Report) (k : ℕ) (x z : WorldEnd) (there : slice_get old.ends k ≡ Some x)
+      (r : Repeats from packet x) (here : slice_get new.ends k ≡ Some z) where
     same_end : new.ends ≡ old.ends → Lasts z
-    same_end e o = subst (Repeats from packet) (same_Some x z (sym there ∙ (ap (λ (ends : List WorldEnd). slice_get ends k) (sym e) ∙ here))) r
+    same_end e o =
+        subst (Repeats from packet)
+        (same_Some x z (sym there ∙ (ap (λ (ends : List WorldEnd). slice_get ends k) (sym e) ∙ here))) r
 
     same_world : Stays old report new → Lasts z
     same_world s = same_end (ap (λ (w : WorldState). w.ends) s.is)
 
     pushed : (y : OpenEnd) → OpeningStep old y report new → Lasts z
-    pushed y opens o = subst (Repeats from packet) (same_Some x z (sym (slice_get-push_old old.ends k (Open_end y) x there) ∙ (ap (λ (w : WorldState). slice_get w.ends k) (sym opens.is) ∙ here))) r
+    pushed y opens o =
+        subst (Repeats from packet)
+        (same_Some x z
+        (sym (slice_get-push_old old.ends k (Open_end y) x there)
+        ∙ (ap (λ (w : WorldState). slice_get w.ends k) (sym opens.is) ∙ here))) r
 
     -- the end at an index was replaced
-    set_at : (j : ℕ) (y a : WorldEnd) → new.ends ≡ slice_set old.ends j a → slice_get old.ends j ≡ Some y → (Repeats from packet y → Lasts a) → Lasts z
-    set_at j y a e at lasts = elim (slice_get-set_cases old.ends j k a z (ap (λ (ends : List WorldEnd). slice_get ends k) (sym e) ∙ here)) [
-      | inl h ↦ subst Lasts (sym h.1) (lasts (subst (Repeats from packet) (same_Some x y (sym there ∙ (ap (slice_get old.ends) h.0 ∙ at))) r))
-      | inr h ↦ λ o. subst (Repeats from packet) (same_Some x z (sym there ∙ h.1)) r
-    ]
+    set_at : (j : ℕ) (y a : WorldEnd) → new.ends ≡ slice_set old.ends j a → slice_get old.ends j ≡ Some y →
+        (Repeats from packet y → Lasts a) → Lasts z
+    set_at j y a e at lasts =
+        elim (slice_get-set_cases old.ends j k a z (ap (λ (ends : List WorldEnd). slice_get ends k) (sym e) ∙ here)) [
+          | inl h ↦
+              subst Lasts (sym h.1)
+              (lasts (subst (Repeats from packet) (same_Some x y (sym there ∙ (ap (slice_get old.ends) h.0 ∙ at))) r))
+          | inr h ↦ λ o. subst (Repeats from packet) (same_Some x z (sym there ∙ h.1)) r
+        ]
 
-    at_service : (what : Service) (bytes : List ℕ) (asker : Endpoint) → ServiceStep what old asker bytes report new → Lasts z
+    at_service : (what : Service) (bytes : List ℕ) (asker : Endpoint) → ServiceStep what old asker bytes report new →
+        Lasts z
     at_service Silent bytes asker s = same_world s
     at_service (Refused reply) bytes asker s = same_end (ap (λ (w : WorldState). w.ends) s.1)
     at_service (Sends path mode count agreed) bytes asker s = pushed _ s.2
@@ -214,15 +266,18 @@ module _ (from : Endpoint) (packet : Packet) where
     at_arrival : (by to : Endpoint) (bytes : List ℕ) → Arrives old by to bytes report new → Lasts z
     at_arrival by to bytes (At_request_port asked port decoded says repeated same s) = at_service _ bytes by s
     at_arrival by to bytes (At_open_end j y there_now at t) =
-        set_at j (Open_end y) (standing (end_after y t.turn t.held)) (ap (λ (w : WorldState). w.ends) t.turns.is) there_now
-        (turn_lasts y t.turn t.held (λ agreed h. step_has agreed _ by bytes y.state (files_of y) t.held t.turn h t.steps))
+        set_at j (Open_end y) (standing (end_after y t.turn t.held)) (ap (λ (w : WorldState). w.ends) t.turns.is)
+        there_now
+        (turn_lasts y t.turn t.held
+        (λ agreed h. step_has agreed _ by bytes y.state (files_of y) t.held t.turn h t.steps))
     at_arrival by to bytes (At_closed_end j y there_now at s) = same_world s
     at_arrival by to bytes (At_nobody away nobody s) = same_world s
 
     at_timeout : (j : ℕ) (y : WorldEnd) → slice_get old.ends j ≡ Some y → TimeoutStep old j y report new → Lasts z
     at_timeout j (Closed_end y) at s = same_world s
     at_timeout j (Open_end y) at t =
-        set_at j (Open_end y) (standing (end_after y (timeout_turn y.state) (files_of y))) (ap (λ (w : WorldState). w.ends) t.is) at
+        set_at j (Open_end y) (standing (end_after y (timeout_turn y.state) (files_of y)))
+        (ap (λ (w : WorldState). w.ends) t.is) at
         (turn_lasts y (timeout_turn y.state) (files_of y) (λ agreed h. timeout_has agreed y.state h))
 
     at_event : (event : Event) → WorldStep old event report new → Lasts z
@@ -235,4 +290,5 @@ module _ (from : Endpoint) (packet : Packet) where
     at_event (Stray by to bytes) s = at_arrival _ _ _ s.1
 
 pub requests_last : RequestsLast
-requests_last old new event report from packet k x y s there r here open_now = at_event from packet old new report k x y there r here event s open_now
+requests_last old new event report from packet k x y s there r here open_now =
+    at_event from packet old new report k x y there r here event s open_now

@@ -1,5 +1,6 @@
 -- What the server's request port did is what the world has of it, for a store in memory.
-use Rattle.std.proofs.Common.{◌≡◌, ◌≢◌, ℕ, ◌*◌, ◌<◌, Bool, true, false, List, [], ◌∷◌, length, get_or, take, drop, min, Option, Some, None, Result, Ok, Err, refl, sym, ap, ◌∙◌, subst, arith, inl, inr}
+use Rattle.std.proofs.Common.{◌≡◌, ◌≢◌, ℕ, ◌*◌, ◌<◌, Bool, true, false, List, [], ◌∷◌, length, get_or, take, drop, min}
+use Rattle.std.proofs.Common.{Option, Some, None, Result, Ok, Err, refl, sym, ap, ◌∙◌, subst, arith, inl, inr}
 use Rattle.std.specs.Prelude.{◌&&◌, not, is_some, IfErr, if◌then◌else◌, nat_lt}
 use Rattle.std.proofs.lemmas.Bool.{true≢false, ltb-true, eq-eqb}
 use Rattle.std.proofs.lemmas.List.{take_min, drop_min}
@@ -34,7 +35,8 @@ use Rattle.tftp_ends.specs.End.{EndState}
 use Rattle.tftp_ends.specs.Opening.{ServesRead, serving_read, serving_write}
 use Rattle.tftp_ends.specs.Action.{Decodes}
 use Rattle.tftp_ends.specs.Step.{block_length, result_count_is}
-use Rattle.tftp_server.specs.Request.{Came, Nothing, An_error, A_transfer, Goes, Left, RequestStep, Sent, Taken, left_by, opened_length}
+use Rattle.tftp_server.specs.Request.{Came, Nothing, An_error, A_transfer, Goes, Left, RequestStep, Sent, Taken}
+use Rattle.tftp_server.specs.Request.{left_by, opened_length}
 use Rattle.tftp_store.specs.Memory.{MayRefuseBegin, MayRefuseOpen, memory_meaning}
 use Rattle.tftp_store.specs.Store.{Stored, Drafted, Opens, Begins, is_taken, measured, new_draft}
 use Rattle.tftp_store.specs.declared.store.Opening.{Opening}
@@ -43,7 +45,8 @@ use Rattle.tftp_machine.specs.OpenEnds.{OpenEnd}
 use Rattle.tftp_machine.proofs.WaitingMoves.{agreed_size}
 use Rattle.tftp_player.specs.World.{WorldState, StoredFile, file_at, in_the_way}
 use Rattle.tftp_player.specs.Openings.{sending_end, receiving_end}
-use Rattle.tftp_server.specs.Port.{Ask, Ignores, Refuses, Reads, Writes, Service, Silent, Refused, Sends, Takes, accept_reply, asks, by_draft, by_file, by_length}
+use Rattle.tftp_server.specs.Port.{Ask, Ignores, Refuses, Reads, Writes, Service, Silent, Refused, Sends, Takes}
+use Rattle.tftp_server.specs.Port.{accept_reply, asks, by_draft, by_file, by_length}
 use Rattle.tftp_player.specs.Requests.{begun_of, open_transfers, opened_of, served, service}
 use Rattle.tftp_player.specs.Serving.{PlayedServer, Transfer}
 use Rattle.tftp_player.proofs.WorldKeeps.{answered_values}
@@ -57,9 +60,11 @@ says_one bytes None (Some q) s t = absurd (let f : None ≡ Some s.0 = sym (spel
 says_one bytes None None s t = refl
 
 -- and each datagram says something
-pub says_something : (bytes : List ℕ) → ((k : ℕ) → get_or bytes k 0 < 256) → (decoded : Option Packet) × Decodes bytes decoded
+pub says_something : (bytes : List ℕ) → ((k : ℕ) → get_or bytes k 0 < 256) →
+    (decoded : Option Packet) × Decodes bytes decoded
 says_something bytes fine = by_fault (first_fault bytes) refl where
-  by_fault : (fault : Option PacketFault) → first_fault bytes ≡ fault → (decoded : Option Packet) × Decodes bytes decoded
+  by_fault : (fault : Option PacketFault) → first_fault bytes ≡ fault →
+      (decoded : Option Packet) × Decodes bytes decoded
   by_fault None e = (Some (packet_in bytes), fault_where_nothing bytes fine e)
   by_fault (Some fault) e = (None, (fault, e))
 
@@ -71,17 +76,21 @@ first_whole : (m n : ℕ) → m ≡ n → min (block_length m DEFAULT_BLOCK 1) n
 first_whole m n e = omega arith
 
 -- and it was read
-first_moved : (text rest piece : List ℕ) (m : ℕ) → m ≡ length text → Moved text (Some rest) (block_length m DEFAULT_BLOCK 1) [] piece (block_length m DEFAULT_BLOCK 1) →
+first_moved : (text rest piece : List ℕ) (m : ℕ) → m ≡ length text →
+    Moved text (Some rest) (block_length m DEFAULT_BLOCK 1) [] piece (block_length m DEFAULT_BLOCK 1) →
     (piece ≡ block text DEFAULT_BLOCK 1) × (rest ≡ drop DEFAULT_BLOCK text)
 first_moved text rest piece m e f =
     let want = first_want m (length text) e in (
       f.given ∙ (ap (λ (k : ℕ). take k text) want ∙ take_min DEFAULT_BLOCK text),
-      same_Some rest (drop (block_length m DEFAULT_BLOCK 1) text) f.rest ∙ (ap (λ (k : ℕ). drop k text) want ∙ drop_min DEFAULT_BLOCK text),
+      same_Some rest (drop (block_length m DEFAULT_BLOCK 1) text) f.rest
+          ∙ (ap (λ (k : ℕ). drop k text) want ∙ drop_min DEFAULT_BLOCK text),
     )
 
 -- a source in memory with the whole text gives it
-cannot_be_short : (text : List ℕ) (m : ℕ) (after : Option (List ℕ)) (piece : List ℕ) → m ≡ length text → (answer : Result ℕ FileFault) →
-    Fills (Some text) after (block_length m DEFAULT_BLOCK 1) [] piece answer → result_count_is (block_length m DEFAULT_BLOCK 1) answer ≡ false →
+cannot_be_short : (text : List ℕ) (m : ℕ) (after : Option (List ℕ)) (piece : List ℕ) → m ≡ length text →
+    (answer : Result ℕ FileFault) →
+    Fills (Some text) after (block_length m DEFAULT_BLOCK 1) [] piece answer →
+    result_count_is (block_length m DEFAULT_BLOCK 1) answer ≡ false →
     answer ≢ Err file_faults.Memory → (answer ≡ Err file_faults.Read → ⊥) → ⊥
 cannot_be_short text m after piece e (Ok k) fills short memory read =
     let whole : k ≡ block_length m DEFAULT_BLOCK 1 = fills.count ∙ first_whole m (length text) e in
@@ -90,9 +99,13 @@ cannot_be_short text m after piece e (Err file_faults.Read) fills short memory r
 cannot_be_short text m after piece e (Err file_faults.Memory) fills short memory read = memory refl
 
 -- a read that is served opens the end that the world has
-pub read_end : (w : WorldState) (peer : Endpoint) (request : List ℕ) (mode : Mode) (path file : List ℕ) (agreed : List Known) (m retries : ℕ) (rest : List ℕ) (e : EndState) →
-    m ≡ length (wire_text mode file) → retries ≡ w.retries → ServesRead memory_source agreed peer mode m retries (wire_text mode file) rest e →
-    (e ≡ (sending_end w peer request mode path file agreed).state) × (rest ≡ (sending_end w peer request mode path file agreed).left)
+pub read_end :
+    (w : WorldState) (peer : Endpoint) (request : List ℕ) (mode : Mode) (path file : List ℕ) (agreed : List Known)
+    (m retries : ℕ) (rest : List ℕ) (e : EndState) →
+    m ≡ length (wire_text mode file) → retries ≡ w.retries →
+    ServesRead memory_source agreed peer mode m retries (wire_text mode file) rest e →
+    (e ≡ (sending_end w peer request mode path file agreed).state)
+    × (rest ≡ (sending_end w peer request mode path file agreed).left)
 read_end w peer request mode path file [] m retries rest e whole r s =
     let text = wire_text mode file in
     let b = first_moved text rest s.0 m whole s.1.fills in (
@@ -111,7 +124,8 @@ read_end w peer request mode path file (known ∷ others) m retries rest e whole
     )
 
 -- a path is taken if a file is in its way
-taken_is : (replace : Bool) (there : Option (List ℕ)) → (not replace && is_some there) ≡ is_some (in_the_way replace there)
+taken_is : (replace : Bool) (there : Option (List ℕ)) →
+    (not replace && is_some there) ≡ is_some (in_the_way replace there)
 taken_is true there = refl
 taken_is false there = refl
 
@@ -145,9 +159,13 @@ PortDid w Silent asking result = result ≡ port_left Nothing asking
 PortDid w (Refused reply) asking result = result ≡ port_left (An_error reply asking.old.store) asking
 PortDid w (Sends path mode count agreed) asking result =
     (file : List ℕ) × (file_at w.files path ≡ Some file)
-    × (result ≡ port_left (A_transfer (held_sender (sending_end w asking.from asking.bytes mode path file agreed)) asking.old.store) asking)
+    × (result
+    ≡ port_left
+    (A_transfer (held_sender (sending_end w asking.from asking.bytes mode path file agreed)) asking.old.store) asking)
 PortDid w (Takes path mode agreed) asking result =
-    result ≡ port_left (A_transfer (held_receiver (receiving_end w asking.from asking.bytes mode path agreed)) asking.old.store) asking
+    result
+    ≡ port_left
+    (A_transfer (held_receiver (receiving_end w asking.from asking.bytes mode path agreed)) asking.old.store) asking
 
 -- the server's configuration, its files and the number of its transfers are the world's
 pub record IsServerOf (w : WorldState) (server : PlayedServer) : Type 0 where
@@ -158,7 +176,8 @@ pub record IsServerOf (w : WorldState) (server : PlayedServer) : Type 0 where
   pub overwrite : server.config.overwrite ≡ w.overwrite
   pub count : length server.held ≡ open_transfers w.ends
 
-module _ (w : WorldState) (asking : PortAsking) (came : PortCame) (s : IsServerOf w asking.old) (max : IsBlockSize w.limits.max_block) where
+module _ (w : WorldState) (asking : PortAsking) (came : PortCame) (s : IsServerOf w asking.old)
+    (max : IsBlockSize w.limits.max_block) where
   abbrev Did : Service → Type 0
   Did what = PortDid w what asking (port_left came asking)
 
@@ -169,8 +188,11 @@ module _ (w : WorldState) (asking : PortAsking) (came : PortCame) (s : IsServerO
   refused reply h = ap (λ (c : PortCame). port_left c asking) h
 
   -- the answer to the options of a read
-  by_answer : (path file : List ℕ) (mode : Mode) (options : List RawOption) (a : Result (List Known) Refusal) → file_at w.files path ≡ Some file → answer options kinds.Read mode (measured mode file) w.limits ≡ a →
-      Has_sent (by_length path mode (measured mode file) a) (record { source = wire_text mode file; length = measured mode file }) → Did (by_length path mode (measured mode file) a)
+  by_answer : (path file : List ℕ) (mode : Mode) (options : List RawOption) (a : Result (List Known) Refusal) →
+      file_at w.files path ≡ Some file → answer options kinds.Read mode (measured mode file) w.limits ≡ a →
+      Has_sent (by_length path mode (measured mode file) a)
+      (record { source = wire_text mode file; length = measured mode file }) →
+      Did (by_length path mode (measured mode file) a)
   by_answer path file mode options (Err refusal) there e h = refused (accept_reply refusal) h
   by_answer path file mode options (Ok agreed) there e h = by (nat_lt m (65535 * size agreed)) refl h
     where
@@ -180,7 +202,9 @@ module _ (w : WorldState) (asking : PortAsking) (came : PortCame) (s : IsServerO
       opened : Opening (List ℕ)
       opened = record { source = wire_text mode file; length = measured mode file }
 
-      by : (b : Bool) → nat_lt m (65535 * size agreed) ≡ b → Has_sent (if b then Sends path mode m agreed else Refused FileTooLarge) opened → Did (if b then Sends path mode m agreed else Refused FileTooLarge)
+      by : (b : Bool) → nat_lt m (65535 * size agreed) ≡ b →
+          Has_sent (if b then Sends path mode m agreed else Refused FileTooLarge) opened →
+          Did (if b then Sends path mode m agreed else Refused FileTooLarge)
       by false l refusal = refused FileTooLarge refusal
       by true l starts =
           let few : m < 65535 * size agreed = ltb-true m (65535 * size agreed) l in
@@ -188,51 +212,102 @@ module _ (w : WorldState) (asking : PortAsking) (came : PortCame) (s : IsServerO
           let whole = measured_whole mode file (size agreed) small few in
           elim starts [
             | inl serves ↦
-                let b = read_end w asking.from asking.bytes mode path file agreed m asking.old.config.retries serves.rest serves.end whole s.retries serves.serves in
+                let b =
+                read_end w asking.from asking.bytes mode path file agreed m asking.old.config.retries serves.rest
+                serves.end whole s.retries serves.serves in
                 let x = sending_end w asking.from asking.bytes mode path file agreed in (
                   file,
                   there,
                   ap (λ (c : PortCame). port_left c asking) (serves.opens
-                      ∙ (ap (λ (e : EndState). A_transfer (record { end = e; files = Source serves.rest; path = path; request = asking.bytes }) asking.old.store) b.0
-                      ∙ ap (λ (r : List ℕ). A_transfer (record { end = x.state; files = Source r; path = path; request = asking.bytes }) asking.old.store) b.1)),
+                      ∙ (ap
+                      (λ (e : EndState).
+                      A_transfer (record { end = e; files = Source serves.rest; path = path; request = asking.bytes })
+                      asking.old.store) b.0
+                      ∙ ap
+                      (λ (r : List ℕ).
+                      A_transfer (record { end = x.state; files = Source r; path = path; request = asking.bytes })
+                      asking.old.store) b.1)),
                 )
-            | inr changed ↦ let c = changed.1 in absurd (cannot_be_short (wire_text mode file) m c.after c.piece whole c.answer c.reads.fills c.short c.reads.memory c.reads.read)
+            | inr changed ↦ let c = changed.1 in
+                absurd
+                (cannot_be_short (wire_text mode file) m c.after c.piece whole c.answer c.reads.fills c.short
+                c.reads.memory c.reads.read)
           ]
 
   -- the file was opened, or does not exist
-  by_store : (path : List ℕ) (mode : Mode) (options : List RawOption) (file : Result (Opening (List ℕ)) StoreFault) (there : Option (List ℕ)) → file_at w.files path ≡ there →
-      Opens memory_source (Some asking.old.store) path mode file → IfErr file (MayRefuseOpen asking.old.store path) → file ≢ Err store_faults.Memory →
-      Sent memory_meaning memory_source asking.old asking.from asking.bytes (by_file asking.old.config.limits path mode options (opened_length file)) file came → Did (by_file w.limits path mode options (opened_of mode there))
+  by_store :
+      (path : List ℕ) (mode : Mode) (options : List RawOption) (file : Result (Opening (List ℕ)) StoreFault)
+      (there : Option (List ℕ)) → file_at w.files path ≡ there →
+      Opens memory_source (Some asking.old.store) path mode file → IfErr file (MayRefuseOpen asking.old.store path) →
+      file ≢ Err store_faults.Memory →
+      Sent memory_meaning memory_source asking.old asking.from asking.bytes
+      (by_file asking.old.config.limits path mode options (opened_length file)) file came →
+      Did (by_file w.limits path mode options (opened_of mode there))
   by_store path mode options (Ok opened) None e opens may memory h =
-      absurd (let f : None ≡ Some opens.0 = sym e ∙ (ap (λ (files : List StoredFile). file_at files path) (sym s.files) ∙ opens.1) in cc)
+      absurd
+      (let f : None ≡ Some opens.0 =
+      sym e ∙ (ap (λ (files : List StoredFile). file_at files path) (sym s.files) ∙ opens.1) in cc)
   by_store path mode options (Ok opened) (Some file) e opens may memory h =
-      let same : opens.0 ≡ file = same_Some opens.0 file (sym opens.1 ∙ (ap (λ (files : List StoredFile). file_at files path) s.files ∙ e)) in
-      let source : opened.source ≡ wire_text mode file = same_Some opened.source (wire_text mode file) (opens.2.source ∙ ap (λ (f : List ℕ). Some (wire_text mode f)) same) in
+      let same : opens.0 ≡ file =
+      same_Some opens.0 file (sym opens.1 ∙ (ap (λ (files : List StoredFile). file_at files path) s.files ∙ e)) in
+      let source : opened.source ≡ wire_text mode file =
+      same_Some opened.source (wire_text mode file)
+      (opens.2.source ∙ ap (λ (f : List ℕ). Some (wire_text mode f)) same) in
       let count : opened.length ≡ measured mode file = opens.2.length ∙ ap (measured mode) same in
       by_answer path file mode options (answer options kinds.Read mode (measured mode file) w.limits) e refl
-      (subst (λ (l : Limits). Has_sent (by_length path mode (measured mode file) (answer options kinds.Read mode (measured mode file) l)) (record { source = wire_text mode file; length = measured mode file })) s.limits
-      (subst (λ (t : List ℕ). Has_sent (by_length path mode (measured mode file) (answer options kinds.Read mode (measured mode file) asking.old.config.limits)) (record { source = t; length = measured mode file })) source
-      (subst (λ (n : ℕ). Has_sent (by_length path mode n (answer options kinds.Read mode n asking.old.config.limits)) (record { source = opened.source; length = n })) count h)))
+      (subst
+      (λ (l : Limits).
+      Has_sent (by_length path mode (measured mode file) (answer options kinds.Read mode (measured mode file) l))
+      (record { source = wire_text mode file; length = measured mode file })) s.limits
+      (subst
+      (λ (t : List ℕ).
+      Has_sent
+      (by_length path mode (measured mode file)
+      (answer options kinds.Read mode (measured mode file) asking.old.config.limits)) (record {
+        source = t;
+        length = measured mode file;
+      })) source
+      (subst
+      (λ (n : ℕ).
+      Has_sent (by_length path mode n (answer options kinds.Read mode n asking.old.config.limits))
+      (record { source = opened.source; length = n })) count h)))
   by_store path mode options (Err store_faults.Missing) None e opens may memory h = refused FileNotFound h
   by_store path mode options (Err store_faults.Missing) (Some file) e opens may memory h =
-      absurd (let f : None ≡ Some file = sym opens ∙ (ap (λ (files : List StoredFile). file_at files path) s.files ∙ e) in cc)
+      absurd
+      (let f : None ≡ Some file = sym opens ∙ (ap (λ (files : List StoredFile). file_at files path) s.files ∙ e) in cc)
   by_store path mode options (Err store_faults.Memory) there e opens may memory h = absurd (memory refl)
   by_store path mode options (Err store_faults.Exists) there e opens may memory h = absurd may
   by_store path mode options (Err store_faults.Full) there e opens may memory h = absurd may
   by_store path mode options (Err store_faults.Io) there e opens may memory h = absurd may
 
   -- a draft was begun, or a file is in its way
-  by_begun : (path : List ℕ) (mode : Mode) (agreed : List Known) (store : Stored) (draft : Result Drafted StoreFault) (there : Option (List ℕ)) → is_taken asking.old.config.overwrite path asking.old.store.files ≡ is_some there →
-      Begins (λ (d : Drafted). Some d) (Some asking.old.store) (Some store) path asking.old.config.overwrite draft → IfErr draft (MayRefuseBegin asking.old.store path asking.old.config.overwrite) →
-      Taken memory_meaning memory_source asking.old asking.from asking.bytes (by_draft path mode agreed draft) draft store came → Did (by_draft path mode agreed (begun_of there))
+  by_begun :
+      (path : List ℕ) (mode : Mode) (agreed : List Known) (store : Stored) (draft : Result Drafted StoreFault)
+      (there : Option (List ℕ)) → is_taken asking.old.config.overwrite path asking.old.store.files ≡ is_some there →
+      Begins (λ (d : Drafted). Some d) (Some asking.old.store) (Some store) path asking.old.config.overwrite draft →
+      IfErr draft (MayRefuseBegin asking.old.store path asking.old.config.overwrite) →
+      Taken memory_meaning memory_source asking.old asking.from asking.bytes (by_draft path mode agreed draft) draft
+      store came → Did (by_draft path mode agreed (begun_of there))
   by_begun path mode agreed store (Ok draft) None taken begins may h =
       let x = receiving_end w asking.from asking.bytes mode path agreed in
       ap (λ (c : PortCame). port_left c asking) (h
-      ∙ (ap (λ (n : ℕ). A_transfer (record { end = serving_write agreed asking.from mode n; files = Sink draft; path = path; request = asking.bytes }) store) s.retries
-      ∙ (ap (λ (d : Drafted). A_transfer (record { end = x.state; files = Sink d; path = path; request = asking.bytes }) store) (same_Some draft new_draft begins.2)
+      ∙ (ap
+      (λ (n : ℕ).
+      A_transfer
+      (record {
+        end = serving_write agreed asking.from mode n;
+        files = Sink draft;
+        path = path;
+        request = asking.bytes;
+      }) store) s.retries
+      ∙ (ap
+      (λ (d : Drafted).
+      A_transfer (record { end = x.state; files = Sink d; path = path; request = asking.bytes }) store)
+      (same_Some draft new_draft begins.2)
       ∙ ap (λ (st : Stored). A_transfer (held_receiver x) st) (same_Some store asking.old.store begins.0))))
   by_begun path mode agreed store (Ok draft) (Some file) taken begins may h = absurd (true≢false (sym taken ∙ begins.1))
-  by_begun path mode agreed store (Err store_faults.Exists) None taken begins may h = absurd (true≢false (sym begins.1 ∙ taken))
+  by_begun path mode agreed store (Err store_faults.Exists) None taken begins may h =
+      absurd (true≢false (sym begins.1 ∙ taken))
   by_begun path mode agreed store (Err store_faults.Exists) (Some file) taken begins may h =
       refused FileExists (h ∙ ap (λ (st : Stored). An_error FileExists st) (same_Some store asking.old.store begins.0))
   by_begun path mode agreed store (Err store_faults.Missing) there taken begins may h = absurd may
@@ -240,27 +315,39 @@ module _ (w : WorldState) (asking : PortAsking) (came : PortCame) (s : IsServerO
   by_begun path mode agreed store (Err store_faults.Full) there taken begins may h = absurd may
   by_begun path mode agreed store (Err store_faults.Io) there taken begins may h = absurd may
 
-  is_in_the_way : (path : List ℕ) → is_taken asking.old.config.overwrite path asking.old.store.files ≡ is_some (in_the_way w.overwrite (file_at w.files path))
+  is_in_the_way : (path : List ℕ) →
+      is_taken asking.old.config.overwrite path asking.old.store.files
+      ≡ is_some (in_the_way w.overwrite (file_at w.files path))
   is_in_the_way path =
       taken_is asking.old.config.overwrite (file_at asking.old.store.files path)
       ∙ (ap (λ (b : Bool). is_some (in_the_way b (file_at asking.old.store.files path))) s.overwrite
       ∙ ap (λ (files : List StoredFile). is_some (in_the_way w.overwrite (file_at files path))) s.files)
 
   -- the port's request of its store has the result that it has in the world
-  port_did : (ask : Ask) → Goes memory_meaning memory_source asking.old asking.from asking.bytes ask came → Did (served w ask)
+  port_did : (ask : Ask) → Goes memory_meaning memory_source asking.old asking.from asking.bytes ask came →
+      Did (served w ask)
   port_did Ignores h = ap (λ (c : PortCame). port_left c asking) h
   port_did (Refuses reply) h = refused reply h
-  port_did (Reads path mode options) h = by_store path mode options h.file (file_at w.files path) refl h.opens h.refused h.memory h.goes_on
-  port_did (Writes path mode agreed) h = by_begun path mode agreed h.store h.draft (in_the_way w.overwrite (file_at w.files path)) (is_in_the_way path) h.begins h.refused h.goes_on
+  port_did (Reads path mode options) h =
+      by_store path mode options h.file (file_at w.files path) refl h.opens h.refused h.memory h.goes_on
+  port_did (Writes path mode agreed) h =
+      by_begun path mode agreed h.store h.draft (in_the_way w.overwrite (file_at w.files path)) (is_in_the_way path)
+      h.begins h.refused h.goes_on
 
 -- the port's step at a datagram is that of the world's server
-pub request_did : (w : WorldState) (asking : PortAsking) (result : PortLeft) (s : IsServerOf w asking.old) (max : IsBlockSize w.limits.max_block) (decoded : Option Packet) → Decodes asking.bytes decoded →
-    (h : RequestStep memory_meaning memory_source asking.old asking.from asking.bytes asking.tid result) → PortDid w (service w h.repeated asking.bytes decoded) asking result
+pub request_did :
+    (w : WorldState) (asking : PortAsking) (result : PortLeft) (s : IsServerOf w asking.old)
+    (max : IsBlockSize w.limits.max_block) (decoded : Option Packet) → Decodes asking.bytes decoded →
+    (h : RequestStep memory_meaning memory_source asking.old asking.from asking.bytes asking.tid result) →
+    PortDid w (service w h.repeated asking.bytes decoded) asking result
 request_did w asking result s max decoded says h =
     let bytes = asking.bytes in
     let repeated = h.repeated in
-    let same : asks asking.old.config.cap (length asking.old.held) repeated asking.old.config.limits bytes h.decoded ≡ asks w.cap (open_transfers w.ends) repeated w.limits bytes decoded =
-    ap (λ (p : Option Packet). asks asking.old.config.cap (length asking.old.held) repeated asking.old.config.limits bytes p) (says_one bytes h.decoded decoded h.says says)
+    let same : asks asking.old.config.cap (length asking.old.held) repeated asking.old.config.limits bytes h.decoded
+    ≡ asks w.cap (open_transfers w.ends) repeated w.limits bytes decoded =
+    ap (λ (p : Option Packet).
+    asks asking.old.config.cap (length asking.old.held) repeated asking.old.config.limits bytes p)
+    (says_one bytes h.decoded decoded h.says says)
     ∙ (ap (λ (n : ℕ). asks n (length asking.old.held) repeated asking.old.config.limits bytes decoded) s.cap
     ∙ (ap (λ (n : ℕ). asks w.cap n repeated asking.old.config.limits bytes decoded) s.count
     ∙ ap (λ (l : Limits). asks w.cap (open_transfers w.ends) repeated l bytes decoded) s.limits)) in

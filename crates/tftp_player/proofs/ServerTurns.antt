@@ -11,7 +11,8 @@ use Rattle.tftp_file.specs.declared.files.Files.TheVariants.{Source, Sink}
 use Rattle.tftp_ends.specs.End.{EndState, is_sender}
 use Rattle.tftp_ends.specs.OtherSinks.{SourcesModel, SinksModel, step_as}
 use Rattle.tftp_ends.specs.Step.{Turn, after_turn}
-use Rattle.tftp_server.specs.Draft.{Drafting, files_in, MayRefuseAppend, MayRefuseCommit, DraftingBecomes, drafting_sink}
+use Rattle.tftp_server.specs.Draft.{Drafting, files_in, MayRefuseAppend, MayRefuseCommit, DraftingBecomes}
+use Rattle.tftp_server.specs.Draft.{drafting_sink}
 use Rattle.tftp_store.specs.Memory.{memory_meaning}
 use Rattle.tftp_server.specs.Steps.{StepIn}
 use Rattle.tftp_store.specs.Store.{Stored, Drafted, FileList, is_taken}
@@ -31,10 +32,13 @@ none_put : (client : Bool) → (client && false) ≡ false
 none_put true = refl
 none_put false = refl
 
-pub files_same : (overwrite client old new : Bool) (path bytes : List ℕ) (files : List StoredFile) → new ≡ old → FilesAfter overwrite (not client && (not old && new)) path bytes files files
+pub files_same : (overwrite client old new : Bool) (path bytes : List ℕ) (files : List StoredFile) → new ≡ old →
+    FilesAfter overwrite (not client && (not old && new)) path bytes files files
 files_same overwrite client old new path bytes files e =
     subst (λ (b : Bool). FilesAfter overwrite b path bytes files files)
-    (sym (ap (λ (c : Bool). not client && (not old && c)) e ∙ (ap (λ (c : Bool). not client && c) (none_new old) ∙ none_put (not client)))) refl
+    (sym
+    (ap (λ (c : Bool). not client && (not old && c)) e
+    ∙ (ap (λ (c : Bool). not client && c) (none_new old) ∙ none_put (not client)))) refl
 
 -- ---- a timeout, at an end of either host
 same_with : (b : Bool) (x : OpenEnd) → with_files x (if b then Source x.left else Sink (holding_of x)) ≡ x
@@ -56,19 +60,24 @@ abbrev IsFor : Bool → List ℕ → FileList → Drafts → Type 0
 IsFor replace path files d = (d.path ≡ path) × (d.replace ≡ replace) × (d.store.files ≡ files)
 
 module _ (replace : Bool) (path : List ℕ) (files : FileList) where
-  same_taken : (d : Drafts) → IsFor replace path files d → is_taken replace path files ≡ is_taken d.replace d.path d.store.files
+  same_taken : (d : Drafts) → IsFor replace path files d →
+      is_taken replace path files ≡ is_taken d.replace d.path d.store.files
   same_taken d p =
-      sym (ap (λ (b : Bool). is_taken b d.path d.store.files) p.1 ∙ (ap (λ (q : List ℕ). is_taken replace q d.store.files) p.0 ∙ ap (is_taken replace path) p.2))
+      sym
+      (ap (λ (b : Bool). is_taken b d.path d.store.files) p.1
+      ∙ (ap (λ (q : List ℕ). is_taken replace q d.store.files) p.0 ∙ ap (is_taken replace path) p.2))
 
   -- what the store may answer to an append and to a commit, a sink of the world may
-  may_append : (d : Drafts) (bytes : List ℕ) (fault : StoreFault) → IsFor replace path files d → MayRefuseAppend memory_meaning d bytes fault → may_refuse_append (seen d) bytes fault
+  may_append : (d : Drafts) (bytes : List ℕ) (fault : StoreFault) → IsFor replace path files d →
+      MayRefuseAppend memory_meaning d bytes fault → may_refuse_append (seen d) bytes fault
   may_append d bytes Missing p h = h
   may_append d bytes Exists p h = h
   may_append d bytes Full p h = h
   may_append d bytes Io p h = h
   may_append d bytes Memory p h = tt
 
-  may_commit : (d : Drafts) (fault : StoreFault) → IsFor replace path files d → MayRefuseCommit memory_meaning d fault → may_refuse_commit false (in_the_way replace (file_at files path)) (seen d) fault
+  may_commit : (d : Drafts) (fault : StoreFault) → IsFor replace path files d → MayRefuseCommit memory_meaning d fault →
+      may_refuse_commit false (in_the_way replace (file_at files path)) (seen d) fault
   may_commit d Missing p h = h
   may_commit d Exists p h = (h.0, is_in_the_way replace path files (same_taken d p ∙ h.1))
   may_commit d Full p (inl armed) = inl armed
@@ -76,22 +85,43 @@ module _ (replace : Bool) (path : List ℕ) (files : FileList) where
   may_commit d Io p h = h
   may_commit d Memory p h = h
 
-  still_for : (d d' : Drafts) → IsFor replace path files d → DraftingBecomes memory_meaning d d' false → IsFor replace path files d'
+  still_for : (d d' : Drafts) → IsFor replace path files d → DraftingBecomes memory_meaning d d' false →
+      IsFor replace path files d'
   still_for d d' p h = (h.path ∙ p.0, h.replace ∙ p.1, same_Some d'.store.files d.store.files h.files ∙ p.2)
 
   sinks : SinksModel seen (IsFor replace path files) (drafting_sink memory_meaning)
       (world_sink (may_refuse_commit false (in_the_way replace (file_at files path))))
-  sinks = record { models = λ d. refl; keeps = still_for; appends = may_append; commits = may_commit; leaves = λ d d' committed p h. tt }
+  sinks =
+      record {
+        models = λ d. refl;
+        keeps = still_for;
+        appends = may_append;
+        commits = may_commit;
+        leaves = λ d d' committed p h. tt;
+        after_append = λ d d' piece fault p h. tt;
+        after_commit = λ d d' fault p h. tt;
+      }
 
 sources : SourcesModel (λ (s : List ℕ). s) memory_source memory_source
 sources = record { models = λ s. refl; fails = λ s want h. h; must = λ s want. (λ h. h, λ h. h) }
 
 -- a step of the transfer is a step of the end
-module _ (from : Endpoint) (bytes : List ℕ) (e : EndState) (store store' : Stored) (path path' : List ℕ) (replace : Bool) (turn : Turn) where
+module _ (from : Endpoint) (bytes : List ℕ) (e : EndState) (store store' : Stored) (path path' : List ℕ)
+    (replace : Bool) (turn : Turn) where
   pub end_step : (files files' : Files (List ℕ) Drafted) →
-      StepIn memory_meaning memory_source from bytes e (files_in store path replace files) turn (files_in store' path' replace files') →
-      EndStep false (in_the_way replace (file_at store.files path)) from bytes e (held_files store.refuses files) turn (held_files store'.refuses files')
-  end_step (Source left) (Source left') h = step_as _ _ _ _ (λ (s : List ℕ). s) seen (IsFor replace path store.files) sources (sinks replace path store.files) from bytes e _ turn _ tt h
-  end_step (Sink draft) (Sink draft') h = step_as _ _ _ _ (λ (s : List ℕ). s) seen (IsFor replace path store.files) sources (sinks replace path store.files) from bytes e _ turn _ (refl, refl, refl) h
-  end_step (Source left) (Sink draft') h = step_as _ _ _ _ (λ (s : List ℕ). s) seen (IsFor replace path store.files) sources (sinks replace path store.files) from bytes e _ turn _ tt h
-  end_step (Sink draft) (Source left') h = step_as _ _ _ _ (λ (s : List ℕ). s) seen (IsFor replace path store.files) sources (sinks replace path store.files) from bytes e _ turn _ (refl, refl, refl) h
+      StepIn memory_meaning memory_source from bytes e (files_in store path replace files) turn
+      (files_in store' path' replace files') →
+      EndStep false (in_the_way replace (file_at store.files path)) from bytes e (held_files store.refuses files) turn
+      (held_files store'.refuses files')
+  end_step (Source left) (Source left') h =
+      step_as _ _ _ _ (λ (s : List ℕ). s) seen (IsFor replace path store.files) sources (sinks replace path store.files)
+      from bytes e _ turn _ tt h
+  end_step (Sink draft) (Sink draft') h =
+      step_as _ _ _ _ (λ (s : List ℕ). s) seen (IsFor replace path store.files) sources (sinks replace path store.files)
+      from bytes e _ turn _ (refl, refl, refl) h
+  end_step (Source left) (Sink draft') h =
+      step_as _ _ _ _ (λ (s : List ℕ). s) seen (IsFor replace path store.files) sources (sinks replace path store.files)
+      from bytes e _ turn _ tt h
+  end_step (Sink draft) (Source left') h =
+      step_as _ _ _ _ (λ (s : List ℕ). s) seen (IsFor replace path store.files) sources (sinks replace path store.files)
+      from bytes e _ turn _ (refl, refl, refl) h

@@ -1,4 +1,4 @@
--- The examples of the standards, by the definitions.
+-- The examples of the standards, by the definitions: checks that no proof cites.
 use Rattle.std.proofs.Common.{◌≡◌, [], ◌∷◌, refl}
 use Rattle.std.specs.Prelude.{codes}
 use Rattle.std.specs.Fmt.{digits}
@@ -11,7 +11,11 @@ unfolding name_of number_of digits
 example_size = refl
 
 -- the case of a name and the order of options have no meaning
-any_case : oack_size (record { name = codes "timeout"; value = codes "1" } ∷ record { name = codes "BLKSIZE"; value = codes "1428" } ∷ []) ≡ 1428
+any_case :
+    oack_size
+    (record { name = codes "timeout"; value = codes "1" }
+    ∷ record { name = codes "BLKSIZE"; value = codes "1428" } ∷ [])
+    ≡ 1428
 unfolding name_of number_of digits
 any_case = refl
 

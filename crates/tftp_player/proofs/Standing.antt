@@ -1,8 +1,10 @@
 -- An end after a turn, in the world: open, or closed with its record.
-use Rattle.std.proofs.Common.{◌≡◌, ℕ, Bool, true, false, List, set, Option, Some, None, refl, sym, ap, ◌∙◌, subst, inl, inr}
+use Rattle.std.proofs.Common.{◌≡◌, ℕ, Bool, true, false, List, set, Option, Some, None, refl, sym, ap, ◌∙◌, subst, inl}
+use Rattle.std.proofs.Common.{inr}
 use Rattle.std.specs.Prelude.{◌&&◌, not, is_some, slice_get}
 use Rattle.std.specs.List.{Contains}
 use Rattle.std.proofs.lemmas.Bool.{true≢false, cases_Bool}
+use Rattle.tftp_file.specs.Netascii.{wire_text}
 use Rattle.tftp_ends.specs.declared.outcome.Outcome.{Outcome}
 use Rattle.tftp_ends.specs.declared.phase.Phase.{Phase}
 use Rattle.tftp_ends.specs.declared.phase.Phase.TheVariants.{Waiting, Sending, Receiving, Dallying, Closed}
@@ -15,11 +17,13 @@ use Rattle.tftp_machine.specs.Machine.{Message}
 use Rattle.tftp_machine.proofs.Shown.{shown_forgets}
 use Rattle.tftp_machine.specs.Rules.{Rule}
 use Rattle.tftp_machine.specs.Shows.{EndView, IsInService, IsShownWithin}
-use Rattle.tftp_player.specs.World.{WorldState, WorldEnd, Open_end, Closed_end, end_record, end_address, is_closed, datagram, closed_end, by_outcome, standing, view_of_end, end_request, file_at}
+use Rattle.tftp_player.specs.World.{WorldState, WorldEnd, Open_end, Closed_end, end_record, end_address, is_closed}
+use Rattle.tftp_player.specs.World.{datagram, closed_end, by_outcome, standing, view_of_end, end_request, file_at}
 use Rattle.tftp_player.specs.WorldKept.{IsKeptIn}
 
 -- an end in the world is open or closed
-pub stands_as : {A : Type 0} (f : WorldEnd → A) (a : A) (x : OpenEnd) → f (Open_end x) ≡ a → f (Closed_end (closed_end x)) ≡ a → f (standing x) ≡ a
+pub stands_as : {A : Type 0} (f : WorldEnd → A) (a : A) (x : OpenEnd) → f (Open_end x) ≡ a →
+    f (Closed_end (closed_end x)) ≡ a → f (standing x) ≡ a
 stands_as {A = A} f a x open_now closed_now = by_case (outcome_of x.state.position.phase) where
   by_case : (o : Option Outcome) → f (by_outcome o x) ≡ a
   by_case None = open_now
@@ -64,9 +68,11 @@ no_outcome (Some outcome) e = absurd (true≢false e)
 pub standing_open : (x : OpenEnd) → is_some (outcome_of x.state.position.phase) ≡ false → standing x ≡ Open_end x
 standing_open x e = ap (λ (o : Option Outcome). by_outcome o x) (no_outcome (outcome_of x.state.position.phase) e)
 
-pub open_is : (x : OpenEnd) → is_some (outcome_of x.state.position.phase) ≡ false → view_of_end (Open_end x) ≡ open_view x
+pub open_is : (x : OpenEnd) → is_some (outcome_of x.state.position.phase) ≡ false →
+    view_of_end (Open_end x) ≡ open_view x
 open_is x e = open_in x.state.position.phase x e where
-  open_in : (phase : Phase) (y : OpenEnd) → is_some (outcome_of phase) ≡ false → view_of_end (Open_end (with_phase phase y)) ≡ open_view (with_phase phase y)
+  open_in : (phase : Phase) (y : OpenEnd) → is_some (outcome_of phase) ≡ false →
+      view_of_end (Open_end (with_phase phase y)) ≡ open_view (with_phase phase y)
   open_in (Waiting asked limit) y e = refl
   open_in (Sending terms number) y e = refl
   open_in (Receiving terms number) y e = refl
@@ -74,15 +80,23 @@ open_is x e = open_in x.state.position.phase x e where
   open_in (Closed terms number complete outcome) y e = absurd (true≢false e)
 
 -- and so it is shown: a closed one without its request
-pub standing_shown : (first : List Rule) (views : List EndView) (messages : List Message) (k : ℕ) (d : EndView) (x : OpenEnd) → slice_get views k ≡ Some d →
-    IsShownWithin two_hosts 3 first (set views k (open_view x)) messages → IsShownWithin two_hosts 3 first (set views k (view_of_end (standing x))) messages
+pub standing_shown :
+    (first : List Rule) (views : List EndView) (messages : List Message) (k : ℕ) (d : EndView) (x : OpenEnd) →
+    slice_get views k ≡ Some d →
+    IsShownWithin two_hosts 3 first (set views k (open_view x)) messages →
+    IsShownWithin two_hosts 3 first (set views k (view_of_end (standing x))) messages
 standing_shown first views messages k d x at shown = elim (cases_Bool (is_some (outcome_of x.state.position.phase))) [
-  | inl closed ↦ shown_forgets two_hosts 3 first views messages k d (open_view x) (view_of_end (standing x)) at (standing_view x) (closed_over x closed) shown
-  | inr open_now ↦ subst (λ (v : EndView). IsShownWithin two_hosts 3 first (set views k v) messages) (sym (ap view_of_end (standing_open x open_now) ∙ open_is x open_now)) shown
+  | inl closed ↦
+      shown_forgets two_hosts 3 first views messages k d (open_view x) (view_of_end (standing x)) at (standing_view x)
+      (closed_over x closed) shown
+  | inr open_now ↦
+      subst (λ (v : EndView). IsShownWithin two_hosts 3 first (set views k v) messages)
+      (sym (ap view_of_end (standing_open x open_now) ∙ open_is x open_now)) shown
 ]
 
 -- a closed one has its record
-pub standing_ended : (x : OpenEnd) → is_some (outcome_of x.state.position.phase) ≡ true → standing x ≡ Closed_end (closed_end x)
+pub standing_ended : (x : OpenEnd) → is_some (outcome_of x.state.position.phase) ≡ true →
+    standing x ≡ Closed_end (closed_end x)
 standing_ended x e = by_case (outcome_of x.state.position.phase) e where
   by_case : (o : Option Outcome) → is_some o ≡ true → by_outcome o x ≡ Closed_end (closed_end x)
   by_case None closed = absurd (true≢false (sym closed))
@@ -96,7 +110,8 @@ standing_closed x = by_case (outcome_of x.state.position.phase) where
   by_case (Some outcome) = refl
 
 -- it is a transfer if it is the server's and has not ended
-pub standing_transfer : (x : OpenEnd) → is_transfer (standing x) ≡ (not (is_client x.state.role.side) && not (is_some (outcome_of x.state.position.phase)))
+pub standing_transfer : (x : OpenEnd) →
+    is_transfer (standing x) ≡ (not (is_client x.state.role.side) && not (is_some (outcome_of x.state.position.phase)))
 standing_transfer x = by_case (outcome_of x.state.position.phase) where
   and_true : (b : Bool) → b ≡ (b && true)
   and_true true = refl
@@ -111,10 +126,13 @@ standing_transfer x = by_case (outcome_of x.state.position.phase) where
   by_case (Some outcome) = and_false (not (is_client x.state.role.side))
 
 -- and it is kept in its world
-pub standing_kept : (w : WorldState) (x : OpenEnd) → EndKept two_hosts x → Contains w.sent (datagram x.address x.state.position.last_sent_to x.state.position.last_sent) →
-    (w.overwrite ≡ false → is_client x.state.role.side ≡ false → is_sender x.state.role.side ≡ false → is_complete x.state.position.phase ≡ true → file_at w.files x.path ≡ Some x.stored) →
-    IsKeptIn w (standing x)
-standing_kept w x kept last_sent stored = by_case (outcome_of x.state.position.phase) refl where
+pub standing_kept : (w : WorldState) (x : OpenEnd) → EndKept two_hosts x →
+    Contains w.sent (datagram x.address x.state.position.last_sent_to x.state.position.last_sent) →
+    (w.overwrite ≡ false → is_client x.state.role.side ≡ false → is_sender x.state.role.side ≡ false →
+    is_complete x.state.position.phase ≡ true → file_at w.files x.path ≡ Some x.stored) →
+    x.text ≡ wire_text x.state.role.mode x.file → IsKeptIn w (standing x)
+standing_kept w x kept last_sent stored text = by_case (outcome_of x.state.position.phase) refl where
   by_case : (o : Option Outcome) → outcome_of x.state.position.phase ≡ o → IsKeptIn w (by_outcome o x)
-  by_case None e = record { stands = record { still = e; kept = kept; last_sent = last_sent }; stored = stored }
-  by_case (Some outcome) e = record { stands = kept.committed; stored = stored }
+  by_case None e =
+      record { stands = record { still = e; kept = kept; last_sent = last_sent }; stored = stored; text = text }
+  by_case (Some outcome) e = record { stands = kept.committed; stored = stored; text = text }

@@ -1,5 +1,6 @@
 -- What an end does at the datagram that it waits for.
-use Rattle.std.proofs.Common.{◌≡◌, ℕ, ◌+◌, ◌*◌, ◌-◌, ◌/◌, ◌<◌, ◌≤◌, Bool, true, false, List, [], ◌∷◌, ◌++◌, length, drop, Option, Some, None, refl, sym, ap, ◌∙◌, subst, arith, inl, append_assoc}
+use Rattle.std.proofs.Common.{◌≡◌, ℕ, ◌+◌, ◌*◌, ◌-◌, ◌/◌, ◌<◌, ◌≤◌, Bool, true, false, List, [], ◌∷◌, ◌++◌, length}
+use Rattle.std.proofs.Common.{drop, Option, Some, None, refl, sym, ap, ◌∙◌, subst, arith, inl, append_assoc}
 use Rattle.std.specs.Prelude.{◌&&◌, ◌==◌, not, if◌then◌else◌, nat_eq, nat_lt}
 use Rattle.std.specs.Cmp.Lexicographic.{pointwise}
 use Rattle.std.proofs.Math.Nat.{div-lt_iff_lt-mul}
@@ -43,26 +44,36 @@ none_garbled true = refl
 none_garbled false = refl
 
 -- a packet from a known sender is handled as what it is
-near : (e : EndState) (from : Endpoint) (bytes : List ℕ) (packet : Packet) → is_stranger (terms_of e.position.phase) e.position.last_sent_to from ≡ false →
+near : (e : EndState) (from : Endpoint) (bytes : List ℕ) (packet : Packet) →
+    is_stranger (terms_of e.position.phase) e.position.last_sent_to from ≡ false →
     datagram_action e from bytes (Some packet) ≡ packet_action e from (Some packet) e.position.phase
 near e from bytes packet known =
     ap (λ (b : Bool). if b then (if has_error_opcode bytes then Respond Ignore else Respond Stranger)
     else if has_error_opcode bytes && false then Respond (garbled_response e.position.phase)
     else packet_action e from (Some packet) e.position.phase) known
-    ∙ ap (λ (b : Bool). if b then Respond (garbled_response e.position.phase) else packet_action e from (Some packet) e.position.phase) (none_garbled (has_error_opcode bytes))
+    ∙ ap
+    (λ (b : Bool).
+    if b then Respond (garbled_response e.position.phase) else packet_action e from (Some packet) e.position.phase)
+    (none_garbled (has_error_opcode bytes))
 
 peer_near : (terms : Terms) (to from : Endpoint) → terms.peer ≡ from → is_stranger (Some terms) to from ≡ false
-peer_near terms to from peer = ap (λ (b : Bool). not b) (ap (λ (p : Endpoint). same_endpoint p from) peer ∙ same_self from)
+peer_near terms to from peer =
+    ap (λ (b : Bool). not b) (ap (λ (p : Endpoint). same_endpoint p from) peer ∙ same_self from)
 
 -- an end that has a peer, in this phase
-pub from_peer : (e : EndState) (phase : Phase) (terms : Terms) (from : Endpoint) (bytes : List ℕ) (packet : Packet) → e.position.phase ≡ phase → terms_of phase ≡ Some terms → terms.peer ≡ from →
+pub from_peer : (e : EndState) (phase : Phase) (terms : Terms) (from : Endpoint) (bytes : List ℕ) (packet : Packet) →
+    e.position.phase ≡ phase → terms_of phase ≡ Some terms → terms.peer ≡ from →
     datagram_action e from bytes (Some packet) ≡ packet_action e from (Some packet) phase
 from_peer e phase terms from bytes packet is agreed peer =
-    near e from bytes packet (ap (λ (p : Phase). is_stranger (terms_of p) e.position.last_sent_to from) is ∙ (ap (λ (o : Option Terms). is_stranger o e.position.last_sent_to from) agreed ∙ peer_near terms e.position.last_sent_to from peer))
+    near e from bytes packet
+    (ap (λ (p : Phase). is_stranger (terms_of p) e.position.last_sent_to from) is
+    ∙ (ap (λ (o : Option Terms). is_stranger o e.position.last_sent_to from) agreed
+    ∙ peer_near terms e.position.last_sent_to from peer))
     ∙ ap (packet_action e from (Some packet)) is
 
 -- a client that waits, with a packet from the server's address
-pub from_server : (e : EndState) (phase : Phase) (from : Endpoint) (bytes : List ℕ) (packet : Packet) → e.position.phase ≡ phase → terms_of phase ≡ None → e.position.last_sent_to.ip ≡ from.ip →
+pub from_server : (e : EndState) (phase : Phase) (from : Endpoint) (bytes : List ℕ) (packet : Packet) →
+    e.position.phase ≡ phase → terms_of phase ≡ None → e.position.last_sent_to.ip ≡ from.ip →
     datagram_action e from bytes (Some packet) ≡ packet_action e from (Some packet) phase
 from_server e phase from bytes packet is none server =
     near e from bytes packet
@@ -72,14 +83,20 @@ from_server e phase from bytes packet is none server =
     ∙ ap (packet_action e from (Some packet)) is
 
 -- ---- a sender with the ACK of its newest block
-pub acked_more : (length n : ℕ) (terms : Terms) → n < length / terms.size + 1 → acked_action length terms n n ≡ Send terms (n + 1)
+pub acked_more : (length n : ℕ) (terms : Terms) → n < length / terms.size + 1 →
+    acked_action length terms n n ≡ Send terms (n + 1)
 acked_more length n terms more =
-    ap (λ (b : Bool). if b then (if nat_lt n (length / terms.size + 1) then Send terms (n + 1) else Respond Complete) else if nat_lt n n then Respond Ignore else illegal_action terms) (eq-eqb n n refl)
+    ap (λ (b : Bool).
+    if b then (if nat_lt n (length / terms.size + 1) then Send terms (n + 1) else Respond Complete) else if nat_lt n n
+    then Respond Ignore else illegal_action terms) (eq-eqb n n refl)
     ∙ ap (λ (b : Bool). if b then Send terms (n + 1) else Respond Complete) (lt-ltb n (length / terms.size + 1) more)
 
-pub acked_last : (length n : ℕ) (terms : Terms) → length / terms.size + 1 ≤ n → acked_action length terms n n ≡ Respond Complete
+pub acked_last : (length n : ℕ) (terms : Terms) → length / terms.size + 1 ≤ n →
+    acked_action length terms n n ≡ Respond Complete
 acked_last length n terms last =
-    ap (λ (b : Bool). if b then (if nat_lt n (length / terms.size + 1) then Send terms (n + 1) else Respond Complete) else if nat_lt n n then Respond Ignore else illegal_action terms) (eq-eqb n n refl)
+    ap (λ (b : Bool).
+    if b then (if nat_lt n (length / terms.size + 1) then Send terms (n + 1) else Respond Complete) else if nat_lt n n
+    then Respond Ignore else illegal_action terms) (eq-eqb n n refl)
     ∙ ap (λ (b : Bool). if b then Send terms (n + 1) else Respond Complete) (le-ltb n (length / terms.size + 1) last)
 
 -- ---- a receiver with its next block
@@ -97,21 +114,25 @@ drop_front : (xs ys zs : List ℕ) → xs ++ ys ≡ xs ++ zs → ys ≡ zs
 drop_front [] ys zs e = e
 drop_front (x ∷ xs) ys zs e = drop_front xs ys zs (let f : x ∷ (xs ++ ys) ≡ x ∷ (xs ++ zs) = e in cc)
 
-readable_by : (last : Bool) (begins ends : Bool) → begins ≡ true → (last ≡ true → ends ≡ false) → (begins && not (last && ends)) ≡ true
+readable_by : (last : Bool) (begins ends : Bool) → begins ≡ true → (last ≡ true → ends ≡ false) →
+    (begins && not (last && ends)) ≡ true
 readable_by true begins ends b e = ap (λ (c : Bool). c && not (true && ends)) b ∙ ap (λ (c : Bool). not c) (e refl)
 readable_by false begins ends b e = ap (λ (c : Bool). c && not (false && ends)) b
 
 -- the next piece of the text of a file can be read
-pub piece_readable : (mode : Mode) (file stored held piece rest : List ℕ) (last : Bool) → ((wire_text mode stored ++ held) ++ piece) ++ rest ≡ wire_text mode file → (last ≡ true → rest ≡ []) →
+pub piece_readable : (mode : Mode) (file stored held piece rest : List ℕ) (last : Bool) →
+    ((wire_text mode stored ++ held) ++ piece) ++ rest ≡ wire_text mode file → (last ≡ true → rest ≡ []) →
     is_readable mode held piece last ≡ true
 piece_readable Octet file stored held piece rest last e none = refl
 piece_readable Netascii file stored held piece rest last e none =
     let t = held ++ piece in
     let joined : netascii_text stored ++ (t ++ rest) ≡ netascii_text file =
-    sym (append_assoc (netascii_text stored) t rest) ∙ (ap (λ (z : List ℕ). z ++ rest) (sym (append_assoc (netascii_text stored) held piece)) ∙ e) in
+    sym (append_assoc (netascii_text stored) t rest)
+    ∙ (ap (λ (z : List ℕ). z ++ rest) (sym (append_assoc (netascii_text stored) held piece)) ∙ e) in
     let more = wire_beginning Netascii stored file (t ++ rest, joined) in
     let whole_is : t ++ rest ≡ netascii_text more.0 =
-    drop_front (netascii_text stored) (t ++ rest) (netascii_text more.0) (joined ∙ (ap netascii_text (sym more.1) ∙ wire_text-append Netascii stored more.0)) in
+    drop_front (netascii_text stored) (t ++ rest) (netascii_text more.0)
+    (joined ∙ (ap netascii_text (sym more.1) ∙ wire_text-append Netascii stored more.0)) in
     readable_by last (begins_netascii t) (ends_in_cr t) (begins_text t rest more.0 whole_is)
     (λ l. ends_text t more.0 (sym (append-nil t) ∙ (ap (λ (z : List ℕ). t ++ z) (sym (none l)) ∙ whole_is)))
 
@@ -121,30 +142,37 @@ not_both true false h = refl
 not_both false b h = refl
 
 -- which it stores
-pub next_stores : (mode : Mode) (held : List ℕ) (terms : Terms) (number : ℕ) (piece : List ℕ) → length piece ≤ terms.size → (number ≡ 65535 → length piece ≡ terms.size → ⊥) →
-    is_readable mode held piece (nat_lt (length piece) terms.size) ≡ true → next_action mode held terms number piece ≡ Store terms number
+pub next_stores : (mode : Mode) (held : List ℕ) (terms : Terms) (number : ℕ) (piece : List ℕ) →
+    length piece ≤ terms.size → (number ≡ 65535 → length piece ≡ terms.size → ⊥) →
+    is_readable mode held piece (nat_lt (length piece) terms.size) ≡ true →
+    next_action mode held terms number piece ≡ Store terms number
 next_stores mode held terms number piece fits short readable =
     let refuse = Respond (Refuse (Some terms) NotNetascii outcomes.NotNetascii) in
     let store = if is_readable mode held piece (nat_lt (length piece) terms.size) then Store terms number else refuse in
     let long = Respond (Refuse (Some terms) FileTooLarge outcomes.TooLarge) in
-    ap (λ (b : Bool). if b then illegal_action terms else if number == 65535 && (length piece == terms.size) then long else store) (le-ltb terms.size (length piece) fits)
+    ap (λ (b : Bool). if b then illegal_action terms else if number == 65535
+    && (length piece == terms.size) then long else store) (le-ltb terms.size (length piece) fits)
     ∙ (ap (λ (b : Bool). if b then long else store)
-    (not_both (number == 65535) (length piece == terms.size) (λ a b. short (eqb-true number 65535 a) (eqb-true (length piece) terms.size b)))
+    (not_both (number == 65535) (length piece == terms.size)
+    (λ a b. short (eqb-true number 65535 a) (eqb-true (length piece) terms.size b)))
     ∙ ap (λ (b : Bool). if b then Store terms number else refuse) readable)
 
-pub data_next : (mode : Mode) (held : List ℕ) (terms : Terms) (n : ℕ) (piece : List ℕ) → data_action mode held terms n (n + 1) piece ≡ next_action mode held terms (n + 1) piece
+pub data_next : (mode : Mode) (held : List ℕ) (terms : Terms) (n : ℕ) (piece : List ℕ) →
+    data_action mode held terms n (n + 1) piece ≡ next_action mode held terms (n + 1) piece
 data_next mode held terms n piece =
     let next = next_action mode held terms (n + 1) piece in
     let resend = Respond ResendReply in
     let last = if n + 1 == n + 1 then next else illegal_action terms in
-    ap (λ (b : Bool). if b then resend else if nat_lt (n + 1) n then Respond Ignore else last) (ne_eqb (n + 1) n (λ e. omega arith))
+    ap (λ (b : Bool). if b then resend else if nat_lt (n + 1) n then Respond Ignore else last)
+    (ne_eqb (n + 1) n (λ e. omega arith))
     ∙ (ap (λ (b : Bool). if b then Respond Ignore else last) (le-ltb (n + 1) n (omega arith))
     ∙ ap (λ (b : Bool). if b then next else illegal_action terms) (eq-eqb (n + 1) (n + 1) refl))
 
 -- ---- how long a block is
 module _ (text : List ℕ) (size : ℕ) (positive : 0 < size) (fits : Fits text size) where
   pub numbered : block_count text size ≤ 65535
-  numbered = let d : length text / size < 65535 = (div-lt_iff_lt-mul {k = size} {x = length text} {y = 65535} positive).1 fits in omega (arith, d)
+  numbered = let d : length text / size < 65535 =
+      (div-lt_iff_lt-mul {k = size} {x = length text} {y = 65535} positive).1 fits in omega (arith, d)
 
   pub block_full : (n : ℕ) → n + 1 < block_count text size → length (block text size (n + 1)) ≡ size
   block_full n l = others_full text size positive (n + 1) (omega arith) l
@@ -169,4 +197,5 @@ module _ (text : List ℕ) (size : ℕ) (positive : 0 < size) (fits : Fits text 
       let short = ltb-true (length (block text size (n + 1))) size e in
       let l = length-block text n size in
       let past : length text ≤ (n + 1) * size = omega (arith, short, l) in
-      nil_from_length (drop ((n + 1) * size) text) (length-drop ((n + 1) * size) text ∙ (let z : length text - (n + 1) * size ≡ 0 = omega (arith, past) in z))
+      nil_from_length (drop ((n + 1) * size) text)
+      (length-drop ((n + 1) * size) text ∙ (let z : length text - (n + 1) * size ≡ 0 = omega (arith, past) in z))

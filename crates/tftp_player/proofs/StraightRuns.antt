@@ -1,5 +1,6 @@
 -- A run without loss, from the first DATA or the first ACK that is to be delivered.
-use Rattle.std.proofs.Common.{◌≡◌, ◌≢◌, ℕ, ◌+◌, ◌*◌, ◌/◌, ◌<◌, ◌≤◌, suc, zero, Bool, true, false, List, [], ◌∷◌, ◌++◌, length, take, drop, Some, refl, sym, ap, ◌∙◌, subst, arith, length-append}
+use Rattle.std.proofs.Common.{◌≡◌, ◌≢◌, ℕ, ◌+◌, ◌*◌, ◌/◌, ◌<◌, ◌≤◌, suc, zero, Bool, true, false, List, [], ◌∷◌, ◌++◌}
+use Rattle.std.proofs.Common.{length, take, drop, Some, refl, sym, ap, ◌∙◌, subst, arith, length-append}
 use Rattle.std.specs.Prelude.{nat_lt, slice_get, slice_set, ⊤}
 use Rattle.std.proofs.lemmas.Bool.{lt-ltb, le-ltb}
 use Rattle.std.proofs.lemmas.List.{take-append-drop}
@@ -23,7 +24,7 @@ use Rattle.tftp_ends.specs.Step.{ack_bytes, data_bytes}
 use Rattle.tftp_machine.specs.Hosts.{two_hosts}
 use Rattle.tftp_machine.specs.Machine.{Endpoint}
 use Rattle.tftp_machine.specs.OpenEnds.{OpenEnd}
-use Rattle.tftp_machine.specs.EndKept.{IsUnderWay, PhaseKept, HeldFits, sent_text}
+use Rattle.tftp_machine.specs.EndKept.{IsUnderWay, PhaseKept, HeldFits}
 use Rattle.tftp_machine.proofs.SourceMoves.{valid_data, number_fits}
 use Rattle.tftp_machine.proofs.SaidLemmas.{spells_own}
 use Rattle.tftp_player.specs.Straight.{TookAll, AllTaken}
@@ -37,8 +38,10 @@ use Rattle.tftp_player.specs.declared.event.Event.TheVariants.{Deliver}
 use Rattle.tftp_player.specs.declared.report.Report.{Report}
 use Rattle.tftp_machine.proofs.Blocks.{take-block}
 use Rattle.tftp_machine.proofs.Indices.{slice_get-set_same, slice_get-set_other, slice_get-push_new}
-use Rattle.tftp_player.proofs.StraightActions.{from_peer, acked_more, acked_last, piece_readable, next_stores, data_next, block_full, block_last, block_within, never_long, last_rest}
-use Rattle.tftp_player.proofs.StraightSteps.{ports_of, Handles, delivered, Becomes, handles_send, handles_last, is_armed, HasStored, stored_phase, takes_data, handles_data}
+use Rattle.tftp_player.proofs.StraightActions.{from_peer, acked_more, acked_last, piece_readable, next_stores}
+use Rattle.tftp_player.proofs.StraightActions.{data_next, block_full, block_last, block_within, never_long, last_rest}
+use Rattle.tftp_player.proofs.StraightSteps.{ports_of, Handles, delivered, Becomes, handles_send, handles_last}
+use Rattle.tftp_player.proofs.StraightSteps.{is_armed, HasStored, stored_phase, takes_data, handles_data}
 use Rattle.tftp_player.proofs.WorldRuns.{step_keeps}
 
 pub deliver_may : (strangers : Bool) (i : ℕ) → MayHappen strangers (Deliver i)
@@ -98,10 +101,13 @@ more_few : (made rest : ℕ) → made ≤ rest → suc made ≤ rest + 1
 more_few made rest h = omega (arith, h)
 
 -- the run stops before a datagram that is to be delivered, or that is delivered
-pub walks : (reads : Bool) (w v : WorldState) (one other i rest : ℕ) → length w.sent ≡ i + 1 → (l : IsLeft reads w i v) →
-    ((g : GoesOn reads w i v) → Reaches v one other (i + 1) (length g.left.reports) rest) → Reaches v one other i (length l.reports) (rest + 1)
+pub walks : (reads : Bool) (w v : WorldState) (one other i rest : ℕ) → length w.sent ≡ i + 1 →
+    (l : IsLeft reads w i v) →
+    ((g : GoesOn reads w i v) → Reaches v one other (i + 1) (length g.left.reports) rest) →
+    Reaches v one other i (length l.reports) (rest + 1)
 walks reads w v one other i rest more l then_on = by l.reports l.settles l.taken where
-  by : (reports : List Report) → Settles w i reports v → UnlessReads reads (AllTaken reports) → Reaches v one other i (length reports) (rest + 1)
+  by : (reports : List Report) → Settles w i reports v → UnlessReads reads (AllTaken reports) →
+      Reaches v one other i (length reports) (rest + 1)
   by [] s taken = record {
     few = omega arith;
     goes_on = λ _. let e = ap (λ (u : WorldState). length u.sent) s in omega (arith, e, more);
@@ -130,15 +136,19 @@ walks reads w v one other i rest more l then_on = by l.reports l.settles l.taken
       }
 
 -- if no datagram is left to deliver the run is at its end
-pub ends_here : (reads : Bool) (w v : WorldState) (one other i : ℕ) → IsOver w one other i → (l : IsLeft reads w i v) → Reaches v one other i (length l.reports) 0
+pub ends_here : (reads : Bool) (w v : WorldState) (one other i : ℕ) → IsOver w one other i → (l : IsLeft reads w i v) →
+    Reaches v one other i (length l.reports) 0
 ends_here reads w v one other i over l = by l.reports l.settles where
   by : (reports : List Report) → Settles w i reports v → Reaches v one other i (length reports) 0
   by [] s = record {
     few = omega arith;
     goes_on = λ m. absurd (let n : 0 < 0 = m in omega (arith, n));
-    over = λ _. let e : i ≡ i + 0 = omega arith in subst (λ (c : ℕ). IsOver v one other c) e (subst (λ (u : WorldState). IsOver u one other i) (sym s) over);
+    over = λ _. let e : i ≡ i + 0 = omega arith in
+        subst (λ (c : ℕ). IsOver v one other c) e (subst (λ (u : WorldState). IsOver u one other i) (sym s) over);
   }
-  by (report ∷ reports) s = absurd (let within = slice_get_within w.sent i s.1.0 s.1.1 in let none = over.counted in omega (arith, within, none))
+  by (report ∷ reports) s =
+      absurd
+      (let within = slice_get_within w.sent i s.1.0 s.1.1 in let none = over.counted in omega (arith, within, none))
 
 -- ---- a world in which this datagram is the only one to be delivered
 pub record IsReady (strangers : Bool) (w : WorldState) (i : ℕ) (d : Datagram) : Type 0 where
@@ -146,28 +156,39 @@ pub record IsReady (strangers : Bool) (w : WorldState) (i : ℕ) (d : Datagram) 
   pub newest : slice_get w.sent i ≡ Some d
   pub count : length w.sent ≡ i + 1
 
-pub ready_next : (strangers : Bool) (w v : WorldState) (i : ℕ) (d next : Datagram) (report : Report) → IsReady strangers w i d → WorldStep w (Deliver i) report v →
+pub ready_next : (strangers : Bool) (w v : WorldState) (i : ℕ) (d next : Datagram) (report : Report) →
+    IsReady strangers w i d → WorldStep w (Deliver i) report v →
     v.sent ≡ w.sent ++ next ∷ [] → IsReady strangers v (i + 1) next
 ready_next strangers w v i d next report r s sent = record {
   ok = step_keeps strangers w v (Deliver i) report (deliver_may strangers i) r.ok s;
-  newest = ap (λ (ds : List Datagram). slice_get ds (i + 1)) sent ∙ (ap (slice_get (w.sent ++ next ∷ [])) (sym r.count) ∙ slice_get-push_new w.sent next);
-  count = let e = ap length sent in let f = length-append w.sent (next ∷ []) in let c = r.count in omega (arith, e, f, c);
+  newest =
+      ap (λ (ds : List Datagram). slice_get ds (i + 1)) sent
+      ∙ (ap (slice_get (w.sent ++ next ∷ [])) (sym r.count) ∙ slice_get-push_new w.sent next);
+  count = let e = ap length sent in let f = length-append w.sent (next ∷ []) in let c = r.count in
+      omega (arith, e, f, c);
 }
 
 -- an end that is elsewhere stays
-pub stays_at : (w v : WorldState) (k j : ℕ) (x y : WorldEnd) → v.ends ≡ slice_set w.ends k y → j ≢ k → slice_get w.ends j ≡ Some x → slice_get v.ends j ≡ Some x
-stays_at w v k j x y ends away there = ap (λ (xs : List WorldEnd). slice_get xs j) ends ∙ (slice_get-set_other w.ends k j y away ∙ there)
+pub stays_at : (w v : WorldState) (k j : ℕ) (x y : WorldEnd) → v.ends ≡ slice_set w.ends k y → j ≢ k →
+    slice_get w.ends j ≡ Some x → slice_get v.ends j ≡ Some x
+stays_at w v k j x y ends away there =
+    ap (λ (xs : List WorldEnd). slice_get xs j) ends ∙ (slice_get-set_other w.ends k j y away ∙ there)
 
-pub set_at : (w v : WorldState) (k : ℕ) (x y : WorldEnd) → v.ends ≡ slice_set w.ends k y → slice_get w.ends k ≡ Some x → slice_get v.ends k ≡ Some y
+pub set_at : (w v : WorldState) (k : ℕ) (x y : WorldEnd) → v.ends ≡ slice_set w.ends k y → slice_get w.ends k ≡ Some x →
+    slice_get v.ends k ≡ Some y
 set_at w v k x y ends there = ap (λ (xs : List WorldEnd). slice_get xs k) ends ∙ slice_get-set_same w.ends k y x there
 
-stored_more_phase : (terms : Terms) (number : ℕ) (l : ℕ) → l ≡ terms.size → stored_phase terms number (nat_lt l terms.size) ≡ Receiving terms number
-stored_more_phase terms number l e = ap (stored_phase terms number) (le-ltb l terms.size (let f : terms.size ≤ l = omega (arith, e) in f))
+stored_more_phase : (terms : Terms) (number : ℕ) (l : ℕ) → l ≡ terms.size →
+    stored_phase terms number (nat_lt l terms.size) ≡ Receiving terms number
+stored_more_phase terms number l e =
+    ap (stored_phase terms number) (le-ltb l terms.size (let f : terms.size ≤ l = omega (arith, e) in f))
 
-stored_last_phase : (terms : Terms) (number : ℕ) (l : ℕ) → l < terms.size → stored_phase terms number (nat_lt l terms.size) ≡ Dallying terms number Fresh
+stored_last_phase : (terms : Terms) (number : ℕ) (l : ℕ) → l < terms.size →
+    stored_phase terms number (nat_lt l terms.size) ≡ Dallying terms number Fresh
 stored_last_phase terms number l e = ap (stored_phase terms number) (lt-ltb l terms.size e)
 
-module _ (strangers : Bool) (ks kr : ℕ) (apart : kr ≢ ks) (sa ra : Endpoint) (st rt : Terms) (mode : Mode) (file : List ℕ)
+module _ (strangers : Bool) (ks kr : ℕ) (apart : kr ≢ ks) (sa ra : Endpoint) (st rt : Terms) (mode : Mode)
+    (file : List ℕ)
     (sender_peer : st.peer ≡ ra) (receiver_peer : rt.peer ≡ sa) (same_size : rt.size ≡ st.size) where
   abbrev text : List ℕ
   text = wire_text mode file
@@ -203,7 +224,8 @@ module _ (strangers : Bool) (ks kr : ℕ) (apart : kr ≢ ks) (sa ra : Endpoint)
     pub mode_is : x.state.role.mode ≡ mode
     pub received : wire_text x.state.role.mode x.stored ++ x.state.position.held ≡ take (n * st.size) text
     pub holds : HeldFits x.state.role.mode x.state.position.held
-    pub stores : datagram_action x.state sa (data_bytes (n + 1) (piece n)) (Some (Data (n + 1) (piece n))) ≡ Store rt (n + 1)
+    pub stores : datagram_action x.state sa (data_bytes (n + 1) (piece n)) (Some (Data (n + 1) (piece n)))
+        ≡ Store rt (n + 1)
 
   -- a receiver that has all
   pub record HasAllAt (w : WorldState) : Type 0 where
@@ -217,16 +239,23 @@ module _ (strangers : Bool) (ks kr : ℕ) (apart : kr ≢ ks) (sa ra : Endpoint)
     pub small : st.size ≤ MAX_BLOCK
     pub fits : Fits text st.size
 
-  text_of_sender : (w : WorldState) (n : ℕ) (s : SendsAt w n) → sent_text s.x ≡ text
-  text_of_sender w n s = ap (λ (m : Mode). wire_text m s.x.file) s.mode_is ∙ ap (wire_text mode) s.file_is
+  text_of_sender : (w : WorldState) (n : ℕ) → IsOk strangers w → (s : SendsAt w n) → s.x.text ≡ text
+  text_of_sender w n ok s =
+      (ok.ends ks (Open_end s.x) s.there).text
+      ∙ (ap (λ (m : Mode). wire_text m s.x.file) s.mode_is ∙ ap (wire_text mode) s.file_is)
 
   under_way : (w : WorldState) (n : ℕ) → IsOk strangers w → (s : SendsAt w n) → IsUnderWay s.x st n
-  under_way w n ok s = subst (λ (p : Phase). PhaseKept two_hosts s.x p) s.phase (ok.ends ks (Open_end s.x) s.there).stands.kept.phase
+  under_way w n ok s =
+      subst (λ (p : Phase). PhaseKept two_hosts s.x p) s.phase (ok.ends ks (Open_end s.x) s.there).stands.kept.phase
 
   pub fit_of : (w : WorldState) (n : ℕ) → IsOk strangers w → SendsAt w n → IsFit
   fit_of w n ok s =
       let u = under_way w n ok s in
-      record { positive = u.positive; small = u.size; fits = subst (λ (t : List ℕ). Fits t st.size) (text_of_sender w n s) u.fits }
+      record {
+        positive = u.positive;
+        small = u.size;
+        fits = subst (λ (t : List ℕ). Fits t st.size) (text_of_sender w n ok s) u.fits;
+      }
 
   spelled_at : (n : ℕ) → IsFit → n + 1 ≤ blocks → Spells (Data (n + 1) (piece n)) (data_bytes (n + 1) (piece n))
   spelled_at n f l = spells_own (Data (n + 1) (piece n)) (valid_data text st.size n f.positive f.small f.fits l)
@@ -241,7 +270,8 @@ module _ (strangers : Bool) (ks kr : ℕ) (apart : kr ≢ ks) (sa ra : Endpoint)
     mode_is = s.mode_is;
   }
 
-  receiver_stays : (reads : Bool) (w v : WorldState) (n : ℕ) (y : WorldEnd) → v.ends ≡ slice_set w.ends ks y → AwaitsAt reads w n → AwaitsAt reads v n
+  receiver_stays : (reads : Bool) (w v : WorldState) (n : ℕ) (y : WorldEnd) → v.ends ≡ slice_set w.ends ks y →
+      AwaitsAt reads w n → AwaitsAt reads v n
   receiver_stays reads w v n y ends r = record {
     x = r.x;
     there = stays_at w v ks kr (Open_end r.x) y ends apart r.there;
@@ -255,30 +285,41 @@ module _ (strangers : Bool) (ks kr : ℕ) (apart : kr ≢ ks) (sa ra : Endpoint)
   }
 
   -- a receiver stores the next block of its sender's text
-  pub next_is_stored : (x : OpenEnd) (n : ℕ) → IsFit → n + 1 ≤ blocks → x.state.role.mode ≡ mode → wire_text x.state.role.mode x.stored ++ x.state.position.held ≡ take (n * st.size) text →
+  pub next_is_stored : (x : OpenEnd) (n : ℕ) → IsFit → n + 1 ≤ blocks → x.state.role.mode ≡ mode →
+      wire_text x.state.role.mode x.stored ++ x.state.position.held ≡ take (n * st.size) text →
       next_action x.state.role.mode x.state.position.held rt (n + 1) (piece n) ≡ Store rt (n + 1)
   next_is_stored x n f l mode_is received =
-      let within : length (piece n) ≤ rt.size = let e = block_within text st.size f.positive f.fits n l in omega (arith, e, same_size) in
+      let within : length (piece n) ≤ rt.size = let e = block_within text st.size f.positive f.fits n l in
+      omega (arith, e, same_size) in
       let text_is : wire_text x.state.role.mode file ≡ text = ap (λ (m : Mode). wire_text m file) mode_is in
       let rest = drop ((n + 1) * st.size) text in
-      let whole : ((wire_text x.state.role.mode x.stored ++ x.state.position.held) ++ piece n) ++ rest ≡ wire_text x.state.role.mode file =
+      let whole : ((wire_text x.state.role.mode x.stored ++ x.state.position.held) ++ piece n) ++ rest
+      ≡ wire_text x.state.role.mode file =
       ap (λ (t : List ℕ). (t ++ piece n) ++ rest) received
       ∙ (ap (λ (t : List ℕ). t ++ rest) (take-block text n st.size)
       ∙ (take-append-drop ((n + 1) * st.size) text ∙ sym text_is)) in
       next_stores x.state.role.mode x.state.position.held rt (n + 1) (piece n) within
       (λ a b. never_long text st.size f.positive f.fits n l a (b ∙ same_size))
-      (piece_readable x.state.role.mode file x.stored x.state.position.held (piece n) rest (nat_lt (length (piece n)) rt.size) whole
+      (piece_readable x.state.role.mode file x.stored x.state.position.held (piece n) rest
+      (nat_lt (length (piece n)) rt.size) whole
       (λ e. last_rest text st.size f.positive f.fits n (ap (nat_lt (length (piece n))) (sym same_size) ∙ e)))
 
-  receiving_stores : (x : OpenEnd) (n : ℕ) → IsFit → n + 1 ≤ blocks → x.state.position.phase ≡ Receiving rt n → x.state.role.mode ≡ mode → wire_text x.state.role.mode x.stored ++ x.state.position.held ≡ take (n * st.size) text →
+  receiving_stores : (x : OpenEnd) (n : ℕ) → IsFit → n + 1 ≤ blocks → x.state.position.phase ≡ Receiving rt n →
+      x.state.role.mode ≡ mode →
+      wire_text x.state.role.mode x.stored ++ x.state.position.held ≡ take (n * st.size) text →
       datagram_action x.state sa (data_bytes (n + 1) (piece n)) (Some (Data (n + 1) (piece n))) ≡ Store rt (n + 1)
   receiving_stores x n f l phase mode_is received =
-      from_peer x.state (Receiving rt n) rt sa (data_bytes (n + 1) (piece n)) (Data (n + 1) (piece n)) phase refl receiver_peer
+      from_peer x.state (Receiving rt n) rt sa (data_bytes (n + 1) (piece n)) (Data (n + 1) (piece n)) phase refl
+      receiver_peer
       ∙ (data_next x.state.role.mode x.state.position.held rt n (piece n) ∙ next_is_stored x n f l mode_is received)
 
   -- a receiver that enters this phase with what it has
-  pub awaits_now : (reads : Bool) (w : WorldState) (x : OpenEnd) (n : ℕ) → IsFit → n + 1 ≤ blocks → slice_get w.ends kr ≡ Some (Open_end x) → x.address ≡ ra → x.state.position.phase ≡ Receiving rt n → is_sender x.state.role.side ≡ false → IsWilling reads x →
-      x.state.role.mode ≡ mode → wire_text x.state.role.mode x.stored ++ x.state.position.held ≡ take (n * st.size) text → HeldFits x.state.role.mode x.state.position.held → AwaitsAt reads w n
+  pub awaits_now : (reads : Bool) (w : WorldState) (x : OpenEnd) (n : ℕ) → IsFit → n + 1 ≤ blocks →
+      slice_get w.ends kr ≡ Some (Open_end x) → x.address ≡ ra → x.state.position.phase ≡ Receiving rt n →
+      is_sender x.state.role.side ≡ false → IsWilling reads x →
+      x.state.role.mode ≡ mode →
+      wire_text x.state.role.mode x.stored ++ x.state.position.held ≡ take (n * st.size) text →
+      HeldFits x.state.role.mode x.state.position.held → AwaitsAt reads w n
   awaits_now reads w x n f l there address phase receiver willing mode_is received holds = record {
     x = x;
     there = there;
@@ -292,29 +333,37 @@ module _ (strangers : Bool) (ks kr : ℕ) (apart : kr ≢ ks) (sa ra : Endpoint)
   }
 
   -- ---- DATA arrives at the receiver
-  module _ (reads : Bool) (w v : WorldState) (i n : ℕ) (report : Report) (ready : IsReady strangers w i (data_at n)) (s : SendsAt w (n + 1)) (r : AwaitsAt reads w n) (l : n + 1 ≤ blocks)
+  module _ (reads : Bool) (w v : WorldState) (i n : ℕ) (report : Report) (ready : IsReady strangers w i (data_at n))
+      (s : SendsAt w (n + 1)) (r : AwaitsAt reads w n) (l : n + 1 ≤ blocks)
       (step : WorldStep w (Deliver i) report v) (taken : UnlessReads reads (TookAll report.closed)) where
     fit : IsFit
     fit = fit_of w (n + 1) ready.ok s
 
     handled : Handles w kr r.x sa (data_bytes (n + 1) (piece n)) report v
     handled = delivered w v i kr r.x sa (data_bytes (n + 1) (piece n)) report (ports_of strangers w ready.ok)
-        (ready.newest ∙ ap (λ (a : Endpoint). Some (datagram sa a (data_bytes (n + 1) (piece n)))) (sym r.address)) r.there step
+        (ready.newest ∙ ap (λ (a : Endpoint). Some (datagram sa a (data_bytes (n + 1) (piece n)))) (sym r.address))
+        r.there step
 
     -- the step of a client that was not set to refuse
-    taken_by : is_client r.x.state.role.side ≡ true → r.x.refuses ≡ false → TookAll report.closed × (is_armed handled.held ≡ false)
+    taken_by : is_client r.x.state.role.side ≡ true → r.x.refuses ≡ false →
+        TookAll report.closed × (is_armed handled.held ≡ false)
     taken_by client unarmed =
-        takes_data w v kr r.x sa (data_bytes (n + 1) (piece n)) report handled rt (n + 1) (piece n) client unarmed (spelled_at n fit l) r.stores r.receiver
+        takes_data w v kr r.x sa (data_bytes (n + 1) (piece n)) report handled rt (n + 1) (piece n) client unarmed
+        (spelled_at n fit l) r.stores r.receiver
 
     took_all : (b : Bool) → IsWilling b r.x → UnlessReads b (TookAll report.closed) → TookAll report.closed
     took_all true willing said = (taken_by willing.0 willing.1).0
     took_all false willing said = said
 
-    stored : (y : OpenEnd) × HasStored w v kr r.x sa (data_bytes (n + 1) (piece n)) report handled rt (n + 1) (piece n) y
-    stored = handles_data w v kr r.x sa (data_bytes (n + 1) (piece n)) report handled rt (n + 1) (piece n) r.holds (took_all reads r.willing taken) (spelled_at n fit l) r.stores r.receiver
+    stored : (y : OpenEnd)
+        × HasStored w v kr r.x sa (data_bytes (n + 1) (piece n)) report handled rt (n + 1) (piece n) y
+    stored =
+        handles_data w v kr r.x sa (data_bytes (n + 1) (piece n)) report handled rt (n + 1) (piece n) r.holds
+        (took_all reads r.willing taken) (spelled_at n fit l) r.stores r.receiver
 
     stays_willing : (b : Bool) → IsWilling b r.x → IsWilling b stored.0
-    stays_willing true willing = (ap is_client stored.1.becomes.side ∙ willing.0, stored.1.armed ∙ (taken_by willing.0 willing.1).1)
+    stays_willing true willing =
+        (ap is_client stored.1.becomes.side ∙ willing.0, stored.1.armed ∙ (taken_by willing.0 willing.1).1)
     stays_willing false willing = tt
 
     acked : v.sent ≡ w.sent ++ ack_at (n + 1) ∷ []
@@ -326,7 +375,8 @@ module _ (strangers : Bool) (ks kr : ℕ) (apart : kr ≢ ks) (sa ra : Endpoint)
     pub data_sender : SendsAt v (n + 1)
     data_sender = sender_stays w v (n + 1) (Open_end stored.0) stored.1.becomes.ends s
 
-    has_more : wire_text stored.0.state.role.mode stored.0.stored ++ stored.0.state.position.held ≡ take ((n + 1) * st.size) text
+    has_more : wire_text stored.0.state.role.mode stored.0.stored ++ stored.0.state.position.held
+        ≡ take ((n + 1) * st.size) text
     has_more =
         ap (λ (m : Mode). wire_text m stored.0.stored ++ stored.0.state.position.held) stored.1.becomes.mode
         ∙ (stored.1.received ∙ (ap (λ (t : List ℕ). t ++ piece n) r.received ∙ take-block text n st.size))
@@ -336,15 +386,19 @@ module _ (strangers : Bool) (ks kr : ℕ) (apart : kr ≢ ks) (sa ra : Endpoint)
     data_receiver more =
         let y = stored.0 in
         let full : length (piece n) ≡ rt.size = block_full text st.size fit.positive fit.fits n more ∙ sym same_size in
-        awaits_now reads v y (n + 1) fit (let m : n + 1 + 1 ≤ blocks = omega (arith, more) in m) (set_at w v kr (Open_end r.x) (Open_end y) stored.1.becomes.ends r.there) (stored.1.becomes.address ∙ r.address)
-        (stored.1.phase ∙ stored_more_phase rt (n + 1) (length (piece n)) full) (ap is_sender stored.1.becomes.side ∙ r.receiver) (stays_willing reads r.willing)
-        (stored.1.becomes.mode ∙ r.mode_is) has_more (subst (λ (m : Mode). HeldFits m y.state.position.held) (sym stored.1.becomes.mode) stored.1.holds)
+        awaits_now reads v y (n + 1) fit (let m : n + 1 + 1 ≤ blocks = omega (arith, more) in m)
+        (set_at w v kr (Open_end r.x) (Open_end y) stored.1.becomes.ends r.there) (stored.1.becomes.address ∙ r.address)
+        (stored.1.phase ∙ stored_more_phase rt (n + 1) (length (piece n)) full)
+        (ap is_sender stored.1.becomes.side ∙ r.receiver) (stays_willing reads r.willing)
+        (stored.1.becomes.mode ∙ r.mode_is) has_more
+        (subst (λ (m : Mode). HeldFits m y.state.position.held) (sym stored.1.becomes.mode) stored.1.holds)
 
     -- or the last
     pub data_all : n + 1 ≡ blocks → HasAllAt v
     data_all last =
         let y = stored.0 in
-        let short : length (piece n) < rt.size = let e = block_last text st.size fit.positive fit.fits n last in omega (arith, e, same_size) in
+        let short : length (piece n) < rt.size = let e = block_last text st.size fit.positive fit.fits n last in
+        omega (arith, e, same_size) in
         record {
           x = Open_end y;
           there = set_at w v kr (Open_end r.x) (Open_end y) stored.1.becomes.ends r.there;
@@ -352,7 +406,8 @@ module _ (strangers : Bool) (ks kr : ℕ) (apart : kr ≢ ks) (sa ra : Endpoint)
         }
 
   -- ---- an ACK arrives at the sender
-  module _ (w v : WorldState) (i n : ℕ) (report : Report) (ready : IsReady strangers w i (ack_at n)) (s : SendsAt w n) (small : n ≤ blocks)
+  module _ (w v : WorldState) (i n : ℕ) (report : Report) (ready : IsReady strangers w i (ack_at n)) (s : SendsAt w n)
+      (small : n ≤ blocks)
       (step : WorldStep w (Deliver i) report v) where
     way : IsUnderWay s.x st n
     way = under_way w n ready.ok s
@@ -368,7 +423,7 @@ module _ (strangers : Bool) (ks kr : ℕ) (apart : kr ≢ ks) (sa ra : Endpoint)
     ack_spelled = spells_own (Ack n) (number_fits text st.size n fit_now.positive fit_now.fits small)
 
     measured : s.x.state.role.length ≡ length text
-    measured = way.measured ∙ ap length (text_of_sender w n s)
+    measured = way.measured ∙ ap length (text_of_sender w n ready.ok s)
 
     -- and more is to be sent
     module _ (more : n < blocks) where
@@ -376,13 +431,18 @@ module _ (strangers : Bool) (ks kr : ℕ) (apart : kr ≢ ks) (sa ra : Endpoint)
       sends_more = from_peer s.x.state (Sending st n) st ra (ack_bytes n) (Ack n) s.phase refl sender_peer
           ∙ acked_more s.x.state.role.length n st (subst (λ (m : ℕ). n < m / st.size + 1) (sym measured) more)
 
-      sent_more : (y : OpenEnd) × (y.state.position.phase ≡ Sending st (n + 1)) × Becomes w v ks s.x ra (ack_bytes n) report handled_ack y (datagram s.x.address ra (data_bytes (n + 1) (piece n)) ∷ [])
-      sent_more = handles_send w v ks s.x ra (ack_bytes n) report handled_ack (Ack n) st n text ack_spelled sends_more way.sender measured
-          (way.left ∙ ap (drop (n * st.size)) (text_of_sender w n s))
+      sent_more : (y : OpenEnd) × (y.state.position.phase ≡ Sending st (n + 1))
+          × Becomes w v ks s.x ra (ack_bytes n) report handled_ack y
+          (datagram s.x.address ra (data_bytes (n + 1) (piece n)) ∷ [])
+      sent_more =
+          handles_send w v ks s.x ra (ack_bytes n) report handled_ack (Ack n) st n text ack_spelled sends_more
+          way.sender measured
+          (way.left ∙ ap (drop (n * st.size)) (text_of_sender w n ready.ok s))
 
       pub ack_ready : IsReady strangers v (i + 1) (data_at n)
       ack_ready = ready_next strangers w v i (ack_at n) (data_at n) report ready step
-          (sent_more.2.sent ∙ ap (λ (a : Endpoint). w.sent ++ datagram a ra (data_bytes (n + 1) (piece n)) ∷ []) s.address)
+          (sent_more.2.sent
+          ∙ ap (λ (a : Endpoint). w.sent ++ datagram a ra (data_bytes (n + 1) (piece n)) ∷ []) s.address)
 
       pub ack_sender : SendsAt v (n + 1)
       ack_sender = record {
@@ -415,11 +475,13 @@ module _ (strangers : Bool) (ks kr : ℕ) (apart : kr ≢ ks) (sa ra : Endpoint)
         y_at = stays_at w v ks kr r.x is_done.0 is_done.3 apart r.there;
         x_done = is_done.1;
         y_done = r.done;
-        counted = let e = ap length is_done.2 in let f = length-append w.sent [] in let c = ready.count in omega (arith, e, f, c);
+        counted = let e = ap length is_done.2 in let f = length-append w.sent [] in let c = ready.count in
+            omega (arith, e, f, c);
       }
 
   -- ---- the rest of the run, from DATA n + 1 on, after which m blocks are left
-  pub from_data : (reads : Bool) (m i n : ℕ) (w v : WorldState) → n + 1 + m ≡ blocks → IsReady strangers w i (data_at n) → SendsAt w (n + 1) → AwaitsAt reads w n → (l : IsLeft reads w i v) →
+  pub from_data : (reads : Bool) (m i n : ℕ) (w v : WorldState) → n + 1 + m ≡ blocks →
+      IsReady strangers w i (data_at n) → SendsAt w (n + 1) → AwaitsAt reads w n → (l : IsLeft reads w i v) →
       Reaches v ks kr i (length l.reports) (2 + 2 * m)
   from_data reads zero i n w v is ready s r left =
       let within : n + 1 ≤ blocks = omega (arith, is) in
@@ -431,7 +493,8 @@ module _ (strangers : Bool) (ks kr : ℕ) (apart : kr ≢ ks) (sa ra : Endpoint)
       let sender = data_sender reads w g.mid i n g.report ready s r within g.step g.taken in
       let all = data_all reads w g.mid i n g.report ready s r within g.step g.taken last in
       walks reads g.mid v ks kr (i + 1) 0 next.count g.left (λ h.
-      ends_here reads h.mid v ks kr (i + 1 + 1) (ack_over g.mid h.mid (i + 1) (n + 1) h.report next sender within h.step last all) h.left)))
+      ends_here reads h.mid v ks kr (i + 1 + 1)
+      (ack_over g.mid h.mid (i + 1) (n + 1) h.report next sender within h.step last all) h.left)))
   from_data reads (suc m) i n w v is ready s r left =
       let within : n + 1 ≤ blocks = omega (arith, is) in
       let more : n + 1 < blocks = omega (arith, is) in
@@ -445,5 +508,6 @@ module _ (strangers : Bool) (ks kr : ℕ) (apart : kr ≢ ks) (sa ra : Endpoint)
       walks reads g.mid v ks kr (i + 1) (2 + 2 * m) next.count g.left (λ h.
       let again = ack_ready g.mid h.mid (i + 1) (n + 1) h.report next sender within h.step more in
       let sender_then = ack_sender g.mid h.mid (i + 1) (n + 1) h.report next sender within h.step more in
-      let receiver_then = ack_receiver g.mid h.mid (i + 1) (n + 1) h.report next sender within h.step more reads receiver in
+      let receiver_then =
+      ack_receiver g.mid h.mid (i + 1) (n + 1) h.report next sender within h.step more reads receiver in
       from_data reads m (i + 1 + 1) (n + 1) h.mid v rest again sender_then receiver_then h.left)))

@@ -1,5 +1,6 @@
 -- The delivery of a datagram at the open end that it is for, if that sends, stores or is complete.
-use Rattle.std.proofs.Common.{◌≡◌, ℕ, ◌+◌, ◌*◌, Bool, true, false, List, [], ◌∷◌, ◌++◌, length, drop, Option, Some, None, Result, Ok, Err, refl, sym, ap, ◌∙◌, subst, arith, inl, inr}
+use Rattle.std.proofs.Common.{◌≡◌, ℕ, ◌+◌, ◌*◌, Bool, true, false, List, [], ◌∷◌, ◌++◌, length, drop, Option, Some}
+use Rattle.std.proofs.Common.{None, Result, Ok, Err, refl, sym, ap, ◌∙◌, subst, arith, inl, inr}
 use Rattle.std.specs.Prelude.{◌≢◌, if◌then◌else◌, nat_lt, slice_get, slice_set, IfErr}
 use Rattle.std.proofs.lemmas.Bool.{true≢false}
 use Rattle.std.proofs.lemmas.Option.{same_Some}
@@ -28,20 +29,24 @@ use Rattle.tftp_ends.specs.declared.phase.Phase.TheVariants.{Sending, Receiving,
 use Rattle.tftp_ends.specs.declared.phase.Terms.{Terms}
 use Rattle.tftp_ends.specs.End.{EndState, is_sender, is_client, outcome_of}
 use Rattle.tftp_ends.specs.Action.{Decodes, datagram_action}
-use Rattle.tftp_ends.specs.Step.{Turn, Done, Acts, Appended, GoesOn, Stores, StoresIn, response_turn, sent_turn, refused_turn, committed_turn, commit_reply, holding, ack_bytes, data_bytes, after_turn}
+use Rattle.tftp_ends.specs.Step.{Turn, Done, Acts, Appended, GoesOn, Stores, StoresIn, response_turn, sent_turn}
+use Rattle.tftp_ends.specs.Step.{refused_turn, committed_turn, commit_reply, holding, ack_bytes, data_bytes, after_turn}
 use Rattle.tftp_ends.specs.Text.{Decoded}
 use Rattle.tftp_machine.specs.Machine.{Endpoint}
 use Rattle.tftp_machine.specs.OpenEnds.{OpenEnd, holding_of, files_of, with_files, in_state, end_after}
 use Rattle.tftp_machine.specs.EndKept.{HeldFits}
-use Rattle.tftp_machine.proofs.SinkMoves.{Took, All_of_it, Some_of_it, took, Kept_all, For_good, Not_yet, kept_by, stores_in, goes_on_with, held_fits}
+use Rattle.tftp_machine.proofs.SinkMoves.{Took, All_of_it, Some_of_it, took, Kept_all, For_good, Not_yet, kept_by}
+use Rattle.tftp_machine.proofs.SinkMoves.{stores_in, goes_on_with, held_fits}
 use Rattle.tftp_machine.proofs.SourceMoves.{BlockSent, sends_from, block_sent}
 use Rattle.tftp_machine.proofs.SaidLemmas.{data_of}
 use Rattle.tftp_machine.proofs.StoredTexts.{stored_more}
 use Rattle.tftp_player.specs.Straight.{TookAll}
-use Rattle.tftp_player.specs.World.{WorldState, file_at, in_the_way, is_closed, datagram, replied, closed_at, standing, WorldEnd, Open_end, Closed_end, end_address}
+use Rattle.tftp_player.specs.World.{WorldState, file_at, in_the_way, is_closed, datagram, replied, closed_at, standing}
+use Rattle.tftp_player.specs.World.{WorldEnd, Open_end, Closed_end, end_address}
 use Rattle.tftp_player.specs.WorldKept.{HasPorts, IsOk}
 use Rattle.tftp_player.specs.WorldSafety.{IsComplete}
-use Rattle.tftp_player.specs.WorldSteps.{may_refuse_append, may_refuse_commit, EndStep, OnDatagram, Arrives, At_request_port, At_open_end, At_closed_end, At_nobody, WorldStep, world_sink}
+use Rattle.tftp_player.specs.WorldSteps.{may_refuse_append, may_refuse_commit, EndStep, OnDatagram, Arrives}
+use Rattle.tftp_player.specs.WorldSteps.{At_request_port, At_open_end, At_closed_end, At_nobody, WorldStep, world_sink}
 use Rattle.tftp_player.specs.declared.datagram.Datagram.{Datagram}
 use Rattle.tftp_player.specs.declared.event.Event.TheVariants.{Deliver}
 use Rattle.tftp_player.specs.declared.report.Report.{Report}
@@ -51,16 +56,20 @@ pub ports_of : (strangers : Bool) (w : WorldState) → IsOk strangers w → HasP
 ports_of strangers w ok = ok.ports
 
 -- a delivery at an open end is this turn of it
-pub record Handles (w : WorldState) (k : ℕ) (x : OpenEnd) (from : Endpoint) (bytes : List ℕ) (report : Report) (v : WorldState) : Type 0 where
+pub record Handles (w : WorldState) (k : ℕ) (x : OpenEnd) (from : Endpoint) (bytes : List ℕ) (report : Report)
+    (v : WorldState) : Type 0 where
   pub turn : Turn
   pub held : Files (List ℕ) Holding
-  pub steps : EndStep (is_client x.state.role.side) (in_the_way w.overwrite (file_at w.files x.path)) from bytes x.state (files_of x) turn held
+  pub steps :
+      EndStep (is_client x.state.role.side) (in_the_way w.overwrite (file_at w.files x.path)) from bytes x.state
+      (files_of x) turn held
   pub sent : v.sent ≡ w.sent ++ replied x.address turn.reply
   pub ends : v.ends ≡ slice_set w.ends k (standing (end_after x turn held))
   pub closed : report.closed ≡ closed_at x.address (outcome_of turn.position.phase)
 
 -- two ends at one address are one
-same_end : (w : WorldState) (k j : ℕ) (x y : WorldEnd) → HasPorts w → slice_get w.ends k ≡ Some x → slice_get w.ends j ≡ Some y → end_address y ≡ end_address x → (j ≡ k) × (y ≡ x)
+same_end : (w : WorldState) (k j : ℕ) (x y : WorldEnd) → HasPorts w → slice_get w.ends k ≡ Some x →
+    slice_get w.ends j ≡ Some y → end_address y ≡ end_address x → (j ≡ k) × (y ≡ x)
 same_end w k j x y ports here there same =
     let a = ports k x here in
     let b = ports j y there in
@@ -86,24 +95,31 @@ module _ (w v : WorldState) (k : ℕ) (x : OpenEnd) (from : Endpoint) (bytes : L
   arrived (At_open_end j y at here h) =
       let e = same_end w k j (Open_end x) (Open_end y) ports there at here in
       let same : y ≡ x = (let f : Open_end y ≡ Open_end x = e.1 in cc) in
-      handled (subst (λ (z : OpenEnd). OnDatagram w k z from bytes report v) same (subst (λ (i : ℕ). OnDatagram w i y from bytes report v) e.0 h))
+      handled
+      (subst (λ (z : OpenEnd). OnDatagram w k z from bytes report v) same
+      (subst (λ (i : ℕ). OnDatagram w i y from bytes report v) e.0 h))
   arrived (At_closed_end j y at here s) =
       let e = same_end w k j (Open_end x) (Closed_end y) ports there at here in
       absurd (true≢false (ap is_closed e.1))
   arrived (At_nobody away nobody s) = absurd (nobody k (Open_end x) there refl)
 
 -- a datagram for an open end is handled there
-pub delivered : (w v : WorldState) (i k : ℕ) (x : OpenEnd) (from : Endpoint) (bytes : List ℕ) (report : Report) → HasPorts w →
-    slice_get w.sent i ≡ Some (datagram from x.address bytes) → slice_get w.ends k ≡ Some (Open_end x) → WorldStep w (Deliver i) report v → Handles w k x from bytes report v
+pub delivered : (w v : WorldState) (i k : ℕ) (x : OpenEnd) (from : Endpoint) (bytes : List ℕ) (report : Report) →
+    HasPorts w →
+    slice_get w.sent i ≡ Some (datagram from x.address bytes) → slice_get w.ends k ≡ Some (Open_end x) →
+    WorldStep w (Deliver i) report v → Handles w k x from bytes report v
 delivered w v i k x from bytes report ports sent there s =
     let d = s.0 in
     let same : d ≡ datagram from x.address bytes = same_Some d (datagram from x.address bytes) (sym s.1 ∙ sent) in
-    arrived w v k x from bytes report ports there (subst (λ (z : Datagram). Arrives w z.from z.to z.bytes report v) same s.2)
+    arrived w v k x from bytes report ports there
+    (subst (λ (z : Datagram). Arrives w z.from z.to z.bytes report v) same s.2)
 
 -- bytes that spell a packet are decoded to it
-decoded_is : (bytes : List ℕ) (packet : Packet) (decoded : Option Packet) → Spells packet bytes → Decodes bytes decoded → decoded ≡ Some packet
+decoded_is : (bytes : List ℕ) (packet : Packet) (decoded : Option Packet) → Spells packet bytes →
+    Decodes bytes decoded → decoded ≡ Some packet
 decoded_is bytes packet (Some q) s t = ap (λ (p : Packet). Some p) (one_meaning q packet bytes t s)
-decoded_is bytes packet None s t = absurd (let f : None ≡ Some t.0 = sym (spelled_has_no_fault packet bytes s) ∙ t.1 in cc)
+decoded_is bytes packet None s t =
+    absurd (let f : None ≡ Some t.0 = sym (spelled_has_no_fault packet bytes s) ∙ t.1 in cc)
 
 -- a receiver that stored a block, by whether it is the last
 abbrev pub stored_phase : Terms → ℕ → Bool → Phase
@@ -116,8 +132,10 @@ abbrev pub is_armed : Files (List ℕ) Holding → Bool
 is_armed (Source left) = false
 is_armed (Sink holding) = holding.refuses
 
-append_taken : (before after : Holding) (bytes : List ℕ) (answer : Result Done StoreFault) → before.refuses ≡ false → AppendsFreely before (Some after) bytes answer →
-    IfErr answer (may_refuse_append before bytes) → answer ≢ Err faults.Memory → (answer ≡ Ok tt) × (after.refuses ≡ false)
+append_taken : (before after : Holding) (bytes : List ℕ) (answer : Result Done StoreFault) → before.refuses ≡ false →
+    AppendsFreely before (Some after) bytes answer →
+    IfErr answer (may_refuse_append before bytes) → answer ≢ Err faults.Memory →
+    (answer ≡ Ok tt) × (after.refuses ≡ false)
 append_taken before after bytes (Ok done) unarmed h may memory =
     (refl, ap (λ (z : Holding). z.refuses) (same_Some after (with_piece before bytes) h) ∙ unarmed)
 append_taken before after bytes (Err faults.Missing) unarmed h may memory = absurd may
@@ -127,15 +145,23 @@ append_taken before after bytes (Err faults.Io) unarmed h may memory = absurd ma
 append_taken before after bytes (Err faults.Memory) unarmed h may memory = absurd (memory refl)
 
 -- its sink accepts what is appended, and is not set to refuse then
-piece_taken : (before after : Holding) (bytes : List ℕ) (answer : Result Done StoreFault) (refuses_commit : Holding → StoreFault → Type 0) → before.refuses ≡ false →
-    Appended (world_sink refuses_commit) bytes before after answer → answer ≢ Err faults.Memory → (answer ≡ Ok tt) × (after.refuses ≡ false)
-piece_taken before after [] answer refuses_commit unarmed h memory = (h.0, ap (λ (z : Holding). z.refuses) h.1 ∙ unarmed)
+piece_taken :
+    (before after : Holding) (bytes : List ℕ) (answer : Result Done StoreFault)
+    (refuses_commit : Holding → StoreFault → Type 0) → before.refuses ≡ false →
+    Appended (world_sink refuses_commit) bytes before after answer → answer ≢ Err faults.Memory →
+    (answer ≡ Ok tt) × (after.refuses ≡ false)
+piece_taken before after [] answer refuses_commit unarmed h memory =
+    (h.0, ap (λ (z : Holding). z.refuses) h.1 ∙ unarmed)
 piece_taken before after (b ∷ bytes) answer refuses_commit unarmed h memory =
     append_taken before after (b ∷ bytes) answer unarmed
-    (subst (λ (armed : Bool). UnlessArmed armed before (Some after) answer (AppendsFreely before (Some after) (b ∷ bytes) answer)) unarmed h.0) h.1 memory
+    (subst
+    (λ (armed : Bool).
+    UnlessArmed armed before (Some after) answer (AppendsFreely before (Some after) (b ∷ bytes) answer)) unarmed h.0)
+    h.1 memory
 
 -- and a commit
-commit_taken : (there : Option (List ℕ)) (before after : Holding) (answer : Result Done StoreFault) → before.refuses ≡ false → CommitsFreely before (Some after) answer →
+commit_taken : (there : Option (List ℕ)) (before after : Holding) (answer : Result Done StoreFault) →
+    before.refuses ≡ false → CommitsFreely before (Some after) answer →
     IfErr answer (may_refuse_commit true there before) → (answer ≡ Ok tt) × (after.refuses ≡ false)
 commit_taken there before after (Ok done) unarmed h may =
     (refl, ap (λ (z : Holding). z.refuses) (same_Some after (as_committed before) h) ∙ unarmed)
@@ -145,7 +171,8 @@ commit_taken there before after (Err faults.Full) unarmed h may = absurd (true�
 commit_taken there before after (Err faults.Io) unarmed h may = absurd may
 commit_taken there before after (Err faults.Memory) unarmed h may = absurd may
 
-module _ (w v : WorldState) (k : ℕ) (x : OpenEnd) (from : Endpoint) (bytes : List ℕ) (report : Report) (h : Handles w k x from bytes report v) where
+module _ (w v : WorldState) (k : ℕ) (x : OpenEnd) (from : Endpoint) (bytes : List ℕ) (report : Report)
+    (h : Handles w k x from bytes report v) where
   abbrev refuses_commit : Holding → StoreFault → Type 0
   refuses_commit = may_refuse_commit (is_client x.state.role.side) (in_the_way w.overwrite (file_at w.files x.path))
 
@@ -153,9 +180,12 @@ module _ (w v : WorldState) (k : ℕ) (x : OpenEnd) (from : Endpoint) (bytes : L
   Acts_at action =
       Acts memory_source (world_sink refuses_commit) action from bytes x.state (files_of x) h.turn h.held
 
-  acts_as : (packet : Packet) (action : Action) → Spells packet bytes → datagram_action x.state from bytes (Some packet) ≡ action → Acts_at action
+  acts_as : (packet : Packet) (action : Action) → Spells packet bytes →
+      datagram_action x.state from bytes (Some packet) ≡ action → Acts_at action
   acts_as packet action spelled is =
-      subst Acts_at (ap (datagram_action x.state from bytes) (decoded_is bytes packet h.steps.decoded spelled h.steps.says) ∙ is) h.steps.acts
+      subst Acts_at
+      (ap (datagram_action x.state from bytes) (decoded_is bytes packet h.steps.decoded spelled h.steps.says) ∙ is)
+      h.steps.acts
 
   -- the end became y, and sent this
   pub record Becomes (y : OpenEnd) (said : List Datagram) : Type 0 where
@@ -170,13 +200,18 @@ module _ (w v : WorldState) (k : ℕ) (x : OpenEnd) (from : Endpoint) (bytes : L
   abbrev pub data_turn_at : Terms → ℕ → List ℕ → Turn
   data_turn_at terms n piece = sent_turn (Sending terms (n + 1)) from (data_bytes (n + 1) piece) x.state
 
-  pub handles_send : (packet : Packet) (terms : Terms) (n : ℕ) (text : List ℕ) → Spells packet bytes → datagram_action x.state from bytes (Some packet) ≡ Send terms (n + 1) →
+  pub handles_send : (packet : Packet) (terms : Terms) (n : ℕ) (text : List ℕ) → Spells packet bytes →
+      datagram_action x.state from bytes (Some packet) ≡ Send terms (n + 1) →
       is_sender x.state.role.side ≡ true → x.state.role.length ≡ length text → x.left ≡ drop (n * terms.size) text →
-      (y : OpenEnd) × (y.state.position.phase ≡ Sending terms (n + 1)) × Becomes y (datagram x.address from (data_bytes (n + 1) (block text terms.size (n + 1))) ∷ [])
+      (y : OpenEnd) × (y.state.position.phase ≡ Sending terms (n + 1))
+      × Becomes y (datagram x.address from (data_bytes (n + 1) (block text terms.size (n + 1))) ∷ [])
   handles_send packet terms n text spelled is sender measured left =
       let a = acts_as packet (Send terms (n + 1)) spelled is in
-      let f = sends_from (is_sender x.state.role.side) sender memory_source (world_sink refuses_commit) terms (n + 1) from x.state x.left (holding_of x) h.turn h.held a in
-      let b : BlockSent terms n from x.state text h.turn f.0 = elim (block_sent memory_source (λ source. refl) terms n from x.state text x.left h.turn f.0 measured left f.2) [
+      let f =
+      sends_from (is_sender x.state.role.side) sender memory_source (world_sink refuses_commit) terms (n + 1) from
+      x.state x.left (holding_of x) h.turn h.held a in
+      let b : BlockSent terms n from x.state text h.turn f.0 =
+      elim (block_sent memory_source (λ source. refl) terms n from x.state text x.left h.turn f.0 measured left f.2) [
         | inl sent ↦ sent
         | inr failed ↦ absurd failed.may
       ] in
@@ -201,7 +236,8 @@ module _ (w v : WorldState) (k : ℕ) (x : OpenEnd) (from : Endpoint) (bytes : L
   same_with true z = refl
   same_with false z = refl
 
-  pub handles_last : (packet : Packet) → Spells packet bytes → datagram_action x.state from bytes (Some packet) ≡ Respond Complete →
+  pub handles_last : (packet : Packet) → Spells packet bytes →
+      datagram_action x.state from bytes (Some packet) ≡ Respond Complete →
       (y : WorldEnd) × IsComplete y × (v.sent ≡ w.sent ++ []) × (v.ends ≡ slice_set w.ends k y)
   handles_last packet spelled is =
       let a = acts_as packet (Respond Complete) spelled is in
@@ -212,12 +248,16 @@ module _ (w v : WorldState) (k : ℕ) (x : OpenEnd) (from : Endpoint) (bytes : L
         h.ends
             ∙ (ap (λ (t : Turn). slice_set w.ends k (standing (end_after x t h.held))) a.0
             ∙ (ap (λ (fs : Files (List ℕ) Holding). slice_set w.ends k (standing (end_after x turn fs))) a.1
-            ∙ ap (λ (z : OpenEnd). slice_set w.ends k (standing z)) (same_with (is_sender x.state.role.side) (in_state (after_turn x.state turn) x)))),
+            ∙ ap (λ (z : OpenEnd). slice_set w.ends k (standing z))
+            (same_with (is_sender x.state.role.side) (in_state (after_turn x.state turn) x)))),
       )
 
   -- ---- a reader accepts an OACK
-  pub handles_oack : (packet : Packet) (terms : Terms) → Spells packet bytes → datagram_action x.state from bytes (Some packet) ≡ Respond (Accept terms) →
-      (y : OpenEnd) × (y.state.position.phase ≡ Receiving terms 0) × (y.stored ≡ x.stored) × (y.state.position.held ≡ x.state.position.held) × Becomes y (datagram x.address from (ack_bytes 0) ∷ []) × (y.refuses ≡ x.refuses)
+  pub handles_oack : (packet : Packet) (terms : Terms) → Spells packet bytes →
+      datagram_action x.state from bytes (Some packet) ≡ Respond (Accept terms) →
+      (y : OpenEnd) × (y.state.position.phase ≡ Receiving terms 0) × (y.stored ≡ x.stored)
+      × (y.state.position.held ≡ x.state.position.held) × Becomes y (datagram x.address from (ack_bytes 0) ∷ [])
+      × (y.refuses ≡ x.refuses)
   handles_oack packet terms spelled is =
       let a = acts_as packet (Respond (Accept terms)) spelled is in
       let turn = response_turn (Accept terms) from x.state in
@@ -231,7 +271,8 @@ module _ (w v : WorldState) (k : ℕ) (x : OpenEnd) (from : Endpoint) (bytes : L
           ends = h.ends
               ∙ (ap (λ (t : Turn). slice_set w.ends k (standing (end_after x t h.held))) a.0
               ∙ (ap (λ (fs : Files (List ℕ) Holding). slice_set w.ends k (standing (end_after x turn fs))) a.1
-              ∙ ap (λ (z : OpenEnd). slice_set w.ends k (standing z)) (same_with (is_sender x.state.role.side) (in_state (after_turn x.state turn) x))));
+              ∙ ap (λ (z : OpenEnd). slice_set w.ends k (standing z))
+              (same_with (is_sender x.state.role.side) (in_state (after_turn x.state turn) x))));
           address = refl;
           file = refl;
           mode = refl;
@@ -244,37 +285,59 @@ module _ (w v : WorldState) (k : ℕ) (x : OpenEnd) (from : Endpoint) (bytes : L
   -- the end has this block and what it had before
   pub record HasStored (terms : Terms) (number : ℕ) (piece : List ℕ) (y : OpenEnd) : Type 0 where
     pub phase : y.state.position.phase ≡ stored_phase terms number (nat_lt (length piece) terms.size)
-    pub received : wire_text x.state.role.mode y.stored ++ y.state.position.held ≡ (wire_text x.state.role.mode x.stored ++ x.state.position.held) ++ piece
+    pub received : wire_text x.state.role.mode y.stored ++ y.state.position.held
+        ≡ (wire_text x.state.role.mode x.stored ++ x.state.position.held) ++ piece
     pub holds : HeldFits x.state.role.mode y.state.position.held
     pub armed : y.refuses ≡ is_armed h.held
     pub becomes : Becomes y (datagram x.address from (ack_bytes number) ∷ [])
 
   -- the effect on its sink
-  stores_here : (terms : Terms) (number : ℕ) (piece : List ℕ) → Spells (Data number piece) bytes → datagram_action x.state from bytes (Some (Data number piece)) ≡ Store terms number → is_sender x.state.role.side ≡ false →
-      (sink : Holding) × (h.held ≡ Sink sink) × Stores (world_sink refuses_commit) terms number from piece x.state (holding_of x) h.turn sink
+  stores_here : (terms : Terms) (number : ℕ) (piece : List ℕ) → Spells (Data number piece) bytes →
+      datagram_action x.state from bytes (Some (Data number piece)) ≡ Store terms number →
+      is_sender x.state.role.side ≡ false →
+      (sink : Holding) × (h.held ≡ Sink sink)
+      × Stores (world_sink refuses_commit) terms number from piece x.state (holding_of x) h.turn sink
   stores_here terms number piece spelled is receiver =
       let a = acts_as (Data number piece) (Store terms number) spelled is in
-      let s = subst (λ (bs : List ℕ). StoresIn memory_source (world_sink refuses_commit) terms number from bs x.state (files_of x) h.turn h.held) (sym (data_of number a.0 bytes a.1) ∙ data_of number piece bytes spelled) a.2 in
-      stores_in (is_sender x.state.role.side) receiver memory_source (world_sink refuses_commit) terms number from piece x.state x.left (holding_of x) h.turn h.held s
+      let s =
+      subst
+      (λ (bs : List ℕ).
+      StoresIn memory_source (world_sink refuses_commit) terms number from bs x.state (files_of x) h.turn h.held)
+      (sym (data_of number a.0 bytes a.1) ∙ data_of number piece bytes spelled) a.2 in
+      stores_in (is_sender x.state.role.side) receiver memory_source (world_sink refuses_commit) terms number from piece
+      x.state x.left (holding_of x) h.turn h.held s
 
   -- a client that was not set to refuse stores the block, and is not set to afterwards
   module _ (terms : Terms) (number : ℕ) (piece : List ℕ) (client : is_client x.state.role.side ≡ true) where
     abbrev closed_by : Turn → Option (ℕ × Outcome)
     closed_by turn = closed_at x.address (outcome_of turn.position.phase)
 
-    goes_unarmed : (mid sink : Holding) (after : List ℕ) (answer : Result Done StoreFault) (last : Bool) → h.held ≡ Sink sink → mid.refuses ≡ false → answer ≡ Ok tt →
-        GoesOn (world_sink refuses_commit) terms number from x.state last after mid answer h.turn sink → TookAll report.closed × (is_armed h.held ≡ false)
+    goes_unarmed : (mid sink : Holding) (after : List ℕ) (answer : Result Done StoreFault) (last : Bool) →
+        h.held ≡ Sink sink → mid.refuses ≡ false → answer ≡ Ok tt →
+        GoesOn (world_sink refuses_commit) terms number from x.state last after mid answer h.turn sink →
+        TookAll report.closed × (is_armed h.held ≡ false)
     goes_unarmed mid sink after (Err fault) last held unarmed ok g = absurd (let e : Err fault ≡ Ok tt = ok in cc)
-    goes_unarmed mid sink after (Ok done) false held unarmed ok g =
-        (subst TookAll (sym (h.closed ∙ ap closed_by g.0)) tt, ap is_armed held ∙ (ap (λ (z : Holding). z.refuses) g.1 ∙ unarmed))
+    goes_unarmed mid sink after (Ok done) false held unarmed ok g = (
+      subst TookAll (sym (h.closed ∙ ap closed_by g.0)) tt,
+      ap is_armed held
+          ∙ (ap (λ (z : Holding). z.refuses) g.1 ∙ unarmed),
+    )
     goes_unarmed mid sink after (Ok done) true held unarmed ok g =
         let there = in_the_way w.overwrite (file_at w.files x.path) in
         let c = commit_taken there mid sink g.answer unarmed
-        (subst (λ (armed : Bool). UnlessArmed armed mid (Some sink) g.answer (CommitsFreely mid (Some sink) g.answer)) unarmed g.commits)
-        (subst (λ (b : Bool). IfErr g.answer (may_refuse_commit b there mid)) client g.refused) in
-        (subst TookAll (sym (h.closed ∙ ap closed_by (g.answers ∙ ap (committed_turn terms number from (holding after x.state)) c.0))) tt, ap is_armed held ∙ c.1)
+        (subst (λ (armed : Bool). UnlessArmed armed mid (Some sink) g.answer (CommitsFreely mid (Some sink) g.answer))
+        unarmed g.commits)
+        (subst (λ (b : Bool). IfErr g.answer (may_refuse_commit b there mid)) client g.refused) in (
+          subst TookAll
+              (sym
+              (h.closed ∙ ap closed_by (g.answers ∙ ap (committed_turn terms number from (holding after x.state)) c.0)))
+              tt,
+          ap is_armed held ∙ c.1,
+        )
 
-    pub takes_data : x.refuses ≡ false → Spells (Data number piece) bytes → datagram_action x.state from bytes (Some (Data number piece)) ≡ Store terms number → is_sender x.state.role.side ≡ false →
+    pub takes_data : x.refuses ≡ false → Spells (Data number piece) bytes →
+        datagram_action x.state from bytes (Some (Data number piece)) ≡ Store terms number →
+        is_sender x.state.role.side ≡ false →
         TookAll report.closed × (is_armed h.held ≡ false)
     takes_data unarmed spelled is receiver =
         let f = stores_here terms number piece spelled is receiver in
@@ -282,27 +345,38 @@ module _ (w v : WorldState) (k : ℕ) (x : OpenEnd) (from : Endpoint) (bytes : L
         let p = piece_taken (holding_of x) b.mid b.bytes b.answer refuses_commit unarmed b.appended b.memory in
         goes_unarmed b.mid f.0 b.after b.answer (nat_lt (length piece) terms.size) f.1 p.1 p.0 b.rest
 
-  module _ (terms : Terms) (number : ℕ) (piece : List ℕ) (holds : HeldFits x.state.role.mode x.state.position.held) (all : TookAll report.closed) where
+  module _ (terms : Terms) (number : ℕ) (piece : List ℕ) (holds : HeldFits x.state.role.mode x.state.position.held)
+      (all : TookAll report.closed) where
     -- no turn is that of a store that refused
     fault_none : (reply : ErrorReply) (e : EndState) → h.turn ≡ refused_turn terms reply outcomes.StoreFault from e → ⊥
-    fault_none reply e is = (subst TookAll (h.closed ∙ ap (λ (t : Turn). closed_at x.address (outcome_of t.position.phase)) is) all) refl
+    fault_none reply e is =
+        (subst TookAll (h.closed ∙ ap (λ (t : Turn). closed_at x.address (outcome_of t.position.phase)) is) all) refl
 
     stores_as : (last : Bool) (sink : Holding) (bytes_now after : List ℕ) → nat_lt (length piece) terms.size ≡ last →
-        h.turn ≡ sent_turn (stored_phase terms number last) from (ack_bytes number) (holding after x.state) → h.held ≡ Sink sink →
-        sink.bytes ≡ x.stored ++ bytes_now → Decoded x.state.role.mode x.state.position.held piece bytes_now after → (y : OpenEnd) × HasStored terms number piece y
+        h.turn ≡ sent_turn (stored_phase terms number last) from (ack_bytes number) (holding after x.state) →
+        h.held ≡ Sink sink →
+        sink.bytes ≡ x.stored ++ bytes_now → Decoded x.state.role.mode x.state.position.held piece bytes_now after →
+        (y : OpenEnd) × HasStored terms number piece y
     stores_as true sink bytes_now after is turns held same d = (
       end_after x (sent_turn (Dallying terms number Fresh) from (ack_bytes number) (holding after x.state)) (Sink sink),
       record {
         phase = ap (stored_phase terms number) (sym is);
         received = ap (λ (z : List ℕ). wire_text x.state.role.mode z ++ after) same
-            ∙ sym (stored_more x.state.role.mode x.stored x.state.position.held piece bytes_now after (goes_on_with x.state.role.mode x.state.position.held piece bytes_now after holds d));
+            ∙ sym
+            (stored_more x.state.role.mode x.stored x.state.position.held piece bytes_now after
+            (goes_on_with x.state.role.mode x.state.position.held piece bytes_now after holds d));
         holds = held_fits x.state.role.mode x.state.position.held piece bytes_now after holds d;
         armed = sym (ap is_armed held);
         becomes = record {
           sent = h.sent ∙ ap (λ (t : Turn). w.sent ++ replied x.address t.reply) turns;
           ends = h.ends
               ∙ (ap (λ (t : Turn). slice_set w.ends k (standing (end_after x t h.held))) turns
-              ∙ ap (λ (fs : Files (List ℕ) Holding). slice_set w.ends k (standing (end_after x (sent_turn (Dallying terms number Fresh) from (ack_bytes number) (holding after x.state)) fs))) held);
+              ∙ ap
+              (λ (fs : Files (List ℕ) Holding).
+              slice_set w.ends k
+              (standing
+              (end_after x (sent_turn (Dallying terms number Fresh) from (ack_bytes number) (holding after x.state))
+              fs))) held);
           address = refl;
           file = refl;
           mode = refl;
@@ -315,14 +389,21 @@ module _ (w v : WorldState) (k : ℕ) (x : OpenEnd) (from : Endpoint) (bytes : L
       record {
         phase = ap (stored_phase terms number) (sym is);
         received = ap (λ (z : List ℕ). wire_text x.state.role.mode z ++ after) same
-            ∙ sym (stored_more x.state.role.mode x.stored x.state.position.held piece bytes_now after (goes_on_with x.state.role.mode x.state.position.held piece bytes_now after holds d));
+            ∙ sym
+            (stored_more x.state.role.mode x.stored x.state.position.held piece bytes_now after
+            (goes_on_with x.state.role.mode x.state.position.held piece bytes_now after holds d));
         holds = held_fits x.state.role.mode x.state.position.held piece bytes_now after holds d;
         armed = sym (ap is_armed held);
         becomes = record {
           sent = h.sent ∙ ap (λ (t : Turn). w.sent ++ replied x.address t.reply) turns;
           ends = h.ends
               ∙ (ap (λ (t : Turn). slice_set w.ends k (standing (end_after x t h.held))) turns
-              ∙ ap (λ (fs : Files (List ℕ) Holding). slice_set w.ends k (standing (end_after x (sent_turn (Receiving terms number) from (ack_bytes number) (holding after x.state)) fs))) held);
+              ∙ ap
+              (λ (fs : Files (List ℕ) Holding).
+              slice_set w.ends k
+              (standing
+              (end_after x (sent_turn (Receiving terms number) from (ack_bytes number) (holding after x.state)) fs)))
+              held);
           address = refl;
           file = refl;
           mode = refl;
@@ -332,25 +413,37 @@ module _ (w v : WorldState) (k : ℕ) (x : OpenEnd) (from : Endpoint) (bytes : L
     )
 
     -- a commit that was not refused
-    commits_as : (mid sink : Holding) (bytes_now after : List ℕ) → nat_lt (length piece) terms.size ≡ true → h.held ≡ Sink sink → mid.bytes ≡ x.stored ++ bytes_now →
+    commits_as : (mid sink : Holding) (bytes_now after : List ℕ) → nat_lt (length piece) terms.size ≡ true →
+        h.held ≡ Sink sink → mid.bytes ≡ x.stored ++ bytes_now →
         Decoded x.state.role.mode x.state.position.held piece bytes_now after →
-        (answer : Result Done StoreFault) → h.turn ≡ committed_turn terms number from (holding after x.state) answer → Kept_all mid sink answer → (y : OpenEnd) × HasStored terms number piece y
+        (answer : Result Done StoreFault) → h.turn ≡ committed_turn terms number from (holding after x.state) answer →
+        Kept_all mid sink answer → (y : OpenEnd) × HasStored terms number piece y
     commits_as mid sink bytes_now after is held same d answer t (For_good ok kept_bytes done) =
-        stores_as true sink bytes_now after is (t ∙ ap (committed_turn terms number from (holding after x.state)) ok) held (kept_bytes ∙ same) d
+        stores_as true sink bytes_now after is (t ∙ ap (committed_turn terms number from (holding after x.state)) ok)
+        held (kept_bytes ∙ same) d
     commits_as mid sink bytes_now after is held same d answer t (Not_yet fault err kept_bytes still) =
-        absurd (fault_none (commit_reply fault) (holding after x.state) (t ∙ ap (committed_turn terms number from (holding after x.state)) err))
+        absurd
+        (fault_none (commit_reply fault) (holding after x.state)
+        (t ∙ ap (committed_turn terms number from (holding after x.state)) err))
 
-    appends_as : (mid sink : Holding) (bytes_now after : List ℕ) (answer : Result Done StoreFault) (last : Bool) → nat_lt (length piece) terms.size ≡ last → h.held ≡ Sink sink →
-        Decoded x.state.role.mode x.state.position.held piece bytes_now after → Took (holding_of x) mid bytes_now answer →
-        GoesOn (world_sink refuses_commit) terms number from x.state last after mid answer h.turn sink → (y : OpenEnd) × HasStored terms number piece y
+    appends_as : (mid sink : Holding) (bytes_now after : List ℕ) (answer : Result Done StoreFault) (last : Bool) →
+        nat_lt (length piece) terms.size ≡ last → h.held ≡ Sink sink →
+        Decoded x.state.role.mode x.state.position.held piece bytes_now after →
+        Took (holding_of x) mid bytes_now answer →
+        GoesOn (world_sink refuses_commit) terms number from x.state last after mid answer h.turn sink →
+        (y : OpenEnd) × HasStored terms number piece y
     appends_as mid sink bytes_now after (Err fault) last is held d took_now g = absurd (fault_none DiskFull x.state g.0)
-    appends_as mid sink bytes_now after (Ok done) last is held d (Some_of_it fault kept err begins same un) g = absurd (let e : Ok done ≡ Err fault = err in cc)
+    appends_as mid sink bytes_now after (Ok done) last is held d (Some_of_it fault kept err begins same un) g =
+        absurd (let e : Ok done ≡ Err fault = err in cc)
     appends_as mid sink bytes_now after (Ok done) true is held d (All_of_it ok same un) g =
-        commits_as mid sink bytes_now after is held same d g.answer g.answers (kept_by mid.refuses mid sink g.answer g.commits)
+        commits_as mid sink bytes_now after is held same d g.answer g.answers
+        (kept_by mid.refuses mid sink g.answer g.commits)
     appends_as mid sink bytes_now after (Ok done) false is held d (All_of_it ok same un) g =
         stores_as false sink bytes_now after is g.0 held (ap (λ (z : Holding). z.bytes) g.1 ∙ same) d
 
-    pub handles_data : Spells (Data number piece) bytes → datagram_action x.state from bytes (Some (Data number piece)) ≡ Store terms number → is_sender x.state.role.side ≡ false →
+    pub handles_data : Spells (Data number piece) bytes →
+        datagram_action x.state from bytes (Some (Data number piece)) ≡ Store terms number →
+        is_sender x.state.role.side ≡ false →
         (y : OpenEnd) × HasStored terms number piece y
     handles_data spelled is receiver =
         let f = stores_here terms number piece spelled is receiver in

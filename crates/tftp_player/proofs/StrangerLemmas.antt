@@ -23,9 +23,11 @@ use Rattle.tftp_machine.specs.OpenEnds.{OpenEnd, files_of, end_after, peer_of, w
 use Rattle.tftp_machine.specs.EndKept.{PhaseKept}
 use Rattle.tftp_machine.proofs.PhaseMoves.{same_ips, same_endpoints}
 use Rattle.tftp_player.specs.Strangers.{HasNoStranger, IsRecordedSo, StraysChangeNoRecord, ClientsHaveServers}
-use Rattle.tftp_player.specs.World.{WorldState, WorldEnd, Open_end, end_record, end_address, file_at, in_the_way, standing, view_of_end}
+use Rattle.tftp_player.specs.World.{WorldState, WorldEnd, Open_end, end_record, end_address, file_at, in_the_way}
+use Rattle.tftp_player.specs.World.{standing, view_of_end}
 use Rattle.tftp_player.specs.WorldKept.{IsOk}
-use Rattle.tftp_player.specs.WorldSteps.{may_refuse_commit, ServiceStep, Arrives, At_request_port, At_open_end, At_closed_end, At_nobody, OpeningStep, OnDatagram, world_sink}
+use Rattle.tftp_player.specs.WorldSteps.{may_refuse_commit, ServiceStep, Arrives, At_request_port, At_open_end}
+use Rattle.tftp_player.specs.WorldSteps.{At_closed_end, At_nobody, OpeningStep, OnDatagram, world_sink}
 use Rattle.tftp_server.specs.Port.{Service, Silent, Refused, Sends, Takes}
 use Rattle.tftp_player.specs.declared.report.Report.{Report}
 use Rattle.tftp_machine.proofs.Indices.{slice_get-set_same, slice_get-set_other, slice_get-push_old}
@@ -42,40 +44,61 @@ fails false cannot = refl
 not_server : (from : Endpoint) → host_of from ≡ Elsewhere → from.ip ≡ request_port.ip → ⊥
 unfolding host_of
 not_server from far same =
-    let e : At_server ≡ Elsewhere = subst (λ (ip : List ℕ). host_of (record from { ip = ip }) ≡ Elsewhere) same far in cc
+    let e : At_server ≡ Elsewhere = subst (λ (ip : List ℕ). host_of (record from { ip = ip }) ≡ Elsewhere) same far in
+    cc
 
 -- to an open end whose peer is no stranger
-is_strange : (phase : Phase) (x0 : OpenEnd) (from : Endpoint) → PhaseKept two_hosts (with_phase phase x0) phase → host_of from ≡ Elsewhere → ((p : Endpoint) → peer_of phase ≡ Some p → host_of p ≢ Elsewhere) →
+is_strange : (phase : Phase) (x0 : OpenEnd) (from : Endpoint) → PhaseKept two_hosts (with_phase phase x0) phase →
+    host_of from ≡ Elsewhere → ((p : Endpoint) → peer_of phase ≡ Some p → host_of p ≢ Elsewhere) →
     is_some (outcome_of phase) ≡ false → is_stranger (terms_of phase) x0.state.position.last_sent_to from ≡ true
 is_strange (Waiting asked limit) x0 from kept far home o =
-    fails (same_address x0.state.position.last_sent_to from) (λ e. not_server from far (sym (same_ips x0.state.position.last_sent_to from e) ∙ ap (λ (p : Endpoint). p.ip) kept.2))
+    fails (same_address x0.state.position.last_sent_to from)
+    (λ e.
+    not_server from far (sym (same_ips x0.state.position.last_sent_to from e) ∙ ap (λ (p : Endpoint). p.ip) kept.2))
 is_strange (Sending terms n) x0 from kept far home o =
-    fails (same_endpoint terms.peer from) (λ e. home terms.peer refl (ap host_of (same_endpoints terms.peer from e) ∙ far))
+    fails (same_endpoint terms.peer from)
+    (λ e. home terms.peer refl (ap host_of (same_endpoints terms.peer from e) ∙ far))
 is_strange (Receiving terms n) x0 from kept far home o =
-    fails (same_endpoint terms.peer from) (λ e. home terms.peer refl (ap host_of (same_endpoints terms.peer from e) ∙ far))
+    fails (same_endpoint terms.peer from)
+    (λ e. home terms.peer refl (ap host_of (same_endpoints terms.peer from e) ∙ far))
 is_strange (Dallying terms n dally) x0 from kept far home o =
-    fails (same_endpoint terms.peer from) (λ e. home terms.peer refl (ap host_of (same_endpoints terms.peer from e) ∙ far))
+    fails (same_endpoint terms.peer from)
+    (λ e. home terms.peer refl (ap host_of (same_endpoints terms.peer from e) ∙ far))
 is_strange (Closed terms n complete outcome) x0 from kept far home o = absurd (true≢false o)
 
 -- such an end is unchanged
-module _ (w : WorldState) (k : ℕ) (x : OpenEnd) (from : Endpoint) (bytes : List ℕ) (report : Report) (v : WorldState) (t : OnDatagram w k x from bytes report v) where
+module _ (w : WorldState) (k : ℕ) (x : OpenEnd) (from : Endpoint) (bytes : List ℕ) (report : Report) (v : WorldState)
+    (t : OnDatagram w k x from bytes report v) where
   abbrev Acts_at : Action → Type 0
-  Acts_at action = Acts memory_source (world_sink (may_refuse_commit (is_client x.state.role.side) (in_the_way w.overwrite (file_at w.files x.path)))) action from bytes x.state (files_of x) t.turn t.held
+  Acts_at action =
+      Acts memory_source
+      (world_sink (may_refuse_commit (is_client x.state.role.side) (in_the_way w.overwrite (file_at w.files x.path))))
+      action from bytes x.state (files_of x) t.turn t.held
 
   stays_by : (b : Bool) → Acts_at (if b then Respond Ignore else Respond Stranger) → t.turn.position ≡ x.state.position
   stays_by true h = ap (λ (u : Turn). u.position) h.0
   stays_by false h = ap (λ (u : Turn). u.position) h.0
 
-  strange_same : is_stranger (terms_of x.state.position.phase) x.state.position.last_sent_to from ≡ true → t.turn.position ≡ x.state.position
+  strange_same : is_stranger (terms_of x.state.position.phase) x.state.position.last_sent_to from ≡ true →
+      t.turn.position ≡ x.state.position
   strange_same strange =
-      let near = if has_error_opcode bytes && is_none t.steps.decoded then Respond (garbled_response x.state.position.phase) else packet_action x.state from t.steps.decoded x.state.position.phase in
+      let near =
+      if has_error_opcode bytes
+      && is_none t.steps.decoded then Respond (garbled_response x.state.position.phase) else packet_action x.state from
+      t.steps.decoded x.state.position.phase in
       stays_by (has_error_opcode bytes)
-      (subst (λ (b : Bool). Acts_at (if b then (if has_error_opcode bytes then Respond Ignore else Respond Stranger) else near)) strange t.steps.acts)
+      (subst
+      (λ (b : Bool).
+      Acts_at (if b then (if has_error_opcode bytes then Respond Ignore else Respond Stranger) else near)) strange
+      t.steps.acts)
 
 -- the record of an end whose state is unchanged
-after_state : (x : OpenEnd) (turn : Turn) (held : Files (List ℕ) Holding) → turn.position ≡ x.state.position → end_record (standing (end_after x turn held)) ≡ record_of x.state
-after_state x turn (Source left) same = standing_record (end_after x turn (Source left)) ∙ ap (λ (p : Position). record_of (with_position p x.state)) same
-after_state x turn (Sink holding) same = standing_record (end_after x turn (Sink holding)) ∙ ap (λ (p : Position). record_of (with_position p x.state)) same
+after_state : (x : OpenEnd) (turn : Turn) (held : Files (List ℕ) Holding) → turn.position ≡ x.state.position →
+    end_record (standing (end_after x turn held)) ≡ record_of x.state
+after_state x turn (Source left) same =
+    standing_record (end_after x turn (Source left)) ∙ ap (λ (p : Position). record_of (with_position p x.state)) same
+after_state x turn (Sink holding) same =
+    standing_record (end_after x turn (Sink holding)) ∙ ap (λ (p : Position). record_of (with_position p x.state)) same
 
 equal_or_not : (a b : ℕ) → (a ≡ b) ⊎ (a ≢ b)
 equal_or_not a b = elim (eqb_tells a b) [
@@ -84,39 +107,60 @@ equal_or_not a b = elim (eqb_tells a b) [
 ]
 
 -- as it is
-as_is : (old new : WorldState) (k : ℕ) (x : WorldEnd) → new.ends ≡ old.ends → slice_get old.ends k ≡ Some x → IsRecordedSo new k x
+as_is : (old new : WorldState) (k : ℕ) (x : WorldEnd) → new.ends ≡ old.ends → slice_get old.ends k ≡ Some x →
+    IsRecordedSo new k x
 as_is old new k x e there = (x, ap (λ (ends : List WorldEnd). slice_get ends k) e ∙ there, refl)
 
-opened_more : (old new : WorldState) (y : OpenEnd) (report : Report) (k : ℕ) (x : WorldEnd) → OpeningStep old y report new → slice_get old.ends k ≡ Some x → IsRecordedSo new k x
+opened_more : (old new : WorldState) (y : OpenEnd) (report : Report) (k : ℕ) (x : WorldEnd) →
+    OpeningStep old y report new → slice_get old.ends k ≡ Some x → IsRecordedSo new k x
 opened_more old new y report k x o there =
     (x, ap (λ (w : WorldState). slice_get w.ends k) o.is ∙ slice_get-push_old old.ends k (Open_end y) x there, refl)
 
-served : (service : Service) (old new : WorldState) (from : Endpoint) (bytes : List ℕ) (report : Report) (k : ℕ) (x : WorldEnd) → ServiceStep service old from bytes report new → slice_get old.ends k ≡ Some x → IsRecordedSo new k x
+served :
+    (service : Service) (old new : WorldState) (from : Endpoint) (bytes : List ℕ) (report : Report) (k : ℕ)
+    (x : WorldEnd) → ServiceStep service old from bytes report new → slice_get old.ends k ≡ Some x →
+    IsRecordedSo new k x
 served Silent old new from bytes report k x s there = as_is old new k x (ap (λ (w : WorldState). w.ends) s.is) there
-served (Refused reply) old new from bytes report k x s there = as_is old new k x (ap (λ (w : WorldState). w.ends) s.1) there
-served (Sends path mode length agreed) old new from bytes report k x s there = opened_more old new _ report k x s.2 there
+served (Refused reply) old new from bytes report k x s there =
+    as_is old new k x (ap (λ (w : WorldState). w.ends) s.1) there
+served (Sends path mode length agreed) old new from bytes report k x s there =
+    opened_more old new _ report k x s.2 there
 served (Takes path mode agreed) old new from bytes report k x s there = opened_more old new _ report k x s there
 
-same_at_index : (old new : WorldState) (k j : ℕ) (x y z : WorldEnd) → new.ends ≡ set old.ends j z → slice_get old.ends j ≡ Some y → slice_get old.ends k ≡ Some x → (k ≡ j → end_record z ≡ end_record x) →
+same_at_index : (old new : WorldState) (k j : ℕ) (x y z : WorldEnd) → new.ends ≡ set old.ends j z →
+    slice_get old.ends j ≡ Some y → slice_get old.ends k ≡ Some x → (k ≡ j → end_record z ≡ end_record x) →
     (k ≡ j) ⊎ (k ≢ j) → IsRecordedSo new k x
-same_at_index old new k j x y z e at there same (inl here) =
-    (z, ap (λ (ends : List WorldEnd). slice_get ends k) e ∙ (ap (slice_get (set old.ends j z)) here ∙ slice_get-set_same old.ends j z y at), same here)
+same_at_index old new k j x y z e at there same (inl here) = (
+  z,
+  ap (λ (ends : List WorldEnd). slice_get ends k) e
+      ∙ (ap (slice_get (set old.ends j z)) here ∙ slice_get-set_same old.ends j z y at),
+  same here,
+)
 same_at_index old new k j x y z e at there same (inr away) =
     (x, ap (λ (ends : List WorldEnd). slice_get ends k) e ∙ (slice_get-set_other old.ends j k z away ∙ there), refl)
 
-arrived : (strangers : Bool) (old new : WorldState) (from to : Endpoint) (bytes : List ℕ) (report : Report) (k : ℕ) (x : WorldEnd) → IsOk strangers old → host_of from ≡ Elsewhere →
+arrived :
+    (strangers : Bool) (old new : WorldState) (from to : Endpoint) (bytes : List ℕ) (report : Report) (k : ℕ)
+    (x : WorldEnd) → IsOk strangers old → host_of from ≡ Elsewhere →
     Arrives old from to bytes report new → slice_get old.ends k ≡ Some x → HasNoStranger x → IsRecordedSo new k x
-arrived strangers old new from to bytes report k x ok far (At_request_port here port decoded says repeated same s) there home = served _ old new from bytes report k x s there
+arrived strangers old new from to bytes report k x ok far (At_request_port here port decoded says repeated same
+    s) there home = served _ old new from bytes report k x s there
 arrived strangers old new from to bytes report k x ok far (At_open_end j y at address t) there home =
-    same_at_index old new k j x (Open_end y) (standing (end_after y t.turn t.held)) (ap (λ (w : WorldState). w.ends) t.turns.is) at there
-    (λ here. let e : Open_end y ≡ x = same_Some (Open_end y) x (sym at ∙ (ap (slice_get old.ends) (sym here) ∙ there)) in
+    same_at_index old new k j x (Open_end y) (standing (end_after y t.turn t.held))
+    (ap (λ (w : WorldState). w.ends) t.turns.is) at there
+    (λ here. let e : Open_end y ≡ x =
+    same_Some (Open_end y) x (sym at ∙ (ap (slice_get old.ends) (sym here) ∙ there)) in
     let was = (ok.ends j (Open_end y) at).stands in
     let own : HasNoStranger (Open_end y) = subst HasNoStranger (sym e) home in
-    let same = strange_same old j y from bytes report new t (is_strange y.state.position.phase y from was.kept.phase far own (ap is_some was.still)) in
+    let same =
+    strange_same old j y from bytes report new t
+    (is_strange y.state.position.phase y from was.kept.phase far own (ap is_some was.still)) in
     after_state y t.turn t.held same ∙ ap (λ (z : WorldEnd). end_record z) e)
     (equal_or_not k j)
-arrived strangers old new from to bytes report k x ok far (At_closed_end j y at address s) there home = as_is old new k x (ap (λ (w : WorldState). w.ends) s.is) there
-arrived strangers old new from to bytes report k x ok far (At_nobody away nobody s) there home = as_is old new k x (ap (λ (w : WorldState). w.ends) s.is) there
+arrived strangers old new from to bytes report k x ok far (At_closed_end j y at address s) there home =
+    as_is old new k x (ap (λ (w : WorldState). w.ends) s.is) there
+arrived strangers old new from to bytes report k x ok far (At_nobody away nobody s) there home =
+    as_is old new k x (ap (λ (w : WorldState). w.ends) s.is) there
 
 pub strays_change_no_record : StraysChangeNoRecord
 strays_change_no_record strangers old new from to bytes report k x ok s there home =

@@ -1,5 +1,6 @@
 -- A request that repeats that of no open transfer is answered by no end that is shown.
-use Rattle.std.proofs.Common.{◌≡◌, ℕ, zero, suc, Bool, false, List, [], ◌∷◌, map, Option, Some, None, refl, sym, ap, ◌∙◌, subst, inl, inr}
+use Rattle.std.proofs.Common.{◌≡◌, ℕ, zero, suc, Bool, false, List, [], ◌∷◌, map, Option, Some, None, refl, sym, ap}
+use Rattle.std.proofs.Common.{◌∙◌, subst, inl, inr}
 use Rattle.std.specs.Prelude.{not, option_map, slice_get}
 use Rattle.std.proofs.lemmas.Bool.{true≢false}
 use Rattle.std.proofs.lemmas.Option.{same_Some, slice_get-map}
@@ -10,17 +11,21 @@ use Rattle.tftp_player.specs.Requests.{IsRepeated, Repeats, AnyRepeats}
 use Rattle.tftp_player.specs.World.{WorldEnd, Open_end, Closed_end, view_of_end}
 
 -- an end at an index is one of them
-pub any_at : (from : Endpoint) (packet : Packet) (ends : List WorldEnd) (k : ℕ) (x : WorldEnd) → slice_get ends k ≡ Some x → Repeats from packet x → AnyRepeats from packet ends
+pub any_at : (from : Endpoint) (packet : Packet) (ends : List WorldEnd) (k : ℕ) (x : WorldEnd) →
+    slice_get ends k ≡ Some x → Repeats from packet x → AnyRepeats from packet ends
 any_at from packet [] k x e r = absurd (let f : None ≡ Some x = e in cc)
 any_at from packet (y ∷ ends) zero x e r = inl (subst (Repeats from packet) (sym (same_Some y x e)) r)
 any_at from packet (y ∷ ends) (suc k) x e r = inr (any_at from packet ends k x e r)
 
 -- who answers a request is repeated by it
-answers_repeat : (from : Endpoint) (packet : Packet) (x : WorldEnd) → IsAnswering (view_of_end x) from packet → Repeats from packet x
+answers_repeat : (from : Endpoint) (packet : Packet) (x : WorldEnd) → IsAnswering (view_of_end x) from packet →
+    Repeats from packet x
 answers_repeat from packet (Open_end x) a = record { server = a.serving.0; peer = a.peer_is; same = a.spells }
 answers_repeat from packet (Closed_end x) a = absurd (true≢false (sym (ap not a.serving.1) ∙ a.serving.2))
 
-pub none_answers : (from : Endpoint) (packet : Packet) (ends : List WorldEnd) (repeated : Bool) (decoded : Option Packet) → IsRepeated repeated from decoded ends →
+pub none_answers :
+    (from : Endpoint) (packet : Packet) (ends : List WorldEnd) (repeated : Bool) (decoded : Option Packet) →
+    IsRepeated repeated from decoded ends →
     decoded ≡ Some packet → repeated ≡ false → NoneAnswers (map view_of_end ends) from packet
 none_answers from packet ends repeated decoded same is new k e at a =
     by_end (slice_get ends k) refl (sym (slice_get-map view_of_end ends k) ∙ at) where
@@ -30,5 +35,7 @@ none_answers from packet ends repeated decoded same is new k e at a =
       by_end : (o : Option WorldEnd) → slice_get ends k ≡ o → option_map view_of_end o ≡ Some e → ⊥
       by_end None there h = absurd (let f : None ≡ Some e = h in cc)
       by_end (Some x) there h =
-          let r = answers_repeat from packet x (subst (λ (v : EndView). IsAnswering v from packet) (sym (same_Some (view_of_end x) e h)) a) in
+          let r =
+          answers_repeat from packet x
+          (subst (λ (v : EndView). IsAnswering v from packet) (sym (same_Some (view_of_end x) e h)) a) in
           true≢false (sym (again.1 (any_at from packet ends k x there r)) ∙ new)

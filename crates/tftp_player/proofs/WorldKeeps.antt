@@ -1,5 +1,6 @@
 -- Clients that open, and the request port, keep a world.
-use Rattle.std.proofs.Common.{◌≡◌, ℕ, ◌+◌, ◌*◌, ◌<◌, ◌≤◌, Bool, true, false, List, [], ◌∷◌, ◌++◌, length, map, drop, Option, Some, None, Result, Ok, Err, sym, refl, ap, ◌∙◌, subst, arith}
+use Rattle.std.proofs.Common.{◌≡◌, ℕ, ◌+◌, ◌*◌, ◌<◌, ◌≤◌, Bool, true, false, List, [], ◌∷◌, ◌++◌, length, map, drop}
+use Rattle.std.proofs.Common.{Option, Some, None, Result, Ok, Err, sym, refl, ap, ◌∙◌, subst, arith}
 use Rattle.std.specs.Prelude.{◌≢◌, if◌then◌else◌, nat_lt, nat_le}
 use Rattle.std.specs.List.{Contains, AllByRecursion}
 use Rattle.std.proofs.lemmas.Option.{same_Some, slice_get_within}
@@ -29,7 +30,8 @@ use Rattle.tftp_file.specs.Block.{block, block_count, Fits}
 use Rattle.tftp_file.specs.Netascii.{wire_text}
 use Rattle.tftp_file.specs.Path.{path_of_name}
 use Rattle.tftp_ends.specs.declared.error_reply.ErrorReply.{ErrorReply}
-use Rattle.tftp_ends.specs.declared.error_reply.ErrorReply.TheVariants.{FileTooLarge, ServerBusy, FileNotFound, AccessViolation, IllegalOperation, FileExists}
+use Rattle.tftp_ends.specs.declared.error_reply.ErrorReply.TheVariants.{FileTooLarge, ServerBusy, FileNotFound}
+use Rattle.tftp_ends.specs.declared.error_reply.ErrorReply.TheVariants.{AccessViolation, IllegalOperation, FileExists}
 use Rattle.tftp_ends.specs.ErrorReply.{error_packet}
 use Rattle.tftp_wire.specs.Reading.{has_error_opcode}
 use Rattle.tftp_ends.specs.Step.{error_bytes}
@@ -47,8 +49,10 @@ use Rattle.tftp_machine.proofs.SaidLemmas.{spells_own, own_oack}
 use Rattle.tftp_machine.proofs.HostLemmas.{host_server, host_client}
 use Rattle.tftp_machine.specs.Shows.{NoneAt, requested, NoneAnswers, EndView, IsShownAt, IsShownWithin}
 use Rattle.tftp_player.specs.World.{WorldState, WorldEnd, Open_end, file_at, in_the_way, datagram, said_in, view_of_end}
-use Rattle.tftp_player.specs.Openings.{request_of, reading_client, writing_client, MayGet, MayPut, sending_end, receiving_end}
-use Rattle.tftp_server.specs.Port.{Ask, Ignores, Refuses, Reads, Service, Refused, Sends, accept_reply, by_draft, by_file, by_length, by_name, by_options, by_packet, by_repeat}
+use Rattle.tftp_player.specs.Openings.{request_of, reading_client, writing_client, MayGet, MayPut, sending_end}
+use Rattle.tftp_player.specs.Openings.{receiving_end}
+use Rattle.tftp_server.specs.Port.{Ask, Ignores, Refuses, Reads, Service, Refused, Sends, accept_reply, by_draft}
+use Rattle.tftp_server.specs.Port.{by_file, by_length, by_name, by_options, by_packet, by_repeat}
 use Rattle.tftp_player.specs.Requests.{IsRepeated, open_transfers, opened_of, begun_of, served, service}
 use Rattle.tftp_player.specs.WorldSteps.{Stays, ServiceStep, OpeningStep}
 use Rattle.tftp_player.specs.WorldKept.{IsOkBy, IsOkAt, IsOkWithin}
@@ -66,7 +70,8 @@ at_client : (a : Endpoint) → a.ip ≡ client_ip → host_of a ≢ Elsewhere
 at_client a e f = let h = sym (host_client a e) ∙ f in cc
 
 -- no end has the next port
-none_at_next : (first : List Rule) (strangers : Bool) (w : WorldState) → IsOkAt first strangers w → (a : Endpoint) → a.port ≡ 1024 + length w.ends → NoneAt (map view_of_end w.ends) a
+none_at_next : (first : List Rule) (strangers : Bool) (w : WorldState) → IsOkAt first strangers w → (a : Endpoint) →
+    a.port ≡ 1024 + length w.ends → NoneAt (map view_of_end w.ends) a
 none_at_next first strangers w ok a port k e i same =
     let h = viewed_at w.ends k e i in
     let own : e.address.port ≡ 1024 + k = ap (λ (v : EndView). v.address.port) (sym h.2) ∙ ok.ports k h.0 h.1 in
@@ -87,11 +92,15 @@ no_text : (mode : Mode) → wire_text mode [] ++ [] ≡ []
 no_text mode = append-nil (wire_text mode []) ∙ empty_text mode
 
 -- no rule is a few
-pub none_more : (first : List Rule) (views : List EndView) (messages : List Message) → IsShownAt two_hosts first views messages → IsShownWithin two_hosts 3 first views messages
-none_more first views messages shown = shown_within two_hosts 0 3 first views messages (omega arith) (shown_still two_hosts first views messages shown)
+pub none_more : (first : List Rule) (views : List EndView) (messages : List Message) →
+    IsShownAt two_hosts first views messages → IsShownWithin two_hosts 3 first views messages
+none_more first views messages shown =
+    shown_within two_hosts 0 3 first views messages (omega arith) (shown_still two_hosts first views messages shown)
 
 -- a world is kept by how it is shown
-unfoldable pub shown_as : (P Q : List EndView → List Message → Type 0) (strangers : Bool) (w : WorldState) (ok : IsOkBy P strangers w) → Q (map view_of_end w.ends) ok.messages → IsOkBy Q strangers w
+unfoldable pub shown_as :
+    (P Q : List EndView → List Message → Type 0) (strangers : Bool) (w : WorldState) (ok : IsOkBy P strangers w) →
+    Q (map view_of_end w.ends) ok.messages → IsOkBy Q strangers w
 shown_as P Q strangers w ok shown = record {
   messages = ok.messages;
   shown = shown;
@@ -103,124 +112,225 @@ shown_as P Q strangers w ok shown = record {
   ends = ok.ends;
 }
 
-pub stays_ok : (first : List Rule) (strangers : Bool) (w v : WorldState) (report : Report) → IsOkAt first strangers w → Stays w report v → IsOkWithin 3 first strangers v
+pub stays_ok : (first : List Rule) (strangers : Bool) (w v : WorldState) (report : Report) → IsOkAt first strangers w →
+    Stays w report v → IsOkWithin 3 first strangers v
 stays_ok first strangers w v report ok s =
     subst (λ (z : WorldState). IsOkWithin 3 first strangers z) (sym s.is)
-    (shown_as (IsShownAt two_hosts first) (IsShownWithin two_hosts 3 first) strangers w ok (none_more first (map view_of_end w.ends) ok.messages ok.shown))
+    (shown_as (IsShownAt two_hosts first) (IsShownWithin two_hosts 3 first) strangers w ok
+    (none_more first (map view_of_end w.ends) ok.messages ok.shown))
 
 -- a client opens
-pub reading_keeps : (first : List Rule) (strangers : Bool) (w v : WorldState) (name : List ℕ) (mode : Mode) (asked : Asked) (report : Report) → IsOkAt first strangers w → MayGet name mode asked →
+pub reading_keeps :
+    (first : List Rule) (strangers : Bool) (w v : WorldState) (name : List ℕ) (mode : Mode) (asked : Asked)
+    (report : Report) → IsOkAt first strangers w → MayGet name mode asked →
     OpeningStep w (reading_client w name mode asked) report v → IsOkWithin 3 first strangers v
 reading_keeps first strangers w v name mode asked report ok may o =
     let x = reading_client w name mode asked in
     let p = Read (request_of name mode asked) in
     let a = x.address in
-    let shown_now = asks two_hosts first (map view_of_end w.ends) ok.messages ok.shown a false (request_of name mode asked) (wire_text mode [] ++ []) (host_client a refl) (none_at_next first strangers w ok x.address refl) (λ _. no_text mode) in
+    let shown_now =
+    asks two_hosts first (map view_of_end w.ends) ok.messages ok.shown a false (request_of name mode asked)
+    (wire_text mode [] ++ []) (host_client a refl) (none_at_next first strangers w ok x.address refl)
+    (λ _. no_text mode) in
     opening_keeps first strangers w v ok x report p (spells_own p may.valid) shown_now (at_client a refl) refl refl
-    (record { phase = (refl, may.options.askable, refl, refl, λ _. refl, λ e. absurd (true≢false (sym e))); held = empty_held mode; committed = λ _. refl }) refl o
+    (record {
+      phase = (refl, may.options.askable, refl, refl, λ _. refl, λ e. absurd (true≢false (sym e)));
+      held = empty_held mode;
+      committed = λ _. refl;
+    }) refl refl o
 
-pub writing_keeps : (first : List Rule) (strangers : Bool) (w v : WorldState) (name : List ℕ) (mode : Mode) (asked : Asked) (file : List ℕ) (report : Report) → IsOkAt first strangers w → MayPut name mode asked (length (wire_text mode file)) →
+pub writing_keeps :
+    (first : List Rule) (strangers : Bool) (w v : WorldState) (name : List ℕ) (mode : Mode) (asked : Asked)
+    (file : List ℕ) (report : Report) → IsOkAt first strangers w →
+    MayPut name mode asked (length (wire_text mode file)) →
     OpeningStep w (writing_client w name mode asked file) report v → IsOkWithin 3 first strangers v
 writing_keeps first strangers w v name mode asked file report ok may o =
     let x = writing_client w name mode asked file in
     let p = Write (request_of name mode asked) in
     let a = x.address in
-    let shown_now = asks two_hosts first (map view_of_end w.ends) ok.messages ok.shown a true (request_of name mode asked) (wire_text mode file) (host_client a refl) (none_at_next first strangers w ok x.address refl) (λ e. absurd (true≢false e)) in
+    let shown_now =
+    asks two_hosts first (map view_of_end w.ends) ok.messages ok.shown a true (request_of name mode asked)
+    (wire_text mode file) (host_client a refl) (none_at_next first strangers w ok x.address refl)
+    (λ e. absurd (true≢false e)) in
     opening_keeps first strangers w v ok x report p (spells_own p may.valid) shown_now (at_client a refl) refl refl
-    (record { phase = (refl, may.options.askable, refl, refl, λ _. refl, λ _. refl); held = empty_held mode; committed = λ e. absurd (true≢false e) }) refl o
+    (record {
+      phase = (refl, may.options.askable, refl, refl, λ _. refl, λ _. refl);
+      held = empty_held mode;
+      committed = λ e. absurd (true≢false e);
+    }) refl refl o
 
 -- a request that these bytes spell was sent, and no open end answers it
-pub record IsNewly (messages : List Message) (ends : List WorldEnd) (from : Endpoint) (bytes : List ℕ) (write : Bool) (request : Request) : Type 0 where
+pub record IsNewly (messages : List Message) (ends : List WorldEnd) (from : Endpoint) (bytes : List ℕ) (write : Bool)
+    (request : Request) : Type 0 where
   pub sent : Contains messages (message from request_port (Says_request write request))
   pub spells : Spells (requested write request) bytes
   pub unanswered : NoneAnswers (map view_of_end ends) from (requested write request)
 
 -- the options that a server agreed to
-pub answered_values : (kind : Kind) (mode : Mode) (file_length : ℕ) (limits : Limits) (options : List RawOption) (known : List Known) → IsBlockSize limits.max_block →
+pub answered_values :
+    (kind : Kind) (mode : Mode) (file_length : ℕ) (limits : Limits) (options : List RawOption) (known : List Known) →
+    IsBlockSize limits.max_block →
     answer options kind mode file_length limits ≡ Ok known → AllByRecursion IsAgreeable known
 answered_values kind mode file_length limits options known ok e =
     (answers_may_be_agreed options kind mode file_length limits known ok e).values
 
 -- a read is served
-sending_keeps : (first : List Rule) (strangers : Bool) (w v : WorldState) (from : Endpoint) (bytes : List ℕ) (request : Request) (path file : List ℕ) (agreed : List Known) (report : Report) (ok : IsOkAt first strangers w) →
-    IsNewly ok.messages w.ends from bytes false request → AllByRecursion IsAgreeable agreed → (agreed ≢ [] → IsValid (Oack (agreed_options agreed))) → Fits (wire_text request.mode file) (size agreed) →
+sending_keeps :
+    (first : List Rule) (strangers : Bool) (w v : WorldState) (from : Endpoint) (bytes : List ℕ) (request : Request)
+    (path file : List ℕ) (agreed : List Known) (report : Report) (ok : IsOkAt first strangers w) →
+    IsNewly ok.messages w.ends from bytes false request → AllByRecursion IsAgreeable agreed →
+    (agreed ≢ [] → IsValid (Oack (agreed_options agreed))) → Fits (wire_text request.mode file) (size agreed) →
     OpeningStep w (sending_end w from bytes request.mode path file agreed) report v → IsOkWithin 3 first strangers v
 sending_keeps first strangers w v from bytes request path file [] report ok come agreeable valid fits o =
     let text = wire_text request.mode file in
     let x = sending_end w from bytes request.mode path file [] in
     let one : 1 ≤ block_count text DEFAULT_BLOCK = omega arith in
     let p = Data 1 (block text DEFAULT_BLOCK 1) in
-    let shown_now = serves_plainly two_hosts first (map view_of_end w.ends) ok.messages ok.shown x.address from bytes false request text (host_server x.address refl) (none_at_next first strangers w ok x.address refl) come.sent fits come.spells come.unanswered in
-    opening_keeps first strangers w v ok x report p (spells_own p (valid_data text DEFAULT_BLOCK 0 (omega arith) (omega arith) fits one)) shown_now (at_server x.address refl) refl refl
+    let shown_now =
+    serves_plainly two_hosts first (map view_of_end w.ends) ok.messages ok.shown x.address from bytes false request text
+    (host_server x.address refl) (none_at_next first strangers w ok x.address refl) come.sent fits come.spells
+    come.unanswered in
+    opening_keeps first strangers w v ok x report p
+    (spells_own p (valid_data text DEFAULT_BLOCK 0 (omega arith) (omega arith) fits one)) shown_now
+    (at_server x.address refl) refl refl
     (record {
-      phase = record { sender = refl; positive = omega arith; size = omega arith; fits = fits; so_far = one; left = refl; last_sent_to = refl; measured = refl };
+      phase =
+          record {
+            sender = refl;
+            positive = omega arith;
+            size = omega arith;
+            fits = fits;
+            so_far = one;
+            left = refl;
+            last_sent_to = refl;
+            measured = refl;
+          };
       held = empty_held request.mode;
       committed = λ e. absurd (true≢false e);
-    }) refl o
+    }) refl refl o
 sending_keeps first strangers w v from bytes request path file (known ∷ agreed) report ok come agreeable valid fits o =
     let text = wire_text request.mode file in
     let x = sending_end w from bytes request.mode path file (known ∷ agreed) in
     let b = agreed_size (known ∷ agreed) agreeable in
     let p = Oack (agreed_options (known ∷ agreed)) in
-    let shown_now = serves_with two_hosts first (map view_of_end w.ends) ok.messages ok.shown x.address from bytes false request text (size (known ∷ agreed)) (host_server x.address refl) (none_at_next first strangers w ok x.address refl) come.sent fits b.0 come.spells come.unanswered in
-    let says = subst (λ (n : ℕ). IsShownWithin two_hosts 3 first (map view_of_end w.ends ++ view_of_end (Open_end x) ∷ []) (ok.messages ++ message x.address from (Says_oack n) ∷ [])) (sym (own_oack (known ∷ agreed) agreeable)) shown_now in
+    let shown_now =
+    serves_with two_hosts first (map view_of_end w.ends) ok.messages ok.shown x.address from bytes false request text
+    (size (known ∷ agreed)) (host_server x.address refl) (none_at_next first strangers w ok x.address refl) come.sent
+    fits b.0 come.spells come.unanswered in
+    let says =
+    subst
+    (λ (n : ℕ).
+    IsShownWithin two_hosts 3 first (map view_of_end w.ends ++ view_of_end (Open_end x) ∷ [])
+    (ok.messages ++ message x.address from (Says_oack n) ∷ [])) (sym (own_oack (known ∷ agreed) agreeable)) shown_now in
     let none : 0 * size (known ∷ agreed) ≡ 0 = omega arith in
-    opening_keeps first strangers w v ok x report p (spells_own p (valid (λ e. cc))) says (at_server x.address refl) refl refl
+    opening_keeps first strangers w v ok x report p (spells_own p (valid (λ e. cc))) says (at_server x.address refl)
+    refl refl
     (record {
-      phase = record { sender = refl; positive = b.0; size = b.1; fits = fits; so_far = omega arith; left = ap (λ (n : ℕ). drop n text) (sym none); last_sent_to = refl; measured = refl };
+      phase =
+          record {
+            sender = refl;
+            positive = b.0;
+            size = b.1;
+            fits = fits;
+            so_far = omega arith;
+            left = ap (λ (n : ℕ). drop n text) (sym none);
+            last_sent_to = refl;
+            measured = refl;
+          };
       held = empty_held request.mode;
       committed = λ e. absurd (true≢false e);
-    }) refl o
+    }) refl refl o
 
 -- a write is served
-taking_keeps : (first : List Rule) (strangers : Bool) (w v : WorldState) (from : Endpoint) (bytes : List ℕ) (request : Request) (path : List ℕ) (agreed : List Known) (report : Report) (ok : IsOkAt first strangers w) →
-    IsNewly ok.messages w.ends from bytes true request → AllByRecursion IsAgreeable agreed → (agreed ≢ [] → IsValid (Oack (agreed_options agreed))) →
+taking_keeps :
+    (first : List Rule) (strangers : Bool) (w v : WorldState) (from : Endpoint) (bytes : List ℕ) (request : Request)
+    (path : List ℕ) (agreed : List Known) (report : Report) (ok : IsOkAt first strangers w) →
+    IsNewly ok.messages w.ends from bytes true request → AllByRecursion IsAgreeable agreed →
+    (agreed ≢ [] → IsValid (Oack (agreed_options agreed))) →
     OpeningStep w (receiving_end w from bytes request.mode path agreed) report v → IsOkWithin 3 first strangers v
 taking_keeps first strangers w v from bytes request path [] report ok come agreeable valid o =
     let x = receiving_end w from bytes request.mode path [] in
-    let shown_now = serves_plainly two_hosts first (map view_of_end w.ends) ok.messages ok.shown x.address from bytes true request (wire_text request.mode [] ++ []) (host_server x.address refl) (none_at_next first strangers w ok x.address refl) come.sent (no_text request.mode) come.spells come.unanswered in
-    opening_keeps first strangers w v ok x report (Ack 0) (spells_own (Ack 0) (omega arith)) shown_now (at_server x.address refl) refl refl
-    (record { phase = (refl, refl); held = empty_held request.mode; committed = λ _. refl }) refl o
+    let shown_now =
+    serves_plainly two_hosts first (map view_of_end w.ends) ok.messages ok.shown x.address from bytes true request
+    (wire_text request.mode [] ++ []) (host_server x.address refl) (none_at_next first strangers w ok x.address refl)
+    come.sent (no_text request.mode) come.spells come.unanswered in
+    opening_keeps first strangers w v ok x report (Ack 0) (spells_own (Ack 0) (omega arith)) shown_now
+    (at_server x.address refl) refl refl
+    (record { phase = (refl, refl); held = empty_held request.mode; committed = λ _. refl }) refl refl o
 taking_keeps first strangers w v from bytes request path (known ∷ agreed) report ok come agreeable valid o =
     let x = receiving_end w from bytes request.mode path (known ∷ agreed) in
     let b = agreed_size (known ∷ agreed) agreeable in
     let p = Oack (agreed_options (known ∷ agreed)) in
-    let shown_now = serves_with two_hosts first (map view_of_end w.ends) ok.messages ok.shown x.address from bytes true request (wire_text request.mode [] ++ []) (size (known ∷ agreed)) (host_server x.address refl) (none_at_next first strangers w ok x.address refl) come.sent (no_text request.mode) b.0 come.spells come.unanswered in
-    let says = subst (λ (n : ℕ). IsShownWithin two_hosts 3 first (map view_of_end w.ends ++ view_of_end (Open_end x) ∷ []) (ok.messages ++ message x.address from (Says_oack n) ∷ [])) (sym (own_oack (known ∷ agreed) agreeable)) shown_now in
-    opening_keeps first strangers w v ok x report p (spells_own p (valid (λ e. cc))) says (at_server x.address refl) refl refl
-    (record { phase = (refl, refl); held = empty_held request.mode; committed = λ _. refl }) refl o
+    let shown_now =
+    serves_with two_hosts first (map view_of_end w.ends) ok.messages ok.shown x.address from bytes true request
+    (wire_text request.mode [] ++ []) (size (known ∷ agreed)) (host_server x.address refl)
+    (none_at_next first strangers w ok x.address refl) come.sent (no_text request.mode) b.0 come.spells
+    come.unanswered in
+    let says =
+    subst
+    (λ (n : ℕ).
+    IsShownWithin two_hosts 3 first (map view_of_end w.ends ++ view_of_end (Open_end x) ∷ [])
+    (ok.messages ++ message x.address from (Says_oack n) ∷ [])) (sym (own_oack (known ∷ agreed) agreeable)) shown_now in
+    opening_keeps first strangers w v ok x report p (spells_own p (valid (λ e. cc))) says (at_server x.address refl)
+    refl refl
+    (record { phase = (refl, refl); held = empty_held request.mode; committed = λ _. refl }) refl refl o
 
 -- the request port refuses
-refusing_keeps : (first : List Rule) (strangers : Bool) (w v : WorldState) (from : Endpoint) (reply : ErrorReply) → IsOkAt first strangers w → v ≡ said_in w (datagram request_port from (error_bytes reply)) → IsOkWithin 3 first strangers v
+refusing_keeps : (first : List Rule) (strangers : Bool) (w v : WorldState) (from : Endpoint) (reply : ErrorReply) →
+    IsOkAt first strangers w → v ≡ said_in w (datagram request_port from (error_bytes reply)) →
+    IsOkWithin 3 first strangers v
 refusing_keeps first strangers w v from reply ok e =
     subst (λ (z : WorldState). IsOkWithin 3 first strangers z) (sym e)
-    (saying_keeps first strangers w ok request_port from (error_bytes reply) (error_packet reply) (spells_own (error_packet reply) (valid_error reply))
-    (says_error two_hosts first (map view_of_end w.ends) ok.messages ok.shown request_port from) (at_server request_port refl))
+    (saying_keeps first strangers w ok request_port from (error_bytes reply) (error_packet reply)
+    (spells_own (error_packet reply) (valid_error reply))
+    (says_error two_hosts first (map view_of_end w.ends) ok.messages ok.shown request_port from)
+    (at_server request_port refl))
 
 -- either way of a test
-if_served : {A : Type 0} (P : A → Type 0) (b : Bool) (r s : A) → (b ≡ true → P r) → (b ≡ false → P s) → P (if b then r else s)
+if_served : {A : Type 0} (P : A → Type 0) (b : Bool) (r s : A) → (b ≡ true → P r) → (b ≡ false → P s) →
+    P (if b then r else s)
 if_served P true r s f g = f refl
 if_served P false r s f g = g refl
 
 -- a request in this mode was
 abbrev pub WasAsked : List Message → List WorldEnd → Endpoint → List ℕ → Bool → Mode → Type 0
-WasAsked messages ends from bytes write mode = (q : Request) × (q.mode ≡ mode) × IsNewly messages ends from bytes write q
+WasAsked messages ends from bytes write mode =
+    (q : Request) × (q.mode ≡ mode) × IsNewly messages ends from bytes write q
 
 -- the decoded request was, unless it repeats another
 abbrev pub AsksSo : List Message → List WorldEnd → Endpoint → List ℕ → Bool → Option WirePacket → Type 0
 AsksSo messages ends from bytes repeated decoded =
-    (write : Bool) (r : Request) → decoded ≡ Some (requested write r) → repeated ≡ false → WasAsked messages ends from bytes write r.mode
+    (write : Bool) (r : Request) → decoded ≡ Some (requested write r) → repeated ≡ false →
+    WasAsked messages ends from bytes write r.mode
 
 -- what was decoded was sent
-pub asked_so : (messages : List Message) (ends : List WorldEnd) (from : Endpoint) (bytes : List ℕ) (repeated : Bool) (decoded : Option WirePacket) →
-    ((p : WirePacket) → decoded ≡ Some p → Contains messages (message from request_port (said p))) → ((p : WirePacket) → decoded ≡ Some p → Spells p bytes) →
+pub asked_so :
+    (messages : List Message) (ends : List WorldEnd) (from : Endpoint) (bytes : List ℕ) (repeated : Bool)
+    (decoded : Option WirePacket) →
+    ((p : WirePacket) → decoded ≡ Some p → Contains messages (message from request_port (said p))) →
+    ((p : WirePacket) → decoded ≡ Some p → Spells p bytes) →
     IsRepeated repeated from decoded ends → AsksSo messages ends from bytes repeated decoded
-asked_so messages ends from bytes repeated decoded come spelled same true r e new =
-    (r, refl, record { sent = come (Write r) e; spells = spelled (Write r) e; unanswered = none_answers from (Write r) ends repeated decoded same e new })
-asked_so messages ends from bytes repeated decoded come spelled same false r e new =
-    (r, refl, record { sent = come (Read r) e; spells = spelled (Read r) e; unanswered = none_answers from (Read r) ends repeated decoded same e new })
+asked_so messages ends from bytes repeated decoded come spelled same true r e new = (
+  r,
+  refl,
+  record {
+    sent = come (Write r) e;
+    spells = spelled (Write r) e;
+    unanswered = none_answers from (Write r) ends repeated decoded same e new;
+  },
+)
+asked_so messages ends from bytes repeated decoded come spelled same false r e new = (
+  r,
+  refl,
+  record {
+    sent = come (Read r) e;
+    spells = spelled (Read r) e;
+    unanswered = none_answers from (Read r) ends repeated decoded same e new;
+  },
+)
 
-module _ (first : List Rule) (strangers : Bool) (w v : WorldState) (from : Endpoint) (bytes : List ℕ) (report : Report) (ok : IsOkAt first strangers w) where
+module _ (first : List Rule) (strangers : Bool) (w v : WorldState) (from : Endpoint) (bytes : List ℕ) (report : Report)
+    (ok : IsOkAt first strangers w) where
   abbrev Kept_by : Service → Type 0
   Kept_by service = ServiceStep service w from bytes report v → IsOkWithin 3 first strangers v
 
@@ -228,8 +338,10 @@ module _ (first : List Rule) (strangers : Bool) (w v : WorldState) (from : Endpo
   refused reply h = refusing_keeps first strangers w v from reply ok h.1
 
   -- a read with the server's answer to its options
-  sending_served : (path file : List ℕ) (mode : Mode) (options : List RawOption) (a : Result (List Known) Refusal) → WasAsked ok.messages w.ends from bytes false mode →
-      file_at w.files path ≡ Some file → answer options kinds.Read mode (measured mode file) w.limits ≡ a → Kept_by (by_length path mode (measured mode file) a)
+  sending_served : (path file : List ℕ) (mode : Mode) (options : List RawOption) (a : Result (List Known) Refusal) →
+      WasAsked ok.messages w.ends from bytes false mode →
+      file_at w.files path ≡ Some file → answer options kinds.Read mode (measured mode file) w.limits ≡ a →
+      Kept_by (by_length path mode (measured mode file) a)
   sending_served path file mode options (Err refusal) come there e = refused (accept_reply refusal)
   sending_served path file mode options (Ok agreed) come there e =
       let m = measured mode file in
@@ -241,23 +353,32 @@ module _ (first : List Rule) (strangers : Bool) (w v : WorldState) (from : Endpo
       let fits : Fits (wire_text mode file) (size agreed) = measured_fits mode file (size agreed) b.1 few in
       let small = let c = b.1 in let l : m < 65535 * MAX_BLOCK = omega arith in l in
       let same : o.0 ≡ file = same_Some o.0 file (sym o.1 ∙ there) in
-      subst (λ (n : Mode). Fits (wire_text n file) (size agreed) → OpeningStep w (sending_end w from bytes n path file agreed) report v → IsOkWithin 3 first strangers v) come.1
+      subst
+      (λ (n : Mode). Fits (wire_text n file) (size agreed) →
+      OpeningStep w (sending_end w from bytes n path file agreed) report v → IsOkWithin 3 first strangers v) come.1
       (sending_keeps first strangers w v from bytes come.0 path file agreed report ok come.2 agreeable
       (λ some. valid_oack kinds.Read mode m w.limits options agreed (omega (arith, small)) ok.max_block e some)) fits
       (subst (λ (g : List ℕ). OpeningStep w (sending_end w from bytes mode path g agreed) report v) same o.2))
       (λ f. refused FileTooLarge)
 
-  reading_served : (path : List ℕ) (mode : Mode) (options : List RawOption) (there : Option (List ℕ)) → WasAsked ok.messages w.ends from bytes false mode →
+  reading_served : (path : List ℕ) (mode : Mode) (options : List RawOption) (there : Option (List ℕ)) →
+      WasAsked ok.messages w.ends from bytes false mode →
       file_at w.files path ≡ there → Kept_by (by_file w.limits path mode options (opened_of mode there))
   reading_served path mode options None come e = refused FileNotFound
-  reading_served path mode options (Some file) come e = sending_served path file mode options (answer options kinds.Read mode (measured mode file) w.limits) come e refl
+  reading_served path mode options (Some file) come e =
+      sending_served path file mode options (answer options kinds.Read mode (measured mode file) w.limits) come e refl
 
   -- a write with the server's answer to its options
-  taking_served : (path : List ℕ) (mode : Mode) (options : List RawOption) (there : Option (List ℕ)) (agreed : List Known) → WasAsked ok.messages w.ends from bytes true mode →
+  taking_served :
+      (path : List ℕ) (mode : Mode) (options : List RawOption) (there : Option (List ℕ)) (agreed : List Known) →
+      WasAsked ok.messages w.ends from bytes true mode →
       answer options kinds.Write mode 0 w.limits ≡ Ok agreed → Kept_by (by_draft path mode agreed (begun_of there))
   taking_served path mode options None agreed come e =
-      subst (λ (n : Mode). OpeningStep w (receiving_end w from bytes n path agreed) report v → IsOkWithin 3 first strangers v) come.1
-      (taking_keeps first strangers w v from bytes come.0 path agreed report ok come.2 (answered_values kinds.Write mode 0 w.limits options agreed ok.max_block e)
+      subst
+      (λ (n : Mode). OpeningStep w (receiving_end w from bytes n path agreed) report v → IsOkWithin 3 first strangers v)
+      come.1
+      (taking_keeps first strangers w v from bytes come.0 path agreed report ok come.2
+      (answered_values kinds.Write mode 0 w.limits options agreed ok.max_block e)
       (λ some. valid_oack kinds.Write mode 0 w.limits options agreed (omega arith) ok.max_block e some))
   taking_served path mode options (Some file) agreed come e = refused FileExists
 
@@ -265,37 +386,54 @@ module _ (first : List Rule) (strangers : Bool) (w v : WorldState) (from : Endpo
   abbrev Kept_asking : Ask → Type 0
   Kept_asking ask = Kept_by (served w ask)
 
-  writing_served : (path : List ℕ) (mode : Mode) (options : List RawOption) (a : Result (List Known) Refusal) → WasAsked ok.messages w.ends from bytes true mode →
+  writing_served : (path : List ℕ) (mode : Mode) (options : List RawOption) (a : Result (List Known) Refusal) →
+      WasAsked ok.messages w.ends from bytes true mode →
       answer options kinds.Write mode 0 w.limits ≡ a → Kept_asking (by_options path mode a)
   writing_served path mode options (Err refusal) come e = refused (accept_reply refusal)
-  writing_served path mode options (Ok agreed) come e = taking_served path mode options (in_the_way w.overwrite (file_at w.files path)) agreed come e
+  writing_served path mode options (Ok agreed) come e =
+      taking_served path mode options (in_the_way w.overwrite (file_at w.files path)) agreed come e
 
-  named_served : (next : List ℕ → Ask) → ((path : List ℕ) → Kept_asking (next path)) → (path : Result (List ℕ) PathFault) →
+  named_served : (next : List ℕ → Ask) → ((path : List ℕ) → Kept_asking (next path)) →
+      (path : Result (List ℕ) PathFault) →
       Kept_asking (by_name w.cap (open_transfers w.ends) next path)
   named_served next each (Err fault) = refused AccessViolation
   named_served next each (Ok path) =
-      if_served Kept_asking (nat_le w.cap (open_transfers w.ends)) (Refuses ServerBusy) (next path) (λ b. refused ServerBusy) (λ b. each path)
+      if_served Kept_asking (nat_le w.cap (open_transfers w.ends)) (Refuses ServerBusy) (next path)
+      (λ b. refused ServerBusy) (λ b. each path)
 
-  unless_repeated : (repeated : Bool) (ask : Ask) → (repeated ≡ false → Kept_asking ask) → Kept_asking (by_repeat repeated ask)
-  unless_repeated repeated ask kept = if_served Kept_asking repeated Ignores ask (λ b h. stays_ok first strangers w v report ok h) kept
+  unless_repeated : (repeated : Bool) (ask : Ask) → (repeated ≡ false → Kept_asking ask) →
+      Kept_asking (by_repeat repeated ask)
+  unless_repeated repeated ask kept =
+      if_served Kept_asking repeated Ignores ask (λ b h. stays_ok first strangers w v report ok h) kept
 
-  by_request : (repeated : Bool) (decoded : Option WirePacket) → AsksSo ok.messages w.ends from bytes repeated decoded → Kept_asking (by_packet w.cap (open_transfers w.ends) repeated w.limits decoded)
+  by_request : (repeated : Bool) (decoded : Option WirePacket) → AsksSo ok.messages w.ends from bytes repeated decoded →
+      Kept_asking (by_packet w.cap (open_transfers w.ends) repeated w.limits decoded)
   by_request repeated None come = refused IllegalOperation
   by_request repeated (Some (Read r)) come =
-      unless_repeated repeated (by_name w.cap (open_transfers w.ends) (λ path. Reads path r.mode r.options) (path_of_name r.name))
-      (λ new. named_served (λ path. Reads path r.mode r.options) (λ path. reading_served path r.mode r.options (file_at w.files path) (come false r refl new) refl) (path_of_name r.name))
+      unless_repeated repeated
+      (by_name w.cap (open_transfers w.ends) (λ path. Reads path r.mode r.options) (path_of_name r.name))
+      (λ new.
+      named_served (λ path. Reads path r.mode r.options)
+      (λ path. reading_served path r.mode r.options (file_at w.files path) (come false r refl new) refl)
+      (path_of_name r.name))
   by_request repeated (Some (Write r)) come =
-      unless_repeated repeated (by_name w.cap (open_transfers w.ends) (λ path. by_options path r.mode (answer r.options kinds.Write r.mode 0 w.limits)) (path_of_name r.name))
+      unless_repeated repeated
+      (by_name w.cap (open_transfers w.ends)
+      (λ path. by_options path r.mode (answer r.options kinds.Write r.mode 0 w.limits)) (path_of_name r.name))
       (λ new. named_served (λ path. by_options path r.mode (answer r.options kinds.Write r.mode 0 w.limits))
-      (λ path. writing_served path r.mode r.options (answer r.options kinds.Write r.mode 0 w.limits) (come true r refl new) refl) (path_of_name r.name))
+      (λ path.
+      writing_served path r.mode r.options (answer r.options kinds.Write r.mode 0 w.limits) (come true r refl new) refl)
+      (path_of_name r.name))
   by_request repeated (Some (Data number bytes)) come = refused IllegalOperation
   by_request repeated (Some (Ack number)) come = refused IllegalOperation
   by_request repeated (Some (Error code text)) come = refused IllegalOperation
   by_request repeated (Some (Oack options)) come = refused IllegalOperation
 
   -- the request port keeps the world
-  pub serving_keeps : (repeated : Bool) (decoded : Option WirePacket) → AsksSo ok.messages w.ends from bytes repeated decoded → Kept_by (service w repeated bytes decoded)
+  pub serving_keeps : (repeated : Bool) (decoded : Option WirePacket) →
+      AsksSo ok.messages w.ends from bytes repeated decoded → Kept_by (service w repeated bytes decoded)
   serving_keeps repeated decoded come =
-      if_served Kept_asking (has_error_opcode bytes) Ignores (by_packet w.cap (open_transfers w.ends) repeated w.limits decoded)
+      if_served Kept_asking (has_error_opcode bytes) Ignores
+      (by_packet w.cap (open_transfers w.ends) repeated w.limits decoded)
       (λ b h. stays_ok first strangers w v report ok h)
       (λ b. by_request repeated decoded come)

@@ -1,10 +1,12 @@
 -- Each event keeps a world, and so does every run.
-use Rattle.std.proofs.Common.{◌≡◌, ℕ, Bool, true, false, List, [], ◌∷◌, ◌++◌, map, set, Option, Some, None, sym, refl, ap, ◌∙◌, subst, inl, inr, zero, suc, length, length-append, append_assoc, arith}
+use Rattle.std.proofs.Common.{◌≡◌, ℕ, Bool, true, false, List, [], ◌∷◌, ◌++◌, map, set, Option, Some, None, sym, refl}
+use Rattle.std.proofs.Common.{ap, ◌∙◌, subst, inl, inr, zero, suc, length, length-append, append_assoc, arith}
 use Rattle.std.specs.Prelude.{◌≤◌, if◌then◌else◌, is_some, slice_get}
 use Rattle.std.specs.List.{Contains}
 use Rattle.std.proofs.lemmas.Bool.{true≢false}
 use Rattle.std.proofs.lemmas.List.{map-set, append-nil}
-use Rattle.std.proofs.lemmas.List.Elements.{Contains-append_cases, Contains-append_left, Contains-append_right, Contains-push}
+use Rattle.std.proofs.lemmas.List.Elements.{Contains-append_cases, Contains-append_left, Contains-append_right}
+use Rattle.std.proofs.lemmas.List.Elements.{Contains-push}
 use Rattle.std.proofs.lemmas.Option.{same_Some}
 use Rattle.tftp_wire.specs.declared.packet.Packet.{Packet as WirePacket}
 use Rattle.tftp_wire.specs.Spelling.{Spells}
@@ -27,8 +29,10 @@ use Rattle.tftp_machine.proofs.Actions.{strays}
 use Rattle.tftp_machine.proofs.SaidLemmas.{says_spelled}
 use Rattle.tftp_machine.proofs.EndTurns.{datagram_goes, timeout_goes}
 use Rattle.tftp_machine.specs.Shows.{EndView, IsShownAt, IsShownWithin, IsShown}
-use Rattle.tftp_player.specs.World.{WorldState, WorldEnd, Open_end, Closed_end, StoredFile, file_at, in_the_way, datagram, new_world, view_of_end}
-use Rattle.tftp_player.specs.WorldSteps.{may_refuse_commit, OnDatagram, Arrives, At_request_port, At_open_end, At_closed_end, At_nobody, TimeoutStep, armed_end, WorldStep}
+use Rattle.tftp_player.specs.World.{WorldState, WorldEnd, Open_end, Closed_end, StoredFile, file_at, in_the_way}
+use Rattle.tftp_player.specs.World.{datagram, new_world, view_of_end}
+use Rattle.tftp_player.specs.WorldSteps.{may_refuse_commit, OnDatagram, Arrives, At_request_port, At_open_end}
+use Rattle.tftp_player.specs.WorldSteps.{At_closed_end, At_nobody, TimeoutStep, armed_end, WorldStep}
 use Rattle.tftp_player.specs.WorldKept.{IsKeptIn, IsOkAt, IsOkWithin, IsOk}
 use Rattle.tftp_player.specs.WorldRuns.{PlaysAll, MayHappen, MayAllHappen, StepsKeep, StepsAreRules, most_rules}
 use Rattle.tftp_player.specs.WorldSafety.{HasPeersAtHome}
@@ -42,11 +46,13 @@ use Rattle.tftp_machine.proofs.Shown.{shown_start, shown_within}
 use Rattle.tftp_machine.proofs.ViewSafe.{shown_at_home}
 use Rattle.tftp_player.proofs.KnownSteps.{from_server, known_step}
 use Rattle.tftp_player.proofs.WorldTurns.{ports_set, nothing_in, one_in, turn_keeps, view_at}
-use Rattle.tftp_player.proofs.WorldKeeps.{reading_keeps, writing_keeps, serving_keeps, asked_so, stays_ok, none_more, shown_as}
+use Rattle.tftp_player.proofs.WorldKeeps.{reading_keeps, writing_keeps, serving_keeps, asked_so, stays_ok, none_more}
+use Rattle.tftp_player.proofs.WorldKeeps.{shown_as}
 
 pub contains_at : {X : Type 0} (xs : List X) (k : ℕ) (x : X) → slice_get xs k ≡ Some x → Contains xs x
 contains_at {X = X} [] k x e = absurd (let f : None ≡ Some x = e in cc)
-contains_at {X = X} (y ∷ ys) zero x e = subst (λ (z : X). Contains (y ∷ ys) z) (same_Some y x e) (Contains-append_left (y ∷ []) ys y (Contains-push [] y))
+contains_at {X = X} (y ∷ ys) zero x e =
+    subst (λ (z : X). Contains (y ∷ ys) z) (same_Some y x e) (Contains-append_left (y ∷ []) ys y (Contains-push [] y))
 contains_at {X = X} (y ∷ ys) (suc k) x e = Contains-append_right (y ∷ []) ys x (contains_at ys k x e)
 
 set_same : {X : Type 0} (xs : List X) (k : ℕ) (x : X) → slice_get xs k ≡ Some x → set xs k x ≡ xs
@@ -55,66 +61,87 @@ set_same {X = X} (y ∷ ys) zero x e = ap (λ (z : X). z ∷ ys) (sym (same_Some
 set_same {X = X} (y ∷ ys) (suc k) x e = ap (λ (zs : List X). y ∷ zs) (set_same ys k x e)
 
 -- what a datagram of the list says is there
-pub come_from : (first : List Rule) (strangers : Bool) (w : WorldState) (ok : IsOkAt first strangers w) (d : Datagram) → Contains w.sent d → (p : WirePacket) → Spells p d.bytes → Contains ok.messages (message d.from d.to (said p))
+pub come_from : (first : List Rule) (strangers : Bool) (w : WorldState) (ok : IsOkAt first strangers w) (d : Datagram) →
+    Contains w.sent d → (p : WirePacket) → Spells p d.bytes → Contains ok.messages (message d.from d.to (said p))
 come_from first strangers w ok d i p s =
     let h = ok.sent d i in
     let same : h.1.packet ≡ p = one_meaning h.1.packet p d.bytes h.1.spells s in
-    subst (λ (q : WirePacket). Contains ok.messages (message d.from d.to (said q))) same (subst (λ (m : Message). Contains ok.messages m) h.1.says h.2)
+    subst (λ (q : WirePacket). Contains ok.messages (message d.from d.to (said q))) same
+    (subst (λ (m : Message). Contains ok.messages m) h.1.says h.2)
 
-there_now : (first : List Rule) (strangers : Bool) (w : WorldState) (ok : IsOkAt first strangers w) (from to : Endpoint) (bytes : List ℕ) → Contains w.sent (datagram from to bytes) → IsThere ok.messages from to bytes
+there_now :
+    (first : List Rule) (strangers : Bool) (w : WorldState) (ok : IsOkAt first strangers w) (from to : Endpoint)
+    (bytes : List ℕ) → Contains w.sent (datagram from to bytes) → IsThere ok.messages from to bytes
 there_now first strangers w ok from to bytes i =
     let h = ok.sent (datagram from to bytes) i in
     (h.1.packet, h.1.spells, subst (λ (m : Message). Contains ok.messages m) h.1.says h.2)
 
-module _ (first : List Rule) (strangers : Bool) (w v : WorldState) (ok : IsOkAt first strangers w) (report : Report) where
+module _ (first : List Rule) (strangers : Bool) (w v : WorldState) (ok : IsOkAt first strangers w)
+    (report : Report) where
   -- an open end is among all that is shown
-  stands : (k : ℕ) (x : OpenEnd) → slice_get w.ends k ≡ Some (Open_end x) → Stands two_hosts first (map view_of_end w.ends) ok.messages k (open_view x)
+  stands : (k : ℕ) (x : OpenEnd) → slice_get w.ends k ≡ Some (Open_end x) →
+      Stands two_hosts first (map view_of_end w.ends) ok.messages k (open_view x)
   stands k x at = record {
     shown = ok.shown;
-    viewed = view_at w.ends k (Open_end x) at ∙ ap (λ (v : EndView). Some v) (open_is x (ap is_some (ok.ends k (Open_end x) at).stands.still));
+    viewed =
+        view_at w.ends k (Open_end x) at
+        ∙ ap (λ (v : EndView). Some v) (open_is x (ap is_some (ok.ends k (Open_end x) at).stands.still));
   }
 
   -- with what holds of it
-  open_now : (k : ℕ) (x : OpenEnd) → slice_get w.ends k ≡ Some (Open_end x) → IsOpenAt two_hosts first (map view_of_end w.ends) ok.messages k x
+  open_now : (k : ℕ) (x : OpenEnd) → slice_get w.ends k ≡ Some (Open_end x) →
+      IsOpenAt two_hosts first (map view_of_end w.ends) ok.messages k x
   open_now k x at =
       let here = (ok.ends k (Open_end x) at).stands in
       record {
         stands = stands k x at;
         kept = here.kept;
         still = ap is_some here.still;
-        last_sent = there_now first strangers w ok x.address x.state.position.last_sent_to x.state.position.last_sent here.last_sent;
+        last_sent =
+            there_now first strangers w ok x.address x.state.position.last_sent_to x.state.position.last_sent
+            here.last_sent;
       }
 
   -- how an end handled a datagram keeps the world
   datagram_keeps : (k : ℕ) (x : OpenEnd) (from : Endpoint) (bytes : List ℕ) → slice_get w.ends k ≡ Some (Open_end x) →
-      ((p : WirePacket) → Spells p bytes → Contains ok.messages (message from x.address (said p))) → OnDatagram w k x from bytes report v → IsOkWithin 3 first strangers v
+      ((p : WirePacket) → Spells p bytes → Contains ok.messages (message from x.address (said p))) →
+      OnDatagram w k x from bytes report v → IsOkWithin 3 first strangers v
   datagram_keeps k x from bytes at come h =
-      let may_commit = may_refuse_commit (is_client x.state.role.side) (in_the_way w.overwrite (file_at w.files x.path)) in
-      let goes_now = datagram_goes two_hosts first (map view_of_end w.ends) ok.messages k x from bytes h.turn h.held (open_now k x at) come (from_server x from bytes)
+      let may_commit =
+      may_refuse_commit (is_client x.state.role.side) (in_the_way w.overwrite (file_at w.files x.path)) in
+      let goes_now =
+      datagram_goes two_hosts first (map view_of_end w.ends) ok.messages k x from bytes h.turn h.held (open_now k x at)
+      come (from_server x from bytes)
       (known_step may_commit from bytes x.state (files_of x) h.turn h.held h.steps) in
       turn_keeps first strangers w v ok k x h.turn h.held report at goes_now h.turns
 
   -- a datagram that arrived keeps the world
-  pub arrives_keeps : (from to : Endpoint) (bytes : List ℕ) → ((p : WirePacket) → Spells p bytes → Contains ok.messages (message from to (said p))) →
+  pub arrives_keeps : (from to : Endpoint) (bytes : List ℕ) →
+      ((p : WirePacket) → Spells p bytes → Contains ok.messages (message from to (said p))) →
       Arrives w from to bytes report v → IsOkWithin 3 first strangers v
   arrives_keeps from to bytes come (At_request_port here port decoded says repeated same served) =
       let spelled = says_spelled bytes decoded says in
       serving_keeps first strangers w v from bytes report ok repeated decoded
-      (asked_so ok.messages w.ends from bytes repeated decoded (λ p e. subst (λ (a : Endpoint). Contains ok.messages (message from a (said p))) here (come p (spelled p e))) spelled same) served
+      (asked_so ok.messages w.ends from bytes repeated decoded
+      (λ p e. subst (λ (a : Endpoint). Contains ok.messages (message from a (said p))) here (come p (spelled p e)))
+      spelled same) served
   arrives_keeps from to bytes come (At_open_end k x at here h) =
-      datagram_keeps k x from bytes at (λ p s. subst (λ (a : Endpoint). Contains ok.messages (message from a (said p))) (sym here) (come p s)) h
+      datagram_keeps k x from bytes at
+      (λ p s. subst (λ (a : Endpoint). Contains ok.messages (message from a (said p))) (sym here) (come p s)) h
   arrives_keeps from to bytes come (At_closed_end k x at here s) = stays_ok first strangers w v report ok s
   arrives_keeps from to bytes come (At_nobody away nobody_there s) = stays_ok first strangers w v report ok s
 
   -- a timeout keeps the world
-  timeout_keeps : (k : ℕ) (x : WorldEnd) → slice_get w.ends k ≡ Some x → TimeoutStep w k x report v → IsOkWithin 3 first strangers v
+  timeout_keeps : (k : ℕ) (x : WorldEnd) → slice_get w.ends k ≡ Some x → TimeoutStep w k x report v →
+      IsOkWithin 3 first strangers v
   timeout_keeps k (Closed_end x) at s = stays_ok first strangers w v report ok s
   timeout_keeps k (Open_end x) at t =
       turn_keeps first strangers w v ok k x (timeout_turn x.state) (files_of x) report at
       (timeout_goes two_hosts first (map view_of_end w.ends) ok.messages k x (open_now k x at)) t
 
 -- what is to be refused is not shown of an end
-armed_open : (b : Bool) (x : OpenEnd) → view_of_end (Open_end (if b then x else record x { refuses = true })) ≡ view_of_end (Open_end x)
+armed_open : (b : Bool) (x : OpenEnd) →
+    view_of_end (Open_end (if b then x else record x { refuses = true })) ≡ view_of_end (Open_end x)
 armed_open true x = refl
 armed_open false x = refl
 
@@ -122,7 +149,8 @@ armed_view : (x : WorldEnd) → view_of_end (armed_end x) ≡ view_of_end x
 armed_view (Open_end x) = armed_open (is_sender x.state.role.side) x
 armed_view (Closed_end x) = refl
 
-phase_armed : (phase : Phase) (x : OpenEnd) → PhaseKept two_hosts x phase → PhaseKept two_hosts (record x { refuses = true }) phase
+phase_armed : (phase : Phase) (x : OpenEnd) → PhaseKept two_hosts x phase →
+    PhaseKept two_hosts (record x { refuses = true }) phase
 phase_armed (Waiting asked limit) x h = h
 phase_armed (Sending terms number) x h = record {
   sender = h.sender;
@@ -138,15 +166,22 @@ phase_armed (Receiving terms number) x h = h
 phase_armed (Dallying terms number dally) x h = h
 phase_armed (Closed terms number complete outcome) x h = tt
 
-armed_kept : (w : WorldState) (b : Bool) (x : OpenEnd) → IsKeptIn w (Open_end x) → IsKeptIn w (Open_end (if b then x else record x { refuses = true }))
+armed_kept : (w : WorldState) (b : Bool) (x : OpenEnd) → IsKeptIn w (Open_end x) →
+    IsKeptIn w (Open_end (if b then x else record x { refuses = true }))
 armed_kept w true x h = h
 armed_kept w false x h = record {
   stands = record {
     still = h.stands.still;
-    kept = record { phase = phase_armed x.state.position.phase x h.stands.kept.phase; held = h.stands.kept.held; committed = h.stands.kept.committed };
+    kept =
+        record {
+          phase = phase_armed x.state.position.phase x h.stands.kept.phase;
+          held = h.stands.kept.held;
+          committed = h.stands.kept.committed;
+        };
     last_sent = h.stands.last_sent;
   };
   stored = h.stored;
+  text = h.text;
 }
 
 end_armed : (w : WorldState) (x : WorldEnd) → IsKeptIn w x → IsKeptIn w (armed_end x)
@@ -154,12 +189,20 @@ end_armed w (Open_end x) h = armed_kept w (is_sender x.state.role.side) x h
 end_armed w (Closed_end x) h = h
 
 -- what holds of one end does not depend on the others
-same_kept : (w : WorldState) (ends : List WorldEnd) (x : WorldEnd) → IsKeptIn w x → IsKeptIn (record w { ends = ends }) x
-same_kept w ends (Open_end x) h = record { stands = record { still = h.stands.still; kept = h.stands.kept; last_sent = h.stands.last_sent }; stored = h.stored }
-same_kept w ends (Closed_end x) h = record { stands = h.stands; stored = h.stored }
+same_kept : (w : WorldState) (ends : List WorldEnd) (x : WorldEnd) → IsKeptIn w x →
+    IsKeptIn (record w { ends = ends }) x
+same_kept w ends (Open_end x) h =
+    record {
+      stands = record { still = h.stands.still; kept = h.stands.kept; last_sent = h.stands.last_sent };
+      stored = h.stored;
+      text = h.text;
+    }
+same_kept w ends (Closed_end x) h = record { stands = h.stands; stored = h.stored; text = h.text }
 
 -- an end that is set to refuse keeps the world
-armed_keeps : (first : List Rule) (strangers : Bool) (w : WorldState) (ok : IsOkAt first strangers w) (k : ℕ) (x : WorldEnd) → slice_get w.ends k ≡ Some x →
+armed_keeps :
+    (first : List Rule) (strangers : Bool) (w : WorldState) (ok : IsOkAt first strangers w) (k : ℕ) (x : WorldEnd) →
+    slice_get w.ends k ≡ Some x →
     IsOkWithin 3 first strangers (record w { ends = set w.ends k (armed_end x) })
 armed_keeps first strangers w ok k x at =
     let y = armed_end x in
@@ -169,20 +212,24 @@ armed_keeps first strangers w ok k x at =
     ∙ set_same (map view_of_end w.ends) k (view_of_end x) (view_at w.ends k x at)) in
     record {
       messages = ok.messages;
-      shown = subst (λ (vs : List EndView). IsShownWithin two_hosts 3 first vs ok.messages) (sym same) (none_more first (map view_of_end w.ends) ok.messages ok.shown);
+      shown =
+          subst (λ (vs : List EndView). IsShownWithin two_hosts 3 first vs ok.messages) (sym same)
+          (none_more first (map view_of_end w.ends) ok.messages ok.shown);
       sent = ok.sent;
       only = ok.only;
       speakers = ok.speakers;
       ports = ports_set w k x y ok.ports at (ap (λ (e : EndView). e.address) (armed_view x));
       max_block = ok.max_block;
       ends = λ j z i. elim (slice_get-set_cases w.ends k j y z i) [
-        | inl h ↦ subst (λ (u : WorldEnd). IsKeptIn v u) (sym h.1) (same_kept w v.ends y (end_armed w x (ok.ends k x at)))
+        | inl h ↦
+            subst (λ (u : WorldEnd). IsKeptIn v u) (sym h.1) (same_kept w v.ends y (end_armed w x (ok.ends k x at)))
         | inr h ↦ same_kept w v.ends z (ok.ends j z h.1)
       ];
     }
 
 -- a stranger has sent
-stray_ok : (first : List Rule) (w : WorldState) (ok : IsOkAt first true w) (from to : Endpoint) (p : WirePacket) → host_of from ≡ Elsewhere → IsOkWithin 1 first true w
+stray_ok : (first : List Rule) (w : WorldState) (ok : IsOkAt first true w) (from to : Endpoint) (p : WirePacket) →
+    host_of from ≡ Elsewhere → IsOkWithin 1 first true w
 stray_ok first w ok from to p far =
     let m = message from to (said p) in
     record {
@@ -206,7 +253,9 @@ pub record Strayed (first : List Rule) (w : WorldState) (from to : Endpoint) (by
   pub ok : IsOkAt (first ++ more) true w
   pub come : (p : WirePacket) → Spells p bytes → Contains ok.messages (message from to (said p))
 
-pub with_decoded : (first : List Rule) (w : WorldState) (ok : IsOkAt first true w) (from to : Endpoint) (bytes : List ℕ) (decoded : Option WirePacket) → host_of from ≡ Elsewhere → Decodes bytes decoded →
+pub with_decoded :
+    (first : List Rule) (w : WorldState) (ok : IsOkAt first true w) (from to : Endpoint) (bytes : List ℕ)
+    (decoded : Option WirePacket) → host_of from ≡ Elsewhere → Decodes bytes decoded →
     Strayed first w from to bytes
 unfolding stray_ok shown_as
 with_decoded first w ok from to bytes (Some q) far says =
@@ -215,7 +264,8 @@ with_decoded first w ok from to bytes (Some q) far says =
       few = h.shown.1;
       ok = shown_as (IsShownWithin two_hosts 1 first) (IsShownAt two_hosts (first ++ h.shown.0)) true w h h.shown.2;
       come = λ p s. let e = one_meaning q p bytes says s in
-          subst (λ (z : WirePacket). Contains (ok.messages ++ message from to (said q) ∷ []) (message from to (said z))) e (Contains-push ok.messages (message from to (said q)));
+          subst (λ (z : WirePacket). Contains (ok.messages ++ message from to (said q) ∷ []) (message from to (said z)))
+          e (Contains-push ok.messages (message from to (said q)));
     }
 with_decoded first w ok from to bytes None far says = record {
   more = [];
@@ -225,56 +275,85 @@ with_decoded first w ok from to bytes None far says = record {
 }
 
 -- one rule, and a few
-within_four : (first more : List Rule) (strangers : Bool) (v : WorldState) → length more ≤ 1 → IsOkWithin 3 (first ++ more) strangers v → IsOkWithin 4 first strangers v
+within_four : (first more : List Rule) (strangers : Bool) (v : WorldState) → length more ≤ 1 →
+    IsOkWithin 3 (first ++ more) strangers v → IsOkWithin 4 first strangers v
 within_four first more strangers v few ok =
     let s = ok.shown in
     let l : length (more ++ s.0) ≤ 4 = (let a = length-append more s.0 in let b = s.1 in omega (arith, a, b, few)) in
-    shown_as (IsShownWithin two_hosts 3 (first ++ more)) (IsShownWithin two_hosts 4 first) strangers v ok
-    (more ++ s.0, l, subst (λ (rs : List Rule). IsShownAt two_hosts rs (map view_of_end v.ends) ok.messages) (append_assoc first more s.0) s.2)
+    shown_as (IsShownWithin two_hosts 3 (first ++ more)) (IsShownWithin two_hosts 4 first) strangers v ok (
+      more
+          ++ s.0,
+      l,
+      subst (λ (rs : List Rule). IsShownAt two_hosts rs (map view_of_end v.ends) ok.messages)
+          (append_assoc first more s.0) s.2,
+    )
 
 -- no more than three are no more than four
-three_or_four : (first : List Rule) (strangers : Bool) (v : WorldState) → IsOkWithin 3 first strangers v → IsOkWithin 4 first strangers v
+three_or_four : (first : List Rule) (strangers : Bool) (v : WorldState) → IsOkWithin 3 first strangers v →
+    IsOkWithin 4 first strangers v
 three_or_four first strangers v ok =
-    shown_as (IsShownWithin two_hosts 3 first) (IsShownWithin two_hosts 4 first) strangers v ok (shown_within two_hosts 3 4 first (map view_of_end v.ends) ok.messages (omega arith) ok.shown)
+    shown_as (IsShownWithin two_hosts 3 first) (IsShownWithin two_hosts 4 first) strangers v ok
+    (shown_within two_hosts 3 4 first (map view_of_end v.ends) ok.messages (omega arith) ok.shown)
 
-pub stray_keeps : (first : List Rule) (w v : WorldState) (ok : IsOkAt first true w) (report : Report) (from to : Endpoint) (bytes : List ℕ) → host_of from ≡ Elsewhere → Arrives w from to bytes report v → IsOkWithin 4 first true v
+pub stray_keeps :
+    (first : List Rule) (w v : WorldState) (ok : IsOkAt first true w) (report : Report) (from to : Endpoint)
+    (bytes : List ℕ) → host_of from ≡ Elsewhere → Arrives w from to bytes report v → IsOkWithin 4 first true v
 stray_keeps first w v ok report from to bytes far (At_request_port here port decoded says repeated same served) =
     let h = with_decoded first w ok from to bytes decoded far says in
-    within_four first h.more true v h.few (arrives_keeps (first ++ h.more) true w v h.ok report from to bytes h.come (At_request_port here port decoded says repeated same served))
+    within_four first h.more true v h.few
+    (arrives_keeps (first ++ h.more) true w v h.ok report from to bytes h.come
+    (At_request_port here port decoded says repeated same served))
 stray_keeps first w v ok report from to bytes far (At_open_end k x at here g) =
     let h = with_decoded first w ok from to bytes g.steps.decoded far g.steps.says in
-    within_four first h.more true v h.few (arrives_keeps (first ++ h.more) true w v h.ok report from to bytes h.come (At_open_end k x at here g))
-stray_keeps first w v ok report from to bytes far (At_closed_end k x at here s) = three_or_four first true v (stays_ok first true w v report ok s)
-stray_keeps first w v ok report from to bytes far (At_nobody away nobody_there s) = three_or_four first true v (stays_ok first true w v report ok s)
+    within_four first h.more true v h.few
+    (arrives_keeps (first ++ h.more) true w v h.ok report from to bytes h.come (At_open_end k x at here g))
+stray_keeps first w v ok report from to bytes far (At_closed_end k x at here s) =
+    three_or_four first true v (stays_ok first true w v report ok s)
+stray_keeps first w v ok report from to bytes far (At_nobody away nobody_there s) =
+    three_or_four first true v (stays_ok first true w v report ok s)
 
 -- each step keeps the world, by more rules
-step_after : (first : List Rule) (strangers : Bool) (w v : WorldState) (event : Event) (report : Report) → MayHappen strangers event → IsOkAt first strangers w → WorldStep w event report v → IsOkWithin (most_rules event) first strangers v
-step_after first strangers w v (Get name mode asked) report may ok s = reading_keeps first strangers w v name mode asked report ok s.1 s.2
-step_after first strangers w v (Put name mode asked bytes) report may ok s = writing_keeps first strangers w v name mode asked bytes report ok s.1 s.2
+step_after : (first : List Rule) (strangers : Bool) (w v : WorldState) (event : Event) (report : Report) →
+    MayHappen strangers event → IsOkAt first strangers w → WorldStep w event report v →
+    IsOkWithin (most_rules event) first strangers v
+step_after first strangers w v (Get name mode asked) report may ok s =
+    reading_keeps first strangers w v name mode asked report ok s.1 s.2
+step_after first strangers w v (Put name mode asked bytes) report may ok s =
+    writing_keeps first strangers w v name mode asked bytes report ok s.1 s.2
 step_after first strangers w v (Deliver i) report may ok s =
-    arrives_keeps first strangers w v ok report s.0.from s.0.to s.0.bytes (come_from first strangers w ok s.0 (contains_at w.sent i s.0 s.1)) s.2
-step_after first strangers w v (Timeout port) report may ok s = timeout_keeps first strangers w v ok report s.0 s.1 s.2.there s.3
+    arrives_keeps first strangers w v ok report s.0.from s.0.to s.0.bytes
+    (come_from first strangers w ok s.0 (contains_at w.sent i s.0 s.1)) s.2
+step_after first strangers w v (Timeout port) report may ok s =
+    timeout_keeps first strangers w v ok report s.0 s.1 s.2.there s.3
 step_after first strangers w v (RefuseStore port) report may ok s =
-    subst (λ (z : WorldState). IsOkWithin 3 first strangers z) (sym s.4) (armed_keeps first strangers w ok s.0 s.1 s.2.there)
+    subst (λ (z : WorldState). IsOkWithin 3 first strangers z) (sym s.4)
+    (armed_keeps first strangers w ok s.0 s.1 s.2.there)
 step_after first true w v (Stray from to bytes) report may ok s = stray_keeps first w v ok report from to bytes s.0 s.1
 step_after first false w v (Stray from to bytes) report may ok s = absurd may
 
 pub steps_are_rules : StepsAreRules
 steps_are_rules strangers w v event report may ok s =
-    step_after ok.shown.0 strangers w v event report may (shown_as (IsShown two_hosts) (IsShownAt two_hosts ok.shown.0) strangers w ok ok.shown.1) s
+    step_after ok.shown.0 strangers w v event report may
+    (shown_as (IsShown two_hosts) (IsShownAt two_hosts ok.shown.0) strangers w ok ok.shown.1) s
 
 pub step_keeps : StepsKeep
 step_keeps strangers w v event report may ok s =
     let next = steps_are_rules strangers w v event report may ok s in
-    shown_as (IsShownWithin two_hosts (most_rules event) ok.shown.0) (IsShown two_hosts) strangers v next (ok.shown.0 ++ next.shown.0, next.shown.2)
+    shown_as (IsShownWithin two_hosts (most_rules event) ok.shown.0) (IsShown two_hosts) strangers v next (
+      ok.shown.0 ++ next.shown.0,
+      next.shown.2,
+    )
 
 -- so do all of them
-pub run_keeps : (strangers : Bool) (events : List Event) (w v : WorldState) → MayAllHappen strangers events → IsOk strangers w → PlaysAll w events v → IsOk strangers v
+pub run_keeps : (strangers : Bool) (events : List Event) (w v : WorldState) → MayAllHappen strangers events →
+    IsOk strangers w → PlaysAll w events v → IsOk strangers v
 run_keeps strangers [] w v may ok r = subst (λ (z : WorldState). IsOk strangers z) (sym r) ok
-run_keeps strangers (event ∷ events) w v may ok r = run_keeps strangers events r.0 v may.1 (step_keeps strangers w r.0 event r.1 may.0 ok r.2) r.3
+run_keeps strangers (event ∷ events) w v may ok r =
+    run_keeps strangers events r.0 v may.1 (step_keeps strangers w r.0 event r.1 may.0 ok r.2) r.3
 
 -- a world begins
-pub new_ok : (strangers : Bool) (files : List StoredFile) (config : Config) → IsBlockSize config.limits.max_block → IsOk strangers (new_world files config)
+pub new_ok : (strangers : Bool) (files : List StoredFile) (config : Config) → IsBlockSize config.limits.max_block →
+    IsOk strangers (new_world files config)
 new_ok strangers files config ok = record {
   messages = [];
   shown = shown_start two_hosts;
@@ -293,4 +372,5 @@ any_may (event ∷ events) = (tt, any_may events)
 -- a world without strangers has its peers at home
 pub ok_at_home : (w : WorldState) → IsOk false w → HasPeersAtHome w
 ok_at_home w ok x p i e =
-    shown_at_home two_hosts (map view_of_end w.ends) ok.messages ok.shown (λ d c. ok.speakers d c refl) (view_of_end x) p (i.0, view_at w.ends i.0 x i.1) e
+    shown_at_home two_hosts (map view_of_end w.ends) ok.messages ok.shown (λ d c. ok.speakers d c refl) (view_of_end x)
+    p (i.0, view_at w.ends i.0 x i.1) e

@@ -20,7 +20,8 @@ use Rattle.tftp_machine.specs.ViewSafety.{IsAmong, IsSafeViews}
 use Rattle.tftp_machine.specs.OpenEnds.{goes_on, received_text}
 use Rattle.tftp_machine.proofs.SinkMoves.{text_else}
 use Rattle.tftp_machine.proofs.SourceMoves.{text_if}
-use Rattle.tftp_player.specs.World.{WorldState, WorldEnd, Open_end, Closed_end, end_record, end_address, end_mode, end_file, end_stored, end_committed, end_text, new_world, view_of_end}
+use Rattle.tftp_player.specs.World.{WorldState, WorldEnd, Open_end, Closed_end, end_record, end_address, end_mode}
+use Rattle.tftp_player.specs.World.{end_file, end_stored, end_committed, end_text, end_wire, new_world, view_of_end}
 use Rattle.tftp_player.specs.WorldSafety.{IsIn, endpoint_of_end, IsSafe}
 use Rattle.tftp_player.specs.WorldKept.{IsKeptIn, IsOk}
 use Rattle.tftp_player.specs.WorldRuns.{WorldsAreSafe, PeersStayHome, KeptIsSafe}
@@ -31,7 +32,8 @@ use Rattle.tftp_player.proofs.WorldTurns.{view_at, viewed_at}
 use Rattle.tftp_machine.proofs.Shown.{shown_by}
 use Rattle.tftp_player.proofs.WorldRuns.{run_keeps, new_ok, any_may, ok_at_home}
 
-end_of : (w : WorldState) (e : EndView) → IsAmong (map view_of_end w.ends) e → (x : WorldEnd) × IsIn w x × (view_of_end x ≡ e)
+end_of : (w : WorldState) (e : EndView) → IsAmong (map view_of_end w.ends) e →
+    (x : WorldEnd) × IsIn w x × (view_of_end x ≡ e)
 end_of w e i = let h = viewed_at w.ends i.0 e i.1 in (h.0, (i.0, h.1), h.2)
 
 -- what a receiver stored begins its text
@@ -49,7 +51,8 @@ complete_stops (Dallying terms number dally) e = refl
 complete_stops (Closed terms number complete outcome) e = refl
 
 -- an endpoint at one of the two hosts has its address
-home_ip : (client s c : Bool) (ip : List ℕ) → is_same_ip ip server_ip ≡ s → is_same_ip ip client_ip ≡ c → (if s then At_server else if c then At_client else Elsewhere) ≡ home client →
+home_ip : (client s c : Bool) (ip : List ℕ) → is_same_ip ip server_ip ≡ s → is_same_ip ip client_ip ≡ c →
+    (if s then At_server else if c then At_client else Elsewhere) ≡ home client →
     ip ≡ (if client then client_ip else server_ip)
 home_ip true true c ip p q h = cc
 home_ip true false true ip p q h = same_text ip client_ip (sym q)
@@ -73,30 +76,45 @@ module _ (strangers : Bool) (w : WorldState) (ok : IsOk strangers w) where
   among : (x : WorldEnd) → IsIn w x → IsAmong (map view_of_end w.ends) (view_of_end x)
   among x i = (i.0, view_at w.ends i.0 x i.1)
 
-  begins : (x : WorldEnd) → is_sender (end_record x).side ≡ false → IsBeginningOf (wire_text (end_mode x) (end_stored x)) (end_text x)
-  begins (Open_end x) r = stored_begins (is_sender x.state.role.side) (goes_on x.state.position.phase) (wire_text x.state.role.mode x.file) (wire_text x.state.role.mode x.stored) x.state.position.held r
-  begins (Closed_end x) r = stored_begins (is_sender x.recorded.side) false (wire_text x.mode x.file) (wire_text x.mode x.stored) [] r
+  begins : (x : WorldEnd) → is_sender (end_record x).side ≡ false →
+      IsBeginningOf (wire_text (end_mode x) (end_stored x)) (end_text x)
+  begins (Open_end x) r =
+      stored_begins (is_sender x.state.role.side) (goes_on x.state.position.phase) x.text
+      (wire_text x.state.role.mode x.stored) x.state.position.held r
+  begins (Closed_end x) r = stored_begins (is_sender x.recorded.side) false x.text (wire_text x.mode x.stored) [] r
 
-  whole : (x : WorldEnd) → is_sender (end_record x).side ≡ false → (end_record x).complete ≡ true → end_text x ≡ wire_text (end_mode x) (end_stored x)
+  whole : (x : WorldEnd) → is_sender (end_record x).side ≡ false → (end_record x).complete ≡ true →
+      end_text x ≡ wire_text (end_mode x) (end_stored x)
   whole (Open_end x) r d =
       let t = wire_text x.state.role.mode x.stored in
-      text_else (is_sender x.state.role.side) (wire_text x.state.role.mode x.file) (received_text x.state x.stored) r
+      text_else (is_sender x.state.role.side) x.text (received_text x.state x.stored) r
       ∙ ap (λ (b : Bool). if b then t ++ x.state.position.held else t) (complete_stops x.state.position.phase d)
-  whole (Closed_end x) r d = text_else (is_sender x.recorded.side) (wire_text x.mode x.file) (wire_text x.mode x.stored) r
+  whole (Closed_end x) r d = text_else (is_sender x.recorded.side) x.text (wire_text x.mode x.stored) r
 
-  sends : (x : WorldEnd) → is_sender (end_record x).side ≡ true → end_text x ≡ wire_text (end_mode x) (end_file x)
-  sends (Open_end x) s = text_if (is_sender x.state.role.side) (wire_text x.state.role.mode x.file) (received_text x.state x.stored) s
-  sends (Closed_end x) s = text_if (is_sender x.recorded.side) (wire_text x.mode x.file) (wire_text x.mode x.stored) s
+  wire_of : (x : WorldEnd) → is_sender (end_record x).side ≡ true → end_text x ≡ end_wire x
+  wire_of (Open_end x) s = text_if (is_sender x.state.role.side) x.text (received_text x.state x.stored) s
+  wire_of (Closed_end x) s = text_if (is_sender x.recorded.side) x.text (wire_text x.mode x.stored) s
 
-  committed : (x : WorldEnd) → IsKeptIn w x → is_sender (end_record x).side ≡ false → (end_record x).complete ≡ true → end_committed x ≡ true
+  sends : (x : WorldEnd) → IsIn w x → is_sender (end_record x).side ≡ true →
+      end_text x ≡ wire_text (end_mode x) (end_file x)
+  sends x i s = wire_of x s ∙ (ok.ends i.0 x i.1).text
+
+  committed : (x : WorldEnd) → IsKeptIn w x → is_sender (end_record x).side ≡ false → (end_record x).complete ≡ true →
+      end_committed x ≡ true
   committed (Open_end x) h r d = h.stands.kept.committed r ∙ d
   committed (Closed_end x) h r d = h.stands r ∙ d
 
-  matched : (k : ℕ) (x : WorldEnd) → slice_get w.ends k ≡ Some x → Matches (view_of_end x) ((shown_by two_hosts (map view_of_end w.ends) ok.messages ok.shown).0.party (end_address x))
-  matched k x i = (shown_by two_hosts (map view_of_end w.ends) ok.messages ok.shown).3.ends k (view_of_end x) (view_at w.ends k x i)
+  matched : (k : ℕ) (x : WorldEnd) → slice_get w.ends k ≡ Some x →
+      Matches (view_of_end x)
+      ((shown_by two_hosts (map view_of_end w.ends) ok.messages ok.shown).0.party (end_address x))
+  matched k x i =
+      (shown_by two_hosts (map view_of_end w.ends) ok.messages ok.shown).3.ends k (view_of_end x) (view_at w.ends k x i)
 
-  sound : (k : ℕ) (x : WorldEnd) → slice_get w.ends k ≡ Some x → IsSoundParty two_hosts (shown_by two_hosts (map view_of_end w.ends) ok.messages ok.shown).0.party (end_address x) ((shown_by two_hosts (map view_of_end w.ends) ok.messages ok.shown).0.party (end_address x))
-  sound k x i = (shown_by two_hosts (map view_of_end w.ends) ok.messages ok.shown).1.ends (end_address x) (matched k x i).is_open
+  sound : (k : ℕ) (x : WorldEnd) → slice_get w.ends k ≡ Some x →
+      IsSoundParty two_hosts (shown_by two_hosts (map view_of_end w.ends) ok.messages ok.shown).0.party (end_address x)
+      ((shown_by two_hosts (map view_of_end w.ends) ok.messages ok.shown).0.party (end_address x))
+  sound k x i =
+      (shown_by two_hosts (map view_of_end w.ends) ok.messages ok.shown).1.ends (end_address x) (matched k x i).is_open
 
   pub ok_safe : IsSafe w
   ok_safe = record {
@@ -105,7 +123,9 @@ module _ (strangers : Bool) (w : WorldState) (ok : IsOk strangers w) where
         endpoint_from (end_address x) (endpoint_of_end (end_record x).side k)
         (ip_at_home (end_address x) client ((sound k x i).at_home ∙ ap home (matched k x i).client))
         (ok.ports k x i);
-    at_server = λ x p i client peer. ((sound i.0 x i.1).serving ((matched i.0 x i.1).client ∙ client) p ((matched i.0 x i.1).peer ∙ peer)).0;
+    at_server =
+        λ x p i client peer.
+        ((sound i.0 x i.1).serving ((matched i.0 x i.1).client ∙ client) p ((matched i.0 x i.1).peer ∙ peer)).0;
     unique = λ x y i j e.
         let p = ok.ports i.0 x i.1 in
         let q = ok.ports j.0 y j.1 in
@@ -115,7 +135,9 @@ module _ (strangers : Bool) (w : WorldState) (ok : IsOk strangers w) where
     same_size = λ x y i j e f. safe.same_size (view_of_end x) (view_of_end y) (among x i) (among y j) e f;
     is_empty = λ x i r e.
         let t = safe.is_empty (view_of_end x) (among x i) r e in
-        let b = subst (λ (z : List ℕ). IsBeginningOf (wire_text (end_mode x) (end_stored x)) z) (t ∙ sym (nothing_travels (end_mode x))) (begins x r) in
+        let b =
+        subst (λ (z : List ℕ). IsBeginningOf (wire_text (end_mode x) (end_stored x)) z)
+        (t ∙ sym (nothing_travels (end_mode x))) (begins x r) in
         first_of_empty (end_stored x) (wire_beginning (end_mode x) (end_stored x) [] b);
     is_beginning = λ x p i r e own.
         let h = safe.is_beginning (view_of_end x) p (among x i) r e own in
@@ -124,10 +146,17 @@ module _ (strangers : Bool) (w : WorldState) (ok : IsOk strangers w) where
         let sender : is_sender (end_record z).side ≡ true = ap (λ (v : EndView). v.sender) y.2 ∙ h.2 in
         let mode : end_mode z ≡ end_mode x = ap (λ (v : EndView). v.mode) y.2 ∙ h.3 in
         let text : h.0.text ≡ wire_text (end_mode x) (end_file z) =
-        ap (λ (v : EndView). v.text) (sym y.2) ∙ (sends z sender ∙ ap (λ (m : Mode). wire_text m (end_file z)) mode) in
+        ap (λ (v : EndView). v.text) (sym y.2)
+        ∙ (sends z y.1 sender ∙ ap (λ (m : Mode). wire_text m (end_file z)) mode) in
         let b = subst (λ (t : List ℕ). IsBeginningOf (wire_text (end_mode x) (end_stored x)) t) text
-        (IsBeginningOf-trans (wire_text (end_mode x) (end_stored x)) (end_text x) h.0.text (begins x r) h.4) in
-        (z, ((y.1, ap (λ (v : EndView). v.address) y.2 ∙ h.1.1), sender), wire_beginning (end_mode x) (end_stored x) (end_file z) b);
+        (IsBeginningOf-trans (wire_text (end_mode x) (end_stored x)) (end_text x) h.0.text (begins x r) h.4) in (
+          z,
+          (
+            (y.1, ap (λ (v : EndView). v.address) y.2 ∙ h.1.1),
+            sender,
+          ),
+          wire_beginning (end_mode x) (end_stored x) (end_file z) b,
+        );
     is_committed = λ x i r d. committed x (ok.ends i.0 x i.1) r d;
     is_whole = λ x i r d.
         let g = safe.is_whole (view_of_end x) (among x i) r d in (
@@ -140,8 +169,15 @@ module _ (strangers : Bool) (w : WorldState) (ok : IsOk strangers w) where
               let sender : is_sender (end_record z).side ≡ true = ap (λ (v : EndView). v.sender) y.2 ∙ h.2 in
               let mode : end_mode z ≡ end_mode x = ap (λ (v : EndView). v.mode) y.2 ∙ h.3 in
               let text : h.0.text ≡ wire_text (end_mode x) (end_file z) =
-              ap (λ (v : EndView). v.text) (sym y.2) ∙ (sends z sender ∙ ap (λ (m : Mode). wire_text m (end_file z)) mode) in
-              (z, ((y.1, ap (λ (v : EndView). v.address) y.2 ∙ h.1.1), sender), wire_same (end_mode x) (end_stored x) (end_file z) (sym (whole x r d) ∙ (h.4 ∙ text))),
+              ap (λ (v : EndView). v.text) (sym y.2)
+              ∙ (sends z y.1 sender ∙ ap (λ (m : Mode). wire_text m (end_file z)) mode) in (
+                z,
+                (
+                  (y.1, ap (λ (v : EndView). v.address) y.2 ∙ h.1.1),
+                  sender,
+                ),
+                wire_same (end_mode x) (end_stored x) (end_file z) (sym (whole x r d) ∙ (h.4 ∙ text)),
+              ),
         );
     is_at_path = λ o x i r d c. (ok.ends i.0 x i.1).stored o c r d;
     sender_last = λ x i s d.
@@ -150,8 +186,15 @@ module _ (strangers : Bool) (w : WorldState) (ok : IsOk strangers w) where
           g.1,
           λ own.
               let h = g.2 own in
-              let y = end_of w h.0 h.1.0 in
-              (y.0, (y.1, ap (λ (v : EndView). v.address) y.2 ∙ h.1.1), ap (λ (v : EndView). v.peer) y.2 ∙ h.2, ap (λ (v : EndView). v.done) y.2 ∙ h.3),
+              let y = end_of w h.0 h.1.0 in (
+                y.0,
+                (
+                  y.1,
+                  ap (λ (v : EndView). v.address) y.2 ∙ h.1.1,
+                ),
+                ap (λ (v : EndView). v.peer) y.2 ∙ h.2,
+                ap (λ (v : EndView). v.done) y.2 ∙ h.3,
+              ),
         );
   }
 

@@ -1,16 +1,19 @@
 -- A turn of an end, an opening and an ERROR keep a world.
-use Rattle.std.proofs.Common.{◌≡◌, ℕ, ◌+◌, length, Bool, true, false, List, [], ◌∷◌, ◌++◌, map, set, Option, Some, None, sym, refl, ap, ◌∙◌, subst, arith, inl, inr}
+use Rattle.std.proofs.Common.{◌≡◌, ℕ, ◌+◌, length, Bool, true, false, List, [], ◌∷◌, ◌++◌, map, set, Option, Some, None}
+use Rattle.std.proofs.Common.{sym, refl, ap, ◌∙◌, subst, arith, inl, inr}
 use Rattle.std.specs.Prelude.{◌≢◌, ◌⊎◌, ◌&&◌, not, slice_get, option_map}
 use Rattle.std.specs.List.{Contains}
 use Rattle.std.proofs.lemmas.Bool.{true≢false}
 use Rattle.std.proofs.lemmas.List.{map-set, map-append}
-use Rattle.std.proofs.lemmas.List.Elements.{Contains-append_cases, Contains-append_left, Contains-append_right, Contains-push, Contains-push_cases}
+use Rattle.std.proofs.lemmas.List.Elements.{Contains-append_cases, Contains-append_left, Contains-append_right}
+use Rattle.std.proofs.lemmas.List.Elements.{Contains-push, Contains-push_cases}
 use Rattle.std.proofs.lemmas.Option.{same_Some, slice_get-map}
 use Rattle.tftp_wire.specs.declared.packet.Packet.{Packet as WirePacket}
 use Rattle.tftp_wire.specs.Spelling.{Spells}
 use Rattle.tftp_file.specs.declared.files.Files.{Files}
 use Rattle.tftp_file.specs.declared.files.Files.TheVariants.{Source, Sink}
 use Rattle.tftp_file.specs.Sink.{Holding}
+use Rattle.tftp_file.specs.Netascii.{wire_text}
 use Rattle.tftp_ends.specs.End.{is_sender, is_client, is_complete, outcome_of}
 use Rattle.tftp_ends.specs.Step.{Turn, Reply, after_turn}
 use Rattle.tftp_machine.specs.Hosts.{host_of, two_hosts}
@@ -24,7 +27,9 @@ use Rattle.tftp_machine.specs.Recorded.{AreRecorded}
 use Rattle.tftp_machine.specs.Shows.{EndView, Shows, IsShownWithin}
 use Rattle.tftp_machine.specs.EndShown.{Goes, Replies, Newest}
 use Rattle.tftp_machine.proofs.Shown.{shown_by}
-use Rattle.tftp_player.specs.World.{WorldState, WorldEnd, Open_end, Closed_end, end_address, end_path, end_stored, StoredFile, file_at, in_the_way, datagram, replied, standing, has_committed, world_after, opened_in, said_in, view_of_end}
+use Rattle.tftp_player.specs.World.{WorldState, WorldEnd, Open_end, Closed_end, end_address, end_path, end_stored}
+use Rattle.tftp_player.specs.World.{StoredFile, file_at, in_the_way, datagram, replied, standing, has_committed}
+use Rattle.tftp_player.specs.World.{world_after, opened_in, said_in, view_of_end}
 use Rattle.tftp_player.specs.WorldSteps.{FilesAfter, Turns, OpeningStep}
 use Rattle.tftp_player.specs.WorldKept.{HasPorts, IsOpenIn, StandsIn, IsKeptIn, SaysSo, MaySpeak, IsOkAt, IsOkWithin}
 use Rattle.tftp_player.specs.declared.datagram.Datagram.{Datagram}
@@ -44,19 +49,25 @@ one_in x y h = elim (Contains-push_cases [] y x h) [
 here_in : {X : Type 0} (x : X) → Contains (x ∷ []) x
 here_in x = Contains-push [] x
 
-pub says_message : (from to : Endpoint) (bytes : List ℕ) (p : WirePacket) → Spells p bytes → SaysSo (datagram from to bytes) (message from to (said p))
+pub says_message : (from to : Endpoint) (bytes : List ℕ) (p : WirePacket) → Spells p bytes →
+    SaysSo (datagram from to bytes) (message from to (said p))
 says_message from to bytes p s = record { packet = p; spells = s; says = refl }
 
 -- an answer is a datagram that says what was said
-reply_said : (from : Endpoint) (reply : Option Reply) (said_now : List Message) → Replies from reply said_now → (d : Datagram) → Contains (replied from reply) d →
+reply_said : (from : Endpoint) (reply : Option Reply) (said_now : List Message) → Replies from reply said_now →
+    (d : Datagram) → Contains (replied from reply) d →
     (m : Message) × SaysSo d m × Contains said_now m
 reply_said from None said_now r d i = absurd (nothing_in d i)
 reply_said from (Some reply) said_now r d i =
     let m = message from reply.to (said r.0) in
-    let e = one_in d (datagram from reply.to reply.bytes) i in
-    (m, subst (λ (z : Datagram). SaysSo z m) e (says_message from reply.to reply.bytes r.0 r.1), subst (λ (ms : List Message). Contains ms m) (sym r.2) (here_in m))
+    let e = one_in d (datagram from reply.to reply.bytes) i in (
+      m,
+      subst (λ (z : Datagram). SaysSo z m) e (says_message from reply.to reply.bytes r.0 r.1),
+      subst (λ (ms : List Message). Contains ms m) (sym r.2) (here_in m),
+    )
 
-said_reply : (from : Endpoint) (reply : Option Reply) (said_now : List Message) → Replies from reply said_now → (m : Message) → Contains said_now m →
+said_reply : (from : Endpoint) (reply : Option Reply) (said_now : List Message) → Replies from reply said_now →
+    (m : Message) → Contains said_now m →
     (d : Datagram) × Contains (replied from reply) d × SaysSo d m
 said_reply from None said_now r m i = absurd (nothing_in m (subst (λ (ms : List Message). Contains ms m) r i))
 said_reply from (Some reply) said_now r m i =
@@ -76,23 +87,28 @@ home_not_elsewhere true e = cc
 home_not_elsewhere false e = cc
 
 -- the end at an index is shown there
-pub view_at : (ends : List WorldEnd) (k : ℕ) (x : WorldEnd) → slice_get ends k ≡ Some x → slice_get (map view_of_end ends) k ≡ Some (view_of_end x)
+pub view_at : (ends : List WorldEnd) (k : ℕ) (x : WorldEnd) → slice_get ends k ≡ Some x →
+    slice_get (map view_of_end ends) k ≡ Some (view_of_end x)
 view_at ends k x e = slice_get-map view_of_end ends k ∙ ap (option_map view_of_end) e
 
-viewed : (e : EndView) (o : Option WorldEnd) → option_map view_of_end o ≡ Some e → (x : WorldEnd) × (o ≡ Some x) × (view_of_end x ≡ e)
+viewed : (e : EndView) (o : Option WorldEnd) → option_map view_of_end o ≡ Some e →
+    (x : WorldEnd) × (o ≡ Some x) × (view_of_end x ≡ e)
 viewed e None h = absurd (let f : None ≡ Some e = h in cc)
 viewed e (Some x) h = (x, refl, same_Some (view_of_end x) e h)
 
 -- an end that is shown is one of the world
-pub viewed_at : (ends : List WorldEnd) (k : ℕ) (e : EndView) → slice_get (map view_of_end ends) k ≡ Some e → (x : WorldEnd) × (slice_get ends k ≡ Some x) × (view_of_end x ≡ e)
+pub viewed_at : (ends : List WorldEnd) (k : ℕ) (e : EndView) → slice_get (map view_of_end ends) k ≡ Some e →
+    (x : WorldEnd) × (slice_get ends k ≡ Some x) × (view_of_end x ≡ e)
 viewed_at ends k e i = viewed e (slice_get ends k) (sym (slice_get-map view_of_end ends k) ∙ i)
 
 -- a machine that keeps its invariant shows a world that keeps its own
-pub world_machine : (first : List Rule) (strangers : Bool) (w : WorldState) (ok : IsOkAt first strangers w) → (m : Machine) × Holds two_hosts m × AreRecorded two_hosts m × Shows (map view_of_end w.ends) ok.messages m
+pub world_machine : (first : List Rule) (strangers : Bool) (w : WorldState) (ok : IsOkAt first strangers w) →
+    (m : Machine) × Holds two_hosts m × AreRecorded two_hosts m × Shows (map view_of_end w.ends) ok.messages m
 world_machine first strangers w ok = shown_by two_hosts (map view_of_end w.ends) ok.messages (first, ok.shown)
 
 -- each end is at one of the two hosts
-pub at_home : (first : List Rule) (strangers : Bool) (w : WorldState) → IsOkAt first strangers w → (k : ℕ) (x : WorldEnd) → slice_get w.ends k ≡ Some x → host_of (end_address x) ≢ Elsewhere
+pub at_home : (first : List Rule) (strangers : Bool) (w : WorldState) → IsOkAt first strangers w →
+    (k : ℕ) (x : WorldEnd) → slice_get w.ends k ≡ Some x → host_of (end_address x) ≢ Elsewhere
 at_home first strangers w ok k x e f =
     let by = world_machine first strangers w ok in
     let there = by.3.ends k (view_of_end x) (view_at w.ends k x e) in
@@ -100,25 +116,38 @@ at_home first strangers w ok k x e f =
     home_not_elsewhere (by.0.party (end_address x)).client (sym h ∙ f)
 
 -- an end that stays at its endpoint has the port of its index
-pub ports_set : (w : WorldState) (k : ℕ) (x y : WorldEnd) → HasPorts w → slice_get w.ends k ≡ Some x → end_address y ≡ end_address x → HasPorts (record w { ends = set w.ends k y })
+pub ports_set : (w : WorldState) (k : ℕ) (x y : WorldEnd) → HasPorts w → slice_get w.ends k ≡ Some x →
+    end_address y ≡ end_address x → HasPorts (record w { ends = set w.ends k y })
 ports_set w k x y ports at same j z i = elim (slice_get-set_cases w.ends k j y z i) [
-  | inl h ↦ ap (λ (u : WorldEnd). (end_address u).port) h.1 ∙ (ap (λ (a : Endpoint). a.port) same ∙ (ports k x at ∙ ap (λ (n : ℕ). 1024 + n) (sym h.0)))
+  | inl h ↦
+      ap (λ (u : WorldEnd). (end_address u).port) h.1
+      ∙ (ap (λ (a : Endpoint). a.port) same ∙ (ports k x at ∙ ap (λ (n : ℕ). 1024 + n) (sym h.0)))
   | inr h ↦ ports j z h.1
 ]
 
 -- so has an end that opens at the next port
-ports_push : (w : WorldState) (x : OpenEnd) → HasPorts w → x.address.port ≡ 1024 + length w.ends → HasPorts (record w { ends = w.ends ++ Open_end x ∷ [] })
+ports_push : (w : WorldState) (x : OpenEnd) → HasPorts w → x.address.port ≡ 1024 + length w.ends →
+    HasPorts (record w { ends = w.ends ++ Open_end x ∷ [] })
 ports_push w x ports port j z i = elim (slice_get-push_cases w.ends j (Open_end x) z i) [
   | inl h ↦ ports j z h
   | inr h ↦ ap (λ (u : WorldEnd). (end_address u).port) h.1 ∙ (port ∙ ap (λ (n : ℕ). 1024 + n) (sym h.0))
 ]
 
-same_end : (x : OpenEnd) (held : Files (List ℕ) Holding) → ((with_files x held).address ≡ x.address) × ((with_files x held).path ≡ x.path) × ((with_files x held).state ≡ x.state)
+same_end : (x : OpenEnd) (held : Files (List ℕ) Holding) →
+    ((with_files x held).address ≡ x.address) × ((with_files x held).path ≡ x.path)
+    × ((with_files x held).state ≡ x.state)
 same_end x (Source left) = (refl, refl, refl)
 same_end x (Sink holding) = (refl, refl, refl)
 
+same_wire : (x : OpenEnd) (held : Files (List ℕ) Holding) → x.text ≡ wire_text x.state.role.mode x.file →
+    (with_files x held).text ≡ wire_text (with_files x held).state.role.mode (with_files x held).file
+same_wire x (Source left) wire = wire
+same_wire x (Sink holding) wire = wire
+
 -- the files stay under their paths
-files_stay : (overwrite b : Bool) (path bytes : List ℕ) (old new : List StoredFile) → FilesAfter overwrite b path bytes old new → overwrite ≡ false → (q c : List ℕ) → file_at old q ≡ Some c → file_at new q ≡ Some c
+files_stay : (overwrite b : Bool) (path bytes : List ℕ) (old new : List StoredFile) →
+    FilesAfter overwrite b path bytes old new → overwrite ≡ false → (q c : List ℕ) → file_at old q ≡ Some c →
+    file_at new q ≡ Some c
 files_stay overwrite true path bytes old new h kept q c e =
     h.others q (λ same.
     let free : file_at old path ≡ None = ap (λ (b : Bool). in_the_way b (file_at old path)) (sym kept) ∙ h.free in
@@ -126,7 +155,8 @@ files_stay overwrite true path bytes old new h kept q c e =
 files_stay overwrite false path bytes old new h kept q c e = ap (λ (files : List StoredFile). file_at files q) h ∙ e
 
 -- what holds of an unchanged end holds after more was sent
-still_stands : (w v : WorldState) (added : List Datagram) (x : WorldEnd) → v.sent ≡ w.sent ++ added → StandsIn w x → StandsIn v x
+still_stands : (w v : WorldState) (added : List Datagram) (x : WorldEnd) → v.sent ≡ w.sent ++ added → StandsIn w x →
+    StandsIn v x
 still_stands w v added (Open_end x) more h = record {
   still = h.still;
   kept = h.kept;
@@ -137,19 +167,25 @@ still_stands w v added (Open_end x) more h = record {
 still_stands w v added (Closed_end x) more h = h
 
 still_kept : (w v : WorldState) (added : List Datagram) (x : WorldEnd) → v.sent ≡ w.sent ++ added →
-    v.overwrite ≡ w.overwrite → (w.overwrite ≡ false → (q c : List ℕ) → file_at w.files q ≡ Some c → file_at v.files q ≡ Some c) → IsKeptIn w x → IsKeptIn v x
+    v.overwrite ≡ w.overwrite →
+    (w.overwrite ≡ false → (q c : List ℕ) → file_at w.files q ≡ Some c → file_at v.files q ≡ Some c) → IsKeptIn w x →
+    IsKeptIn v x
 still_kept w v added x more set_same stay h = record {
   stands = still_stands w v added x more h.stands;
   stored = λ o c r d. let kept = sym set_same ∙ o in stay kept (end_path x) (end_stored x) (h.stored kept c r d);
+  text = h.text;
 }
 
 -- what was sent and what is there, after an answer
-module _ (first : List Rule) (strangers : Bool) (w : WorldState) (ok : IsOkAt first strangers w) (from : Endpoint) (own : host_of from ≢ Elsewhere)
+module _ (first : List Rule) (strangers : Bool) (w : WorldState) (ok : IsOkAt first strangers w) (from : Endpoint)
+    (own : host_of from ≢ Elsewhere)
     (reply : Option Reply) (said_now : List Message) (r : Replies from reply said_now) where
-  pub sent_then : (d : Datagram) → Contains (w.sent ++ replied from reply) d → (m : Message) × SaysSo d m × Contains (ok.messages ++ said_now) m
+  pub sent_then : (d : Datagram) → Contains (w.sent ++ replied from reply) d →
+      (m : Message) × SaysSo d m × Contains (ok.messages ++ said_now) m
   sent_then d i = elim (Contains-append_cases w.sent (replied from reply) d i) [
     | inl o ↦ let h = ok.sent d o in (h.0, h.1, Contains-append_left ok.messages said_now h.0 h.2)
-    | inr n ↦ let h = reply_said from reply said_now r d n in (h.0, h.1, Contains-append_right ok.messages said_now h.0 h.2)
+    | inr n ↦ let h = reply_said from reply said_now r d n in
+        (h.0, h.1, Contains-append_right ok.messages said_now h.0 h.2)
   ]
 
   pub only_then : (m : Message) → Contains (ok.messages ++ said_now) m →
@@ -159,7 +195,8 @@ module _ (first : List Rule) (strangers : Bool) (w : WorldState) (ok : IsOkAt fi
       | inl h ↦ inl (h.0, Contains-append_left w.sent (replied from reply) h.0 h.1, h.2)
       | inr f ↦ inr f
     ]
-    | inr n ↦ let h = said_reply from reply said_now r m n in inl (h.0, Contains-append_right w.sent (replied from reply) h.0 h.1, h.2)
+    | inr n ↦ let h = said_reply from reply said_now r m n in
+        inl (h.0, Contains-append_right w.sent (replied from reply) h.0 h.1, h.2)
   ]
 
   pub speakers_then : (m : Message) → Contains (ok.messages ++ said_now) m → MaySpeak strangers m.from
@@ -170,106 +207,164 @@ module _ (first : List Rule) (strangers : Bool) (w : WorldState) (ok : IsOkAt fi
   ]
 
 -- by whether an end was complete before
-complete_then : (old_done client old_committed new_committed : Bool) → old_committed ≡ old_done → new_committed ≡ true → client ≡ false →
-    (old_done ≡ true × (not client && (not old_committed && new_committed)) ≡ false) ⊎ ((not client && (not old_committed && new_committed)) ≡ true)
+complete_then : (old_done client old_committed new_committed : Bool) → old_committed ≡ old_done → new_committed ≡ true →
+    client ≡ false →
+    (old_done ≡ true × (not client && (not old_committed && new_committed)) ≡ false)
+    ⊎ ((not client && (not old_committed && new_committed)) ≡ true)
 complete_then true client old_committed new_committed o n c =
     inl (refl, ap (λ (b : Bool). not client && (not b && new_committed)) o ∙ ap (λ (b : Bool). not b && false) c)
 complete_then false client old_committed new_committed o n c =
-    inr (ap (λ (b : Bool). not client && (not b && new_committed)) o ∙ (ap (λ (b : Bool). not client && b) n ∙ ap (λ (b : Bool). not b && true) c))
+    inr
+    (ap (λ (b : Bool). not client && (not b && new_committed)) o
+    ∙ (ap (λ (b : Bool). not client && b) n ∙ ap (λ (b : Bool). not b && true) c))
 
 -- a turn of an end keeps the world
-pub turn_keeps : (first : List Rule) (strangers : Bool) (w v : WorldState) (ok : IsOkAt first strangers w) (k : ℕ) (x : OpenEnd) (turn : Turn) (held : Files (List ℕ) Holding) (report : Report) →
-    slice_get w.ends k ≡ Some (Open_end x) → Goes two_hosts first (map view_of_end w.ends) ok.messages k x turn (end_after x turn held) → Turns w k x turn held report v → IsOkWithin 3 first strangers v
-turn_keeps first strangers w v ok k x turn held report at g t = subst (λ (z : WorldState). IsOkWithin 3 first strangers z) (sym t.is) later where
-  was : IsOpenIn w x
-  was = (ok.ends k (Open_end x) at).stands
+pub turn_keeps :
+    (first : List Rule) (strangers : Bool) (w v : WorldState) (ok : IsOkAt first strangers w) (k : ℕ) (x : OpenEnd)
+    (turn : Turn) (held : Files (List ℕ) Holding) (report : Report) →
+    slice_get w.ends k ≡ Some (Open_end x) →
+    Goes two_hosts first (map view_of_end w.ends) ok.messages k x turn (end_after x turn held) →
+    Turns w k x turn held report v → IsOkWithin 3 first strangers v
+turn_keeps first strangers w v ok k x turn held report at g t =
+    subst (λ (z : WorldState). IsOkWithin 3 first strangers z) (sym t.is) later where
+      was : IsOpenIn w x
+      was = (ok.ends k (Open_end x) at).stands
 
-  last_sent_is : (to : Endpoint) (bytes : List ℕ) → Newest x turn (end_after x turn held) →
-      Contains (w.sent ++ replied x.address turn.reply) (datagram x.address (end_after x turn held).state.position.last_sent_to (end_after x turn held).state.position.last_sent)
-  last_sent_is to bytes (inl e) =
-      let there = Contains-append_left w.sent (replied x.address turn.reply) (datagram x.address x.state.position.last_sent_to x.state.position.last_sent) was.last_sent in
-      subst (λ (p : Endpoint). Contains (w.sent ++ replied x.address turn.reply) (datagram x.address p (end_after x turn held).state.position.last_sent)) (sym e.0)
-      (subst (λ (b : List ℕ). Contains (w.sent ++ replied x.address turn.reply) (datagram x.address x.state.position.last_sent_to b)) (sym e.1) there)
-  last_sent_is to bytes (inr e) =
-      let d = datagram x.address (end_after x turn held).state.position.last_sent_to (end_after x turn held).state.position.last_sent in
-      Contains-append_right w.sent (replied x.address turn.reply) d
-      (subst (λ (r : Option Reply). Contains (replied x.address r) d) (sym e) (here_in d))
+      last_sent_is : (to : Endpoint) (bytes : List ℕ) → Newest x turn (end_after x turn held) →
+          Contains (w.sent ++ replied x.address turn.reply)
+          (datagram x.address (end_after x turn held).state.position.last_sent_to
+          (end_after x turn held).state.position.last_sent)
+      last_sent_is to bytes (inl e) =
+          let there =
+          Contains-append_left w.sent (replied x.address turn.reply)
+          (datagram x.address x.state.position.last_sent_to x.state.position.last_sent) was.last_sent in
+          subst
+          (λ (p : Endpoint).
+          Contains (w.sent ++ replied x.address turn.reply)
+          (datagram x.address p (end_after x turn held).state.position.last_sent)) (sym e.0)
+          (subst
+          (λ (b : List ℕ).
+          Contains (w.sent ++ replied x.address turn.reply) (datagram x.address x.state.position.last_sent_to b))
+          (sym e.1) there)
+      last_sent_is to bytes (inr e) =
+          let d =
+          datagram x.address (end_after x turn held).state.position.last_sent_to
+          (end_after x turn held).state.position.last_sent in
+          Contains-append_right w.sent (replied x.address turn.reply) d
+          (subst (λ (r : Option Reply). Contains (replied x.address r) d) (sym e) (here_in d))
 
-  stays : w.overwrite ≡ false → (q c : List ℕ) → file_at w.files q ≡ Some c → file_at t.files q ≡ Some c
-  stays = files_stay w.overwrite (not (is_client x.state.role.side) && has_committed x (end_after x turn held)) x.path (end_after x turn held).stored w.files t.files t.stored
+      stays : w.overwrite ≡ false → (q c : List ℕ) → file_at w.files q ≡ Some c → file_at t.files q ≡ Some c
+      stays =
+          files_stay w.overwrite (not (is_client x.state.role.side) && has_committed x (end_after x turn held)) x.path
+          (end_after x turn held).stored w.files t.files t.stored
 
-  stored_is : w.overwrite ≡ false → is_client (end_after x turn held).state.role.side ≡ false → is_sender (end_after x turn held).state.role.side ≡ false → is_complete (end_after x turn held).state.position.phase ≡ true →
-      file_at t.files (end_after x turn held).path ≡ Some (end_after x turn held).stored
-  stored_is o c r d =
-      let y = end_after x turn held in
-      let path = (same_end (record x { state = after_turn x.state turn }) held).1 in
-      let client : is_client x.state.role.side ≡ false = ap is_client (sym g.side) ∙ c in
-      let receiver : is_sender x.state.role.side ≡ false = ap is_sender (sym g.side) ∙ r in
-      let old = was.kept.committed receiver in
-      let new : y.committed ≡ true = g.kept.committed r ∙ d in
-      let under : file_at t.files x.path ≡ Some y.stored = elim (complete_then (is_complete x.state.position.phase) (is_client x.state.role.side) x.committed y.committed old new client) [
-        | inl h ↦ stays o x.path y.stored ((ok.ends k (Open_end x) at).stored o client receiver h.0 ∙ ap (λ (z : List ℕ). Some z) (sym (g.stored h.0)))
-        | inr h ↦ (subst (λ (b : Bool). FilesAfter w.overwrite b x.path y.stored w.files t.files) h t.stored).here
-      ] in
-      subst (λ (q : List ℕ). file_at t.files q ≡ Some y.stored) (sym path) under
+      stored_is : w.overwrite ≡ false → is_client (end_after x turn held).state.role.side ≡ false →
+          is_sender (end_after x turn held).state.role.side ≡ false →
+          is_complete (end_after x turn held).state.position.phase ≡ true →
+          file_at t.files (end_after x turn held).path ≡ Some (end_after x turn held).stored
+      stored_is o c r d =
+          let y = end_after x turn held in
+          let path = (same_end (record x { state = after_turn x.state turn }) held).1 in
+          let client : is_client x.state.role.side ≡ false = ap is_client (sym g.side) ∙ c in
+          let receiver : is_sender x.state.role.side ≡ false = ap is_sender (sym g.side) ∙ r in
+          let old = was.kept.committed receiver in
+          let new : y.committed ≡ true = g.kept.committed r ∙ d in
+          let under : file_at t.files x.path ≡ Some y.stored =
+          elim (complete_then (is_complete x.state.position.phase) (is_client x.state.role.side) x.committed y.committed
+          old new client) [
+            | inl h ↦
+                stays o x.path y.stored
+                ((ok.ends k (Open_end x) at).stored o client receiver h.0
+                ∙ ap (λ (z : List ℕ). Some z) (sym (g.stored h.0)))
+            | inr h ↦ (subst (λ (b : Bool). FilesAfter w.overwrite b x.path y.stored w.files t.files) h t.stored).here
+          ] in
+          subst (λ (q : List ℕ). file_at t.files q ≡ Some y.stored) (sym path) under
 
-  later : IsOkWithin 3 first strangers (world_after w k x turn held t.files)
-  later =
-      let y = end_after x turn held in
-      let same_address = (same_end (record x { state = after_turn x.state turn }) held).0 in
-      let own = at_home first strangers w ok k (Open_end x) at in
-      record {
-        messages = ok.messages ++ g.said_now;
-        shown = subst (λ (vs : List EndView). IsShownWithin two_hosts 3 first vs (ok.messages ++ g.said_now)) (sym (map-set view_of_end w.ends k (standing y)))
-            (standing_shown first (map view_of_end w.ends) (ok.messages ++ g.said_now) k (view_of_end (Open_end x)) y (view_at w.ends k (Open_end x) at) g.shown);
-        sent = sent_then first strangers w ok x.address own turn.reply g.said_now g.replies;
-        only = only_then first strangers w ok x.address own turn.reply g.said_now g.replies;
-        speakers = speakers_then first strangers w ok x.address own turn.reply g.said_now g.replies;
-        ports = ports_set w k (Open_end x) (standing y) ok.ports at (standing_address y ∙ same_address);
-        max_block = ok.max_block;
-        ends = λ j z i. elim (slice_get-set_cases w.ends k j (standing y) z i) [
-          | inl h ↦ subst (λ (u : WorldEnd). IsKeptIn (world_after w k x turn held t.files) u) (sym h.1)
-              (standing_kept (world_after w k x turn held t.files) y g.kept
-              (subst (λ (a : Endpoint). Contains (w.sent ++ replied x.address turn.reply) (datagram a y.state.position.last_sent_to y.state.position.last_sent)) (sym same_address)
-              (last_sent_is y.state.position.last_sent_to y.state.position.last_sent g.last_sent)) stored_is)
-          | inr h ↦ still_kept w (world_after w k x turn held t.files) (replied x.address turn.reply) z refl refl stays (ok.ends j z h.1)
-        ];
-      }
+      later : IsOkWithin 3 first strangers (world_after w k x turn held t.files)
+      later =
+          let y = end_after x turn held in
+          let same_address = (same_end (record x { state = after_turn x.state turn }) held).0 in
+          let own = at_home first strangers w ok k (Open_end x) at in
+          record {
+            messages = ok.messages ++ g.said_now;
+            shown =
+                subst (λ (vs : List EndView). IsShownWithin two_hosts 3 first vs (ok.messages ++ g.said_now))
+                (sym (map-set view_of_end w.ends k (standing y)))
+                (standing_shown first (map view_of_end w.ends) (ok.messages ++ g.said_now) k (view_of_end (Open_end x))
+                y
+                (view_at w.ends k (Open_end x) at) g.shown);
+            sent = sent_then first strangers w ok x.address own turn.reply g.said_now g.replies;
+            only = only_then first strangers w ok x.address own turn.reply g.said_now g.replies;
+            speakers = speakers_then first strangers w ok x.address own turn.reply g.said_now g.replies;
+            ports = ports_set w k (Open_end x) (standing y) ok.ports at (standing_address y ∙ same_address);
+            max_block = ok.max_block;
+            ends = λ j z i. elim (slice_get-set_cases w.ends k j (standing y) z i) [
+              | inl h ↦ subst (λ (u : WorldEnd). IsKeptIn (world_after w k x turn held t.files) u) (sym h.1)
+                  (standing_kept (world_after w k x turn held t.files) y g.kept
+                  (subst
+                  (λ (a : Endpoint).
+                  Contains (w.sent ++ replied x.address turn.reply)
+                  (datagram a y.state.position.last_sent_to y.state.position.last_sent)) (sym same_address)
+                  (last_sent_is y.state.position.last_sent_to y.state.position.last_sent g.last_sent)) stored_is
+                  (same_wire (record x { state = after_turn x.state turn }) held (ok.ends k (Open_end x) at).text))
+              | inr h ↦
+                  still_kept w (world_after w k x turn held t.files) (replied x.address turn.reply) z refl refl stays
+                  (ok.ends j z h.1)
+            ];
+          }
 
 -- an end that opened keeps the world
-pub opening_keeps : (first : List Rule) (strangers : Bool) (w v : WorldState) (ok : IsOkAt first strangers w) (x : OpenEnd) (report : Report) (p : WirePacket) →
-    Spells p x.state.position.last_sent → IsShownWithin two_hosts 3 first (map view_of_end w.ends ++ view_of_end (Open_end x) ∷ []) (ok.messages ++ message x.address x.state.position.last_sent_to (said p) ∷ []) →
-    host_of x.address ≢ Elsewhere → x.address.port ≡ 1024 + length w.ends → outcome_of x.state.position.phase ≡ None → EndKept two_hosts x → is_complete x.state.position.phase ≡ false → OpeningStep w x report v → IsOkWithin 3 first strangers v
-opening_keeps first strangers w v ok x report p spells shown own port still kept incomplete o = subst (λ (z : WorldState). IsOkWithin 3 first strangers z) (sym o.is) later where
-  later : IsOkWithin 3 first strangers (opened_in w x)
-  later =
-      let reply : Option Reply = Some (record { to = x.state.position.last_sent_to; bytes = x.state.position.last_sent }) in
-      let m = message x.address x.state.position.last_sent_to (said p) in
-      let r : Replies x.address reply (m ∷ []) = (p, spells, refl) in
-      record {
-        messages = ok.messages ++ m ∷ [];
-        shown = subst (λ (vs : List EndView). IsShownWithin two_hosts 3 first vs (ok.messages ++ m ∷ [])) (sym (map-append view_of_end w.ends (Open_end x ∷ []))) shown;
-        sent = sent_then first strangers w ok x.address own reply (m ∷ []) r;
-        only = only_then first strangers w ok x.address own reply (m ∷ []) r;
-        speakers = speakers_then first strangers w ok x.address own reply (m ∷ []) r;
-        ports = ports_push w x ok.ports port;
-        max_block = ok.max_block;
-        ends = λ j z i. elim (slice_get-push_cases w.ends j (Open_end x) z i) [
-          | inl h ↦ still_kept w (opened_in w x) (replied x.address reply) z refl refl (λ o q c e. e) (ok.ends j z h)
-          | inr h ↦ subst (λ (u : WorldEnd). IsKeptIn (opened_in w x) u) (sym h.1) (record {
-            stands = record {
-              still = still;
-              kept = kept;
-              last_sent = let d = datagram x.address x.state.position.last_sent_to x.state.position.last_sent in Contains-append_right w.sent (replied x.address reply) d (here_in d);
-            };
-            stored = λ o c f d. absurd (true≢false (sym d ∙ incomplete));
-          })
-        ];
-      }
+pub opening_keeps :
+    (first : List Rule) (strangers : Bool) (w v : WorldState) (ok : IsOkAt first strangers w) (x : OpenEnd)
+    (report : Report) (p : WirePacket) →
+    Spells p x.state.position.last_sent →
+    IsShownWithin two_hosts 3 first (map view_of_end w.ends ++ view_of_end (Open_end x) ∷ [])
+    (ok.messages ++ message x.address x.state.position.last_sent_to (said p) ∷ []) →
+    host_of x.address ≢ Elsewhere → x.address.port ≡ 1024 + length w.ends → outcome_of x.state.position.phase ≡ None →
+    EndKept two_hosts x → is_complete x.state.position.phase ≡ false → x.text ≡ wire_text x.state.role.mode x.file →
+    OpeningStep w x report v →
+    IsOkWithin 3 first strangers v
+opening_keeps first strangers w v ok x report p spells shown own port still kept incomplete wire o =
+    subst (λ (z : WorldState). IsOkWithin 3 first strangers z) (sym o.is) later where
+      later : IsOkWithin 3 first strangers (opened_in w x)
+      later =
+          let reply : Option Reply =
+          Some (record { to = x.state.position.last_sent_to; bytes = x.state.position.last_sent }) in
+          let m = message x.address x.state.position.last_sent_to (said p) in
+          let r : Replies x.address reply (m ∷ []) = (p, spells, refl) in
+          record {
+            messages = ok.messages ++ m ∷ [];
+            shown =
+                subst (λ (vs : List EndView). IsShownWithin two_hosts 3 first vs (ok.messages ++ m ∷ []))
+                (sym (map-append view_of_end w.ends (Open_end x ∷ []))) shown;
+            sent = sent_then first strangers w ok x.address own reply (m ∷ []) r;
+            only = only_then first strangers w ok x.address own reply (m ∷ []) r;
+            speakers = speakers_then first strangers w ok x.address own reply (m ∷ []) r;
+            ports = ports_push w x ok.ports port;
+            max_block = ok.max_block;
+            ends = λ j z i. elim (slice_get-push_cases w.ends j (Open_end x) z i) [
+              | inl h ↦
+                  still_kept w (opened_in w x) (replied x.address reply) z refl refl (λ o q c e. e) (ok.ends j z h)
+              | inr h ↦ subst (λ (u : WorldEnd). IsKeptIn (opened_in w x) u) (sym h.1) (record {
+                stands = record {
+                  still = still;
+                  kept = kept;
+                  last_sent = let d = datagram x.address x.state.position.last_sent_to x.state.position.last_sent in
+                      Contains-append_right w.sent (replied x.address reply) d (here_in d);
+                };
+                stored = λ o c f d. absurd (true≢false (sym d ∙ incomplete));
+                text = wire;
+              })
+            ];
+          }
 
 -- a datagram that changes no end keeps the world
-pub saying_keeps : (first : List Rule) (strangers : Bool) (w : WorldState) (ok : IsOkAt first strangers w) (from to : Endpoint) (bytes : List ℕ) (p : WirePacket) →
-    Spells p bytes → IsShownWithin two_hosts 3 first (map view_of_end w.ends) (ok.messages ++ message from to (said p) ∷ []) → host_of from ≢ Elsewhere →
+pub saying_keeps :
+    (first : List Rule) (strangers : Bool) (w : WorldState) (ok : IsOkAt first strangers w) (from to : Endpoint)
+    (bytes : List ℕ) (p : WirePacket) →
+    Spells p bytes →
+    IsShownWithin two_hosts 3 first (map view_of_end w.ends) (ok.messages ++ message from to (said p) ∷ []) →
+    host_of from ≢ Elsewhere →
     IsOkWithin 3 first strangers (said_in w (datagram from to bytes))
 saying_keeps first strangers w ok from to bytes p spells shown own =
     let reply : Option Reply = Some (record { to = to; bytes = bytes }) in
@@ -283,5 +378,8 @@ saying_keeps first strangers w ok from to bytes p spells shown own =
       speakers = speakers_then first strangers w ok from own reply (m ∷ []) r;
       ports = ok.ports;
       max_block = ok.max_block;
-      ends = λ j z i. still_kept w (said_in w (datagram from to bytes)) (replied from reply) z refl refl (λ o q c e. e) (ok.ends j z i);
+      ends =
+          λ j z i.
+          still_kept w (said_in w (datagram from to bytes)) (replied from reply) z refl refl (λ o q c e. e)
+          (ok.ends j z i);
     }

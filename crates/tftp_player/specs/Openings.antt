@@ -22,6 +22,7 @@ opening w state request path file left =
       state = state;
       path = path;
       file = file;
+      text = wire_text state.role.mode file;
       left = left;
       stored = [];
       committed = false;

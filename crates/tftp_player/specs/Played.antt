@@ -1,6 +1,7 @@
 -- The ends of a world, as the struct that plays the world holds them.
 use Rattle.std.specs.Prelude.{ℕ, ◌≡◌, ◌+◌, Bool, true, false, not, List, [], ◌∷◌, Option, Some}
 use Rattle.std.specs.Prelude.{None, is_some, option_map}
+use Rattle.tftp_file.specs.Netascii.{wire_text}
 use Rattle.tftp_negotiate.specs.declared.limits.TheConstants.{DEFAULT_BLOCK}
 use Rattle.tftp_ends.specs.declared.outcome.Outcome.TheVariants.{TimedOut}
 use Rattle.tftp_ends.specs.declared.record.Record.{Record}
@@ -32,6 +33,7 @@ client_end port c =
       state = c.end;
       path = [];
       file = c.file;
+      text = wire_text c.end.role.mode c.file;
       left = left_in c.files;
       stored = (holding_in c.files).bytes;
       committed = (holding_in c.files).committed;
@@ -52,6 +54,7 @@ served_as port s state left draft request =
       state = state;
       path = s.path;
       file = s.file;
+      text = wire_text state.role.mode s.file;
       left = left;
       stored = (draft_or_new draft).bytes;
       committed = (draft_or_new draft).committed;
@@ -80,6 +83,7 @@ served_closed port s draft r =
       mode = s.mode;
       path = s.path;
       file = s.file;
+      text = wire_text s.mode s.file;
       stored = (draft_or_new draft).bytes;
       committed = (draft_or_new draft).committed;
       recorded = r;

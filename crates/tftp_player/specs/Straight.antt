@@ -20,7 +20,7 @@ use Rattle.tftp_machine.specs.OpenEnds.{OpenEnd}
 use Rattle.tftp_player.specs.Openings.{reading_client, writing_client}
 use Rattle.tftp_player.specs.Requests.{IsRepeated, service}
 use Rattle.tftp_player.specs.Settling.{Settled}
-use Rattle.tftp_player.specs.World.{WorldState, WorldEnd, end_record, file_at}
+use Rattle.tftp_player.specs.World.{WorldState, ClosedEnd, WorldEnd, Closed_end, file_at}
 use Rattle.tftp_player.specs.WorldKept.{IsOk}
 use Rattle.tftp_player.specs.WorldSafety.{IsComplete}
 use Rattle.tftp_player.specs.WorldSteps.{WorldStep, Settles}
@@ -156,10 +156,11 @@ ReadsSettle =
     Settled begun (length old.sent) most made new → read_adds mode file agreed ≤ most →
     (made ≡ read_adds mode file agreed) × IsThrough old new (read_adds mode file agreed)
 
--- no record has a store's fault as its outcome
-abbrev pub HaveTaken : WorldState → Type 0
-HaveTaken w =
-    (k : ℕ) (x : WorldEnd) → slice_get w.ends k ≡ Some x → (end_record x).outcome ≢ Some StoreFault
+-- of the ends that have closed since, none has a store's fault as its outcome
+abbrev pub HaveTaken : WorldState → WorldState → Type 0
+HaveTaken old new =
+    (k : ℕ) (x : ClosedEnd) → slice_get new.ends k ≡ Some (Closed_end x)
+    → slice_get old.ends k ≢ Some (Closed_end x) → x.recorded.outcome ≢ Some StoreFault
 
 -- the same of a write that the server's store accepts
 abbrev pub WritesSettle : Type 0
@@ -168,7 +169,7 @@ WritesSettle =
     (asked : Asked) (file : List ℕ) (agreed : List Known) (most made : ℕ) →
     IsOk strangers old → WorldStep old (Put name mode asked file) report begun →
     AcceptsWrite old begun name mode asked file agreed →
-    Settled begun (length old.sent) most made new → HaveTaken new →
+    Settled begun (length old.sent) most made new → HaveTaken begun new →
     write_adds mode file agreed ≤ most →
     (made ≡ write_adds mode file agreed) × IsThrough old new (write_adds mode file agreed)
 

@@ -36,12 +36,13 @@ abbrev pub in_the_way : Bool → Option (List ℕ) → Option (List ℕ)
 in_the_way true there = None
 in_the_way false there = there
 
--- a closed end: its endpoint, its file or what it stored, and its record
+-- a closed end: its endpoint, its file with its wire text or what it stored, and its record
 pub record ClosedEnd : Type 0 where
   pub address : Endpoint
   pub mode : Mode
   pub path : List ℕ
   pub file : List ℕ
+  pub text : List ℕ
   pub stored : List ℕ
   pub committed : Bool
   pub recorded : Record
@@ -75,6 +76,11 @@ end_path (Closed_end x) = x.path
 abbrev pub end_file : WorldEnd → List ℕ
 end_file (Open_end x) = x.file
 end_file (Closed_end x) = x.file
+
+-- the wire text of that file
+abbrev pub end_wire : WorldEnd → List ℕ
+end_wire (Open_end x) = x.text
+end_wire (Closed_end x) = x.text
 
 -- what a receiver has stored
 abbrev pub end_stored : WorldEnd → List ℕ
@@ -143,6 +149,7 @@ closed_end x =
       mode = x.state.role.mode;
       path = x.path;
       file = x.file;
+      text = x.text;
       stored = x.stored;
       committed = x.committed;
       recorded = record_of x.state;
@@ -213,7 +220,7 @@ sent_report w = record { added = Some (length w.sent); closed = None }
 -- the same of a closed end, which holds back no text
 abbrev pub closed_text : ClosedEnd → List ℕ
 closed_text x =
-    if is_sender x.recorded.side then wire_text x.mode x.file else wire_text x.mode x.stored
+    if is_sender x.recorded.side then x.text else wire_text x.mode x.stored
 
 abbrev pub end_text : WorldEnd → List ℕ
 end_text (Open_end x) = text_of x

@@ -5,6 +5,7 @@ use Rattle.std.specs.List.{Contains}
 use Rattle.tftp_wire.specs.declared.packet.Packet.{Packet as WirePacket}
 use Rattle.tftp_wire.specs.Spelling.{Spells}
 use Rattle.tftp_negotiate.specs.Ranges.{IsBlockSize}
+use Rattle.tftp_file.specs.Netascii.{wire_text}
 use Rattle.tftp_ends.specs.End.{is_sender, is_client, outcome_of}
 use Rattle.tftp_machine.specs.EndKept.{EndKept}
 use Rattle.tftp_machine.specs.Hosts.{host_of, two_hosts}
@@ -15,7 +16,7 @@ use Rattle.tftp_machine.specs.Said.{said}
 use Rattle.tftp_machine.specs.Shows.{EndView, IsShownAt, IsShown, IsShownWithin}
 use Rattle.tftp_player.specs.World.{WorldState, ClosedEnd, WorldEnd, Open_end, Closed_end}
 use Rattle.tftp_player.specs.World.{end_record, end_address, end_path, end_stored, file_at}
-use Rattle.tftp_player.specs.World.{datagram, view_of_end}
+use Rattle.tftp_player.specs.World.{datagram, view_of_end, end_wire, end_mode, end_file}
 use Rattle.tftp_player.specs.declared.datagram.Datagram.{Datagram}
 
 -- what holds of an open end in its world
@@ -43,6 +44,8 @@ pub record IsKeptIn (w : WorldState) (x : WorldEnd) : Type 0 where
   pub stored : w.overwrite ≡ false → is_client (end_record x).side ≡ false →
       is_sender (end_record x).side ≡ false → (end_record x).complete ≡ true →
       file_at w.files (end_path x) ≡ Some (end_stored x)
+  -- a sender's text is that of its file
+  pub text : end_wire x ≡ wire_text (end_mode x) (end_file x)
 
 -- the datagram carries this message
 pub record SaysSo (d : Datagram) (m : Message) : Type 0 where

@@ -54,6 +54,8 @@ world_sink may_commit =
       may_refuse_append = may_refuse_append;
       may_refuse_commit = may_commit;
       becomes = λ before after committed. ⊤;
+      after_append = λ before bytes after fault. ⊤;
+      after_commit = λ before after fault. ⊤;
     }
 
 -- the step of an open end at a datagram with its file; `there` is in the way of what it stores

@@ -71,6 +71,7 @@ impl World {
         ensures strayed { IfOk result (λ world. world.strayed ≡ false) }
         ensures memory { IfErr result (λ fault. fault ≡ WorldFault.Memory) }
         ensures safe { IfOk result (λ world. IsSafe world.state) }
+        ensures home { IfOk result IsHome }
         ensures played { IfOk result WasPlayed }
     {
         let stage = Stage::new(alloc, files, config)?;
@@ -78,6 +79,13 @@ impl World {
             stage,
             strayed: false,
         })
+    }
+
+    /// Whether a stray, a datagram of neither host, has arrived.
+    pub fn strayed(&self) -> bool
+        ensures { result ≡ self.now.strayed }
+    {
+        self.strayed
     }
 
     /// Whether an endpoint is at neither host, as a stray's sender is.
@@ -99,6 +107,7 @@ impl World {
     pub fn records(&self) -> &[(u16, Record)]
         ensures records { result.now ≡ records_from 1024 self.now.state.ends }
         ensures safe { IsSafe self.now.state }
+        ensures home { IsHome self.now }
         ensures played { WasPlayed self.now }
     {
         self.stage.records()

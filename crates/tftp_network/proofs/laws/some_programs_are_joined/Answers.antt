@@ -1,5 +1,5 @@
 -- The lemma that is the law.
-use Rattle.tftp_network.proofs.OneRequest.{some_joined}
+use Rattle.tftp_network.proofs.Exchange.{some_joined}
 use Rattle.tftp_network.proofs.laws.some_programs_are_joined.Goals as goal
 
 pub returns : goal.returns

@@ -1,11 +1,8 @@
 -- The lemmas that are the law.
-use Rattle.tftp_player.proofs.BlocksWitness.{read_is_straight as read_of_blocks}
-use Rattle.tftp_player.proofs.NetasciiWitness.{read_is_straight as read_in_netascii}
-use Rattle.tftp_player.proofs.OackWitness.{write_is_straight as write_with_options}
-use Rattle.tftp_player.proofs.ReadWitness.{read_is_straight}
-use Rattle.tftp_player.proofs.WriteWitness.{write_is_straight}
 use Rattle.tftp_player.proofs.SettledLemmas.{reads_settle, writes_settle}
 use Rattle.tftp_player.proofs.StraightOpenings.{reads_complete, writes_complete}
+use Rattle.tftp_player.proofs.Witnesses.{blocks_are_straight, netascii_is_straight, oack_is_straight, read_is_straight}
+use Rattle.tftp_player.proofs.Witnesses.{write_is_straight}
 use Rattle.tftp_player.proofs.laws.a_straight_run_completes.Goals as goal
 
 pub returns-clause-reads : goal.returns-clause-reads
@@ -27,10 +24,10 @@ pub returns-clause-write : goal.returns-clause-write
 returns-clause-write g = write_is_straight
 
 pub returns-clause-netascii : goal.returns-clause-netascii
-returns-clause-netascii g = read_in_netascii
+returns-clause-netascii g = netascii_is_straight
 
 pub returns-clause-blocks : goal.returns-clause-blocks
-returns-clause-blocks g = read_of_blocks
+returns-clause-blocks g = blocks_are_straight
 
 pub returns-clause-oack : goal.returns-clause-oack
-returns-clause-oack g = write_with_options
+returns-clause-oack g = oack_is_straight

@@ -1,8 +1,5 @@
 -- The lemmas that are the law.
-use Rattle.tftp_player.proofs.ReadWitness.{read_transfers}
-use Rattle.tftp_player.proofs.WriteWitness.{write_transfers}
-use Rattle.tftp_player.proofs.NetasciiWitness.{netascii_transfers}
-use Rattle.tftp_player.proofs.OptionsWitness.{options_transfer}
+use Rattle.tftp_player.proofs.Witnesses.{netascii_transfers, options_transfer, read_transfers, write_transfers}
 use Rattle.tftp_player.proofs.laws.some_worlds_transfer.Goals as goal
 
 pub returns-clause-read : goal.returns-clause-read

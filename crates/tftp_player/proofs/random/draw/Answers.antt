@@ -25,6 +25,8 @@ returns-clause-event c =
     let some : length c.records-records.result.now ≡ 0 → ⊥ = λ e. search rules in
     let kind : c.next_word-kind.result ≡ (pcg32 g).0 = ap (λ (p : ℕ × Lcg). p.0) c.next_word-kind.ensures in
     let index : c.next_word-index.result ≡ (pcg32 (pcg32 g).1).0 =
-    ap (λ (p : ℕ × Lcg). p.0) c.next_word-index.ensures ∙ ap (λ (p : ℕ × Lcg). (pcg32 p.1).0) c.next_word-kind.ensures in
-    draws_timeout w c.next_word-kind.result c.next_word-index.result c.records-records.result.now _ c.records-records.ensures.records some high
+    ap (λ (p : ℕ × Lcg). p.0) c.next_word-index.ensures
+    ∙ ap (λ (p : ℕ × Lcg). (pcg32 p.1).0) c.next_word-kind.ensures in
+    draws_timeout w c.next_word-kind.result c.next_word-index.result c.records-records.result.now _
+    c.records-records.ensures.records some high
     ∙ (ap (λ (n : ℕ). drawn w n c.next_word-index.result) kind ∙ ap (λ (n : ℕ). drawn w (pcg32 g).0 n) index)

@@ -5,4 +5,6 @@ use Rattle.tftp_wire.specs.Borrowed.{owned}
 use Rattle.tftp_player.proofs.served.requested_end.Goals as goal
 
 pub returns-in-Ok : goal.returns-in-Ok
-returns-in-Ok c = IfOk-weaker c.requested_by.result _ _ (λ o e. (Some (owned c.in-Ok.packet), c.in-Ok.ensures.found, e)) c.requested_by.ensures
+returns-in-Ok c =
+    IfOk-weaker c.requested_by.result _ _ (λ o e. (Some (owned c.in-Ok.packet), c.in-Ok.ensures.found, e))
+    c.requested_by.ensures

@@ -25,6 +25,7 @@ invariant_of-self c = (
         subst (λ (e : EndState). AgreesWithin c.self.inside.max_block e.position.phase) (sym s.2.state)
         (step_agrees c.self.inside.max_block _ _ _ _ c.self.inside.end _ _ s.0 c.self.invariant.1 s.1)
     | in-Err-Memory w ↦
-        subst (λ (e : EndState). AgreesWithin c.self.inside.max_block e.position.phase) (sym w.in-Err-Memory.ensures.err.0) c.self.invariant.1
+        subst (λ (e : EndState). AgreesWithin c.self.inside.max_block e.position.phase)
+        (sym w.in-Err-Memory.ensures.err.0) c.self.invariant.1
   ],
 )

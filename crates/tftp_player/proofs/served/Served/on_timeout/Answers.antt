@@ -11,4 +11,5 @@ conclude-requires c = times_out_closes _ _ _ _ _ c.in-Ok-handle_timeout.ensures.
 
 pub returns-clause-turns : goal.returns-clause-turns
 returns-clause-turns c =
-    served_times_out _ _ _ _ _ _ _ _ _ _ _ c.in-Ok-handle_timeout.ensures.steps c.in-Ok-handle_timeout.ensures.rest c.conclude.ensures c.sent_by-out.ensures _ c.server_at.ensures c.effect_of.ensures
+    served_times_out _ _ _ _ _ _ _ _ _ _ _ c.in-Ok-handle_timeout.ensures.steps c.in-Ok-handle_timeout.ensures.rest
+    c.conclude.ensures c.sent_by-out.ensures _ c.server_at.ensures c.effect_of.ensures

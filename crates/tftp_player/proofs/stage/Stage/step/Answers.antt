@@ -7,4 +7,5 @@ use Rattle.tftp_player.proofs.stage.Stage.step.Goals as goal
 
 pub returns-in-Stray-clause-steps : goal.returns-in-Stray-clause-steps
 returns-in-Stray-clause-steps c =
-    subst (λ (event : Event). IfOk c.stray.result (λ report. WorldStep c.args.self.now event report c.stray.new.self)) (sym c.in-Stray.is) c.stray.ensures.steps
+    subst (λ (event : Event). IfOk c.stray.result (λ report. WorldStep c.args.self.now event report c.stray.new.self))
+    (sym c.in-Stray.is) c.stray.ensures.steps

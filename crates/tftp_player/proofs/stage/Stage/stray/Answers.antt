@@ -7,5 +7,9 @@ use Rattle.tftp_player.proofs.stage.Stage.stray.Goals as goal
 pub returns-clause-steps : goal.returns-clause-steps
 returns-clause-steps c =
     IfOk-weaker c.arrive.result _ _
-    (λ report a. (c.requires, subst (λ (bytes : List ℕ). Arrives c.args.self.now c.args.from c.args.to bytes report c.arrive.new.self) c.as_slice.ensures a))
+    (λ report a. (
+      c.requires,
+      subst (λ (bytes : List ℕ). Arrives c.args.self.now c.args.from c.args.to bytes report c.arrive.new.self)
+          c.as_slice.ensures a,
+    ))
     c.arrive.ensures.arrives

@@ -8,17 +8,23 @@ use Rattle.tftp_player.proofs.stage.Stage.timeout.Goals as goal
 
 pub returns-in_default-clause-refused : goal.returns-in_default-clause-refused
 returns-in_default-clause-refused c =
-    subst (λ (w : WorldState). NoneAt w c.args.port) c.self.view_is (none_here c.self.inside.ends.server c.self.inside.ends.players.items _ c.args.port refl c.in_default.ensures.none)
+    subst (λ (w : WorldState). NoneAt w c.args.port) c.self.view_is
+    (none_here c.self.inside.ends.server c.self.inside.ends.players.items _ c.args.port refl c.in_default.ensures.none)
 
 pub returns-in-Ok-on_timeout-clause-steps : goal.returns-in-Ok-on_timeout-clause-steps
 returns-in-Ok-on_timeout-clause-steps c =
-    timeout_result c.self.inside.config _ _ _ _ _ _ _ _ _ _ _ _ c.self.view_is c.in-Some.ensures.some.0 c.in-Ok-on_timeout.ensures.times_out
+    timeout_result c.self.inside.config _ _ _ _ _ _ _ _ _ _ _ _ c.self.view_is c.in-Some.ensures.some.0
+    c.in-Ok-on_timeout.ensures.times_out
     c.in-Ok.ensures.items c.write_down.ensures.sent c.write_down.ensures.report
 
 pub returns-in_default-reserve-clause-refused : goal.returns-in_default-reserve-clause-refused
 returns-in_default-reserve-clause-refused c =
-    timeout_refused c.self.inside.config c.self.inside.sent.items c.self.inside.ends.server c.self.inside.ends.players.items c.args.self.now c.args.port c.in-Some.index c.self.view_is c.in-Some.ensures.some.0 c.in-Some.ensures.some.1 Memory refl
+    timeout_refused c.self.inside.config c.self.inside.sent.items c.self.inside.ends.server
+    c.self.inside.ends.players.items c.args.self.now c.args.port c.in-Some.index c.self.view_is c.in-Some.ensures.some.0
+    c.in-Some.ensures.some.1 Memory refl
 
 pub returns-in-Err-clause-refused : goal.returns-in-Err-clause-refused
 returns-in-Err-clause-refused c =
-    timeout_refused c.self.inside.config c.self.inside.sent.items c.self.inside.ends.server c.self.inside.ends.players.items c.args.self.now c.args.port c.in-Some.index c.self.view_is c.in-Some.ensures.some.0 c.in-Some.ensures.some.1 c.in-Err.fault c.in-Err.ensures.memory
+    timeout_refused c.self.inside.config c.self.inside.sent.items c.self.inside.ends.server
+    c.self.inside.ends.players.items c.args.self.now c.args.port c.in-Some.index c.self.view_is c.in-Some.ensures.some.0
+    c.in-Some.ensures.some.1 c.in-Err.fault c.in-Err.ensures.memory

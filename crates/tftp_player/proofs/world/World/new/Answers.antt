@@ -4,6 +4,7 @@ use Rattle.tftp_store.specs.Memory.{contents, in_path_order}
 use Rattle.tftp_player.specs.World.{WorldState}
 use Rattle.tftp_player.specs.PlayedWorld.{HasSentEach}
 use Rattle.tftp_player.specs.WorldKept.{IsOk}
+use Rattle.tftp_player.proofs.PlayedKeeps.{home_of}
 use Rattle.tftp_player.proofs.WorldRuns.{new_ok}
 use Rattle.tftp_player.proofs.WorldSafe.{kept_is_safe}
 use Rattle.tftp_player.proofs.world.World.new.Goals as goal
@@ -17,6 +18,9 @@ invariant_of-result c = (
 
 pub returns-clause-safe : goal.returns-clause-safe
 returns-clause-safe c = kept_is_safe false c.in_ok-stage.stage (invariant_of-result c).0
+
+pub returns-clause-home : goal.returns-clause-home
+returns-clause-home c = home_of false c.in_ok-stage.stage (invariant_of-result c).0
 
 pub returns-clause-played : goal.returns-clause-played
 returns-clause-played c = (invariant_of-result c).0

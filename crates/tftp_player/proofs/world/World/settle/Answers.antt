@@ -12,14 +12,18 @@ loop-count-init c = record {
   delivered = search rules;
   bounded = search rules;
   strayed = refl;
-  safe = subst (λ (w : PlayedWorld). IsSafe w.state) c.self.view_is (kept_is_safe c.self.inside.strayed c.self.inside.stage c.self.invariant.0);
+  safe =
+      subst (λ (w : PlayedWorld). IsSafe w.state) c.self.view_is
+      (kept_is_safe c.self.inside.strayed c.self.inside.stage c.self.invariant.0);
   home = subst IsHome c.self.view_is (home_of c.self.inside.strayed c.self.inside.stage c.self.invariant.0);
   played = subst WasPlayed c.self.view_is c.self.invariant.0;
 }
 
 pub loop-count-preserved : goal.loop-count-preserved
 loop-count-preserved c = record {
-  delivered = delivers_on c.args.self.now.state c.loop-count.self.state c.apply.new.self.state c.args.from c.loop-count.count c.in-Ok.field-0 c.loop-count.invariant.delivered c.in-Ok.ensures.steps;
+  delivered =
+      delivers_on c.args.self.now.state c.loop-count.self.state c.apply.new.self.state c.args.from c.loop-count.count
+      c.in-Ok.field-0 c.loop-count.invariant.delivered c.in-Ok.ensures.steps;
   bounded = search rules;
   strayed = c.in-Ok.ensures.strayed ∙ (or-false c.loop-count.self.strayed ∙ c.loop-count.invariant.strayed);
   safe = c.apply.ensures.safe;

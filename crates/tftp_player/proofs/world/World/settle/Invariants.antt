@@ -8,7 +8,8 @@ use Rattle.tftp_player.proofs.world.World.settle.Given as goal
 
 abbrev pub invariant-loop-count : goal.invariant-loop-count
 invariant-loop-count l = record {
-  delivered : (reports : List Report) × Settles l.fn.self.state l.from reports l.self.state × (length reports ≡ l.count);
+  delivered : (reports : List Report) × Settles l.fn.self.state l.from reports l.self.state
+      × (length reports ≡ l.count);
   bounded : l.count ≤ l.most;
   strayed : l.self.strayed ≡ l.fn.self.strayed;
   safe : IsSafe l.self.state;

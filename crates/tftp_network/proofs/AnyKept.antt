@@ -1,0 +1,332 @@
+-- Where the journals arrive, what a receiver was handed is what its peer's file gave: the invariant by the run says it of a text that is padded, and no padding is part of what is claimed.
+use Rattle.std.proofs.Common.{◌≡◌, ℕ, Bool, true, false, List, [], ◌++◌, length, Some, None, refl, sym, ap, ◌∙◌, subst, inl, inr}
+use Rattle.std.specs.Prelude.{◌≢◌, if◌then◌else◌, slice_get, option_map}
+use Rattle.std.proofs.lemmas.Bool.{true≢false}
+use Rattle.std.proofs.lemmas.Option.{slice_get-map}
+use Rattle.tftp_wire.specs.declared.mode.Mode.{Mode}
+use Rattle.tftp_file.specs.Block.{IsBeginningOf}
+use Rattle.tftp_file.specs.Netascii.{wire_text}
+use Rattle.tftp_file.specs.Sink.{SinkMeaning}
+use Rattle.tftp_file.specs.Source.{SourceMeaning}
+use Rattle.tftp_file.specs.declared.files.Files.{Files}
+use Rattle.tftp_file.specs.declared.files.Files.TheVariants.{Source, Sink}
+use Rattle.tftp_ends.specs.declared.phase.Phase.{Phase}
+use Rattle.tftp_ends.specs.declared.phase.Phase.TheVariants.{Waiting, Sending, Receiving, Dallying, Closed}
+use Rattle.tftp_ends.specs.declared.role.Role.{Role}
+use Rattle.tftp_ends.specs.End.{EndState, is_client, is_complete, is_sender}
+use Rattle.tftp_store.specs.Store.{StoreMeaning}
+use Rattle.tftp_server.specs.State.{HeldTransfer}
+use Rattle.tftp_machine.specs.Machine.{At_server, Elsewhere, Endpoint, Host}
+use Rattle.tftp_machine.specs.OpenEnds.{OpenEnd, goes_on, open_view, received_text}
+use Rattle.tftp_machine.specs.Shows.{EndView}
+use Rattle.tftp_machine.specs.ViewSafety.{IsAmong, IsAt, IsSafeViews}
+use Rattle.tftp_machine.proofs.Shown.{shown_by}
+use Rattle.tftp_machine.proofs.ViewSafe.{shown_safe}
+use Rattle.tftp_network.specs.ClientRuns.{moved_in}
+use Rattle.tftp_network.specs.AnyFiles.{IsComplete, IsEnd, IsOurs, IsSenderAt, KeepAnyFiles, ProgramEnd, Receives, Sends, WasOpened, client_end, has_of, peer_of, size_at, transfer_end}
+use Rattle.tftp_network.specs.Arrived.{ViewsEnd}
+use Rattle.tftp_network.specs.Moved.{Moved, moved_at, opened_at}
+use Rattle.tftp_network.specs.Order.{Programs}
+use Rattle.tftp_network.specs.Programs.{ClientProgram, requests_at}
+use Rattle.tftp_network.specs.Promises.{HasOpened, joined}
+use Rattle.tftp_network.specs.Snapshots.{Has_asked, all_of}
+use Rattle.tftp_network.proofs.Kept.{By_run, ClientKept, GaveSo, HasFile, HasStored, IsKept, IsOpened, IsViewed, TookSo, length_of}
+use Rattle.tftp_network.proofs.KeptShown.{receiver_text, text_if, views_end}
+use Rattle.tftp_network.proofs.KeptViews.{view_there}
+use Rattle.tftp_network.proofs.Places.{strangers_elsewhere}
+use Rattle.tftp_network.proofs.Texts.{begin_each_other, begins_unpadded, pad_length, pad_to}
+
+-- a receiver that is complete holds nothing back
+stops : (phase : Phase) → is_complete phase ≡ true → goes_on phase ≡ false
+stops (Waiting asked limit) e = absurd (true≢false (sym e))
+stops (Sending terms number) e = absurd (true≢false (sym e))
+stops (Receiving terms number) e = absurd (true≢false (sym e))
+stops (Dallying terms number dally) e = refl
+stops (Closed terms number complete outcome) e = refl
+
+whole_text : (e : EndState) (bytes : List ℕ) → is_complete e.position.phase ≡ true → received_text e bytes ≡ wire_text e.role.mode bytes
+whole_text e bytes done = ap (λ (b : Bool). if b then wire_text e.role.mode bytes ++ e.position.held else wire_text e.role.mode bytes) (stops e.position.phase done)
+
+-- what is elsewhere is not at the server
+no_server_elsewhere : (h : Host) → h ≡ Elsewhere → h ≡ At_server → ⊥
+no_server_elsewhere h e f = cc
+
+module _ {S F D G K : Type 0} {stores : StoreMeaning S D} {sources : SourceMeaning F} {inputs : SourceMeaning G} {outputs : SinkMeaning K}
+    (programs : Programs stores sources inputs outputs) (kept : (pad : ℕ) → IsKept programs (By_run pad) (all_of programs)) where
+  abbrev Client : Type 0
+  Client = ClientProgram inputs outputs (requests_at stores sources programs.server)
+
+  abbrev views : ℕ → List EndView
+  views pad = (kept pad).views
+
+  safe : (pad : ℕ) → IsSafeViews (joined programs) (views pad)
+  safe pad = shown_safe (joined programs) (views pad) (kept pad).messages (kept pad).shown
+
+  -- ---- the ends
+  -- what stands for an end among the views
+  record StandsFor (pad : ℕ) (x : ProgramEnd) : Type 0 where
+    end : OpenEnd
+    address : end.address ≡ x.address
+    state : end.state ≡ x.state
+    viewed : IsViewed (joined programs) (views pad) (kept pad).messages end
+    text : is_sender end.state.role.side ≡ true → end.text ≡ pad_to pad end.state.role.length x.moved.bytes
+    gave : is_sender end.state.role.side ≡ true → GaveSo end x.moved
+    took : is_sender end.state.role.side ≡ false → TookSo end x.moved
+
+  client_kept : (pad k : ℕ) (client : Client) → slice_get programs.clients k ≡ Some client →
+      ClientKept programs (By_run pad) (views pad) (kept pad).messages client client.last client.files (moved_in client.runs)
+  client_kept pad k client found =
+      (kept pad).clients k client (Has_asked client.last client.files client.noted (moved_in client.runs)) found
+      (slice_get-map (λ (c : Client). Has_asked c.last c.files c.noted (moved_in c.runs)) programs.clients k
+      ∙ ap (option_map (λ (c : Client). Has_asked c.last c.files c.noted (moved_in c.runs))) found)
+
+  module _ (pad : ℕ) (client : Client) (x : OpenEnd) where
+    client_stands : (files : Files G K) → HasFile programs (By_run pad) client x files (moved_in client.runs) →
+        (is_sender x.state.role.side ≡ true → x.text ≡ pad_to pad x.state.role.length (moved_in client.runs).bytes)
+        × (is_sender x.state.role.side ≡ true → GaveSo x (moved_in client.runs))
+        × (is_sender x.state.role.side ≡ false → TookSo x (moved_in client.runs))
+    client_stands (Source source) has = (
+      λ s. has.text ∙ ap (λ (r : Role). pad_to pad r.length (moved_in client.runs).bytes) (sym has.role),
+      λ s. has.gave,
+      λ r. absurd (true≢false (sym has.sender ∙ r)),
+    )
+    client_stands (Sink sink) has = (λ s. absurd (true≢false (sym s ∙ has.receiver)), λ s. absurd (true≢false (sym s ∙ has.receiver)), λ r. has.took)
+
+  module _ (pad port : ℕ) (x : OpenEnd) (at : x.address.port ≡ port) where
+    moved_there : moved_at x.address.port programs.server.run ≡ moved_at port programs.server.run
+    moved_there = ap (λ (p : ℕ). moved_at p programs.server.run) at
+
+    measured : IsOpened programs (all_of programs) x → length_of (opened_at x.address.port programs.server.run) ≡ x.state.role.length
+    measured h = ap length_of h.opened ∙ ap (λ (r : Role). r.length) h.role
+
+    transfer_stands : (files : Files F D) → HasStored programs (By_run pad) (all_of programs) x files →
+        (is_sender x.state.role.side ≡ true → x.text ≡ pad_to pad x.state.role.length (moved_at port programs.server.run).bytes)
+        × (is_sender x.state.role.side ≡ true → GaveSo x (moved_at port programs.server.run))
+        × (is_sender x.state.role.side ≡ false → TookSo x (moved_at port programs.server.run))
+    transfer_stands (Source source) has = (
+      λ s. has.text ∙ (ap (λ (n : ℕ). pad_to pad n (moved_at x.address.port programs.server.run).bytes) (measured has.opened) ∙ ap (λ (m : Moved). pad_to pad x.state.role.length m.bytes) moved_there),
+      λ s. subst (λ (m : Moved). GaveSo x m) moved_there has.gave,
+      λ r. absurd (true≢false (sym has.sender ∙ r)),
+    )
+    transfer_stands (Sink draft) has = (
+      λ s. absurd (true≢false (sym s ∙ has.receiver)),
+      λ s. absurd (true≢false (sym s ∙ has.receiver)),
+      λ r. subst (λ (m : Moved). TookSo x m) moved_there has.took,
+    )
+
+  -- each end stands among the views
+  of_client : (pad k : ℕ) (client : Client) → slice_get programs.clients k ≡ Some client → StandsFor pad (client_end programs client)
+  of_client pad k client found =
+      let h = client_kept pad k client found in
+      let got = client_stands pad client h.end client.files h.has in
+      record { end = h.end; address = h.address; state = h.state; viewed = h.viewed; text = got.0; gave = got.1; took = got.2 }
+
+  of_transfer : (pad port : ℕ) (transfer : HeldTransfer F D) → HasOpened programs port transfer → StandsFor pad (transfer_end programs port transfer)
+  of_transfer pad port transfer opened =
+      let h = (kept pad).transfers port transfer opened in
+      let got = transfer_stands pad port h.end (ap (λ (a : Endpoint). a.port) h.address) transfer.files h.has in
+      record { end = h.end; address = h.address; state = h.state; viewed = h.viewed; text = got.0; gave = got.1; took = got.2 }
+
+  stands : (pad : ℕ) (x : ProgramEnd) → IsEnd programs x → StandsFor pad x
+  stands pad x (inl of) = subst (λ (z : ProgramEnd). StandsFor pad z) (sym of.3) (of_client pad of.0 of.1 of.2)
+  stands pad x (inr of) = subst (λ (z : ProgramEnd). StandsFor pad z) (sym of.3) (of_transfer pad of.0 of.1 of.2)
+
+  -- and each view is of an end
+  viewed_end : (pad : ℕ) (view : EndView) → IsAmong (views pad) view → (x : ProgramEnd) × IsEnd programs x × (view.address ≡ x.address)
+  viewed_end pad view among = elim ((kept pad).only view among) [
+    | inl of ↦ (client_end programs of.client, inl (of.k, of.client, of.found, refl), of.address)
+    | inr of ↦ (transfer_end programs of.port of.transfer, inr (of.port, of.transfer, of.is_transfer, refl), of.address)
+  ]
+
+  module _ (pad : ℕ) (x : ProgramEnd) (s : StandsFor pad x) where
+    abbrev view : EndView
+    view = open_view s.end
+
+    among : IsAmong (views pad) view
+    among = (s.viewed.index, s.viewed.viewed)
+
+    -- its view says what it is
+    says : ViewsEnd x.address x.state view
+    says = views_end s.end x.address x.state s.address s.state
+
+    -- and the view at its endpoint is its own
+    own_view : (v : EndView) → IsAmong (views pad) v → v.address ≡ x.address → v ≡ view
+    own_view v inside same = view_there (joined programs) (views pad) (kept pad).messages s.end v (kept pad).shown s.viewed inside (same ∙ sym s.address)
+
+    sender_at : Sends x → is_sender s.end.state.role.side ≡ true
+    sender_at sends = ap (λ (e : EndState). is_sender e.role.side) s.state ∙ sends
+
+    receiver_at : Receives x → is_sender s.end.state.role.side ≡ false
+    receiver_at receives = ap (λ (e : EndState). is_sender e.role.side) s.state ∙ receives
+
+    -- the text of a sender, and that of a receiver
+    sent_text : Sends x → view.text ≡ pad_to pad x.state.role.length x.moved.bytes
+    sent_text sends =
+        let sender = sender_at sends in
+        text_if (is_sender s.end.state.role.side) s.end.text (received_text s.end.state s.end.stored) sender
+        ∙ (s.text sender ∙ ap (λ (e : EndState). pad_to pad e.role.length x.moved.bytes) s.state)
+
+    has_text : Receives x → view.text ≡ has_of x
+    has_text receives =
+        let receiver = receiver_at receives in
+        receiver_text s.end receiver ∙ (ap (received_text s.end.state) (s.took receiver).stored ∙ ap (λ (e : EndState). received_text e x.moved.bytes) s.state)
+
+  -- ---- the promises
+  not_elsewhere : (p : Endpoint) → IsOurs programs p → (joined programs).host_of p ≢ Elsewhere
+  not_elsewhere p ours e = ours ((strangers_elsewhere programs p).0 e)
+
+  -- the peer of a client is at the server
+  client_peer : (x : ProgramEnd) (p : Endpoint) → IsEnd programs x → is_client x.state.role.side ≡ true → peer_of x ≡ Some p → IsOurs programs p
+  client_peer x p is_end client peer stranger =
+      let s = stands 0 x is_end in
+      let told = says 0 x s in
+      let by = shown_by (joined programs) (views 0) (kept 0).messages (kept 0).shown in
+      let m = by.3.ends s.viewed.index (view 0 x s) s.viewed.viewed in
+      let there = ((by.1.ends (view 0 x s).address m.is_open).serving (m.client ∙ (told.client ∙ client)) p (m.peer ∙ (told.peer ∙ peer))).0 in
+      no_server_elsewhere ((joined programs).host_of p) ((strangers_elsewhere programs p).1 stranger) there
+
+  -- a sender among the views, and its end
+  record SenderThere (pad : ℕ) (p : Endpoint) (m : Mode) (v : EndView) : Type 0 where
+    y : ProgramEnd
+    sender : IsSenderAt programs p m y
+    is : v ≡ open_view (stands pad y sender.is_end).end
+
+  sender_there : (pad : ℕ) (p : Endpoint) (m : Mode) (v : EndView) → IsAt (views pad) p v → v.sender ≡ true → v.mode ≡ m → SenderThere pad p m v
+  sender_there pad p m v at sender mode =
+      let e = viewed_end pad v at.0 in
+      let s = stands pad e.0 e.1 in
+      let is = own_view pad e.0 s v at.0 e.2 in
+      let told = says pad e.0 s in
+      record {
+        y = e.0;
+        sender = record {
+          is_end = e.1;
+          address = sym e.2 ∙ at.1;
+          sends = sym told.sender ∙ (ap (λ (w : EndView). w.sender) (sym is) ∙ sender);
+          mode = sym told.mode ∙ (ap (λ (w : EndView). w.mode) (sym is) ∙ mode);
+        };
+        is = is;
+      }
+
+  -- the same end however its text is padded
+  same_there : (pad other : ℕ) (p : Endpoint) (m : Mode) (v w : EndView) (there : SenderThere pad p m v) → IsAt (views other) p w → w ≡ open_view (stands other there.y there.sender.is_end).end
+  same_there pad other p m v w there at = own_view other there.y (stands other there.y there.sender.is_end) w at.0 (at.1 ∙ sym there.sender.address)
+
+  module _ (x : ProgramEnd) (is_end : IsEnd programs x) (receives : Receives x) where
+    abbrev self : (pad : ℕ) → StandsFor pad x
+    self pad = stands pad x is_end
+
+    not_sender : (pad : ℕ) → (view pad x (self pad)).sender ≡ false
+    not_sender pad = receiver_at pad x (self pad) receives
+
+    nothing : peer_of x ≡ None → has_of x ≡ []
+    nothing none = sym (has_text 0 x (self 0) receives) ∙ (safe 0).is_empty (view 0 x (self 0)) (among 0 x (self 0)) (not_sender 0) ((says 0 x (self 0)).peer ∙ none)
+
+    beginning : (p : Endpoint) → peer_of x ≡ Some p → IsOurs programs p → (y : ProgramEnd) × IsSenderAt programs p x.state.role.mode y × IsBeginningOf (has_of x) y.moved.bytes
+    beginning p peer ours =
+        let peer_at : (pad : ℕ) → (view pad x (self pad)).peer ≡ Some p = λ pad. (says pad x (self pad)).peer ∙ peer in
+        let zero = (safe 0).is_beginning (view 0 x (self 0)) p (among 0 x (self 0)) (not_sender 0) (peer_at 0) (not_elsewhere p ours) in
+        let one = (safe 1).is_beginning (view 1 x (self 1)) p (among 1 x (self 1)) (not_sender 1) (peer_at 1) (not_elsewhere p ours) in
+        let there = sender_there 0 p x.state.role.mode zero.0 zero.1 zero.2 (zero.3 ∙ (says 0 x (self 0)).mode) in
+        let y = there.y in
+        let text_zero : zero.0.text ≡ pad_to 0 y.state.role.length y.moved.bytes = ap (λ (v : EndView). v.text) there.is ∙ sent_text 0 y (stands 0 y there.sender.is_end) there.sender.sends in
+        let text_one : one.0.text ≡ pad_to 1 y.state.role.length y.moved.bytes =
+        ap (λ (v : EndView). v.text) (same_there 0 1 p x.state.role.mode zero.0 one.0 there one.1) ∙ sent_text 1 y (stands 1 y there.sender.is_end) there.sender.sends in
+        let begins_zero = subst (λ (t : List ℕ). IsBeginningOf t (pad_to 0 y.state.role.length y.moved.bytes)) (has_text 0 x (self 0) receives) (subst (λ (t : List ℕ). IsBeginningOf (view 0 x (self 0)).text t) text_zero zero.4) in
+        let begins_one = subst (λ (t : List ℕ). IsBeginningOf t (pad_to 1 y.state.role.length y.moved.bytes)) (has_text 1 x (self 1) receives) (subst (λ (t : List ℕ). IsBeginningOf (view 1 x (self 1)).text t) text_one one.4) in
+        (y, there.sender, begins_unpadded y.state.role.length y.state.role.length y.moved.bytes (has_of x) begins_zero begins_one)
+
+    -- what a sender gave is all that a complete receiver has
+    all_given : (p : Endpoint) → peer_of x ≡ Some p → IsOurs programs p →
+        ((v : EndView) × IsAt (views 0) p v × (v.sender ≡ true) × (v.mode ≡ (view 0 x (self 0)).mode) × ((view 0 x (self 0)).text ≡ v.text)) → IsComplete x →
+        (y : ProgramEnd) × IsSenderAt programs p x.state.role.mode y × (wire_text x.state.role.mode x.moved.bytes ≡ y.moved.bytes) × (length y.moved.bytes ≡ y.state.role.length)
+    all_given p peer ours at complete =
+        let begun = beginning p peer ours in
+        let y = begun.0 in
+        let s = stands 0 y begun.1.is_end in
+        let same : at.0 ≡ open_view s.end = own_view 0 y s at.0 at.1.0 (at.1.1 ∙ sym begun.1.address) in
+        let text : has_of x ≡ pad_to 0 y.state.role.length y.moved.bytes =
+        sym (has_text 0 x (self 0) receives) ∙ (at.4 ∙ (ap (λ (v : EndView). v.text) same ∙ sent_text 0 y s begun.1.sends)) in
+        let sender = sender_at 0 y s begun.1.sends in
+        let end_text : s.end.text ≡ has_of x = s.text sender ∙ (ap (λ (e : EndState). pad_to 0 e.role.length y.moved.bytes) s.state ∙ sym text) in
+        let all_of_it : has_of x ≡ y.moved.bytes =
+        begin_each_other (has_of x) y.moved.bytes begun.2 (subst (λ (t : List ℕ). IsBeginningOf y.moved.bytes t) end_text (s.gave sender).beginning) in (
+          y,
+          begun.1,
+          sym (whole_text x.state x.moved.bytes complete) ∙ all_of_it,
+          ap (λ (t : List ℕ). length t) (sym all_of_it ∙ text) ∙ pad_length 0 y.state.role.length y.moved.bytes,
+        )
+
+    whole : IsComplete x → (x.moved.committed ≡ true) × (p : Endpoint) × (peer_of x ≡ Some p)
+        × (IsOurs programs p → (y : ProgramEnd) × IsSenderAt programs p x.state.role.mode y × (wire_text x.state.role.mode x.moved.bytes ≡ y.moved.bytes) × (length y.moved.bytes ≡ y.state.role.length))
+    whole complete =
+        let done = (says 0 x (self 0)).done ∙ complete in
+        let all = (safe 0).is_whole (view 0 x (self 0)) (among 0 x (self 0)) (not_sender 0) done in
+        let p = all.0 in
+        let peer : peer_of x ≡ Some p = sym (says 0 x (self 0)).peer ∙ all.1 in
+        let receiver = receiver_at 0 x (self 0) receives in
+        let committed : (self 0).end.committed ≡ true =
+        (self 0).viewed.kept.committed receiver ∙ (ap (λ (e : EndState). is_complete e.position.phase) (self 0).state ∙ complete) in
+        (((self 0).took receiver).committed committed, p, peer, λ ours. all_given p peer ours (all.2 (not_elsewhere p ours)) complete)
+
+  its_receiver : (x : ProgramEnd) (s : StandsFor 0 x) (p : Endpoint) → ((v : EndView) × IsAt (views 0) p v × (v.peer ≡ Some (view 0 x s).address) × (v.done ≡ true)) →
+      (y : ProgramEnd) × IsEnd programs y × (y.address ≡ p) × (peer_of y ≡ Some x.address) × IsComplete y
+  its_receiver x s p at =
+      let told = says 0 x s in
+      let e = viewed_end 0 at.0 at.1.0 in
+      let y = stands 0 e.0 e.1 in
+      let is = own_view 0 e.0 y at.0 at.1.0 e.2 in
+      let says_y = says 0 e.0 y in (
+        e.0,
+        e.1,
+        sym e.2 ∙ at.1.1,
+        sym says_y.peer ∙ (ap (λ (v : EndView). v.peer) (sym is) ∙ (at.2 ∙ ap (λ (a : Endpoint). Some a) told.address)),
+        sym says_y.done ∙ (ap (λ (v : EndView). v.done) (sym is) ∙ at.3),
+      )
+
+  last_sender : (x : ProgramEnd) → IsEnd programs x → Sends x → IsComplete x →
+      (p : Endpoint) × (peer_of x ≡ Some p) × (IsOurs programs p → (y : ProgramEnd) × IsEnd programs y × (y.address ≡ p) × (peer_of y ≡ Some x.address) × IsComplete y)
+  last_sender x is_end sends complete =
+      let s = stands 0 x is_end in
+      let told = says 0 x s in
+      let last = (safe 0).sender_last (view 0 x s) (among 0 x s) (sender_at 0 x s sends) (told.done ∙ complete) in
+      (last.0, sym told.peer ∙ last.1, λ ours. its_receiver x s last.0 (last.2 (not_elsewhere last.0 ours)))
+
+  sizes : (x y : ProgramEnd) → IsEnd programs x → IsEnd programs y → peer_of x ≡ Some y.address → peer_of y ≡ Some x.address → size_at x ≡ size_at y
+  sizes x y is_x is_y px py =
+      let s = stands 0 x is_x in
+      let t = stands 0 y is_y in
+      let told = says 0 x s in
+      let told_y = says 0 y t in
+      let same = (safe 0).same_size (view 0 x s) (view 0 y t) (among 0 x s) (among 0 y t)
+      (told.peer ∙ (px ∙ ap (λ (a : Endpoint). Some a) (sym told_y.address))) (told_y.peer ∙ (py ∙ ap (λ (a : Endpoint). Some a) (sym told.address))) in
+      sym told.size ∙ (same ∙ told_y.size)
+
+  -- what the server opened at a port
+  opened_so : (port : ℕ) (transfer : HeldTransfer F D) (x : OpenEnd) → x.address.port ≡ port → x.state ≡ transfer.end → x.path ≡ transfer.path → IsOpened programs (all_of programs) x → WasOpened programs port transfer
+  opened_so port transfer x at state path h = record {
+    opening = h.opening;
+    opened = ap (λ (p : ℕ). opened_at p programs.server.run) (sym at) ∙ h.opened;
+    path = h.path ∙ path;
+    role = h.role ∙ ap (λ (e : EndState). e.role) state;
+  }
+
+  opened_of : (files : Files F D) (x : OpenEnd) → HasStored programs (By_run 0) (all_of programs) x files → IsOpened programs (all_of programs) x
+  opened_of (Source source) x has = has.opened
+  opened_of (Sink draft) x has = has.opened
+
+  was_opened : (port : ℕ) (transfer : HeldTransfer F D) → HasOpened programs port transfer → WasOpened programs port transfer
+  was_opened port transfer opened =
+      let h = (kept 0).transfers port transfer opened in
+      opened_so port transfer h.end (ap (λ (a : Endpoint). a.port) h.address) h.state h.path (opened_of transfer.files h.end h.has)
+
+  pub any_kept : KeepAnyFiles programs
+  any_kept = record {
+    same_size = sizes;
+    ours = client_peer;
+    is_empty = λ x is_end receives none. nothing x is_end receives none;
+    is_beginning = λ x p is_end receives peer ours. beginning x is_end receives p peer ours;
+    is_whole = λ x is_end receives complete. whole x is_end receives complete;
+    sender_last = last_sender;
+    opened = was_opened;
+  }

@@ -1,0 +1,630 @@
+-- The server of the exchange, step by step.
+use Rattle.std.proofs.Common.{◌≡◌, ℕ, ◌<◌, Bool, true, false, List, [], ◌∷◌, Some, None, Ok, refl, sym, ap, ◌∙◌, arith, rules, inl, inr}
+use Rattle.std.proofs.lemmas.Bool.{true≢false}
+use Rattle.std.proofs.lemmas.List.Elements.{All-from_recursion}
+use Rattle.std.proofs.lemmas.Option.{same_Some}
+use Rattle.tftp_wire.specs.declared.mode.Mode.TheVariants.{Octet}
+use Rattle.tftp_wire.specs.declared.packet.Packet.TheVariants.{Read, Write, Data, Ack}
+use Rattle.tftp_negotiate.specs.Answer.{answered_option}
+use Rattle.tftp_negotiate.specs.Negotiation.{occurrences_of}
+use Rattle.tftp_negotiate.specs.Options.{name_of}
+use Rattle.tftp_negotiate.specs.Ranges.{IsBlockSize}
+use Rattle.tftp_file.specs.Memory.{memory_source}
+use Rattle.tftp_file.specs.declared.files.Files.{Files}
+use Rattle.tftp_file.specs.declared.files.Files.TheVariants.{Source, Sink}
+use Rattle.tftp_ends.specs.declared.action.Response.TheVariants.{Complete, Stranger}
+use Rattle.tftp_ends.specs.declared.error_reply.ErrorReply.TheVariants.{UnknownTransferId}
+use Rattle.tftp_ends.specs.declared.outcome.Outcome.TheVariants as outcomes
+use Rattle.tftp_ends.specs.declared.outgoing.Outgoing.TheVariants.{Nothing, LastSent, Error}
+use Rattle.tftp_ends.specs.declared.phase.Terms.{Terms}
+use Rattle.tftp_ends.specs.End.{EndState, record_of}
+use Rattle.tftp_ends.specs.Opening.{request_of, oack_bytes, serving_read, serving_write}
+use Rattle.tftp_ends.specs.Step.{Done, Turn, after_turn, ack_bytes, committed_turn, data_bytes, error_bytes, filled_turn, reported, response_turn, timeout_turn}
+use Rattle.tftp_ends.specs.Waiting.{agreed_terms, default_terms}
+use Rattle.tftp_store.specs.Memory.{memory_meaning}
+use Rattle.tftp_store.specs.Store.{Stored, Drafted, new_draft}
+use Rattle.tftp_host.specs.Printed.{line_text}
+use Rattle.tftp_host.specs.declared.server.printed.Printed.TheVariants.{Closed}
+use Rattle.tftp_machine.specs.Machine.{Endpoint}
+use Rattle.tftp_server.specs.Draft.{Drafting}
+use Rattle.tftp_server.specs.Request.{A_transfer, left_by}
+use Rattle.tftp_server.specs.State.{HeldTransfer, ServerState, AnyRepeats, at, taken_of}
+use Rattle.tftp_server.specs.Steps.{StepIn}
+use Rattle.tftp_server.specs.declared.config.Config.{Config}
+use Rattle.tftp_sockets.specs.Journal.Event.{Received, Sent, Watched, Elapsed, Printed, Quiet}
+use Rattle.tftp_sockets.specs.Journal.QuietEvent.{Empty, Slept, Woke}
+use Rattle.tftp_loop.specs.Run.{Run}
+use Rattle.tftp_loop.specs.Run.Run.{Start, Then}
+use Rattle.tftp_loop.specs.Serves.{Timer, LoopState, Does, IsServed, MayWait, at_start}
+use Rattle.tftp_loop.specs.Serves.AtPort.{A_datagram, Nothing_found, A_timeout}
+use Rattle.tftp_loop.specs.Serves.Does.{Waited, At_port, Request_received, No_request_found, Request_answered, Clock_read, Transfer_closed}
+use Rattle.tftp_loop.specs.declared.serving.Ending.{Ending}
+use Rattle.tftp_network.specs.Ports.{HasClosed, opened_ports}
+use Rattle.tftp_network.specs.Programs.{ServerProgram}
+use Rattle.tftp_network.specs.Witness.{agreed, blocks_of_8, no_options, read_file, read_name, read_request, reader, server_ip, stranger, write_request, writer, written_file, written_name}
+use Rattle.tftp_network.proofs.ExchangeParts.{ack_spelled, block_spelled, read_8, read_spelled, write_spelled}
+
+abbrev Held : Type 0
+Held = HeldTransfer (List ℕ) Drafted
+
+abbrev Server : Type 0
+Server = ServerState Stored (List ℕ) Drafted
+
+abbrev Loop : Type 0
+Loop = LoopState Stored (List ℕ) Drafted
+
+-- ---- the server at its start
+abbrev config : Config
+config = record { limits = record { max_block = 512; max_file = 10 }; retries = 1; cap = 2; overwrite = false }
+
+abbrev ending : Ending
+ending = record { transfers = 2; rounds = 2 }
+
+abbrev before_write : Stored
+before_write = record { files = (read_name, read_file) ∷ []; refuses = false }
+
+abbrev pub after_write : Stored
+after_write = record { files = (read_name, read_file) ∷ (written_name, written_file) ∷ []; refuses = false }
+
+abbrev first : Server
+first = record { config = config; store = before_write; held = [] }
+
+abbrev serving : Stored → List (ℕ × Held) → Server
+serving store held = record { config = config; store = store; held = held }
+
+-- ---- the ends
+abbrev read_terms : Terms
+read_terms = agreed_terms reader agreed
+
+abbrev write_terms : Terms
+write_terms = default_terms writer
+
+abbrev reading_0 : EndState
+reading_0 = serving_read agreed reader Octet 1 1 []
+
+abbrev at_stranger : Turn
+at_stranger = response_turn Stranger stranger reading_0
+
+abbrev sends : Turn
+sends = filled_turn read_terms 1 reader read_file reading_0 (Ok 1)
+
+abbrev reading_1 : EndState
+reading_1 = after_turn reading_0 sends
+
+abbrev again : Turn
+again = timeout_turn reading_1
+
+abbrev reading_2 : EndState
+reading_2 = after_turn reading_1 again
+
+abbrev completes : Turn
+completes = response_turn Complete reader reading_2
+
+abbrev pub reading_3 : EndState
+reading_3 = after_turn reading_2 completes
+
+abbrev writing_0 : EndState
+writing_0 = serving_write [] writer Octet 1
+
+abbrev done : Done
+done = tt
+
+abbrev stores : Turn
+stores = committed_turn write_terms 1 writer writing_0 (Ok done)
+
+abbrev writing_1 : EndState
+writing_1 = after_turn writing_0 stores
+
+-- ---- the transfers
+abbrev pub read_by : EndState → List ℕ → Held
+read_by end source = record { end = end; files = Source source; path = read_name; request = read_request }
+
+abbrev written_by : EndState → Drafted → Held
+written_by end draft = record { end = end; files = Sink draft; path = written_name; request = write_request }
+
+abbrev appended : Drafted
+appended = record { bytes = written_file; committed = false }
+
+abbrev committed : Drafted
+committed = record { bytes = written_file; committed = true }
+
+abbrev held_0 : List (ℕ × Held)
+held_0 = (1024, read_by reading_0 read_file) ∷ []
+
+abbrev held_1 : List (ℕ × Held)
+held_1 = (1024, read_by reading_0 read_file) ∷ (1025, written_by writing_0 new_draft) ∷ []
+
+abbrev held_2 : List (ℕ × Held)
+held_2 = (1024, read_by reading_1 []) ∷ (1025, written_by writing_0 new_draft) ∷ []
+
+abbrev held_3 : List (ℕ × Held)
+held_3 = (1024, read_by reading_1 []) ∷ (1025, written_by writing_1 committed) ∷ []
+
+abbrev held_4 : List (ℕ × Held)
+held_4 = (1024, read_by reading_2 []) ∷ (1025, written_by writing_1 committed) ∷ []
+
+abbrev held_5 : List (ℕ × Held)
+held_5 = (1024, read_by reading_3 []) ∷ (1025, written_by writing_1 committed) ∷ []
+
+abbrev held_6 : List (ℕ × Held)
+held_6 = (1025, written_by writing_1 committed) ∷ []
+
+-- ---- the timers
+abbrev timed : ℕ → Endpoint → ℕ → Bool → ℕ → Timer
+timed port peer deadline marked look_at = record { port = port; peer = peer; interval = 1; deadline = deadline; marked = marked; look_at = look_at }
+
+abbrev writes : Timer
+writes = timed 1025 writer 1000 false 500
+
+-- ---- the states
+abbrev s0 : Loop
+s0 = at_start 69 ending first []
+
+abbrev s1 : Loop
+s1 = record s0 { pending = Some (reader, read_request); events = Received 69 reader read_request ∷ [] }
+
+abbrev s2 : Loop
+s2 = record s1 {
+  server = serving before_write held_0;
+  pending = None;
+  timers = timed 1024 reader 1000 false 500 ∷ [];
+  events = Sent 1024 reader (oack_bytes agreed) ∷ s1.events;
+}
+
+abbrev s3 : Loop
+s3 = record s2 {
+  timers = timed 1024 reader 1000 true 1000 ∷ [];
+  events = Sent 1024 stranger (error_bytes UnknownTransferId) ∷ Received 1024 stranger (ack_bytes 0) ∷ s2.events;
+}
+
+abbrev s4 : Loop
+s4 = record s3 { pending = Some (writer, write_request); events = Received 69 writer write_request ∷ s3.events }
+
+abbrev s5 : Loop
+s5 = record s4 {
+  server = serving before_write held_1;
+  pending = None;
+  timers = timed 1024 reader 1000 true 1000 ∷ writes ∷ [];
+  events = Sent 1025 writer (ack_bytes 0) ∷ s4.events;
+}
+
+abbrev s6 : Loop
+s6 = record s5 {
+  server = serving before_write held_2;
+  timers = timed 1024 reader 1000 false 500 ∷ writes ∷ [];
+  events = Sent 1024 reader (data_bytes 1 read_file) ∷ Received 1024 reader (ack_bytes 0) ∷ s5.events;
+}
+
+abbrev s7 : Loop
+s7 = record s6 {
+  server = serving after_write held_3;
+  events = Sent 1025 writer (ack_bytes 1) ∷ Received 1025 writer (data_bytes 1 written_file) ∷ s6.events;
+}
+
+abbrev s8 : Loop
+s8 = record s7 { marked = false; events = Quiet (Empty 69) ∷ s7.events }
+
+abbrev s9 : Loop
+s9 = record s8 { rounds = 1; events = Quiet (Woke []) ∷ Quiet (Slept 500) ∷ s8.events }
+
+abbrev s10 : Loop
+s10 = record s9 { now = 1000; events = Watched 1000 ∷ s9.events }
+
+abbrev s11 : Loop
+s11 = record s10 { timers = timed 1024 reader 1000 false 1000 ∷ writes ∷ []; events = Quiet (Empty 1024) ∷ s10.events }
+
+abbrev s12 : Loop
+s12 = record s11 {
+  server = serving after_write held_4;
+  timers = timed 1024 reader 2000 false 2000 ∷ writes ∷ [];
+  events = Sent 1024 reader (data_bytes 1 read_file) ∷ Elapsed 1024 1000 ∷ s11.events;
+}
+
+abbrev s13 : Loop
+s13 = record s12 {
+  server = serving after_write held_5;
+  timers = timed 1024 reader 2000 false 1500 ∷ writes ∷ [];
+  events = Received 1024 reader (ack_bytes 1) ∷ s12.events;
+}
+
+abbrev pub s14 : Loop
+s14 = record s13 {
+  server = serving after_write held_6;
+  timers = writes ∷ [];
+  left = 1;
+  events = Printed (line_text (Closed 1024 5000 outcomes.Complete)) ∷ s13.events;
+}
+
+-- ---- the steps
+abbrev Step : Loop → Loop → Type 0
+Step old new = Does memory_meaning memory_source old new
+
+pub asks_to_read : Step s0 s1
+asks_to_read = Request_received (record { from = reader; bytes = read_request; none = refl; is = refl })
+
+pub opens_read : Step s1 s2
+unfolding occurrences_of name_of answered_option
+opens_read = Request_answered (record {
+  from = reader;
+  bytes = read_request;
+  pending = refl;
+  tid = 1024;
+  free = refl;
+  left = left_by (A_transfer (read_by reading_0 read_file) before_write) first reader 1024;
+  port = tt;
+  steps = record {
+    decoded = Some (Read (request_of read_name Octet blocks_of_8));
+    says = read_spelled;
+    repeated = false;
+    repeats = (λ f. absurd (true≢false (sym f)), λ none. absurd none);
+    came = A_transfer (read_by reading_0 read_file) before_write;
+    goes = record {
+      file = Ok (record { source = read_file; length = 1 });
+      opens = (read_file, refl, record { source = refl; length = refl });
+      refused = tt;
+      must = λ fault m. absurd (let f : Some read_file ≡ None = m.missing in cc);
+      reads = λ want f. absurd f;
+      memory = λ e. absurd (cc);
+      goes_on = rw read_8 (inl (record { rest = read_file; end = reading_0; serves = (refl, refl); opens = refl }));
+    };
+    left = refl;
+  };
+  is = refl;
+})
+
+-- a stranger's datagram is answered, and the transfer goes on
+refuses_stranger : StepIn memory_meaning memory_source stranger (ack_bytes 0) reading_0 (Source read_file) at_stranger (Source read_file)
+refuses_stranger = record { decoded = Some (Ack 0); says = ack_spelled 0 (omega arith); acts = (refl, refl); again = tt }
+
+pub answers_stranger : Step s2 s3
+answers_stranger = At_port (record {
+  index = 0;
+  timer = timed 1024 reader 1000 false 500;
+  within = omega arith;
+  is_timer = refl;
+  next = record { server = serving before_write held_0; timer = timed 1024 reader 1000 true 1000; events = s3.events };
+  does = A_datagram (record {
+    from = stranger;
+    bytes = ack_bytes 0;
+    step = reported reading_0 at_stranger;
+    handles = record {
+      outgoing = Error UnknownTransferId;
+      takes = record {
+        transfer = read_by reading_0 read_file;
+        next = read_by reading_0 read_file;
+        found = refl;
+        takes = record {
+          turn = at_stranger;
+          steps = refuses_stranger;
+          carries = record { state = refl; goes = refl; bytes = refl };
+          reports = refl;
+          stays = refl;
+          kind = tt;
+          path = refl;
+          request = refl;
+        };
+        held = refl;
+      };
+      config = refl;
+      events = refl;
+    };
+    timer = refl;
+  });
+  is = refl;
+})
+
+pub asks_to_write : Step s3 s4
+asks_to_write = Request_received (record { from = writer; bytes = write_request; none = refl; is = refl })
+
+-- the reader has asked for something else
+not_again : AnyRepeats writer (Write (request_of written_name Octet no_options)) held_0 → ⊥
+not_again any = elim any [
+  | inl again ↦
+      let same : reader ≡ writer = same_Some reader writer again.peer in
+      let ports : 5000 ≡ 5001 = ap (λ (a : Endpoint). a.port) same in
+      omega (arith, ports)
+  | inr none ↦ absurd none
+]
+
+pub opens_write : Step s4 s5
+unfolding occurrences_of
+opens_write = Request_answered (record {
+  from = writer;
+  bytes = write_request;
+  pending = refl;
+  tid = 1025;
+  free = refl;
+  left = left_by (A_transfer (written_by writing_0 new_draft) before_write) (serving before_write held_0) writer 1025;
+  port = tt;
+  steps = record {
+    decoded = Some (Write (request_of written_name Octet no_options));
+    says = write_spelled;
+    repeated = false;
+    repeats = (λ f. absurd (true≢false (sym f)), λ any. absurd (not_again any));
+    came = A_transfer (written_by writing_0 new_draft) before_write;
+    goes = record {
+      store = before_write;
+      draft = Ok new_draft;
+      begins = (refl, refl, refl);
+      refused = tt;
+      begun = refl;
+      memory = λ e. absurd (cc);
+      goes_on = refl;
+    };
+    left = refl;
+  };
+  is = refl;
+})
+
+-- the block is read and sent
+reads_block : StepIn memory_meaning memory_source reader (ack_bytes 0) reading_0 (Source read_file) sends (Source [])
+reads_block = record {
+  decoded = Some (Ack 0);
+  says = ack_spelled 0 (omega arith);
+  acts = record {
+    answer = Ok 1;
+    piece = read_file;
+    reads = record { fills = record { count = refl; given = refl; rest = refl }; read = λ e. absurd (cc); fails = λ f. absurd f; memory = λ e. absurd (cc) };
+    answers = refl;
+  };
+  again = tt;
+}
+
+pub sends_block : Step s5 s6
+sends_block = At_port (record {
+  index = 0;
+  timer = timed 1024 reader 1000 true 1000;
+  within = omega arith;
+  is_timer = refl;
+  next = record { server = serving before_write held_2; timer = timed 1024 reader 1000 false 500; events = s6.events };
+  does = A_datagram (record {
+    from = reader;
+    bytes = ack_bytes 0;
+    step = reported reading_0 sends;
+    handles = record {
+      outgoing = LastSent;
+      takes = record {
+        transfer = read_by reading_0 read_file;
+        next = read_by reading_1 [];
+        found = refl;
+        takes = record {
+          turn = sends;
+          steps = reads_block;
+          carries = record { state = refl; goes = refl; bytes = refl };
+          reports = refl;
+          stays = refl;
+          kind = tt;
+          path = refl;
+          request = refl;
+        };
+        held = refl;
+      };
+      config = refl;
+      events = refl;
+    };
+    timer = refl;
+  });
+  is = refl;
+})
+
+-- the block is stored and committed
+abbrev drafting : Stored → Drafted → Files (List ℕ) (Drafting Stored Drafted)
+drafting store draft = Sink (record { store = store; draft = draft; path = written_name; replace = false })
+
+stores_block : StepIn memory_meaning memory_source writer (data_bytes 1 written_file) writing_0 (drafting before_write new_draft) stores (drafting after_write committed)
+stores_block = record {
+  decoded = Some (Data 1 written_file);
+  says = block_spelled 66;
+  acts = (
+    written_file,
+    block_spelled 66,
+    record {
+      bytes = written_file;
+      after = [];
+      mid = record { store = before_write; draft = appended; path = written_name; replace = false };
+      answer = Ok done;
+      decoded = (refl, refl);
+      appended = (refl, tt, record { path = refl; replace = refl; files = refl }, record { refused = λ e. absurd (true≢false (sym e)); cleared = refl });
+      memory = λ e. absurd (cc);
+      rest = record {
+        answer = Ok done;
+        commits = refl;
+        refused = tt;
+        leaves = record { path = refl; replace = refl; files = (refl, refl) };
+        effect = record { refused = λ e. absurd (true≢false (sym e)); cleared = refl };
+        answers = refl;
+      };
+    },
+  );
+  again = tt;
+}
+
+pub commits_block : Step s6 s7
+commits_block = At_port (record {
+  index = 1;
+  timer = writes;
+  within = omega arith;
+  is_timer = refl;
+  next = record { server = serving after_write held_3; timer = writes; events = s7.events };
+  does = A_datagram (record {
+    from = writer;
+    bytes = data_bytes 1 written_file;
+    step = reported writing_0 stores;
+    handles = record {
+      outgoing = LastSent;
+      takes = record {
+        transfer = written_by writing_0 new_draft;
+        next = written_by writing_1 committed;
+        found = refl;
+        takes = record {
+          turn = stores;
+          steps = stores_block;
+          carries = record { state = refl; goes = refl; bytes = refl };
+          reports = refl;
+          stays = tt;
+          kind = tt;
+          path = refl;
+          request = refl;
+        };
+        held = refl;
+      };
+      config = refl;
+      events = refl;
+    };
+    timer = refl;
+  });
+  is = refl;
+})
+
+pub finds_no_request : Step s7 s8
+finds_no_request = No_request_found (record { none = refl; is = refl })
+
+-- both transfers are served before the wait
+served : (timer : Timer) → timer.marked ≡ false → 0 < timer.deadline → 0 < timer.look_at → taken_of (at timer.port held_3) ≡ None → IsServed s8 timer
+served timer unmarked due look still = record {
+  read = λ marked. absurd (true≢false (sym marked ∙ unmarked));
+  due = inl due;
+  look = inl look;
+  not_closed = still;
+}
+
+may_wait : MayWait s8 500 []
+may_wait = record {
+  left = omega arith;
+  rounds = omega arith;
+  requests = λ marked. absurd (true≢false (sym marked));
+  transfers = All-from_recursion (IsServed s8) s8.timers (served (timed 1024 reader 1000 false 500) refl (omega arith) (omega arith) refl, (served writes refl (omega arith) (omega arith) refl, tt));
+  longest = omega arith;
+  shortest = λ none. absurd (omega (arith, none));
+}
+
+pub waits : Step s8 s9
+waits = Waited (record { millis = 500; ports = []; may = may_wait; is = refl })
+
+pub reads_clock : Step s9 s10
+reads_clock = Clock_read (record { time = 1000; forward = omega arith; is = refl })
+
+pub finds_nothing : Step s10 s11
+finds_nothing = At_port (record {
+  index = 0;
+  timer = timed 1024 reader 1000 false 500;
+  within = omega arith;
+  is_timer = refl;
+  next = record { server = s11.server; timer = timed 1024 reader 1000 false 1000; events = s11.events };
+  does = Nothing_found (record { server = refl; timer = refl; events = refl });
+  is = refl;
+})
+
+pub sends_again : Step s11 s12
+sends_again = At_port (record {
+  index = 0;
+  timer = timed 1024 reader 1000 false 1000;
+  within = omega arith;
+  is_timer = refl;
+  next = record { server = s12.server; timer = timed 1024 reader 2000 false 2000; events = s12.events };
+  does = A_timeout (record {
+    step = reported reading_1 again;
+    due = omega arith;
+    tried = refl;
+    looked = refl;
+    times_out = record {
+      outgoing = LastSent;
+      times_out = record {
+        transfer = read_by reading_1 [];
+        found = refl;
+        end = reading_2;
+        carries = record { state = refl; goes = refl; bytes = refl };
+        reports = refl;
+        held = refl;
+      };
+      rest = refl;
+      events = refl;
+    };
+    timer = refl;
+  });
+  is = refl;
+})
+
+is_acknowledged : StepIn memory_meaning memory_source reader (ack_bytes 1) reading_2 (Source []) completes (Source [])
+is_acknowledged = record { decoded = Some (Ack 1); says = ack_spelled 1 (omega arith); acts = (refl, refl); again = tt }
+
+pub completes_read : Step s12 s13
+completes_read = At_port (record {
+  index = 0;
+  timer = timed 1024 reader 2000 false 2000;
+  within = omega arith;
+  is_timer = refl;
+  next = record { server = s13.server; timer = timed 1024 reader 2000 false 1500; events = s13.events };
+  does = A_datagram (record {
+    from = reader;
+    bytes = ack_bytes 1;
+    step = reported reading_2 completes;
+    handles = record {
+      outgoing = Nothing;
+      takes = record {
+        transfer = read_by reading_2 [];
+        next = read_by reading_3 [];
+        found = refl;
+        takes = record {
+          turn = completes;
+          steps = is_acknowledged;
+          carries = record { state = refl; goes = refl; bytes = refl };
+          reports = refl;
+          stays = refl;
+          kind = tt;
+          path = refl;
+          request = refl;
+        };
+        held = refl;
+      };
+      config = refl;
+      events = refl;
+    };
+    timer = refl;
+  });
+  is = refl;
+})
+
+pub closes_read : Step s13 s14
+closes_read = Transfer_closed (record {
+  index = 0;
+  timer = timed 1024 reader 2000 false 1500;
+  within = omega arith;
+  is_timer = refl;
+  taken = (record_of reading_3, None);
+  is_taken = refl;
+  outcome = outcomes.Complete;
+  has_outcome = refl;
+  left = omega arith;
+  is = refl;
+})
+
+pub agreeable : IsBlockSize config.limits.max_block
+agreeable = search rules
+
+abbrev pub serves : Run (Does memory_meaning memory_source) s0 s14
+serves =
+    Then (Then (Then (Then (Then (Then (Then (Then (Then (Then (Then (Then (Then (Then Start asks_to_read) opens_read) answers_stranger) asks_to_write) opens_write) sends_block) commits_block) finds_no_request) waits)
+    reads_clock) finds_nothing) sends_again) completes_read) closes_read
+
+abbrev pub server : ServerProgram memory_meaning memory_source
+server = record {
+  ip = server_ip;
+  start = s0;
+  last = s14;
+  run = serves;
+  noted = s14.events;
+  is_noted = refl;
+  empty = refl;
+  idle = refl;
+  max_block = agreeable;
+}
+
+-- the transfers that it opened, and the one that it closed
+pub opened_there : opened_ports serves ≡ 1025 ∷ 1024 ∷ []
+unfolding asks_to_read opens_read answers_stranger asks_to_write opens_write sends_block commits_block finds_no_request waits reads_clock finds_nothing sends_again completes_read closes_read
+opened_there = refl
+
+pub closed_there : HasClosed serves 1024 (read_by reading_3 [])
+unfolding closes_read
+closed_there = inl (refl, refl)

@@ -1,0 +1,121 @@
+-- Sample transfers that complete without loss: reads and writes, with and without options.
+use Rattle.std.proofs.Common.{ℕ, List, [], ◌∷◌, refl, arith, rules}
+use Rattle.std.specs.Fmt.{digits}
+use Rattle.tftp_wire.specs.declared.mode.Mode.TheVariants.{Octet, Netascii}
+use Rattle.tftp_negotiate.specs.Agreement.{taken_option}
+use Rattle.tftp_negotiate.specs.Answer.{answered_option}
+use Rattle.tftp_negotiate.specs.Negotiation.{occurrences_of}
+use Rattle.tftp_negotiate.specs.Options.{name_of, number_of}
+use Rattle.tftp_negotiate.specs.declared.known.Kind.TheVariants.{Read, Write}
+use Rattle.tftp_negotiate.specs.declared.known.Known.TheVariants.{Blksize}
+use Rattle.tftp_player.specs.Completing.{Transfers, nothing_asked, blocks_of_8, two_blocks, three_blocks}
+use Rattle.tftp_player.specs.Straight.{SomeReadIsStraight, SomeWriteIsStraight}
+use Rattle.tftp_player.specs.declared.event.Event.TheVariants.{Get, Put}
+use Rattle.tftp_player.proofs.Witness.{Sample, Runs, name, read_is_straight_by, transfers_by, write_is_straight_by}
+
+-- in octet a block stands for its own bytes
+abbrev same : List ℕ → List ℕ
+same piece = piece
+
+-- ---- a read of one byte in octet, without options
+abbrev read : Sample
+read = record { mode = Octet; asked = nothing_asked; agreed = []; file = 65 ∷ []; count = 2; host = same }
+
+read_runs : Runs Read read
+unfolding occurrences_of
+read_runs = search rules
+
+pub read_transfers : Transfers (Get name Octet nothing_asked) (65 ∷ [])
+read_transfers = transfers_by Read read read_runs (search rules)
+
+pub read_is_straight : SomeReadIsStraight Octet nothing_asked (65 ∷ []) []
+read_is_straight = read_is_straight_by read read_runs refl
+
+-- ---- a write of one byte in octet, without options
+abbrev write : Sample
+write = record { mode = Octet; asked = nothing_asked; agreed = []; file = 65 ∷ []; count = 3; host = same }
+
+write_runs : Runs Write write
+unfolding occurrences_of
+write_runs = record {
+  may = record { valid = search rules; options = search rules; fits = omega arith };
+  spelled = search rules;
+  accepts = refl;
+  answered = tt;
+  all = search rules;
+}
+
+pub write_transfers : Transfers (Put name Octet nothing_asked (65 ∷ [])) (65 ∷ [])
+write_transfers = transfers_by Write write write_runs (search rules)
+
+pub write_is_straight : SomeWriteIsStraight Octet nothing_asked (65 ∷ []) []
+write_is_straight = write_is_straight_by write write_runs (omega arith) (tt, (tt, ((λ e. cc), tt))) refl
+
+-- ---- a read of a line end in netascii, without options
+abbrev text : Sample
+text =
+    record { mode = Netascii; asked = nothing_asked; agreed = []; file = 10 ∷ []; count = 2; host = λ piece. 10 ∷ [] }
+
+text_runs : Runs Read text
+unfolding occurrences_of
+text_runs = search rules
+
+pub netascii_transfers : Transfers (Get name Netascii nothing_asked) (10 ∷ [])
+netascii_transfers = transfers_by Read text text_runs (search rules)
+
+pub netascii_is_straight : SomeReadIsStraight Netascii nothing_asked (10 ∷ []) []
+netascii_is_straight = read_is_straight_by text text_runs refl
+
+-- ---- a read of one byte in blocks of 8: the OACK is acknowledged, and then DATA 1
+abbrev options : Sample
+options = record { mode = Octet; asked = blocks_of_8; agreed = Blksize 8 ∷ []; file = 65 ∷ []; count = 4; host = same }
+
+options_run : Runs Read options
+unfolding occurrences_of name_of number_of digits answered_option taken_option
+options_run = record {
+  may = record { valid = search rules; options = search rules };
+  spelled = search rules;
+  accepts = refl;
+  answered = (Blksize 8 ∷ [], refl);
+  all = search rules;
+}
+
+pub options_transfer : Transfers (Get name Octet blocks_of_8) (65 ∷ [])
+unfolding occurrences_of name_of number_of digits answered_option taken_option
+options_transfer = transfers_by Read options options_run (search rules)
+
+-- ---- a read of 17 bytes in three blocks of 8
+abbrev blocks : Sample
+blocks =
+    record { mode = Octet; asked = blocks_of_8; agreed = Blksize 8 ∷ []; file = three_blocks; count = 8; host = same }
+
+blocks_run : Runs Read blocks
+unfolding occurrences_of name_of number_of digits answered_option taken_option
+blocks_run = record {
+  may = record { valid = search rules; options = search rules };
+  spelled = search rules;
+  accepts = refl;
+  answered = (Blksize 8 ∷ [], refl);
+  all = search rules;
+}
+
+pub blocks_are_straight : SomeReadIsStraight Octet blocks_of_8 three_blocks (Blksize 8 ∷ [])
+blocks_are_straight = read_is_straight_by blocks blocks_run refl
+
+-- ---- a write of 9 bytes in two blocks of 8, which an OACK answers
+abbrev oack : Sample
+oack = record { mode = Octet; asked = blocks_of_8; agreed = Blksize 8 ∷ []; file = two_blocks; count = 5; host = same }
+
+oack_runs : Runs Write oack
+unfolding occurrences_of name_of number_of digits answered_option taken_option
+oack_runs = record {
+  may = record { valid = search rules; options = search rules; fits = omega arith };
+  spelled = search rules;
+  accepts = refl;
+  answered = (Blksize 8 ∷ [], refl);
+  all = search rules;
+}
+
+pub oack_is_straight : SomeWriteIsStraight Octet blocks_of_8 two_blocks (Blksize 8 ∷ [])
+unfolding occurrences_of name_of number_of digits answered_option taken_option
+oack_is_straight = write_is_straight_by oack oack_runs (omega arith) (tt, (tt, (tt, (tt, ((λ e. cc), tt))))) refl
