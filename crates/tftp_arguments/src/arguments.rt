@@ -1,6 +1,7 @@
 //! The words of a command line, and the messages for faulty ones.
 
 ghost use Rattle.std.specs.Prelude.{◌≡◌, ◌≤◌};
+ghost use Rattle.tftp_arguments.specs.Rules.{HasRule, flag_rule, number_rule, word_rule};
 
 use anyhow::Result;
 use clap::builder::ValueParser;
@@ -42,7 +43,9 @@ pub fn print_no_memory<R: Eprint>(rt: &R, program: &str) -> u8
 }
 
 /// A required positional word.
-pub fn word<'a>(alloc: Global, name: &'a str, help: &'a str) -> Arg<'a> {
+pub fn word<'a>(alloc: Global, name: &'a str, help: &'a str) -> Arg<'a>
+    ensures { HasRule (word_rule name.now) result }
+{
     Arg::new(alloc, name).required(true).help(help)
 }
 
@@ -54,7 +57,9 @@ pub fn number<'a>(
     range: &'a str,
     parser: ValueParser<'a>,
     help: &'a str,
-) -> Arg<'a> {
+) -> Arg<'a>
+    ensures { HasRule (number_rule name.now parser.entry) result }
+{
     Arg::new(alloc, name)
         .long(name)
         .value_name(range)
@@ -63,7 +68,9 @@ pub fn number<'a>(
 }
 
 /// An option `--name` without a value.
-pub fn flag<'a>(alloc: Global, name: &'a str, help: &'a str) -> Arg<'a> {
+pub fn flag<'a>(alloc: Global, name: &'a str, help: &'a str) -> Arg<'a>
+    ensures { HasRule (flag_rule name.now) result }
+{
     Arg::new(alloc, name)
         .long(name)
         .action(ArgAction::SetTrue)

@@ -5,5 +5,7 @@
 #![tactic(auto)]
 
 mod arguments;
+mod standard_streams;
 
 pub use arguments::{VERSION, flag, number, own_words, print_no_memory, print_usage, word};
+pub use standard_streams::{StandardStreams, open_streams};

@@ -332,7 +332,7 @@ module _ {S K : Type 0} (sources : SourceMeaning S) (sinks : SinkMeaning K) (kno
   handles {s = s} {files = files} (Loses {files'} lost keeps) h = loses files files' s.end keeps h
 
   elapses : {port : ℕ} {s next : State} (files : Files S K) → MayElapse port s next → Committing s.end files → Committing next.end files
-  elapses files Stays h = h
+  elapses files (Stays why) h = h
   elapses {s = s} (Source source) (Elapses due is_open) h = tt
   elapses {s = s} (Sink sink) (Elapses due is_open) h =
       responds (timeout_response s.end.position.retries_left s.end.position.phase) s.end.position.last_sent_to s.end (Sink sink)
@@ -341,8 +341,8 @@ module _ {S K : Type 0} (sources : SourceMeaning S) (sinks : SinkMeaning K) (kno
   converses : {port : ℕ} {first : State} {file : Files S K} {s : State} {files : Files S K} → Converses sources sinks port first file s files
       → Committing first.end file → Committing s.end files
   converses Begins h = h
-  converses (Receives run time handled) h = handles handled (converses run h)
-  converses (Waits run time) h = converses run h
+  converses (Receives run may time handled) h = handles handled (converses run h)
+  converses (Waits run may is time) h = converses run h
   converses (Times {s} {next} {files} run elapsed) h = elapses files elapsed (converses run h)
   converses (Rests {s} {files} {files'} run work) h = works files files' s.end work (converses run h)
 

@@ -1,19 +1,39 @@
 -- What a client does at an event, from the facts of its calls, and runs one after another.
-use Rattle.std.proofs.Common.{◌≡◌, ℕ, List, ◌∷◌, Option, Some, None, Result, Ok, Err, IsErrOf, IsSome, ◌↔◌, inl, inr, refl, ap, subst, ◌∙◌, option_map}
+use Rattle.std.proofs.Common.{◌≡◌, ℕ, Bool, true, false, List, ◌∷◌, Option, Some, None, Result, Ok, Err, IsErrOf, IsSome, ◌↔◌, inl, inr, refl, sym, ap, subst, ◌∙◌, option_map}
+use Rattle.std.specs.Prelude.{◌==◌, ◌-◌, max, min, if◌then◌else◌}
+use Rattle.std.proofs.lemmas.Bool.{true≢false}
 use Rattle.tftp_wire.specs.declared.packet.Packet.{Packet}
 use Rattle.tftp_file.specs.Sink.{SinkMeaning}
 use Rattle.tftp_file.specs.Source.{SourceMeaning}
 use Rattle.tftp_file.specs.declared.files.Files.{Files}
-use Rattle.tftp_ends.specs.Action.{Decodes, datagram_action}
-use Rattle.tftp_ends.specs.End.{EndState, outcome_of}
-use Rattle.tftp_ends.specs.Step.{Reply, UsesFile, reply_bytes}
+use Rattle.tftp_negotiate.specs.declared.known.Kind.{Kind}
+use Rattle.tftp_negotiate.specs.declared.known.Kind.TheVariants.{Read, Write}
+use Rattle.tftp_ends.specs.Action.{Decodes, datagram_action, timeout_response}
+use Rattle.tftp_ends.specs.End.{EndState, interval_of, outcome_of, terms_of}
+use Rattle.tftp_ends.specs.Phase.{waited as dallied}
+use Rattle.tftp_ends.specs.Step.{Reply, UsesFile, after, after_turn, reply_bytes, timeout_turn}
+use Rattle.tftp_ends.specs.declared.action.Response.TheVariants.{Close, Retransmit}
 use Rattle.tftp_ends.specs.declared.endpoint.Endpoint.{Endpoint}
 use Rattle.tftp_ends.specs.declared.fault.EndFault.{EndFault}
 use Rattle.tftp_ends.specs.declared.fault.EndFault.TheVariants.{Closed, Memory}
-use Rattle.tftp_client.specs.Converses.{Converses, IsLost, State}
+use Rattle.tftp_ends.specs.declared.outcome.Outcome.{Outcome}
+use Rattle.tftp_ends.specs.declared.outcome.Outcome.TheVariants.{TimedOut}
+use Rattle.tftp_ends.specs.declared.phase.Dally.TheVariants.{Fresh, Waited}
+use Rattle.tftp_ends.specs.declared.phase.Phase.{Phase}
+use Rattle.tftp_ends.specs.declared.phase.Phase.TheVariants as phases
+use Rattle.tftp_ends.specs.declared.phase.Terms.{Terms}
+use Rattle.tftp_host.specs.Watch.{deadline_of}
+use Rattle.tftp_host.specs.declared.watch.TheConstants.{LONGEST_WAIT}
+use Rattle.tftp_client.specs.declared.transfer.Job.{Job}
+use Rattle.tftp_client.specs.Converses.{Converses, HandlesReceived, IsLost, IsOpen, MayElapse, State, deadline_at, wait_at}
+use Rattle.tftp_client.specs.Converses.HandlesReceived.{Answers, Loses}
+use Rattle.tftp_client.specs.Converses.MayElapse.{Stays, Elapses}
 use Rattle.tftp_client.specs.Converses.Converses.{Begins, Receives, Waits, Times, Rests}
+use Rattle.tftp_client.specs.Runs.{begun, opens}
 use Rattle.tftp_sockets.specs.Journal.{Event, answered, replied}
-use Rattle.tftp_sockets.specs.Journal.Event.{Sent}
+use Rattle.tftp_sockets.specs.Journal.Event.{Elapsed, Quiet, Sent}
+use Rattle.tftp_sockets.specs.Journal.QuietEvent.{Slept}
+use Rattle.tftp_sockets.specs.Quiet.{waits}
 
 -- the answer that a call lends was sent to its destination
 pub replies : (port : ℕ) (reply : Option Reply) {to : Option Endpoint} {bytes : List ℕ} {events before after : List Event}
@@ -47,14 +67,78 @@ pub lost : {R : Type 0} (fault : EndFault) (from : Endpoint) (bytes : List ℕ) 
 lost Closed from bytes e closed memory = inl (closed.0 refl)
 lost Memory from bytes e closed memory = inr (memory refl)
 
+-- ---- waits
+-- a timeout leaves the terms
+dallied_terms : (phase : Phase) → terms_of (dallied phase) ≡ terms_of phase
+dallied_terms (phases.Waiting asked limit) = refl
+dallied_terms (phases.Sending terms number) = refl
+dallied_terms (phases.Receiving terms number) = refl
+dallied_terms (phases.Dallying terms number dally) = refl
+dallied_terms (phases.Closed terms number complete outcome) = refl
+
+repeated_terms : (last : Bool) (to : Endpoint) (e : EndState) → terms_of (after (if last then Close TimedOut else Retransmit) to e).phase ≡ terms_of e.position.phase
+repeated_terms true to e = refl
+repeated_terms false to e = refl
+
+response_terms : (left : ℕ) (phase : Phase) (to : Endpoint) (e : EndState) → terms_of (after (timeout_response left phase) to e).phase ≡ terms_of e.position.phase
+response_terms left (phases.Waiting asked limit) to e = repeated_terms (left == 0) to e
+response_terms left (phases.Sending terms number) to e = repeated_terms (left == 0) to e
+response_terms left (phases.Receiving terms number) to e = repeated_terms (left == 0) to e
+response_terms left (phases.Dallying terms number Fresh) to e = dallied_terms e.position.phase
+response_terms left (phases.Dallying terms number Waited) to e = refl
+response_terms left (phases.Closed terms number complete outcome) to e = repeated_terms (left == 0) to e
+
+timeout_terms : (e : EndState) → terms_of (after_turn e (timeout_turn e)).position.phase ≡ terms_of e.position.phase
+timeout_terms e = response_terms e.position.retries_left e.position.phase e.position.last_sent_to e
+
+-- once a timeout was delivered, another wait for one begins
+pub due_elapsed : (s : State) → deadline_at s.now s.end ≡ deadline_at s.now (after_turn s.end (timeout_turn s.end))
+due_elapsed s = ap (λ (t : Option Terms). deadline_of s.now (interval_of t)) (sym (timeout_terms s.end))
+
+-- the event after a wait of this length
+pub slept : {wait : ℕ} (s : State) (event : Event) → wait ≡ min (s.due - s.now) LONGEST_WAIT
+    → ◌≡◌ {A = List Event} (event ∷ Quiet (Slept (max wait 1)) ∷ s.events) (event ∷ Quiet (Slept (wait_at s)) ∷ s.events)
+slept s event is = ap (λ (n : ℕ). event ∷ Quiet (Slept (max n 1)) ∷ s.events) is
+
+-- an answer is no wait
+waits_answered : (port : ℕ) (reply : Option Reply) (events : List Event) → waits (answered port reply events) ≡ waits events
+waits_answered port None events = refl
+waits_answered port (Some reply) events = refl
+
+-- nor is a timeout
+pub waits_elapsed : {port : ℕ} {s next : State} → MayElapse port s next → waits next.events ≡ waits s.events
+waits_elapsed (Stays why) = refl
+waits_elapsed {port} {s} (Elapses due is_open) = waits_answered port (timeout_turn s.end).reply (Elapsed port s.now ∷ s.events)
+
+-- an end without an outcome is open
+pub none_open : (e : EndState) → outcome_of e.position.phase ≡ None → IsOpen e
+none_open e none = let Not : Option Outcome → Type 0 = λ o. IsSome o → ⊥ in subst Not (sym none) (λ some. true≢false (sym some))
+
+-- the end of a job is open when its request is sent
+pub opens_open : (kind : Kind) (job : Job) (length : ℕ) → IsOpen (opens kind job length)
+opens_open Read job length closed = true≢false (sym closed)
+opens_open Write job length closed = true≢false (sym closed)
+
+-- and then a wait begins
+pub begun_open : {s : State} (port : ℕ) (e : EndState) (before : List Event) → s ≡ begun port e before → IsOpen e → IsOpen s.end
+begun_open port e before is is_open = let Of : State → Type 0 = λ t. IsOpen t.end in subst Of (sym is) is_open
+
+pub begun_ready : {s : State} (port : ℕ) (e : EndState) (before : List Event) → s ≡ begun port e before → s.due ≡ deadline_at s.now s.end
+begun_ready port e before is = let Of : State → Type 0 = λ t. t.due ≡ deadline_at t.now t.end in subst Of (sym is) refl
+
+-- a timeout that was refused: the end is closed
+pub is_closed : {R P : Type 0} (fault : EndFault) → (IsErrOf {T = R} (Err fault) Closed ↔ P) → (IsErrOf {T = R} (Err fault) Memory → ⊥) → P
+is_closed Closed closed memory = closed.0 refl
+is_closed Memory closed memory = absurd (memory refl)
+
 module _ {S K : Type 0} {sources : SourceMeaning S} {sinks : SinkMeaning K} where
   -- what a client did until one state, and from there on
   pub onward : {port : ℕ} {first : State} {file : Files S K} {s : State} {files : Files S K} {next : State} {files' : Files S K}
       → Converses sources sinks port first file s files → Converses sources sinks port s files next files'
       → Converses sources sinks port first file next files'
   onward before Begins = before
-  onward before (Receives run time handles) = Receives (onward before run) time handles
-  onward before (Waits run time) = Waits (onward before run) time
+  onward before (Receives run may time handles) = Receives (onward before run) may time handles
+  onward before (Waits run may is time) = Waits (onward before run) may is time
   onward before (Times run elapses) = Times (onward before run) elapses
   onward before (Rests run works) = Rests (onward before run) works
 
@@ -64,3 +148,9 @@ module _ {S K : Type 0} {sources : SourceMeaning S} {sinks : SinkMeaning K} wher
       → Converses sources sinks port first file next files'
   onward_at {s = s} {files = files} {next = next} {files' = files'} before same after =
       let Of : ℕ → Type 0 = λ p. Converses sources sinks p s files next files' in onward before (subst Of same after)
+
+  -- a datagram is no wait
+  pub waits_handled : {port : ℕ} {from : Endpoint} {bytes : List ℕ} {s : State} {files : Files S K} {next : State} {files' : Files S K}
+      → HandlesReceived sources sinks port from bytes s files next files' → waits next.events ≡ waits s.events
+  waits_handled {port} {s = s} (Answers {turn} is_open step) = waits_answered port turn.reply s.events
+  waits_handled (Loses lost keeps) = refl

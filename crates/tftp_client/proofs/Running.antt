@@ -1,5 +1,5 @@
 -- The result of a job, from the facts of its calls.
-use Rattle.std.proofs.Common.{Result, Ok, Err, IfErr, inr, ◌≡◌, ℕ, List, sym, subst}
+use Rattle.std.proofs.Common.{Result, Ok, Err, IfOk, IfErr, inl, inr, ◌≡◌, ℕ, List, sym, subst}
 use Rattle.tftp_negotiate.specs.declared.known.Kind.{Kind}
 use Rattle.tftp_file.specs.Sink.{SinkMeaning}
 use Rattle.tftp_file.specs.Source.{SourceMeaning}
@@ -10,8 +10,11 @@ use Rattle.tftp_host.specs.ClientOutcome.{status_of}
 use Rattle.tftp_host.specs.declared.client.client_outcome.ClientOutcome.{ClientOutcome}
 use Rattle.tftp_host.specs.declared.client.client_outcome.ClientOutcome.TheVariants as ends
 use Rattle.tftp_sockets.specs.Journal.{Event}
+use Rattle.tftp_client.specs.declared.command_line.Order.{Order}
 use Rattle.tftp_client.specs.declared.transfer.Job.{Job}
 use Rattle.tftp_client.specs.Converses.{Converses, EndsBy, State}
+use Rattle.tftp_client.specs.Ordered.{RunsOrder, RunsWords}
+use Rattle.tftp_client.specs.Words.{WordsName}
 use Rattle.tftp_client.specs.Runs.{FailsBy, FailsEnd, FailsTransfer, StaysOn, IsNew, Refused, Runs, RunsAs, RunsJob, Stops, Transfers, begun, opens, plain}
 
 -- for a last call whose result is returned as it is
@@ -22,7 +25,7 @@ if_err (Err error) P Q weaker p = weaker error p
 module _ {S K : Type 0} (sources : SourceMeaning S) (sinks : SinkMeaning K) where
   -- a run stopped with this outcome
   pub stops : {port : ℕ} {first last : State} {file files : Files S K} {after : List Event} {outcome : Outcome} {end : ClientOutcome}
-      → Converses sources sinks port first file last files → last.events ≡ after → EndsBy last.end outcome → end ≡ ends.Failed outcome
+      → Converses sources sinks port first file last files → last.events ≡ after → EndsBy first last outcome → end ≡ ends.Failed outcome
       → Stops sources sinks port first file after end
   stops {port} {first} {last} {file} {files} {after} {outcome} {end} converses events by is =
       let At : ClientOutcome → Type 0 = λ e. Stops sources sinks port first file after e in
@@ -86,3 +89,11 @@ module _ {S K : Type 0} (sources : SourceMeaning S) (sinks : SinkMeaning K) wher
   pub goes_on : {port : ℕ} {first first' : State} {file : Files S K} {after : List Event} → first ≡ first'
       → StaysOn sources sinks port first file after → StaysOn sources sinks port first' file after
   goes_on {port} {file = file} {after = after} is run = let From : State → Type 0 = λ s. StaysOn sources sinks port s file after in subst From is run
+
+  -- an order was run, or there is none and nothing was done
+  pub runs_words : {before after : List Event} (words : List (List ℕ)) {status : ℕ} (ordered : Result Order ℕ)
+      → IfOk ordered (λ order. WordsName words order.job)
+      → IfOk ordered (λ order. RunsOrder sources sinks order.job status before after) → IfErr ordered (λ _. after ≡ before)
+      → RunsWords sources sinks words status before after
+  runs_words words (Ok order) names runs none = inr (order.job, names, runs)
+  runs_words words (Err status) names runs none = inl none

@@ -1,7 +1,7 @@
 -- A conversation as the state of a client.
-use Rattle.std.specs.Prelude.{List}
+use Rattle.std.specs.Prelude.{◌≡◌, ◌≤◌, List}
 use Rattle.tftp_client.specs.declared.transfer.conversation.Conversation.{Conversation}
-use Rattle.tftp_client.specs.Converses.{State}
+use Rattle.tftp_client.specs.Converses.{IsOpen, State, deadline_at}
 use Rattle.tftp_sockets.specs.Journal.{Event}
 
 -- the state of a client whose program has this journal
@@ -13,3 +13,10 @@ state_of conversation events =
       due = conversation.due;
       events = events;
     }
+
+-- if its end is open, the conversation may wait: it is not due for a timeout, unless its wait for
+-- one began at this moment
+abbrev pub IsReady : Conversation → Type 0
+IsReady conversation =
+    IsOpen conversation.end → conversation.due ≤ conversation.watch.now
+    → conversation.due ≡ deadline_at conversation.watch.now conversation.end

@@ -1,5 +1,6 @@
 -- What a client does over its socket: the steps of one end, and nothing else.
-use Rattle.std.specs.Prelude.{ℕ, ◌≡◌, ◌≤◌, ◌⊎◌, Bool, false, if◌then◌else◌}
+use Rattle.std.specs.Prelude.{ℕ, ◌≡◌, ◌≤◌, ◌<◌, ◌-◌, ◌+◌, ◌⊎◌, min, max, Bool, false}
+use Rattle.std.specs.Prelude.{if◌then◌else◌}
 use Rattle.std.specs.Prelude.{List, ◌∷◌, Option, Some, IsSome}
 use Rattle.tftp_wire.specs.declared.packet.Packet.{Packet}
 use Rattle.tftp_file.specs.Sink.{SinkMeaning, WritesBehind}
@@ -14,8 +15,12 @@ use Rattle.tftp_ends.specs.declared.endpoint.Endpoint.{Endpoint}
 use Rattle.tftp_ends.specs.declared.outcome.Outcome.{Outcome}
 use Rattle.tftp_ends.specs.declared.outcome.Outcome.TheVariants.{TimedOut}
 use Rattle.tftp_host.specs.Watch.{deadline_of}
-use Rattle.tftp_sockets.specs.Journal.{Event, answered}
-use Rattle.tftp_sockets.specs.Journal.Event.{Received, Watched, Elapsed}
+use Rattle.tftp_host.specs.declared.watch.TheConstants.{LONGEST_WAIT}
+use Rattle.tftp_sockets.specs.Journal.{Event, QuietEvent, answered}
+use Rattle.tftp_sockets.specs.Journal.Event.{Received, Watched, Elapsed, Quiet}
+use Rattle.tftp_sockets.specs.Journal.QuietEvent.{Empty, Failed, Slept}
+use Rattle.tftp_sockets.specs.Quiet.{waits}
+use Rattle.tftp_client.specs.declared.transfer.conversation.TheConstants.{MAX_WAITS}
 
 -- a client between two events: its end, its time, and all that the program did, the newest first
 pub record State : Type 0 where
@@ -30,9 +35,11 @@ pub record State : Type 0 where
 abbrev pub IsOpen : EndState → Type 0
 IsOpen end = IsSome (outcome_of end.position.phase) → ⊥
 
--- how a run of an end that is not complete ended: as the end closed, or after too many waits
-abbrev pub EndsBy : EndState → Outcome → Type 0
-EndsBy end outcome = (outcome_of end.position.phase ≡ Some outcome) ⊎ (outcome ≡ TimedOut)
+-- how a run from a state that is not complete ended: as the end closed, or after too many waits
+abbrev pub EndsBy : State → State → Outcome → Type 0
+EndsBy first last outcome =
+    (outcome_of last.end.position.phase ≡ Some outcome)
+    ⊎ ((outcome ≡ TimedOut) × (waits last.events ≡ MAX_WAITS + waits first.events))
 
 -- the deadline at this time, after as many seconds as the end agreed on
 -- (RFC 2349, "Timeout Interval Option Specification")
@@ -43,14 +50,32 @@ deadline_at now end = deadline_of now (interval_of (terms_of end.position.phase)
 abbrev pub due_after : Bool → ℕ → ℕ → ℕ → ℕ
 due_after progress now seconds due = if progress then deadline_of now seconds else due
 
--- the clock was read
-abbrev pub watched : ℕ → State → State
-watched time s = record s { now = time; events = Watched time ∷ s.events }
+-- how long a client waits for a datagram, in milliseconds: until it is due for a timeout, at most a
+-- second
+abbrev pub wait_at : State → ℕ
+wait_at s = max (min (s.due - s.now) LONGEST_WAIT) 1
 
--- a datagram was received, and then the clock was read
+-- a client waits only while its end is open, and when it is not due for a timeout, unless its wait
+-- for one began at this moment
+pub record MayWait (s : State) : Type 0 where
+  pub not_closed : IsOpen s.end
+  pub due : s.due ≤ s.now → s.due ≡ deadline_at s.now s.end
+
+-- a wait without a datagram was over, by this event, and then the clock was read
+abbrev pub waited : QuietEvent → ℕ → State → State
+waited event time s =
+    record s {
+      now = time;
+      events = Watched time ∷ Quiet event ∷ Quiet (Slept (wait_at s)) ∷ s.events;
+    }
+
+-- a wait was over by a datagram, and then the clock was read
 abbrev pub received : ℕ → Endpoint → List ℕ → ℕ → State → State
 received port from bytes time s =
-    record s { now = time; events = Watched time ∷ (Received port from bytes ∷ s.events) }
+    record s {
+      now = time;
+      events = Watched time ∷ Received port from bytes ∷ Quiet (Slept (wait_at s)) ∷ s.events;
+    }
 
 -- the end has turned so at a datagram, and its answer was sent from the port to where the turn says
 abbrev pub turned : ℕ → Turn → State → State
@@ -74,10 +99,10 @@ elapsed port s =
       events = answered port (timeout_turn s.end).reply (Elapsed port s.now ∷ s.events);
     }
 
--- what a client does when a timeout may be due: nothing; or it is due and the end is open, and then
--- the timeout's step
+-- what a client does when a timeout may be due: nothing, if it is not due or the end is closed; or
+-- else the timeout's step
 pub data MayElapse (port : ℕ) (s : State) : State → Type 0 where
-  Stays : MayElapse port s s
+  Stays : (s.now < s.due) ⊎ IsSome (outcome_of s.end.position.phase) → MayElapse port s s
   Elapses : s.due ≤ s.now → IsOpen s.end → MayElapse port s (elapsed port s)
 
 -- a datagram has no step: the end is closed, or handling it takes memory, and there is none
@@ -114,13 +139,14 @@ module _ {S K : Type 0} (sources : SourceMeaning S) (sinks : SinkMeaning K) wher
     -- a datagram was received
     Receives : {s next : State} {files files' : Files S K}
         {from : Endpoint} {bytes : List ℕ} {time : ℕ}
-        → Converses port first file s files → s.now ≤ time
+        → Converses port first file s files → MayWait s → s.now ≤ time
         → HandlesReceived port from bytes (received port from bytes time s) files next files'
         → Converses port first file next files'
-    -- none was received until this time
-    Waits : {s : State} {files : Files S K} {time : ℕ}
-        → Converses port first file s files → s.now ≤ time
-        → Converses port first file (watched time s) files
+    -- none was received until this time: the port was empty, or the receive failed
+    Waits : {s : State} {files : Files S K} {event : QuietEvent} {time : ℕ}
+        → Converses port first file s files → MayWait s
+        → (event ≡ Empty port) ⊎ (event ≡ Failed port) → s.now ≤ time
+        → Converses port first file (waited event time s) files
     -- a timeout was due
     Times : {s next : State} {files : Files S K}
         → Converses port first file s files → MayElapse port s next

@@ -1,6 +1,10 @@
+pub mod CommandLine
 pub mod Conversation
 pub mod Converses
+pub mod Ordered
 pub mod Reason
 pub mod Runs
+pub mod Silence
 pub mod Stored
 pub mod Taken
+pub mod Words

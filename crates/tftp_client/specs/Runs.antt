@@ -84,7 +84,7 @@ module _ {S K : Type 0} (sources : SourceMeaning S) (sinks : SinkMeaning K) wher
     pub files : Files S K
     pub converses : Converses sources sinks port first file last files
     pub events : last.events ≡ after
-    pub ends : EndsBy last.end outcome
+    pub ends : EndsBy first last outcome
 
   -- the same, of how the program ends
   abbrev pub Stops : ℕ → State → Files S K → List Event → ClientOutcome → Type 0
@@ -173,7 +173,3 @@ module _ {S K : Type 0} (sources : SourceMeaning S) (sinks : SinkMeaning K) wher
     pub complete : is_complete last.end.position.phase ≡ true
     pub committed : IsCommitted files
     pub stays : StaysOn port (printed count last) files after
-
-  -- what a status of 0 says: nothing was done over UDP, as for a help text, or a job is complete
-  abbrev pub Succeeds : List Event → List Event → Type 0
-  Succeeds before after = (after ≡ before) ⊎ ((job : Job) × Completes job before after)

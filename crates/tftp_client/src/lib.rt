@@ -5,6 +5,8 @@
 
 mod arguments;
 mod client_udp;
+mod command_line;
+pub mod laws;
 mod local;
 mod taken;
 mod transfer;

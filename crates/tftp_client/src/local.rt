@@ -1,5 +1,5 @@
 //! The local file of a client. A fetched file is written under another name, and gets its name at
-//! the commit. A file to send is measured first.
+//! the commit, once it is on the disk. A file to send is measured first.
 //!
 //! Clauses state which bytes were passed to a fetched file, and how long a file to send was when it
 //! was measured. No contract states what a disk holds.
@@ -11,16 +11,28 @@ ghost use Rattle.tftp_client.specs.Taken.{nothing};
 
 use crate::taken::Taken;
 use std::alloc::Global;
-use std::fs::{self, OpenFile, OpenOptions};
+use std::fs::{self, OpenFile, OpenOptions, Permissions};
 use std::io::{self, BufReader, ErrorKind, Read, Seek};
 use std::os::unix::fs::MetadataExt;
 use std::rt::Files;
 use tftp_file::{Ahead, MAX_WIRE, ReadSource, Sink, StoreFault};
-use tftp_host::{BlockWriter, ErrorKeeper, length_on_wire, name_fault};
+use tftp_host::{BlockWriter, ErrorKeeper, Folder, check_length, length_on_wire, name_fault};
 use tftp_wire::Mode;
 
 /// The capacity of the read buffer, in bytes. Blocks of this size and more bypass it.
 const READ_BUFFER: usize = 32_768;
+
+/// The number of unsynced bytes at which a fetched file is synced.
+const MOST_UNSYNCED: u64 = 4 << 20;
+
+/// What becomes of a LOCAL that exists.
+#[derive(Clone, Copy, PartialEq, Eq)]
+pub(crate) enum Existing {
+    /// It stays, and nothing is fetched.
+    Refused,
+    /// A regular file is replaced at the commit, with its permissions.
+    Replaced,
+}
 
 /// The source of a file to send.
 pub(crate) type LocalSource<F> = Ahead<ReadSource<BufReader<ErrorKeeper<F>>>>;
@@ -37,7 +49,8 @@ pub(crate) struct Outbound<F: Read + Drop> {
 
 impl<F: Read + Seek + OpenFile + Drop> Outbound<F> {
     /// Opens a regular file to send. Any other kind is refused before it is opened, since opening a
-    /// FIFO would block. The length is that of the open file.
+    /// FIFO would block. The length is that of the open file; a file that states none and has a byte
+    /// is refused, as many of `/proc` are.
     pub(crate) fn open<R: Files<File = F>>(
         files: &R,
         alloc: Global,
@@ -52,6 +65,7 @@ impl<F: Read + Seek + OpenFile + Drop> Outbound<F> {
         }
         let mut file = fs::open(files, local)?;
         let host_bytes = file.metadata()?.len();
+        check_length(&mut file, host_bytes)?;
         let wire_bytes = wire_bytes(&mut file, mode, host_bytes)?;
         let reader = BufReader::with_capacity(alloc, READ_BUFFER, ErrorKeeper::new(file))?;
         Ok(Outbound {
@@ -82,7 +96,8 @@ pub(crate) fn read_error<F: Read + Drop>(source: LocalSource<F>) -> Option<io::E
 /// A file that is fetched. It is written as `LOCAL.part`, and gets the name `LOCAL` at the commit.
 /// Without a commit `LOCAL.part` remains.
 ///
-/// It buffers what is appended, and writes it after a datagram is sent.
+/// It buffers what is appended, and writes it after a datagram is sent. It syncs every few
+/// megabytes, so that the commit has little left to sync.
 ///
 /// Its model is what it took: the bytes of the appends that succeeded, and whether a commit
 /// succeeded after them. A failed append may leave a part of its bytes in the buffer and on the
@@ -93,7 +108,12 @@ pub(crate) struct LocalFile<R: Files + Drop> {
     writer: BlockWriter<R::File>,
     local: String,
     part: String,
+    existing: Existing,
     count: u64,
+    /// The number of bytes that were appended since the last sync.
+    unsynced: u64,
+    /// The error of a sync, after which no commit succeeds: the system reports it once.
+    sync_error: Option<io::Error>,
     taken: Taken,
     error: Option<io::Error>,
     ghost counts: { count ≡ length taken.holding.bytes },
@@ -102,25 +122,34 @@ pub(crate) struct LocalFile<R: Files + Drop> {
 
 impl<R: Files + Drop> LocalFile<R> {
     /// Creates `LOCAL.part`. An old one is removed first; a link there is not followed.
-    /// `AlreadyExists` if `LOCAL` exists.
-    pub(crate) fn create(files: R, alloc: Global, local: &str) -> io::Result<LocalFile<R>>
+    /// `AlreadyExists` if `LOCAL` exists, unless it is a regular file that is to be replaced.
+    pub(crate) fn create(
+        files: R,
+        alloc: Global,
+        local: &str,
+        existing: Existing,
+    ) -> io::Result<LocalFile<R>>
         ensures { IfOk result (λ local. local.taken.holding ≡ nothing) }
     {
-        if fs::symlink_metadata(&files, local).is_ok() {
-            return Err(io::Error::from(ErrorKind::AlreadyExists));
-        }
+        let permissions = permissions_at(&files, local, existing)?;
         let part = format!(in alloc; "{local}.part")?;
         let _ = fs::remove_file(&files, part.as_str());
         let file = OpenOptions::new()
             .write(true)
             .create_new(true)
             .open(&files, part.as_str())?;
+        if let Some(permissions) = permissions {
+            file.set_permissions(permissions)?;
+        }
         Ok(LocalFile {
             files,
             writer: BlockWriter::new(alloc, file)?,
             local: String::from_str(alloc, local)?,
             part,
+            existing,
             count: 0,
+            unsynced: 0,
+            sync_error: None,
             taken: Taken::new(),
             error: None,
         })
@@ -159,24 +188,78 @@ impl<R: Files + Drop> LocalFile<R> {
         }
     }
 
+    /// Syncs what was written.
+    fn sync(&mut self)
+        ensures taken { self.new.taken ≡ self.old.taken }
+    {
+        self.unsynced = 0;
+        if let Err(error) = self.writer.file().sync_data() {
+            self.sync_error = Some(error);
+        }
+    }
+
+    /// Syncs the file, gives it its name, and syncs the folder.
+    fn store(&self) -> io::Result<()> {
+        if let Some(error) = self.sync_error {
+            return Err(error);
+        }
+        self.writer.file().sync_all()?;
+        self.check_part()?;
+        let folder = Folder::of(&self.files, self.local.as_str())?;
+        match self.existing {
+            Existing::Refused => self.name(&folder),
+            Existing::Replaced => self.rename(&folder),
+        }
+    }
+
     /// Gives the file its name, if no file has that name. A hard link never replaces a file. If the
     /// system makes no link, the file is renamed.
-    fn name(&self) -> io::Result<()> {
-        self.check_part()?;
+    fn name(&self, folder: &Folder<R::File>) -> io::Result<()> {
         let (part, local) = (self.part.as_str(), self.local.as_str());
         match fs::hard_link(&self.files, part, local) {
-            Ok(()) => {
-                let _ = fs::remove_file(&self.files, part);
-                Ok(())
-            }
+            Ok(()) => self.keep_one(folder),
             Err(error) if error.kind() == ErrorKind::AlreadyExists => Err(error),
             Err(_) => {
                 if fs::symlink_metadata(&self.files, local).is_ok() {
                     return Err(io::Error::from(ErrorKind::AlreadyExists));
                 }
-                fs::rename(&self.files, part, local)
+                self.rename(folder)
             }
         }
+    }
+
+    /// Syncs the folder of a file with both names. It keeps the name `LOCAL`, or `LOCAL.part` if
+    /// the sync fails.
+    fn keep_one(&self, folder: &Folder<R::File>) -> io::Result<()> {
+        let synced = folder.sync();
+        let other = match synced {
+            Ok(()) => &self.part,
+            Err(_) => &self.local,
+        };
+        let _ = fs::remove_file(&self.files, other.as_str());
+        synced
+    }
+
+    /// Renames the file, and syncs the folder. If the sync fails, the file has the name.
+    fn rename(&self, folder: &Folder<R::File>) -> io::Result<()> {
+        fs::rename(&self.files, self.part.as_str(), self.local.as_str())?;
+        folder.sync()
+    }
+}
+
+/// The permissions of the regular file at `LOCAL` that is to be replaced, or `None` if there is no
+/// file. `AlreadyExists` if no file is to be replaced, or it is no regular file.
+fn permissions_at<R: Files>(
+    files: &R,
+    local: &str,
+    existing: Existing,
+) -> io::Result<Option<Permissions>> {
+    match fs::symlink_metadata(files, local) {
+        Ok(found) if existing == Existing::Replaced && found.is_file() => {
+            Ok(Some(found.permissions()))
+        }
+        Ok(_) => Err(io::Error::from(ErrorKind::AlreadyExists)),
+        Err(_) => Ok(None),
     }
 }
 
@@ -188,6 +271,8 @@ impl<R: Files + Drop> Sink for LocalFile<R> {
       may_refuse_append = λ _ _ _. ⊤;
       may_refuse_commit = λ _ _. ⊤;
       becomes = λ _ _ _. ⊤;
+      after_append = λ _ _ _ _. ⊤;
+      after_commit = λ _ _ _. ⊤;
     } };
 
     ghost is_same = { λ _ _. ⊤ };
@@ -207,6 +292,7 @@ impl<R: Files + Drop> Sink for LocalFile<R> {
             Ok(()) => {
                 self.taken.appended(bytes);
                 self.count = count;
+                self.unsynced = self.unsynced.saturating_add(bytes.len() as u64);
                 Ok(())
             }
             Err(error) => Err(self.record_error(error)),
@@ -215,8 +301,8 @@ impl<R: Files + Drop> Sink for LocalFile<R> {
 
     /// After a failed write the bytes stay in the buffer, and a later call tries again.
     fn write_behind(&mut self) {
-        if self.writer.is_due() {
-            let _ = self.writer.flush();
+        if self.writer.is_due() && self.writer.flush().is_ok() && self.unsynced >= MOST_UNSYNCED {
+            self.sync();
         }
     }
 
@@ -224,7 +310,7 @@ impl<R: Files + Drop> Sink for LocalFile<R> {
         if let Err(error) = self.writer.flush() {
             return Err(self.record_error(error));
         }
-        match self.name() {
+        match self.store() {
             Ok(()) => {
                 self.taken.committed();
                 Ok(())

@@ -9,8 +9,8 @@ ghost use Rattle.tftp_negotiate.specs.declared.known.Kind.TheVariants.{Read, Wri
 ghost use Rattle.tftp_ends.specs.Files.{AreFilesOf};
 ghost use Rattle.tftp_host.specs.ClientOutcome.{status_of};
 ghost use Rattle.tftp_host.specs.declared.client.client_outcome.ClientOutcome.TheVariants as ends;
-ghost use Rattle.tftp_client.specs.Conversation.{state_of};
-ghost use Rattle.tftp_client.specs.Converses.{Converses, deadline_at};
+ghost use Rattle.tftp_client.specs.Conversation.{IsReady, state_of};
+ghost use Rattle.tftp_client.specs.Converses.{Converses, IsOpen, deadline_at};
 ghost use Rattle.tftp_client.specs.Stored.{count_of, stored};
 ghost use Rattle.tftp_client.specs.Taken.{nothing};
 ghost use Rattle.tftp_client.specs.Runs.{FailsBy, FailsEnd, FailsTransfer, MayFallBack, Runs};
@@ -18,7 +18,7 @@ ghost use Rattle.tftp_client.specs.Runs.{RunsAs, RunsJob, Stops, Transfers};
 ghost use Rattle.tftp_client.specs.Runs.{begun, measured, opens, plain, sent_from};
 
 use crate::client_udp::ClientUdp;
-use crate::local::{LocalFile, LocalSource, Outbound, read_error};
+use crate::local::{Existing, LocalFile, LocalSource, Outbound, read_error};
 pub(crate) use crate::transfer::completed::Completed;
 use crate::transfer::conversation::Conversation;
 pub(crate) use crate::transfer::failure::Failure;
@@ -46,6 +46,8 @@ pub(crate) struct Job<'a> {
     pub(crate) name: &'a str,
     /// The path of the file here.
     pub(crate) local: &'a str,
+    /// What becomes of a file there, if one is fetched.
+    pub(crate) existing: Existing,
     /// The transfer mode.
     pub(crate) mode: Mode,
     /// The options to request. When a file is sent, its length replaces the value of `tsize`.
@@ -161,7 +163,7 @@ fn get<R: FileSystem + Clone + Drop + ClientUdp + Clock + Eprint>(
         ⟦<LocalSource<R::File> as Source>⟧.meaning ⟦<LocalFile<R> as Sink>⟧.meaning
         (opens Read job.now 0) journal.old.events journal.new.events failure.end) }
 {
-    match create_local(rt, alloc, job.local) {
+    match create_local(rt, alloc, job.local, job.existing) {
         Ok(local) => get_into(rt, alloc, job, local, journal),
         Err(failure) => Err(failure),
     }
@@ -172,6 +174,7 @@ fn create_local<R: FileSystem + Clone + Drop>(
     rt: &R,
     alloc: Global,
     path: &str,
+    existing: Existing,
 ) -> Result<LocalFile<R>, Failure>
     ensures ok { IfOk result (λ local. local.taken.holding ≡ nothing) }
     ensures err { IfErr result (λ failure. status_of failure.end ≡ 2) }
@@ -179,7 +182,7 @@ fn create_local<R: FileSystem + Clone + Drop>(
     let Ok(system) = rt.clone() else {
         return Err(Failure::memory());
     };
-    match LocalFile::create(system, alloc, path) {
+    match LocalFile::create(system, alloc, path, existing) {
         Ok(local) => Ok(local),
         Err(error) => Err(Failure::of_file(error)),
     }
@@ -376,7 +379,9 @@ fn converse<C: Clock + Eprint, R: FileSystem + Drop>(
     sent: u64,
     journal: &mut Journal,
 ) -> Result<Completed<R>, Failure>
-    requires { AreFilesOf conversation.end.role.side files }
+    requires files { AreFilesOf conversation.end.role.side files }
+    requires not_closed { IsOpen conversation.end }
+    requires ready { IsReady conversation }
     ensures ok { IfOk result (λ completed.
         (completed.conversation.socket.port ≡ conversation.socket.port)
         × Converses ⟦<LocalSource<R::File> as Source>⟧.meaning ⟦<LocalFile<R> as Sink>⟧.meaning

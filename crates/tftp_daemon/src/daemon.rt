@@ -1,14 +1,21 @@
 //! `tftpd`: a server over UDP that serves the files of a folder.
 
+ghost use Rattle.std.specs.Prelude.{◌≡◌, ◌≤◌, ℕ, IfOk, OnOk, option_map};
 ghost use Rattle.tftp_server.specs.Config.{IsConfig};
+ghost use Rattle.tftp_loop.specs.Serves.{Serves, ServesIn, ServesToEnd, listening};
+ghost use Rattle.tftp_daemon.specs.Configured.{IsServerOf, IsUploads, MayServe};
+ghost use Rattle.tftp_daemon.specs.Configured.{status_of};
 
 use crate::folder::FolderStore;
+use crate::folder_source::FolderSource;
 use std::alloc::Global;
 use std::io::{self, ErrorKind};
 use std::rt::Files;
 use std::time::Clock;
+use tftp_file::Source;
+use tftp_host::{Reason, reason_of};
 use tftp_loop::{LoopConfig, LoopFault, ServerUdp};
-use tftp_server::{Config, Server};
+use tftp_server::{Config, Server, Store};
 use tftp_sockets::Journal;
 
 /// The configuration of `tftpd`.
@@ -20,6 +27,8 @@ pub(crate) struct DaemonConfig<'a> {
     pub(crate) config: Config,
     /// Every write is refused.
     pub(crate) read_only: bool,
+    /// The folder below the root that takes all writes, if not every folder does.
+    pub(crate) uploads: Option<&'a str>,
     /// The address, the end and the log.
     pub(crate) service: LoopConfig,
 }
@@ -27,8 +36,8 @@ pub(crate) struct DaemonConfig<'a> {
 /// Why `tftpd` did not serve, or stopped.
 #[derive(Clone, Copy)]
 pub(crate) enum DaemonFault {
-    /// The store over the root could not be opened.
-    File,
+    /// The store over the root could not be opened, for this reason.
+    File(Reason),
     /// Out of memory.
     Memory,
     /// Serving failed.
@@ -40,12 +49,17 @@ pub(crate) fn serve<R: Files + Clone + Drop + ServerUdp + Clock + Print + Eprint
     rt: &R,
     alloc: Global,
     config: &DaemonConfig<'_>,
-) -> Result<(), DaemonFault>
+    journal: Journal,
+) -> (Result<(), DaemonFault>, Journal)
     requires { IsConfig config.now.config }
+    ensures status { status_of result.0 ≤ 2 }
+    ensures runs { MayServe ⟦<FolderStore<R> as Store>⟧.meaning
+        ⟦<FolderSource<R::File> as Source>⟧.meaning config.now (status_of result.0) journal.events
+        result.1.events }
 {
     match open_server(rt, alloc, config) {
-        Ok(server) => serve_loop(rt, alloc, server, &config.service),
-        Err(fault) => Err(fault),
+        Ok(server) => serve_loop(rt, alloc, server, &config.service, journal),
+        Err(fault) => (Err(fault), journal),
     }
 }
 
@@ -56,21 +70,39 @@ fn open_server<R: Files + Clone + Drop>(
     config: &DaemonConfig<'_>,
 ) -> Result<Server<FolderStore<R>>, DaemonFault>
     requires { IsConfig config.now.config }
+    ensures { IfOk result (IsServerOf config.now) }
 {
     let Ok(files) = rt.clone() else {
         return Err(DaemonFault::Memory);
     };
-    let mut store = match FolderStore::new(files, alloc, config.root) {
+    let store = match open_store(files, alloc, config) {
         Ok(store) => store,
         Err(error) => return Err(store_fault(&error)),
     };
-    if config.read_only {
-        store.refuse_writes();
-    }
     match Server::new(alloc, config.config, store) {
         Ok(server) => Ok(server),
         Err(_) => Err(DaemonFault::Memory),
     }
+}
+
+/// The store over the folder, with its writes refused or kept below one folder.
+fn open_store<R: Files + Drop>(
+    files: R,
+    alloc: Global,
+    config: &DaemonConfig<'_>,
+) -> io::Result<FolderStore<R>>
+    ensures read_only { IfOk result (λ store. store.is_read_only ≡ config.now.read_only) }
+    ensures uploads { IfOk result (λ store.
+        IsUploads (option_map (λ folder. folder.now) config.now.uploads) store.uploads) }
+{
+    let mut store = FolderStore::new(files, alloc, config.root)?;
+    if config.read_only {
+        store.refuse_writes();
+    }
+    if let Some(folder) = config.uploads {
+        store.admit_uploads(alloc, folder)?;
+    }
+    Ok(store)
 }
 
 /// The fault if the store could not be opened.
@@ -78,20 +110,31 @@ fn store_fault(error: &io::Error) -> DaemonFault {
     if error.kind() == ErrorKind::OutOfMemory {
         DaemonFault::Memory
     } else {
-        DaemonFault::File
+        DaemonFault::File(reason_of(error))
     }
 }
 
-/// Serves from the request port, with a journal of this run.
+/// Serves from the request port.
 fn serve_loop<N: ServerUdp + Clock + Print + Eprint, R: Files + Drop>(
     rt: &N,
     alloc: Global,
     server: Server<FolderStore<R>>,
     service: &LoopConfig,
-) -> Result<(), DaemonFault> {
-    let (served, _journal) = tftp_loop::serve(rt, alloc, server, service, Journal::new());
+    journal: Journal,
+) -> (Result<(), DaemonFault>, Journal)
+    ensures serves { Serves ⟦<FolderStore<R> as Store>⟧.meaning
+        ⟦<FolderSource<R::File> as Source>⟧.meaning service.now.listen service.now.ending server
+        journal.events result.1.events }
+    ensures ports { ServesIn ⟦<FolderStore<R> as Store>⟧.meaning
+        ⟦<FolderSource<R::File> as Source>⟧.meaning service.now.ports service.now.listen
+        service.now.ending server journal.events result.1.events }
+    ensures ends { OnOk result.0 ((port : ℕ) × ServesToEnd ⟦<FolderStore<R> as Store>⟧.meaning
+        ⟦<FolderSource<R::File> as Source>⟧.meaning port service.now.ending server
+        (listening service.now.listen.ip port journal.events) result.1.events) }
+{
+    let (served, journal) = tftp_loop::serve(rt, alloc, server, service, journal);
     match served {
-        Ok(()) => Ok(()),
-        Err(fault) => Err(DaemonFault::Loop(fault)),
+        Ok(()) => (Ok(()), journal),
+        Err(fault) => (Err(DaemonFault::Loop(fault)), journal),
     }
 }

@@ -1,79 +1,86 @@
 //! A store over the files in a folder and its subfolders.
 
-ghost use Rattle.std.specs.Prelude.{◌≡◌, ◌≢◌, IfErr, true};
-ghost use Rattle.tftp_host.specs.DiskFault.{MayNotOpen, MayNotStore, MayNotBegin, MayNotName};
+ghost use Rattle.std.specs.Prelude.{◌≡◌, ◌≢◌, ℕ, List, true, false, None, Some, Ok, IfOk, IfErr};
+ghost use Rattle.std.specs.Prelude.{IfSome, OnErr};
+ghost use Rattle.tftp_file.specs.Path.{path_of_name};
+ghost use Rattle.tftp_host.specs.DiskFault.{MayNotOpen, MayNotStore, MayNotName};
+ghost use Rattle.tftp_daemon.specs.Settings.{SameSettings};
+ghost use Rattle.tftp_daemon.specs.Uploads.{IsBelow};
 
 use crate::folder_draft::FolderDraft;
-use crate::naming::{give_name, is_same_file};
+use crate::folder_source::{FolderSource, NotedFile, SharedReason};
+use crate::naming::{NameFault, give_name, has_no_link};
 use crate::wire_lengths::WireLengths;
 use std::alloc::Global;
 use std::cell::Cell;
-use std::fs::{self, Metadata, OpenFile, OpenOptions};
-use std::io::{self, BufReader, ErrorKind};
-use std::os::unix::fs::MetadataExt;
+use std::fs::{self, Metadata};
+use std::io::{self, ErrorKind};
 use std::rt::Files;
-use tftp_file::{Ahead, MAX_WIRE, Path, ReadSource, StoreFault};
-use tftp_host::{Reason, name_fault, open_fault, reason_of, write_fault};
+use tftp_file::{FileFault, MAX_WIRE, Path, PathFault, StoreFault, path_of};
+use tftp_host::{Reason, check_length, name_fault, open_fault, reason_of, write_fault};
 use tftp_loop::ServedStore;
 use tftp_server::{Opening, Store};
 use tftp_wire::Mode;
 
-/// The capacity of a read buffer in bytes. Blocks of at least this size bypass it.
-const READ_BUFFER: usize = 8_192;
+/// The system's number of an error for a file that is missing.
+const ENOENT: i32 = 2;
 
-/// The source of a file of a [`FolderStore`].
-pub type FolderSource<F> = Ahead<ReadSource<BufReader<F>>>;
+/// The system's number of an error for a file where a folder is wanted.
+const ENOTDIR: i32 = 20;
 
 /// The files in a folder and its subfolders. It has no model: the contents of a disk can change
 /// between calls.
 ///
 /// A name opens only a regular file within the folder. Links are followed if their target is within
-/// the folder. A new file is written as a draft, `.tftp-PORT` in the folder, and is renamed at the
-/// commit.
+/// the folder. A new file is written as a draft, `.tftp-PORT` in the folder or in the one that
+/// takes all uploads. At the commit it gets its name by a hard link, or by a rename if it replaces a
+/// file.
 #[derive(Drop)]
 pub struct FolderStore<R: Files + Drop> {
-    files: R,
+    pub(crate) files: R,
     /// The canonical path, without a trailing slash.
-    root: String,
+    pub(crate) root: String,
     /// Every write is refused.
     is_read_only: bool,
+    /// The folder below the root that takes all writes, if not every folder does.
+    uploads: Option<Path>,
+    /// The path of the folder of the drafts, without a trailing slash.
+    pub(crate) drafts: String,
     port: u16,
     lengths: WireLengths,
-    /// The system's reason for the last refused call, until it is taken.
-    reason: Cell<Option<Reason>>,
-}
-
-/// A path of the store, resolved on the system.
-#[derive(Drop)]
-struct Location {
-    /// The path on the system.
-    path: String,
-    /// A component of the path is a link.
-    has_link: bool,
-    /// The device of the parent folder, if that is not the root.
-    device: Option<u64>,
-    /// The metadata of the path itself; links are not followed.
-    found: Option<Metadata>,
+    /// The reason for the last refused call, until it is taken.
+    reason: SharedReason,
+    /// The port of a transfer whose draft is to be synced.
+    unsynced: Cell<Option<u16>>,
+    /// Whether the next `write_behind` may sync.
+    may_sync: Cell<bool>,
 }
 
 impl<R: Files + Drop> FolderStore<R> {
     /// The store over a folder. It fails with `NotADirectory` if `root` is no folder, with the
     /// system's error if `root` cannot be resolved, or when out of memory.
-    pub fn new(files: R, alloc: Global, root: &str) -> io::Result<FolderStore<R>> {
+    pub fn new(files: R, alloc: Global, root: &str) -> io::Result<FolderStore<R>>
+        ensures { IfOk result (λ store. (store.is_read_only ≡ false) × (store.uploads ≡ None)) }
+    {
         let rt = (&files, alloc);
         let canonical = fs::canonicalize(&rt, root)?;
         if !fs::metadata(&rt, canonical.as_path())?.is_dir() {
-            return Err(io::Error::from(ErrorKind::NotADirectory));
+            return Err(io::Error::from_raw_os_error(ENOTDIR));
         }
         let text = canonical.as_path().as_str();
         let root = String::from_str(alloc, text.strip_suffix('/').unwrap_or(text))?;
+        let drafts = root.clone()?;
         Ok(FolderStore {
             files,
             root,
             is_read_only: false,
+            uploads: None,
+            drafts,
             port: 0,
             lengths: WireLengths::new(alloc)?,
-            reason: Cell::new(None),
+            reason: SharedReason::new(alloc)?,
+            unsynced: Cell::new(None),
+            may_sync: Cell::new(false),
         })
     }
 
@@ -84,15 +91,63 @@ impl<R: Files + Drop> FolderStore<R> {
         self.is_read_only = true;
     }
 
+    /// Refuses every later write but those below this folder of the root, which is named as a
+    /// client names a file. Drafts are made there.
+    ///
+    /// It fails with `NotFound` also if no client can name the folder, with `NotADirectory` if it is
+    /// no folder or a link, with the system's error, or when out of memory.
+    pub fn admit_uploads(&mut self, alloc: Global, folder: &str) -> io::Result<()>
+        ensures ok { IfOk result (λ _. (path : List ℕ) × (path_of_name folder.now ≡ Ok path)
+            × (self.new.uploads ≡ Some path)) }
+        ensures rest { self.new ≡ record self.old {
+          uploads = self.new.uploads;
+          drafts = self.new.drafts;
+        } }
+        ensures err { OnErr result (self.new ≡ self.old) }
+    {
+        let path = match path_of(alloc, folder.as_bytes()) {
+            Ok(path) => path,
+            Err(PathFault::Memory) => return Err(io::Error::from(ErrorKind::OutOfMemory)),
+            Err(_) => return Err(io::Error::from_raw_os_error(ENOENT)),
+        };
+        let drafts = self.folder_below(alloc, path.as_bytes())?;
+        self.drafts = drafts;
+        self.uploads = Some(path);
+        Ok(())
+    }
+
+    /// The path of a folder below the root, which no link leads to.
+    fn folder_below(&self, alloc: Global, name: &[u8]) -> io::Result<String> {
+        let Ok(name) = str::from_utf8(name) else {
+            return Err(io::Error::from_raw_os_error(ENOENT));
+        };
+        let root = self.root.as_str();
+        let folder = format!(in alloc; "{root}/{name}")?;
+        let is_folder = fs::symlink_metadata(&self.files, folder.as_str())?.is_dir();
+        if is_folder && has_no_link(&self.files, root, folder.as_str()) {
+            Ok(folder)
+        } else {
+            Err(io::Error::from_raw_os_error(ENOTDIR))
+        }
+    }
+
+    /// Keeps the reason for a refusal by a rule of the folder.
+    pub(crate) fn refused(&self, reason: Reason) -> StoreFault
+        ensures { result ≡ StoreFault.Io }
+    {
+        self.reason.set(reason);
+        StoreFault::Io
+    }
+
     /// Keeps the system's reason, unless the fault is `Missing` or `Exists`.
     fn keep_reason(&self, fault: StoreFault, reason: Reason) {
         if fault != StoreFault::Missing && fault != StoreFault::Exists {
-            self.reason.set(Some(reason));
+            self.reason.set(reason);
         }
     }
 
     /// The fault of a failed open; keeps the reason.
-    fn open_refused(&self, error: &io::Error) -> StoreFault
+    pub(crate) fn open_refused(&self, error: &io::Error) -> StoreFault
         ensures { MayNotOpen result }
     {
         let fault = open_fault(error);
@@ -101,7 +156,7 @@ impl<R: Files + Drop> FolderStore<R> {
     }
 
     /// The fault of a failed write; keeps the reason.
-    fn write_refused(&self, error: &io::Error) -> StoreFault
+    pub(crate) fn write_refused(&self, error: &io::Error) -> StoreFault
         ensures stored { MayNotStore result }
         ensures not_memory { result ≢ StoreFault.Memory }
     {
@@ -120,191 +175,91 @@ impl<R: Files + Drop> FolderStore<R> {
         fault
     }
 
-    /// Resolves a path from the root, component by component. `Missing` if a parent folder is.
-    fn walk(&self, alloc: Global, path: &Path) -> Result<Location, StoreFault>
-        ensures { IfErr result MayNotOpen }
-    {
-        let Ok(name) = str::from_utf8(path.as_bytes()) else {
-            return Err(StoreFault::Missing);
-        };
-        let mut location = Location {
-            path: String::from_str(alloc, self.root.as_str())?,
-            has_link: false,
-            device: None,
-            found: None,
-        };
-        let mut is_missing = false;
-        for segment in name.split('/') {
-            if is_missing {
-                return Err(StoreFault::Missing);
-            }
-            if let Some(folder) = &location.found {
-                location.device = Some(folder.dev());
-            }
-            location.path.push('/')?;
-            location.path.push_str(segment)?;
-            match fs::symlink_metadata(&self.files, location.path.as_str()) {
-                Ok(found) => {
-                    location.has_link |= found.is_symlink();
-                    location.found = Some(found);
-                }
-                Err(error) if error.kind() == ErrorKind::NotFound => {
-                    is_missing = true;
-                    location.found = None;
-                }
-                Err(error) => return Err(self.open_refused(&error)),
-            }
-        }
-        Ok(location)
-    }
-
-    /// The target of a path with links. `Io` if it is outside the folder.
-    fn follow(&self, alloc: Global, path: &str) -> Result<Location, StoreFault>
-        ensures { IfErr result MayNotOpen }
-    {
-        let rt = (&self.files, alloc);
-        let canonical = match fs::canonicalize(&rt, path) {
-            Ok(canonical) => canonical,
-            Err(error) => return Err(self.open_refused(&error)),
-        };
-        let text = canonical.as_path().as_str();
-        let is_inside = text
-            .strip_prefix(self.root.as_str())
-            .is_some_and(|rest| rest.starts_with('/'));
-        if !is_inside {
-            return Err(StoreFault::Io);
-        }
-        match fs::symlink_metadata(&self.files, text) {
-            Ok(found) => Ok(Location {
-                path: String::from_str(alloc, text)?,
-                has_link: false,
-                device: None,
-                found: Some(found),
-            }),
-            Err(error) => Err(self.open_refused(&error)),
-        }
-    }
-
-    /// Opens the regular file at the path, and returns it with its metadata. A folder is `Missing`,
-    /// and any other file that is not regular is `Io`. The type is checked before the open, because
-    /// opening a FIFO blocks.
-    fn open_file(&self, alloc: Global, path: &Path) -> Result<(R::File, Metadata), StoreFault>
-        ensures { IfErr result MayNotOpen }
-    {
-        let mut location = self.walk(alloc, path)?;
-        if location.has_link {
-            location = self.follow(alloc, location.path.as_str())?;
-        }
-        let Some(found) = location.found else {
-            return Err(StoreFault::Missing);
-        };
-        if found.is_dir() {
-            return Err(StoreFault::Missing);
-        }
-        if !found.is_file() {
-            return Err(StoreFault::Io);
-        }
-        let file = match fs::open(&self.files, location.path.as_str()) {
-            Ok(file) => file,
-            Err(error) => return Err(self.open_refused(&error)),
-        };
-        let Ok(opened) = file.metadata() else {
-            return Err(StoreFault::Io);
-        };
-        // The file was replaced between the check and the open.
-        if !is_same_file(&opened, &found) {
-            return Err(StoreFault::Io);
-        }
-        Ok((file, opened))
-    }
-
-    /// The path to write a file at. It has no link and is on the device of the root. A regular file
-    /// may exist there only if it is to be replaced.
-    fn location_to_write(
+    /// The length of an opened file on the wire, or `MAX_WIRE + 1` if it is longer. `Io` if the
+    /// file cannot be read, or has a byte though its length is 0.
+    fn measure(
         &self,
-        alloc: Global,
-        path: &Path,
-        replace: bool,
-    ) -> Result<Location, StoreFault>
-        ensures { IfErr result (MayNotBegin replace) }
+        file: &mut NotedFile<R::File>,
+        found: &Metadata,
+        mode: Mode,
+    ) -> Result<u64, StoreFault>
+        ensures { IfErr result MayNotOpen }
     {
-        let location = match self.walk(alloc, path) {
-            Ok(location) => location,
-            Err(StoreFault::Memory) => return Err(StoreFault::Memory),
-            // A missing folder is not created.
-            Err(_) => return Err(StoreFault::Io),
-        };
-        if location.found.is_some() && !replace {
-            return Err(StoreFault::Exists);
+        match check_length(file, found.len()) {
+            Ok(()) => {}
+            Err(error) if error.kind() == ErrorKind::InvalidData => {
+                return Err(self.refused(Reason::LengthUnknown));
+            }
+            Err(error) => return Err(self.open_refused(&error)),
         }
-        if location.has_link
-            || location
-                .found
-                .as_ref()
-                .is_some_and(|found| !found.is_file())
-        {
-            return Err(StoreFault::Io);
-        }
-        if location.device.is_some_and(|device| !self.is_on(device)) {
-            self.reason.set(Some(Reason::AnotherDevice));
-            return Err(StoreFault::Io);
-        }
-        Ok(location)
-    }
-
-    /// Whether the root, which holds the drafts, is on this device.
-    fn is_on(&self, device: u64) -> bool {
-        let root = self.root.as_str();
-        let root = if root.is_empty() { "/" } else { root };
-        match fs::symlink_metadata(&self.files, root) {
-            Ok(root) => root.dev() == device,
-            Err(_) => false,
+        match self.lengths.length_of(file, found, mode) {
+            Ok(length) => Ok(length.unwrap_or(MAX_WIRE + 1)),
+            Err(FileFault::Memory) => Err(StoreFault::Memory),
+            Err(FileFault::Read) => Err(self.refused(file.failure())),
         }
     }
 
-    /// Creates the draft file, after removing an old one of that name.
-    fn make_draft(&self, draft: &str) -> Result<R::File, StoreFault>
-        ensures { IfErr result MayNotStore }
+    /// Whether a file may be written at the path.
+    fn check_admitted(&self, path: &Path) -> Result<(), StoreFault>
+        ensures io { IfErr result (λ fault. fault ≡ StoreFault.Io) }
+        ensures writes { IfOk result (λ _. self.now.is_read_only ≡ false) }
+        ensures below { IfOk result (λ _. IfSome self.now.uploads (λ folder.
+            IsBelow folder path.now)) }
     {
-        let _ = fs::remove_file(&self.files, draft);
-        match OpenOptions::new()
-            .write(true)
-            .create_new(true)
-            .open(&self.files, draft)
-        {
-            Ok(file) => Ok(file),
-            Err(error) => Err(self.write_refused(&error)),
+        if self.is_read_only {
+            return Err(self.refused(Reason::ReadOnlyServer));
         }
-    }
-
-    /// Whether the path of a draft still names its file. A server with the same port at another
-    /// address can replace it.
-    fn has_draft(&self, draft: &FolderDraft<R::File>) -> bool {
-        match fs::symlink_metadata(&self.files, draft.draft.as_str()) {
-            Ok(found) => draft.is_file(&found),
-            Err(_) => false,
+        match &self.uploads {
+            Some(folder) if !is_below(folder.as_bytes(), path.as_bytes()) => {
+                Err(self.refused(Reason::NotInUploads))
+            }
+            _ => Ok(()),
         }
     }
 }
 
+/// Whether the path is that of a file in this folder or below.
+fn is_below(folder: &[u8], path: &[u8]) -> bool
+    ensures { result ≡ true → IsBelow folder.now path.now }
+{
+    match path.strip_prefix(folder) {
+        Some([first, ..]) => *first == b'/',
+        _ => false,
+    }
+}
+
 impl<R: Files + Drop> ServedStore for FolderStore<R> {
-    fn set_port(&mut self, port: u16) {
+    fn set_port(&mut self, port: u16)
+        ensures { SameSettings self.old self.new }
+    {
         self.port = port;
     }
 
-    fn set_longest(&mut self, bytes: u64) {
+    fn set_longest(&mut self, bytes: u64)
+        ensures { SameSettings self.old self.new }
+    {
         self.lengths.set_longest(bytes);
     }
 
     /// `None` if no call was refused, or if the fault was `Missing` or `Exists`.
     fn take_reason(&self) -> Option<Reason> {
-        self.reason.replace(None)
+        self.reason.take()
+    }
+
+    fn take_unsynced(&self) -> Option<u16> {
+        self.unsynced.replace(None)
+    }
+
+    fn let_sync(&self) {
+        self.may_sync.set(true);
     }
 }
 
 impl<R: Files + Drop> Store for FolderStore<R> {
-    ghost use Rattle.std.specs.Prelude.{◌≡◌, ⊤, None, true, Err, IfErr, IsErrOf};
+    ghost use Rattle.std.specs.Prelude.{◌≡◌, refl, None, true, Err, IfOk, IfErr, IfSome, IsErrOf};
     ghost use Rattle.tftp_host.specs.DiskFault.{MayNotOpen, MayNotStore, MayNotBegin, MayNotName};
+    ghost use Rattle.tftp_daemon.specs.Settings.{SameSettings};
+    ghost use Rattle.tftp_daemon.specs.Uploads.{IsBelow};
 
     type Source = FolderSource<R::File>;
 
@@ -315,10 +270,17 @@ impl<R: Files + Drop> Store for FolderStore<R> {
       drafted = λ _. None;
       may_refuse_open = λ _ _ fault. MayNotOpen fault;
       may_refuse_begin = λ _ _ replace fault. MayNotBegin replace fault;
-      begun = λ _ _ _. ⊤;
+      must_refuse_open = λ _ _ _. ⊥;
+      must_fail = λ _ _ _. ⊥;
+      begun = λ before after _. SameSettings before after;
+      after_append = λ before after _. SameSettings before after;
+      after_commit = λ before after _. SameSettings before after;
+      after_write_behind = λ before after. SameSettings before after;
       may_refuse_append = λ _ _ _ fault. MayNotStore fault;
       may_refuse_commit = λ _ _ _ replace fault. MayNotName replace fault;
     } };
+
+    ghost unmoved = { λ _. record { read_only = refl; uploads = refl } };
 
     fn open(
         &self,
@@ -326,22 +288,20 @@ impl<R: Files + Drop> Store for FolderStore<R> {
         path: &Path,
         mode: Mode,
     ) -> Result<Opening<FolderSource<R::File>>, StoreFault> {
-        self.reason.set(None);
-        let (mut file, found) = self.open_file(alloc, path)?;
-        let Ok(length) = self.lengths.length_of(&mut file, &found, mode) else {
-            return Err(StoreFault::Io);
-        };
-        let length = length.unwrap_or(MAX_WIRE + 1);
-        let room = length.min(READ_BUFFER as u64) as usize;
-        let Ok(reader) = BufReader::with_capacity(alloc, room, file) else {
-            return Err(StoreFault::Memory);
-        };
-        let source = Ahead::new(alloc, ReadSource::new(reader, mode));
-        Ok(Opening { source, length })
+        self.reason.clear();
+        let (file, found) = self.open_file(alloc, path)?;
+        let mut file = NotedFile::new(alloc, file)?;
+        let length = self.measure(&mut file, &found, mode)?;
+        let reason = self.reason.share()?;
+        match FolderSource::new(alloc, file, mode, length, reason) {
+            Ok(source) => Ok(Opening { source, length }),
+            Err(_) => Err(StoreFault::Memory),
+        }
     }
 
-    /// It follows no link, creates no folder and replaces only regular files. A store that refuses
-    /// writes returns `Io` without any file access.
+    /// It follows no link, creates no folder and replaces only regular files that the server's user
+    /// may write. A store that refuses writes, or a path that is not below the folder of all uploads,
+    /// returns `Io` without any file access.
     fn begin(
         &mut self,
         alloc: Global,
@@ -349,19 +309,20 @@ impl<R: Files + Drop> Store for FolderStore<R> {
         replace: bool,
     ) -> Result<FolderDraft<R::File>, StoreFault>
         ensures refused { IfErr result (MayNotBegin replace) }
+        ensures settings { SameSettings self.old self.new }
         ensures memory { IsErrOf result StoreFault.Memory → self.new ≡ self.old }
         ensures read_only { self.old.is_read_only ≡ true → result ≡ Err StoreFault.Io }
+        ensures uploads { IfOk result (λ _. IfSome self.old.uploads (λ folder.
+            IsBelow folder path.now)) }
     {
-        self.reason.set(None);
-        if self.is_read_only {
-            return Err(StoreFault::Io);
-        }
-        let location = self.location_to_write(alloc, path, replace)?;
-        let root = self.root.as_str();
+        self.reason.clear();
+        self.check_admitted(path)?;
+        let place = self.place_to_write(alloc, path, replace)?;
+        let folder = self.drafts.as_str();
         let port = self.port;
-        let draft = format!(in alloc; "{root}/.tftp-{port}")?;
-        let file = self.make_draft(draft.as_str())?;
-        match FolderDraft::new(alloc, file, draft, location.path) {
+        let draft = format!(in alloc; "{folder}/.tftp-{port}")?;
+        let file = self.make_draft(draft.as_str(), place.replaced.as_ref())?;
+        match FolderDraft::new(alloc, file, port, draft, place) {
             Ok(draft) => Ok(draft),
             Err(_) => Err(StoreFault::Memory),
         }
@@ -377,7 +338,8 @@ impl<R: Files + Drop> Store for FolderStore<R> {
     /// The draft is synced before it gets its name, and the folder before this returns. A new name
     /// is a hard link, which never replaces a file. If the system refuses the link, the draft is
     /// renamed once no file was found. To replace a file the draft is renamed, which leaves the old
-    /// file or the new one. `Io` if the path of the draft names another file.
+    /// file or the new one. `Io` if the path of the draft names another file, or the path of its
+    /// folder another folder: before the name is given, or when it is looked at again.
     fn commit(
         &mut self,
         _path: &Path,
@@ -387,18 +349,21 @@ impl<R: Files + Drop> Store for FolderStore<R> {
         if let Err(error) = draft.finish() {
             return Err(self.write_refused(&error));
         }
-        if !self.has_draft(draft) {
-            self.reason.set(Some(Reason::DraftReplaced));
-            return Err(StoreFault::Io);
-        }
-        let (path, target) = (draft.draft.as_str(), draft.target.as_str());
-        match give_name(&self.files, path, target, replace) {
+        match give_name(&self.files, self.root.as_str(), draft, replace) {
             Ok(()) => Ok(()),
-            Err(error) => Err(self.name_refused(&error, replace)),
+            Err(NameFault::System(error)) => Err(self.name_refused(&error, replace)),
+            Err(NameFault::Replaced(reason)) => Err(self.refused(reason)),
         }
     }
 
     fn write_behind(&mut self, draft: &mut FolderDraft<R::File>) {
+        if self.may_sync.replace(false) {
+            draft.sync();
+            return;
+        }
         draft.write_behind();
+        if draft.is_to_sync() {
+            self.unsynced.set(Some(draft.port));
+        }
     }
 }

@@ -1,26 +1,37 @@
 //! A file that is being written to a folder.
 
-use crate::naming::is_same_file;
+use crate::finding::Place;
+use crate::naming::FileId;
 use std::alloc::Global;
-use std::fs::{Metadata, OpenFile};
+use std::fs::{self, OpenFile};
 use std::io::{self, Write};
+use std::rt::Files;
 use tftp_host::BlockWriter;
 
-/// The number of unsynced bytes at which a draft is synced.
-const MOST_UNSYNCED: u64 = 4 << 20;
+/// The number of unsynced bytes from which on a draft is to be synced once no transfer waits: so
+/// few that those that come meanwhile do not wait long.
+const SYNC_AT: u64 = 1 << 20;
+
+/// The number of unsynced bytes at which a draft is synced though others wait: its commit, for which
+/// they wait too, would have more to sync.
+const MOST_UNSYNCED: u64 = 16 << 20;
 
 /// A file that is being written to a [`FolderStore`](crate::FolderStore).
 ///
-/// It buffers appended bytes and writes them after a datagram. It syncs every few megabytes, so
+/// It buffers appended bytes and writes them after a datagram. Each megabyte it may be synced, so
 /// that the commit has little left to sync. After a failed write or sync, each append and commit
 /// fails.
 #[derive(Drop)]
 pub struct FolderDraft<F: Write + Drop> {
     writer: BlockWriter<F>,
+    /// The port of the transfer.
+    pub(crate) port: u16,
     /// The path of the draft.
     pub(crate) draft: String,
     /// The path of the file after the commit.
     pub(crate) target: String,
+    /// The folder of that path, as the request found it.
+    pub(crate) folder: FileId,
     /// The number of bytes appended since the last sync.
     unsynced: u64,
     /// The first failure, which each later call returns.
@@ -32,14 +43,17 @@ impl<F: Write + Drop> FolderDraft<F> {
     pub(crate) fn new(
         alloc: Global,
         file: F,
+        port: u16,
         draft: String,
-        target: String,
+        place: Place,
     ) -> io::Result<FolderDraft<F>> {
         match BlockWriter::new(alloc, file) {
             Ok(writer) => Ok(FolderDraft {
                 writer,
+                port,
                 draft,
-                target,
+                target: place.path,
+                folder: place.folder,
                 unsynced: 0,
                 failure: None,
             }),
@@ -78,16 +92,24 @@ impl<F: Write + Drop> FolderDraft<F> {
 }
 
 impl<F: Write + OpenFile + Drop> FolderDraft<F> {
-    /// Writes the buffered bytes once they are due, and then syncs once enough are unsynced.
+    /// Writes the buffered bytes once they are due. It syncs them only if too many are unsynced.
     pub(crate) fn write_behind(&mut self) {
         if self.writer.is_due() && self.flush().is_ok() && self.unsynced >= MOST_UNSYNCED {
             self.sync();
         }
     }
 
-    /// Syncs the written bytes.
-    fn sync(&mut self) {
+    /// Whether so many bytes are unsynced that the draft is to be synced once no transfer waits.
+    pub(crate) fn is_to_sync(&self) -> bool {
+        self.unsynced >= SYNC_AT
+    }
+
+    /// Writes and syncs the appended bytes, unless an earlier call failed.
+    pub(crate) fn sync(&mut self) {
         self.unsynced = 0;
+        if self.flush().is_err() {
+            return;
+        }
         if let Err(error) = self.file().sync_data() {
             self.failure = Some(error);
         }
@@ -101,11 +123,11 @@ impl<F: Write + OpenFile + Drop> FolderDraft<F> {
         }
     }
 
-    /// Whether this metadata is of the open file.
-    pub(crate) fn is_file(&self, found: &Metadata) -> bool {
-        match self.file().metadata() {
-            Ok(opened) => is_same_file(&opened, found),
-            Err(_) => false,
+    /// Whether the path is that of the open file.
+    pub(crate) fn is_at<R: Files>(&self, files: &R, path: &str) -> bool {
+        match (self.file().metadata(), fs::symlink_metadata(files, path)) {
+            (Ok(opened), Ok(found)) => FileId::of(&opened).is(&found),
+            _ => false,
         }
     }
 

@@ -1,47 +1,159 @@
-//! Gives a draft its name on the disk.
+//! Gives a draft its name on the disk, in the folder that its request named.
 
-use std::fs::{self, Metadata, OpenFile};
+use crate::folder_draft::FolderDraft;
+use std::fs::{self, Metadata};
 use std::io::{self, ErrorKind};
 use std::os::unix::fs::MetadataExt;
 use std::rt::Files;
+use tftp_host::{Folder, Reason};
 
-/// Whether both describe the same file.
-pub(crate) fn is_same_file(one: &Metadata, other: &Metadata) -> bool {
-    one.dev() == other.dev() && one.ino() == other.ino()
+/// The most folders on a path below the root.
+const MOST_FOLDERS: u32 = 8;
+
+/// A file or a folder of the system, whatever its name.
+#[derive(Clone, Copy)]
+pub(crate) struct FileId {
+    pub(crate) device: u64,
+    inode: u64,
 }
 
-/// Gives a draft its name, and syncs the folder. If the sync fails, a new name is removed.
+impl FileId {
+    /// The file or the folder with this metadata.
+    pub(crate) fn of(found: &Metadata) -> FileId {
+        FileId {
+            device: found.dev(),
+            inode: found.ino(),
+        }
+    }
+
+    /// Whether this metadata is of the same file.
+    pub(crate) fn is(self, found: &Metadata) -> bool {
+        self.device == found.dev() && self.inode == found.ino()
+    }
+}
+
+/// Why a draft got no name.
+#[derive(Clone, Copy)]
+pub(crate) enum NameFault {
+    /// The system refused a call.
+    System(io::Error),
+    /// The draft or its folder was replaced.
+    Replaced(Reason),
+}
+
+/// Gives a draft its name, looks at the name again, and syncs the folder.
+///
+/// `Replaced` if another file has the path of the draft, or another folder that of its folder. A
+/// name that was given is removed again if it leads out of the root, or is new and is not that of
+/// the draft's file, or if the sync fails and it is new.
 pub(crate) fn give_name<R: Files>(
     files: &R,
-    draft: &str,
-    target: &str,
+    root: &str,
+    draft: &FolderDraft<R::File>,
     replace: bool,
-) -> io::Result<()> {
+) -> Result<(), NameFault> {
+    if !draft.is_at(files, draft.draft.as_str()) {
+        return Err(NameFault::Replaced(Reason::DraftReplaced));
+    }
+    let folder = folder_of(draft.target.as_str());
+    if !leads_to(files, root, folder, draft.folder) {
+        return Err(NameFault::Replaced(Reason::FolderReplaced));
+    }
     // The folder is opened first: if that fails, no name is given.
-    match open_folder(files, folder_of(target)) {
-        Ok(folder) => name_in(files, folder, draft, target, replace),
-        Err(error) => Err(error),
+    match Folder::of(files, draft.target.as_str()) {
+        Ok(folder) => name_in(files, &folder, root, draft, replace),
+        Err(error) => Err(NameFault::System(error)),
     }
 }
 
-/// Gives a draft its name, and syncs the open folder.
+/// Gives a draft its name, looks at the name again, and syncs the open folder.
 fn name_in<R: Files>(
     files: &R,
-    folder: Option<R::File>,
-    draft: &str,
-    target: &str,
+    folder: &Folder<R::File>,
+    root: &str,
+    draft: &FolderDraft<R::File>,
     replace: bool,
-) -> io::Result<()> {
-    if replace {
-        fs::rename(files, draft, target)?;
-    } else {
-        name_new(files, draft, target)?;
+) -> Result<(), NameFault> {
+    let (path, target) = (draft.draft.as_str(), draft.target.as_str());
+    if let Err(error) = put_name(files, path, target, replace) {
+        return Err(NameFault::System(error));
     }
-    let synced = sync_folder(folder);
-    if synced.is_err() && !replace {
+    if let Err(reason) = look_again(files, root, draft, replace) {
+        return Err(NameFault::Replaced(reason));
+    }
+    match folder.sync() {
+        Ok(()) => Ok(()),
+        Err(error) => {
+            if !replace {
+                let _ = fs::remove_file(files, target);
+            }
+            Err(NameFault::System(error))
+        }
+    }
+}
+
+/// Names the file at a path, by a rename if it may replace one.
+fn put_name<R: Files>(files: &R, path: &str, target: &str, replace: bool) -> io::Result<()> {
+    if replace {
+        fs::rename(files, path, target)
+    } else {
+        name_new(files, path, target)
+    }
+}
+
+/// Looks at the name that a draft was given, and removes a wrong one. One that replaced a file
+/// stays, unless it leads out of the root.
+fn look_again<R: Files>(
+    files: &R,
+    root: &str,
+    draft: &FolderDraft<R::File>,
+    replace: bool,
+) -> Result<(), Reason> {
+    let target = draft.target.as_str();
+    let is_in_place = leads_to(files, root, folder_of(target), draft.folder);
+    let is_of_draft = draft.is_at(files, target);
+    if is_in_place && is_of_draft {
+        return Ok(());
+    }
+    if is_of_draft || (is_in_place && !replace) {
         let _ = fs::remove_file(files, target);
     }
-    synced
+    if is_in_place {
+        Err(Reason::DraftReplaced)
+    } else {
+        Err(Reason::FolderReplaced)
+    }
+}
+
+/// Whether a path leads to this folder, through no link below the root.
+fn leads_to<R: Files>(files: &R, root: &str, folder: &str, id: FileId) -> bool {
+    match fs::symlink_metadata(files, folder) {
+        Ok(found) => found.is_dir() && id.is(&found) && has_no_link(files, root, folder),
+        Err(_) => false,
+    }
+}
+
+/// Whether this path and each above it, up to the root, is that of a folder and no link.
+pub(crate) fn has_no_link<R: Files>(files: &R, root: &str, folder: &str) -> bool {
+    let mut folder = folder;
+    for _ in 0..MOST_FOLDERS {
+        if folder.len() <= root.len().max(1) {
+            return true;
+        }
+        if !is_folder(files, folder) {
+            return false;
+        }
+        folder = folder_of(folder);
+    }
+    false
+}
+
+/// Whether the path is that of a folder, and no link.
+fn is_folder<R: Files>(files: &R, path: &str) -> bool {
+    match fs::symlink_metadata(files, path) {
+        Ok(found) => found.is_dir(),
+        Err(_) => false,
+    }
 }
 
 /// Gives a draft a new name. A hard link never replaces a file. If the system refuses the link, the
@@ -67,34 +179,9 @@ fn rename_new<R: Files>(files: &R, draft: &str, target: &str) -> io::Result<()> 
 }
 
 /// The folder of a path.
-fn folder_of(path: &str) -> &str {
+pub(crate) fn folder_of(path: &str) -> &str {
     match path.rsplit_once('/') {
         Some(("", _)) | None => "/",
         Some((folder, _)) => folder,
     }
-}
-
-/// Opens a folder to sync it; `None` if permission is denied.
-fn open_folder<R: Files>(files: &R, folder: &str) -> io::Result<Option<R::File>> {
-    match fs::open(files, folder) {
-        Ok(file) => Ok(Some(file)),
-        Err(error) if error.kind() == ErrorKind::PermissionDenied => Ok(None),
-        Err(error) => Err(error),
-    }
-}
-
-/// Syncs a folder, if it is open and its file system supports that.
-fn sync_folder<F: OpenFile + Drop>(folder: Option<F>) -> io::Result<()> {
-    let Some(folder) = folder else {
-        return Ok(());
-    };
-    match folder.sync_all() {
-        Err(error) if !is_unsupported(error.kind()) => Err(error),
-        _ => Ok(()),
-    }
-}
-
-/// Whether the error means that the file system cannot sync a folder.
-fn is_unsupported(kind: ErrorKind) -> bool {
-    kind == ErrorKind::InvalidInput || kind == ErrorKind::Unsupported
 }

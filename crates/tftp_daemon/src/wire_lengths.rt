@@ -37,19 +37,11 @@ impl Contents {
     }
 }
 
-/// A measured length.
-#[derive(Clone, Copy)]
-enum Measured {
-    /// The length in bytes.
-    Exactly(u64),
-    /// The length exceeds this number of bytes.
-    MoreThan(u64),
-}
-
 /// The measured lengths, and the longest length that can be sent.
 #[derive(Drop)]
 pub(crate) struct WireLengths {
-    measured: RefCell<LruCache<Contents, Measured>>,
+    /// The length of each in bytes, or `None` if no block size can serve it.
+    measured: RefCell<LruCache<Contents, Option<u64>>>,
     /// The longest length on the wire that can be sent, in bytes.
     longest: u64,
 }
@@ -69,9 +61,10 @@ impl WireLengths {
         self.longest = bytes;
     }
 
-    /// The length of an open file on the wire, or `None` if it is too long to be sent. The length
-    /// on the wire is at least that of the file, so a file that is too long is not read. A measured
-    /// file is not read again until it changes or more of it can be sent.
+    /// The length of an open file on the wire, or `None` if it is too long to be sent. In netascii
+    /// a file is read to its end once, whatever the block size, and again after a change. The
+    /// length on the wire is at least that of the file, so a file that is too long by its own
+    /// length is not read.
     pub(crate) fn length_of<F: Read + Seek>(
         &self,
         file: &mut F,
@@ -82,24 +75,16 @@ impl WireLengths {
             return length_on_wire(file, mode, found.len(), self.longest);
         }
         let contents = Contents::of(found);
-        match self.recall(contents) {
-            Some(Measured::Exactly(length)) => return Ok(Some(length)),
-            Some(Measured::MoreThan(bytes)) if bytes >= self.longest => return Ok(None),
-            _ => {}
+        if let Some(length) = self.recall(contents) {
+            return Ok(length);
         }
-        let length = length_on_wire(file, mode, found.len(), self.longest)?;
-        self.remember(
-            contents,
-            match length {
-                Some(length) => Measured::Exactly(length),
-                None => Measured::MoreThan(self.longest),
-            },
-        );
+        let length = length_on_wire(file, mode, found.len(), MAX_WIRE)?;
+        self.remember(contents, length);
         Ok(length)
     }
 
     /// The remembered length of these contents.
-    fn recall(&self, contents: Contents) -> Option<Measured> {
+    fn recall(&self, contents: Contents) -> Option<Option<u64>> {
         match self.measured.try_borrow_mut() {
             Ok(mut measured) => measured.get(&contents).copied(),
             Err(_) => None,
@@ -107,7 +92,7 @@ impl WireLengths {
     }
 
     /// Remembers a length. When out of memory, it is measured again later.
-    fn remember(&self, contents: Contents, length: Measured) {
+    fn remember(&self, contents: Contents, length: Option<u64>) {
         if let Ok(mut measured) = self.measured.try_borrow_mut() {
             let _ = measured.put(contents, length);
         }

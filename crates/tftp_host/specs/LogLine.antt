@@ -9,7 +9,7 @@ use Rattle.tftp_host.specs.declared.server.log_line.Lost.{Lost as LostReason}
 use Rattle.tftp_host.specs.declared.server.log_line.Lost.TheVariants as lost_reasons
 use Rattle.tftp_host.specs.declared.server.log_line.LogLine.{LogLine}
 use Rattle.tftp_host.specs.declared.server.log_line.LogLine.TheVariants.{Opened, Refused, Ignored}
-use Rattle.tftp_host.specs.declared.server.log_line.LogLine.TheVariants.{Lost, Closed}
+use Rattle.tftp_host.specs.declared.server.log_line.LogLine.TheVariants.{Lost, Unsent, Closed}
 use Rattle.tftp_host.specs.Reason.{reason_text}
 
 -- what a lost request lacked
@@ -37,6 +37,10 @@ log_text (Ignored peer request) =
     codes "ignored " ++ (endpoint_text peer ++ (codes " " ++ request.now))
 log_text (Lost peer request lost) =
     codes "lost " ++ asked_text peer request.now (codes ": " ++ lost_text lost)
+log_text (Unsent port peer request reason) =
+    codes "unsent "
+    ++ (decimal port
+    ++ (codes " " ++ asked_text peer request.now (codes ": " ++ reason_text reason)))
 log_text (Closed port peer request answer bytes millis outcome reason) =
     codes "closed "
     ++ (decimal port

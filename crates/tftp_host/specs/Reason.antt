@@ -1,4 +1,4 @@
--- Why the system refused a call on a file (ours).
+-- Why a call on a file or a socket was refused (ours).
 use Rattle.std.specs.Prelude.{ℕ, ℤ, unsigned_abs, List, ◌++◌, codes, Option, Some, None}
 use Rattle.std.specs.Prelude.{if◌then◌else◌, ◌==◌}
 use Rattle.std.specs.Fmt.{decimal}
@@ -9,14 +9,19 @@ use Rattle.tftp_host.specs.declared.reason.Reason.TheVariants as reasons
 abbrev pub reason_of_number : ℕ → Reason
 reason_of_number number =
     if number == 1 then reasons.PermissionDenied else
+    if number == 2 then reasons.NotFound else
+    if number == 5 then reasons.InputOutput else
     if number == 12 then reasons.OutOfMemory else
     if number == 13 then reasons.PermissionDenied else
     if number == 18 then reasons.AnotherDevice else
+    if number == 20 then reasons.NotAFolder else
     if number == 23 then reasons.TooManyOpenFiles else
     if number == 24 then reasons.TooManyOpenFiles else
     if number == 27 then reasons.FileTooLarge else
     if number == 28 then reasons.NoSpace else
     if number == 30 then reasons.ReadOnlyFileSystem else
+    if number == 98 then reasons.AddressInUse else
+    if number == 99 then reasons.AddressNotAvailable else
     if number == 122 then reasons.QuotaExceeded else
     reasons.System number
 
@@ -35,6 +40,21 @@ reason_text reasons.PermissionDenied = codes "permission denied"
 reason_text reasons.ReadOnlyFileSystem = codes "read-only file system"
 reason_text reasons.AnotherDevice = codes "another device"
 reason_text reasons.OutOfMemory = codes "out of memory"
+reason_text reasons.InputOutput = codes "input or output error"
+reason_text reasons.NotFound = codes "not found"
+reason_text reasons.NotAFolder = codes "not a folder"
+reason_text reasons.AddressInUse = codes "address in use"
+reason_text reasons.AddressNotAvailable = codes "address not available"
 reason_text reasons.DraftReplaced = codes "draft replaced"
+reason_text reasons.FileReplaced = codes "file replaced"
+reason_text reasons.FolderReplaced = codes "folder replaced"
+reason_text reasons.LeadsOut = codes "leads out of the folder"
+reason_text reasons.ThroughLink = codes "through a link"
+reason_text reasons.FileCut = codes "file cut short"
+reason_text reasons.NoFolder = codes "no such folder"
+reason_text reasons.NotAFile = codes "not a file"
+reason_text reasons.ReadOnlyServer = codes "read-only server"
+reason_text reasons.NotInUploads = codes "not in uploads"
+reason_text reasons.LengthUnknown = codes "length unknown"
 reason_text (reasons.System number) = codes "system error " ++ decimal number
 reason_text reasons.Other = codes "another error"

@@ -1,12 +1,16 @@
 -- The time of a program over UDP, and its deadlines (ours; RFC 2349, "Timeout Interval Option
 -- Specification").
-use Rattle.std.specs.Prelude.{ℕ, ◌+◌, ◌-◌, ◌*◌, min, List, [], ◌∷◌}
+use Rattle.std.specs.Prelude.{ℕ, ◌+◌, ◌-◌, ◌*◌, ◌/◌, min, List, [], ◌∷◌}
 use Rattle.tftp_host.specs.declared.watch.Watch.{Watch}
 use Rattle.tftp_host.specs.declared.watch.TheConstants.{LONGEST_WAIT, MILLIS_PER_SECOND}
 
 -- the greatest time
 abbrev pub last_moment : ℕ
 last_moment = 18446744073709551615
+
+-- nanoseconds as whole milliseconds
+abbrev pub whole_millis : ℕ → ℕ
+whole_millis nanos = min (nanos / 1000000) last_moment
 
 -- the time at a new reading: it advances as much as the clock, at most by a second
 abbrev pub later_by : Watch → ℕ → ℕ

@@ -1,6 +1,6 @@
 //! The length of a disk file on the wire, and the faults of disk errors.
 
-ghost use Rattle.std.specs.Prelude.{◌≡◌, ◌≢◌, ◌<◌, ◌≤◌, min, Ok, None, IfOk, IfSome};
+ghost use Rattle.std.specs.Prelude.{◌≡◌, ◌≢◌, ◌<◌, ◌≤◌, min, [], Ok, None, IfOk, OnOk, IfSome};
 ghost use Rattle.tftp_file.specs.Length.{up_to};
 ghost use Rattle.tftp_wire.specs.declared.mode.Mode.TheVariants.{Octet};
 ghost use Rattle.tftp_file.specs.declared.fault.StoreFault.TheVariants.{Memory};
@@ -37,6 +37,25 @@ pub fn length_on_wire<F: Read + Seek>(
                 Err(_) => Err(FileFault::Read),
             }
         }
+    }
+}
+
+/// Fails if a file that states a length of 0 has a byte, as a file of `/proc` does: its length is
+/// not known before it is read, and what was measured would be sent as an empty file. A file of
+/// another length is not read.
+///
+/// `InvalidData` if it has a byte, else the error of the read.
+pub fn check_length<F: Read>(file: &mut F, length: u64) -> io::Result<()>
+    ensures empty { length ≡ 0 → OnOk result (IfSome (F.remaining file.old) (λ bytes. bytes ≡ [])) }
+    ensures other { 0 < length → (result ≡ Ok tt) × (file.new ≡ file.old) }
+{
+    if length > 0 {
+        return Ok(());
+    }
+    match file.read(&mut [0]) {
+        Ok(0) => Ok(()),
+        Ok(_) => Err(io::Error::from(ErrorKind::InvalidData)),
+        Err(error) => Err(error),
     }
 }
 

@@ -1,4 +1,4 @@
-//! Why the system refused a call on a file, for the log.
+//! Why a call on a file or a socket was refused, for the log.
 
 ghost use Rattle.std.specs.Prelude.{◌≡◌};
 ghost use Rattle.std.specs.IoError.{raw_os_error};
@@ -6,7 +6,7 @@ ghost use Rattle.tftp_host.specs.Reason.{reason_of, reason_of_number};
 
 use std::{fmt, io};
 
-/// Why a call on a file was refused.
+/// Why a call on a file or a socket was refused, by the system or by a rule of the served folder.
 #[derive(Clone, Copy, Debug, PartialEq, Eq)]
 pub enum Reason {
     /// No space is left on the device.
@@ -25,8 +25,38 @@ pub enum Reason {
     AnotherDevice,
     /// The system is out of memory.
     OutOfMemory,
+    /// A read or a write of a device failed.
+    InputOutput,
+    /// No file or folder has the name.
+    NotFound,
+    /// The path goes through a file, or ends at one, where a folder is wanted.
+    NotAFolder,
+    /// Another socket has the address.
+    AddressInUse,
+    /// No interface of the host has the address.
+    AddressNotAvailable,
     /// Another file has the name of the draft.
     DraftReplaced,
+    /// A file was replaced between the look at it and its opening.
+    FileReplaced,
+    /// A folder on the path was replaced since the request.
+    FolderReplaced,
+    /// A link leads out of the served folder.
+    LeadsOut,
+    /// A write is through a link.
+    ThroughLink,
+    /// The file is shorter than it was.
+    FileCut,
+    /// The folder of a file to be written is missing.
+    NoFolder,
+    /// The name is that of a folder, a FIFO or a device.
+    NotAFile,
+    /// The server refuses writes.
+    ReadOnlyServer,
+    /// A write is outside the folder of uploads.
+    NotInUploads,
+    /// The file has bytes, and its length is 0, as those of `/proc`.
+    LengthUnknown,
     /// Another error of the system, by its number.
     System(u32),
     /// None of these.
@@ -49,14 +79,19 @@ fn reason_of_number(number: u32) -> Reason
 {
     match number {
         1 => Reason::PermissionDenied,
+        2 => Reason::NotFound,
+        5 => Reason::InputOutput,
         12 => Reason::OutOfMemory,
         13 => Reason::PermissionDenied,
         18 => Reason::AnotherDevice,
+        20 => Reason::NotAFolder,
         23 => Reason::TooManyOpenFiles,
         24 => Reason::TooManyOpenFiles,
         27 => Reason::FileTooLarge,
         28 => Reason::NoSpace,
         30 => Reason::ReadOnlyFileSystem,
+        98 => Reason::AddressInUse,
+        99 => Reason::AddressNotAvailable,
         122 => Reason::QuotaExceeded,
         _ => Reason::System(number),
     }
@@ -78,7 +113,22 @@ impl fmt::Display for Reason {
             Reason::ReadOnlyFileSystem => f.write_str("read-only file system"),
             Reason::AnotherDevice => f.write_str("another device"),
             Reason::OutOfMemory => f.write_str("out of memory"),
+            Reason::InputOutput => f.write_str("input or output error"),
+            Reason::NotFound => f.write_str("not found"),
+            Reason::NotAFolder => f.write_str("not a folder"),
+            Reason::AddressInUse => f.write_str("address in use"),
+            Reason::AddressNotAvailable => f.write_str("address not available"),
             Reason::DraftReplaced => f.write_str("draft replaced"),
+            Reason::FileReplaced => f.write_str("file replaced"),
+            Reason::FolderReplaced => f.write_str("folder replaced"),
+            Reason::LeadsOut => f.write_str("leads out of the folder"),
+            Reason::ThroughLink => f.write_str("through a link"),
+            Reason::FileCut => f.write_str("file cut short"),
+            Reason::NoFolder => f.write_str("no such folder"),
+            Reason::NotAFile => f.write_str("not a file"),
+            Reason::ReadOnlyServer => f.write_str("read-only server"),
+            Reason::NotInUploads => f.write_str("not in uploads"),
+            Reason::LengthUnknown => f.write_str("length unknown"),
             Reason::System(number) => write!(f, "system error {number}"),
             Reason::Other => f.write_str("another error"),
         }

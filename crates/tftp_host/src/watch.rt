@@ -1,9 +1,10 @@
 //! A program's own time in milliseconds, and the deadlines of transfers.
 
-ghost use Rattle.std.specs.Prelude.{◌≡◌, ◌≤◌, ◌↔◌, IsTrue, min};
-ghost use Rattle.tftp_host.specs.Watch.{deadline_of, later_by};
+ghost use Rattle.std.specs.Prelude.{◌≡◌, ◌≤◌, ◌↔◌, IsTrue};
+ghost use Rattle.std.specs.Duration.{as_nanos};
+ghost use Rattle.tftp_host.specs.Watch.{deadline_of, later_by, whole_millis};
 
-use std::time::Clock;
+use std::time::Duration;
 
 const MILLIS_PER_SECOND: u64 = 1_000;
 
@@ -60,16 +61,9 @@ pub fn is_due(now: u64, deadline: u64) -> bool
     deadline <= now
 }
 
-/// A reading of the monotonic clock in milliseconds, or `last` if it cannot be read. A clock has no
-/// model.
-pub fn read_clock(clock: &impl Clock, last: u64) -> u64 {
-    match clock.monotonic() {
-        Ok(time) => {
-            let millis = u64::from(time.subsec_millis());
-            time.as_secs()
-                .saturating_mul(MILLIS_PER_SECOND)
-                .saturating_add(millis)
-        }
-        Err(_) => last,
-    }
+/// A time in whole milliseconds.
+pub(crate) fn millis_of(time: Duration) -> u64
+    ensures { result ≡ whole_millis (as_nanos time) }
+{
+    u64::try_from(time.as_millis()).unwrap_or(u64::MAX)
 }

@@ -53,11 +53,6 @@ module _ {A : Type 0} where
   pub set_within : (xs : List A) (i j : ℕ) (x : A) → j < length xs → j < length (slice_set xs i x)
   set_within xs i j x h = let e = set_long xs i x in omega (arith, e, h)
 
--- setting an element with the same image leaves the mapped list unchanged
-pub map_same : {A B : Type 0} (f : A → B) (xs : List A) (i : ℕ) (x y : A) → x ≡ slice_index_or xs i x → f y ≡ f x → map f (slice_set xs i y) ≡ map f xs
-map_same f xs i x y e same =
-    map-set f xs i y ∙ ap (slice_set (map f xs) i) same ∙ set_itself (map f xs) i (f x) (map_is f xs i x e)
-
 -- an index within the list has an element
 pub one_at : {A : Type 0} (xs : List A) (i : ℕ) (x y : A) → i < length xs → x ≡ slice_index_or xs i x → y ≡ slice_index_or xs i y → x ≡ y
 one_at [] i x y h e f = absurd (omega (arith, h))

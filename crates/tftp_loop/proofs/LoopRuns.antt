@@ -1,5 +1,5 @@
 -- What happens at all ports, call by call.
-use Rattle.std.proofs.Common.{◌≡◌, ◌≤◌, ◌<◌, ℕ, List, ◌∷◌, map, length, Option, Some, None, IsSome, refl, sym, ap, subst, ◌∙◌}
+use Rattle.std.proofs.Common.{◌≡◌, ◌≤◌, ◌<◌, ◌-◌, ℕ, false, List, map, length, Option, Some, None, IsSome, refl, sym, ap, subst, ◌∙◌}
 use Rattle.std.specs.Prelude.{slice_set, slice_index_or, option_map, is_some, if◌then◌else◌}
 use Rattle.std.specs.List.{swap_remove}
 use Rattle.std.proofs.lemmas.Bool.{false≢true}
@@ -12,21 +12,33 @@ use Rattle.std.proofs.lemmas.Option.{none-some, cond_some}
 use Rattle.tftp_server.specs.State.{HeldTransfer, ServerState, at, draft_of, is_closed, taken_of, without}
 use Rattle.tftp_host.specs.declared.server.port.Port.{Port}
 use Rattle.tftp_sockets.specs.Journal.{Event}
-use Rattle.tftp_sockets.specs.Journal.Event.{Watched}
 use Rattle.tftp_loop.specs.declared.transfer_port.TransferSocket.{TransferSocket}
 use Rattle.tftp_loop.specs.Run.{Run}
 use Rattle.tftp_loop.specs.Run.Run.{Start, Then}
-use Rattle.tftp_loop.specs.Serves.{Timer, PortState, LoopState, AtPort, Does, port_state}
-use Rattle.tftp_loop.specs.Serves.Does.{At_port, Clock_read, Transfer_closed}
-use Rattle.tftp_loop.specs.declared.daemon.Daemon.{Daemon}
-use Rattle.tftp_loop.specs.Served.{timer_of, close_printed, close_reported, ClosedAt}
+use Rattle.tftp_loop.specs.Serves.{Timer, PortState, LoopState, AtPort, Does, Closes, WorksAtPort, port_state}
+use Rattle.tftp_loop.specs.Serves.AtPort.{Work}
+use Rattle.tftp_loop.specs.Serves.Does.{At_port}
+use Rattle.tftp_loop.specs.Served.{timer_of, close_printed, close_reported, Works, Work_by}
 use Rattle.tftp_loop.proofs.RunLemmas.{once, idle}
 use Rattle.tftp_loop.proofs.PortRuns.{here}
 use Rattle.tftp_loop.proofs.ListLemmas.{map_is, map_within, map_set, set_itself, set_again, set_is, set_within}
 
 -- equal parts, equal states
-pub same_state : {S F D : Type 0} (s t : LoopState S F D) → s.requests ≡ t.requests → s.server ≡ t.server → s.pending ≡ t.pending → s.timers ≡ t.timers → s.now ≡ t.now → s.events ≡ t.events → s ≡ t
-same_state {S} {F} {D} s t a b c d e f = λ i. record { requests = a i; server = b i; pending = c i; timers = d i; now = e i; events = f i }
+pub same_state : {S F D : Type 0} (s t : LoopState S F D)
+    → s.requests ≡ t.requests → s.range ≡ t.range → s.server ≡ t.server → s.pending ≡ t.pending → s.timers ≡ t.timers
+    → s.now ≡ t.now → s.marked ≡ t.marked → s.left ≡ t.left → s.rounds ≡ t.rounds → s.events ≡ t.events → s ≡ t
+same_state {S} {F} {D} s t a r b c d e f g h k = λ i. record {
+  requests = a i;
+  range = r i;
+  server = b i;
+  pending = c i;
+  timers = d i;
+  now = e i;
+  marked = f i;
+  left = g i;
+  rounds = h i;
+  events = k i;
+}
 
 -- a transfer that was taken has an outcome
 outcome_taken : {F D : Type 0} (o : Option (HeldTransfer F D)) (t : Record × Option D) → taken_of o ≡ Some t → IsSome t.0.outcome
@@ -35,9 +47,23 @@ outcome_taken {F} {D} (Some held) t e =
     let both = cond_some (is_closed held) (record_of held.end, draft_of held.files) t e in
     ap (λ (p : Record × Option D). is_some p.0.outcome) (sym both.1) ∙ both.0
 
+some_mapped : {D : Type 0} (o : Option (Record × Option D)) → IsSome (option_map (λ (t : Record × Option D). t.0) o) → IsSome o
+some_mapped None h = h
+some_mapped (Some t) h = refl
+
+-- what was not taken stays
+pub none_taken : {D : Type 0} (closed : Option Record) (o : Option (Record × Option D)) → closed ≡ option_map (λ (t : Record × Option D). t.0) o → is_some closed ≡ false → o ≡ None
+none_taken closed None e h = refl
+none_taken closed (Some t) e h = absurd (false≢true (sym h ∙ ap (λ (c : Option Record). is_some c) e))
+
 module _ {S F D : Type 0} (meaning : StoreMeaning S D) (sources : SourceMeaning F) where
   abbrev pub Runs : LoopState S F D → LoopState S F D → Type 0
-  Runs = Run (Does meaning sources)
+  Runs = Run (Works meaning sources)
+
+  -- work is a run
+  pub runs_as : {s t : LoopState S F D} → Runs s t → Run (Does meaning sources) s t
+  runs_as Start = Start
+  runs_as (Then run (Work_by does is)) = Then (runs_as run) does
 
   -- the state of all ports after that of one
   abbrev pub with_port : LoopState S F D → ℕ → PortState S F D → LoopState S F D
@@ -49,7 +75,7 @@ module _ {S F D : Type 0} (meaning : StoreMeaning S D) (sources : SourceMeaning 
   lifted s index timer p within is Start = idle (ap (λ (ts : List Timer). record s { timers = ts }) (set_itself s.timers index timer is))
   lifted s index timer p within is (Then {middle} q d) =
       Then (lifted s index timer middle within is q)
-      (At_port (record {
+      (Work_by (At_port (record {
         index = index;
         timer = middle.timer;
         within = set_within s.timers index index middle.timer within;
@@ -57,7 +83,7 @@ module _ {S F D : Type 0} (meaning : StoreMeaning S D) (sources : SourceMeaning 
         next = p;
         does = d;
         is = ap (λ (ts : List Timer). record s { server = p.server; timers = ts; events = p.events }) (sym (set_again s.timers index middle.timer p.timer));
-      }))
+      })) tt)
 
   -- the same, for a list of ports
   pub at_place : (s : LoopState S F D) (ports : List (Port TransferSocket)) (index : ℕ) (port port' : Port TransferSocket) (server : ServerState S F D) (es : List Event)
@@ -73,77 +99,69 @@ module _ {S F D : Type 0} (meaning : StoreMeaning S D) (sources : SourceMeaning 
       (subst (λ (ts : List Timer). index < length ts) (sym listed) (map_within timer_of ports index within))
       (map_is timer_of ports index port is ∙ ap (λ (ts : List Timer). slice_index_or ts index (timer_of port)) (sym listed)) r)
 
-  -- the clock was read
-  pub reads_clock : (s : LoopState S F D) (time : ℕ) (es : List Event) → s.now ≤ time → es ≡ Watched time ∷ s.events → Runs s (record s { now = time; events = es })
-  reads_clock s time es forward noted =
-      once (Clock_read (record { time = time; forward = forward; is = ap (λ (fs : List Event). record s { now = time; events = fs }) noted }))
+  -- the file of a transfer worked
+  pub works : (s : LoopState S F D) (index : ℕ) (timer : Timer) (server : ServerState S F D) → index < length s.timers → timer ≡ slice_index_or s.timers index timer
+      → WorksAtPort meaning sources timer.port s.server server → Runs s (record s { server = server })
+  works s index timer server within is w =
+      let At : List Timer → Type 0 = λ ts. Runs s (record s { server = server; timers = ts }) in
+      subst At (set_itself s.timers index timer is)
+      (lifted s index timer (record { server = server; timer = timer; events = s.events }) within is
+      (once (Work (record { works = w; timer = refl; events = refl }))))
 
   -- a transfer was taken that had an outcome
   closes_with : (s : LoopState S F D) (index : ℕ) (timer : Timer) (t : Record × Option D) (outcome : Option Outcome) (server : ServerState S F D) (es : List Event)
-      → index < length s.timers → timer ≡ slice_index_or s.timers index timer
+      → 1 ≤ s.left → index < length s.timers → timer ≡ slice_index_or s.timers index timer
       → taken_of (at timer.port s.server.held) ≡ Some t → t.0.outcome ≡ outcome → IsSome outcome
       → server.held ≡ without timer.port s.server.held
       → server ≡ record s.server { held = server.held } → es ≡ close_printed timer.port timer.peer outcome s.events
-      → Runs s (record s { server = server; timers = swap_remove s.timers index timer; events = es })
-  closes_with s index timer t None server es within is taken has some held rest printed = absurd (false≢true some)
-  closes_with s index timer t (Some outcome) server es within is taken has some held rest printed =
-      once (Transfer_closed (record {
-        index = index;
-        timer = timer;
-        within = within;
-        is_timer = is;
-        taken = t;
-        is_taken = taken;
-        outcome = outcome;
-        has_outcome = has;
-        is =
-            same_state (record s { server = server; timers = swap_remove s.timers index timer; events = es })
-            (record s {
-              server = record s.server { held = without timer.port s.server.held };
-              timers = swap_remove s.timers index timer;
-              events = close_printed timer.port timer.peer (Some outcome) s.events;
-            })
-            refl (rest ∙ ap (λ h. record s.server { held = h }) held) refl refl refl printed;
-      }))
+      → (closes : Closes meaning sources s (record s { server = server; timers = swap_remove s.timers index timer; left = s.left - 1; events = es })) × (closes.index ≡ index)
+  closes_with s index timer t None server es some_left within is taken has some held rest printed = absurd (false≢true some)
+  closes_with s index timer t (Some outcome) server es some_left within is taken has some held rest printed = (
+    record {
+      index = index;
+      timer = timer;
+      within = within;
+      is_timer = is;
+      taken = t;
+      is_taken = taken;
+      outcome = outcome;
+      has_outcome = has;
+      left = some_left;
+      is =
+          same_state (record s { server = server; timers = swap_remove s.timers index timer; left = s.left - 1; events = es })
+          (record s {
+            server = record s.server { held = without timer.port s.server.held };
+            timers = swap_remove s.timers index timer;
+            left = s.left - 1;
+            events = close_printed timer.port timer.peer (Some outcome) s.events;
+          })
+          refl refl (rest ∙ ap (λ h. record s.server { held = h }) held) refl refl refl refl refl refl printed;
+    },
+    refl,
+  )
 
   -- a transfer was taken
   closes_by : (s : LoopState S F D) (index : ℕ) (timer : Timer) (o : Option (Record × Option D)) (server : ServerState S F D) (es : List Event)
-      → index < length s.timers → timer ≡ slice_index_or s.timers index timer
+      → 1 ≤ s.left → index < length s.timers → timer ≡ slice_index_or s.timers index timer
       → taken_of (at timer.port s.server.held) ≡ o → IsSome o
       → server.held ≡ (if is_some (option_map (λ (t : Record × Option D). t.0) o) then without timer.port s.server.held else s.server.held)
       → server ≡ record s.server { held = server.held } → es ≡ close_reported timer.port timer.peer (option_map (λ (t : Record × Option D). t.0) o) s.events
-      → Runs s (record s { server = server; timers = swap_remove s.timers index timer; events = es })
-  closes_by s index timer None server es within is taken some held rest printed = absurd (false≢true some)
-  closes_by s index timer (Some t) server es within is taken some held rest printed =
-      closes_with s index timer t t.0.outcome server es within is taken refl (outcome_taken (at timer.port s.server.held) t taken) held rest printed
+      → (closes : Closes meaning sources s (record s { server = server; timers = swap_remove s.timers index timer; left = s.left - 1; events = es })) × (closes.index ≡ index)
+  closes_by s index timer None server es some_left within is taken some held rest printed = absurd (false≢true some)
+  closes_by s index timer (Some t) server es some_left within is taken some held rest printed =
+      closes_with s index timer t t.0.outcome server es some_left within is taken refl (outcome_taken (at timer.port s.server.held) t taken) held rest printed
 
-  pub closes : (s : LoopState S F D) (index : ℕ) (timer : Timer) (closed : Option Record) (server : ServerState S F D) (es : List Event)
-      → index < length s.timers → timer ≡ slice_index_or s.timers index timer
-      → IsSome (taken_of (at timer.port s.server.held)) → closed ≡ option_map (λ (t : Record × Option D). t.0) (taken_of (at timer.port s.server.held))
-      → server.held ≡ (if is_some closed then without timer.port s.server.held else s.server.held)
-      → server ≡ record s.server { held = server.held } → es ≡ close_reported timer.port timer.peer closed s.events
-      → Runs s (record s { server = server; timers = swap_remove s.timers index timer; events = es })
-  closes s index timer closed server es within is some found held rest printed =
-      closes_by s index timer (taken_of (at timer.port s.server.held)) server es within is refl some
-      (held ∙ ap (λ (o : Option Record). if is_some o then without timer.port s.server.held else s.server.held) found) rest
-      (printed ∙ ap (λ (o : Option Record). close_reported timer.port timer.peer o s.events) found)
-
-  -- the same, for an identifier equal to the port
-  pub closes_at : (s : LoopState S F D) (index : ℕ) (timer : Timer) (tid : ℕ) (closed : Option Record) (server : ServerState S F D) (es : List Event)
-      → index < length s.timers → timer ≡ slice_index_or s.timers index timer → tid ≡ timer.port
-      → IsSome (taken_of (at timer.port s.server.held)) → closed ≡ option_map (λ (t : Record × Option D). t.0) (taken_of (at tid s.server.held))
+  pub closes : (s : LoopState S F D) (index : ℕ) (timer : Timer) (tid : ℕ) (closed : Option Record) (server : ServerState S F D) (es : List Event)
+      → 1 ≤ s.left → index < length s.timers → timer ≡ slice_index_or s.timers index timer → tid ≡ timer.port
+      → closed ≡ option_map (λ (t : Record × Option D). t.0) (taken_of (at tid s.server.held)) → IsSome closed
       → server.held ≡ (if is_some closed then without tid s.server.held else s.server.held)
       → server ≡ record s.server { held = server.held } → es ≡ close_reported timer.port timer.peer closed s.events
-      → Runs s (record s { server = server; timers = swap_remove s.timers index timer; events = es })
-  closes_at s index timer tid closed server es within is same some found held rest printed =
-      closes s index timer closed server es within is some
-      (found ∙ ap (λ (p : ℕ). option_map (λ (t : Record × Option D). t.0) (taken_of (at p s.server.held))) same)
-      (held ∙ ap (λ (p : ℕ). if is_some closed then without p s.server.held else s.server.held) same) rest printed
-
--- the transfer of a port that was set at its index has closed
-pub closed_at : {S F D : Type 0} {d : Daemon S F D} (ports : List (Port TransferSocket)) (index : ℕ) (port : Port TransferSocket)
-    → d.ports.items ≡ slice_set ports index port → index < length ports → IsSome (taken_of (at port.socket.udp.port d.server.held)) → ClosedAt index d
-closed_at {d = d} ports index port put within closed =
-    let At : List (Port TransferSocket) → Type 0 = λ ps. (index < length (map timer_of ps)) × (timer_of port ≡ slice_index_or (map timer_of ps) index (timer_of port)) in
-    let here = subst At (sym put) (map_within timer_of (slice_set ports index port) index (set_within ports index index port within), map_is timer_of (slice_set ports index port) index port (set_is ports index port)) in
-    record { timer = timer_of port; within = here.0; is_timer = here.1; closed = closed }
+      → (closes : Closes meaning sources s (record s { server = server; timers = swap_remove s.timers index timer; left = s.left - 1; events = es })) × (closes.index ≡ index)
+  closes s index timer tid closed server es some_left within is same found some held rest printed =
+      let o = taken_of (at timer.port s.server.held) in
+      let found' : closed ≡ option_map (λ (t : Record × Option D). t.0) o = found ∙ ap (λ (p : ℕ). option_map (λ (t : Record × Option D). t.0) (taken_of (at p s.server.held))) same in
+      closes_by s index timer o server es some_left within is refl
+      (some_mapped o (subst (λ (c : Option Record). IsSome c) found' some))
+      (held ∙ ap (λ (p : ℕ). if is_some closed then without p s.server.held else s.server.held) same
+      ∙ ap (λ (c : Option Record). if is_some c then without timer.port s.server.held else s.server.held) found') rest
+      (printed ∙ ap (λ (c : Option Record). close_reported timer.port timer.peer c s.events) found')

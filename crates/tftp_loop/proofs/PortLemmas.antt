@@ -111,11 +111,3 @@ module _ {S F D : Type 0} (tid : ℕ) (old new : ServerState S F D) (step : Step
         events = es ∙ answered_lent tid (timeout_turn t.transfer.end).reply step.to sent before t.carries.goes (lends ∙ t.carries.bytes);
       })
       events
-
-  -- the transfer closed by its timeout
-  pub closed_by_timeout : (port : ℕ) → tid ≡ port → TimesOutLent tid old.held new.held step outgoing → IsSome step.closed → IsSome (taken_of (at port new.held))
-  closed_by_timeout port same t h =
-      let At : ℕ → Type 0 = λ p. IsSome (taken_of (at p new.held)) in
-      subst At same
-      (closed_taken (at tid new.held) (with_end t.end t.transfer) (found_timed t)
-      (ap (λ (e : EndState). is_some (outcome_of e.position.phase)) t.carries.state ∙ sym (ap (λ (s : Step). is_some s.closed) t.reports) ∙ h))

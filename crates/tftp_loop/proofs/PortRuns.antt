@@ -1,16 +1,19 @@
 -- What happens at the port of a transfer, call by call.
-use Rattle.std.proofs.Common.{◌≡◌, ◌≤◌, ◌⊎◌, ℕ, false, List, ◌∷◌, inl, inr, refl, ap, subst, ◌∙◌}
+use Rattle.std.proofs.Common.{◌≡◌, ◌≤◌, ◌⊎◌, ℕ, true, false, List, ◌∷◌, Option, Some, None, inl, inr, refl, ap, subst, ◌∙◌}
+use Rattle.std.specs.Prelude.{MatchOption}
 use Rattle.tftp_file.specs.Source.{SourceMeaning}
 use Rattle.tftp_ends.specs.declared.endpoint.Endpoint.{Endpoint}
 use Rattle.tftp_ends.specs.declared.record.Step.{Step}
 use Rattle.tftp_store.specs.Store.{StoreMeaning}
 use Rattle.tftp_server.specs.State.{ServerState, at, is_open}
 use Rattle.tftp_sockets.specs.Journal.{Event}
-use Rattle.tftp_sockets.specs.Journal.Event.{Received, Elapsed}
+use Rattle.tftp_sockets.specs.Journal.Event.{Received, Elapsed, Quiet}
+use Rattle.tftp_sockets.specs.Journal.QuietEvent.{Empty, Failed}
+use Rattle.tftp_sockets.specs.Quiet.{was_tried}
 use Rattle.tftp_loop.specs.Run.{Run}
 use Rattle.tftp_loop.specs.Run.Run.{Then}
-use Rattle.tftp_loop.specs.Serves.{Timer, PortState, AtPort, AnswersDatagram, LosesDatagram, WorksAtPort, AnswersTimeout, restarted, timer_after}
-use Rattle.tftp_loop.specs.Serves.AtPort.{A_datagram, A_lost_datagram, A_timeout, A_missed_timeout, Work}
+use Rattle.tftp_loop.specs.Serves.{Timer, PortState, AtPort, AnswersDatagram, LosesDatagram, WorksAtPort, AnswersTimeout, marked_as, restarted, timer_after}
+use Rattle.tftp_loop.specs.Serves.AtPort.{A_datagram, A_lost_datagram, Nothing_found, A_failed_receive, A_timeout, A_missed_timeout, Work}
 use Rattle.tftp_loop.proofs.RunLemmas.{once, idle, onward}
 
 module _ {S F D : Type 0} (meaning : StoreMeaning S D) (sources : SourceMeaning F) (now : ℕ) where
@@ -21,8 +24,14 @@ module _ {S F D : Type 0} (meaning : StoreMeaning S D) (sources : SourceMeaning 
   Runs = Run (AtPort meaning sources now)
 
   -- nothing was received
-  pub silent : (server : ServerState S F D) (timer : Timer) (es es' : List Event) → es' ≡ es → Runs (here server timer es) (here server timer es')
-  silent server timer es es' e = idle (ap (here server timer) e)
+  pub finds_nothing : (server : ServerState S F D) (timer timer' : Timer) (es es' : List Event) → es' ≡ Quiet (Empty timer.port) ∷ es → timer' ≡ marked_as false timer
+      → Runs (here server timer es) (here server timer' es')
+  finds_nothing server timer timer' es es' noted timed = once (Nothing_found (record { server = refl; timer = timed; events = noted }))
+
+  -- a receive failed
+  pub fails_to_receive : (server : ServerState S F D) (timer timer' : Timer) (es es' : List Event) → es' ≡ Quiet (Failed timer.port) ∷ es → timer' ≡ marked_as true timer
+      → Runs (here server timer es) (here server timer' es')
+  fails_to_receive server timer timer' es es' noted timed = once (A_failed_receive (record { server = refl; timer = timed; events = noted }))
 
   -- a datagram was received, handled and answered
   pub receives : (old new : ServerState S F D) (timer timer' : Timer) (es before es' : List Event) (from : Endpoint) (bytes : List ℕ) (step : Step)
@@ -33,10 +42,11 @@ module _ {S F D : Type 0} (meaning : StoreMeaning S D) (sources : SourceMeaning 
       once (A_datagram (record { from = from; bytes = bytes; step = step; handles = subst At noted handles; timer = timed }))
 
   -- a datagram was received and lost
-  pub receives_lost : (old new : ServerState S F D) (timer : Timer) (es before es' : List Event) (from : Endpoint) (bytes : List ℕ)
-      → before ≡ Received timer.port from bytes ∷ es → LosesDatagram meaning sources timer.port from bytes old new → es' ≡ before → Runs (here old timer es) (here new timer es')
-  receives_lost old new timer es before es' from bytes noted loses same =
-      once (A_lost_datagram (record { from = from; bytes = bytes; loses = loses; timer = refl; events = same ∙ noted }))
+  pub receives_lost : (old new : ServerState S F D) (timer timer' : Timer) (es before es' : List Event) (from : Endpoint) (bytes : List ℕ)
+      → before ≡ Received timer.port from bytes ∷ es → LosesDatagram meaning sources timer.port from bytes old new → es' ≡ before → timer' ≡ marked_as true timer
+      → Runs (here old timer es) (here new timer' es')
+  receives_lost old new timer timer' es before es' from bytes noted loses same timed =
+      once (A_lost_datagram (record { from = from; bytes = bytes; loses = loses; timer = timed; events = same ∙ noted }))
 
   -- the file of the transfer worked, or did not
   pub then_works : (start : PortState S F D) (old new : ServerState S F D) (timer : Timer) (es : List Event) (tid : ℕ)
@@ -48,14 +58,46 @@ module _ {S F D : Type 0} (meaning : StoreMeaning S D) (sources : SourceMeaning 
 
   -- a timeout was delivered, and what was sent again
   pub elapses : (old new : ServerState S F D) (timer timer' : Timer) (es before es' : List Event) (tid : ℕ) (step : Step)
-      → timer.deadline ≤ now → before ≡ Elapsed tid now ∷ es → tid ≡ timer.port → AnswersTimeout timer.port old new before es' step
-      → timer' ≡ restarted now timer → Runs (here old timer es) (here new timer' es')
-  elapses old new timer timer' es before es' tid step due noted same times_out timed =
+      → timer.deadline ≤ now → was_tried timer.port es ≡ true → timer.look_at ≡ timer.deadline
+      → before ≡ Elapsed tid now ∷ es → tid ≡ timer.port
+      → AnswersTimeout timer.port old new before es' step → timer' ≡ restarted now timer
+      → Runs (here old timer es) (here new timer' es')
+  elapses old new timer timer' es before es' tid step due tried looked noted same times_out timed =
       let At : List Event → Type 0 = λ before. AnswersTimeout timer.port old new before es' step in
-      once (A_timeout (record { step = step; due = due; times_out = subst At (noted ∙ ap (λ (p : ℕ). Elapsed p now ∷ es) same) times_out; timer = timed }))
+      once (A_timeout (record {
+        step = step;
+        due = due;
+        tried = tried;
+        looked = looked;
+        times_out = subst At (noted ∙ ap (λ (p : ℕ). Elapsed p now ∷ es) same) times_out;
+        timer = timed;
+      }))
 
   pub elapses_missed : (old new : ServerState S F D) (timer timer' : Timer) (es before es' : List Event) (tid : ℕ)
-      → timer.deadline ≤ now → before ≡ Elapsed tid now ∷ es → tid ≡ timer.port → is_open (at timer.port old.held) ≡ false → new ≡ old → es' ≡ before
+      → timer.deadline ≤ now → timer.look_at ≡ timer.deadline → before ≡ Elapsed tid now ∷ es → tid ≡ timer.port
+      → is_open (at timer.port old.held) ≡ false → new ≡ old → es' ≡ before
       → timer' ≡ restarted now timer → Runs (here old timer es) (here new timer' es')
-  elapses_missed old new timer timer' es before es' tid due noted same closed unmoved events timed =
-      once (A_missed_timeout (record { due = due; closed = closed; server = unmoved; timer = timed; events = events ∙ noted ∙ ap (λ (p : ℕ). Elapsed p now ∷ es) same }))
+  elapses_missed old new timer timer' es before es' tid due looked noted same closed unmoved events timed =
+      once (A_missed_timeout (record {
+        due = due;
+        looked = looked;
+        closed = closed;
+        server = unmoved;
+        timer = timed;
+        events = events ∙ noted ∙ ap (λ (p : ℕ). Elapsed p now ∷ es) same;
+      }))
+
+  -- a due timeout was delivered, whether or not a transfer is open
+  pub elapses_either : (old new : ServerState S F D) (timer timer' : Timer) (es before es' : List Event) (tid : ℕ) (made : Option Step) (port : ℕ)
+      → timer.deadline ≤ now → was_tried timer.port es ≡ true → timer.look_at ≡ timer.deadline
+      → before ≡ Elapsed tid now ∷ es → tid ≡ timer.port → port ≡ timer.port
+      → MatchOption made ((is_open (at port old.held) ≡ false) × (new ≡ old) × (es' ≡ before)) (λ step. AnswersTimeout port old new before es' step)
+      → timer' ≡ restarted now timer → Runs (here old timer es) (here new timer' es')
+  elapses_either old new timer timer' es before es' tid None port due tried looked noted same here_too steps timed =
+      let At : ℕ → Type 0 = λ p. is_open (at p old.held) ≡ false in
+      elapses_missed old new timer timer' es before es' tid due looked noted same
+      (subst At here_too steps.0) steps.1 steps.2 timed
+  elapses_either old new timer timer' es before es' tid
+      (Some step) port due tried looked noted same here_too steps timed =
+      let At : ℕ → Type 0 = λ p. AnswersTimeout p old new before es' step in
+      elapses old new timer timer' es before es' tid step due tried looked noted same (subst At here_too steps) timed

@@ -1,42 +1,37 @@
 -- What happens at the request port.
-use Rattle.std.proofs.Common.{◌≡◌, ℕ, false, List, [], ◌∷◌, ◌++◌, Option, Some, None, IsSome, refl, sym, ap, subst, ◌∙◌}
-use Rattle.std.specs.Prelude.{Ok, Err, is_ok}
+use Rattle.std.proofs.Common.{◌≡◌, ◌⊎◌, ℕ, true, false, List, [], ◌∷◌, ◌++◌, Option, Some, None, IsSome, refl, sym, ap, subst, ◌∙◌, inl, inr}
+use Rattle.std.specs.Prelude.{Ok, Err, is_ok, IfSome}
 use Rattle.std.proofs.lemmas.Bool.{true≢false}
 use Rattle.tftp_file.specs.Source.{SourceMeaning}
 use Rattle.tftp_ends.specs.declared.endpoint.Endpoint.{Endpoint}
 use Rattle.tftp_store.specs.Store.{StoreMeaning}
 use Rattle.tftp_server.specs.State.{ServerState, at}
-use Rattle.tftp_server.specs.Request.{Admits, AdmissionState, CarriesOut, RequestStep, Left, Goes, Came, left_by}
+use Rattle.tftp_server.specs.Request.{Acts, Admits, AdmissionState, CarriesOut, RequestStep, Left, Goes, Came, left_by}
 use Rattle.tftp_server.specs.Port.{Ask, Ignores, Refuses, Reads, Writes, asks_store}
 use Rattle.tftp_server.specs.declared.opened.Opened.{Opened}
 use Rattle.tftp_sockets.specs.Journal.{replied}
 use Rattle.tftp_sockets.specs.Journal.Event.{Received}
-use Rattle.tftp_loop.specs.Serves.{LoopState, after_request, answering_port, with_timer}
+use Rattle.tftp_loop.specs.PortOrder.{IsOneOf}
+use Rattle.tftp_loop.specs.Serves.{LoopState, AnswersRequest, LosesRequest, RequestLoss, No_memory, SetsStore, answering_port, with_timer}
 use Rattle.tftp_loop.specs.Serves.Does.{Request_received, Request_answered, Request_lost, Store_set}
-use Rattle.tftp_loop.specs.Served.{IsAdmission}
-use Rattle.tftp_loop.proofs.RunLemmas.{once, onward}
-use Rattle.tftp_loop.proofs.LoopRuns.{Runs, same_state}
+use Rattle.tftp_loop.specs.Served.{IsAdmission, Work_by}
+use Rattle.tftp_loop.specs.Tended.{Concludes}
+use Rattle.tftp_loop.proofs.RunLemmas.{idle, once, onward}
+use Rattle.tftp_loop.proofs.LoopRuns.{Runs}
 
 module _ {S F D : Type 0} (meaning : StoreMeaning S D) (sources : SourceMeaning F) where
   -- a datagram was received
-  pub receives_as : (s t : LoopState S F D) (from : Endpoint) (bytes : List ℕ) → s.pending ≡ None → t.requests ≡ s.requests → t.server ≡ s.server → t.pending ≡ Some (from, bytes)
-      → t.timers ≡ s.timers → t.now ≡ s.now → t.events ≡ Received s.requests from bytes ∷ s.events → Runs meaning sources s t
-  receives_as s t from bytes none requests server pending timers now events =
-      once (Request_received (record {
-        from = from;
-        bytes = bytes;
-        none = none;
-        is = same_state t (record s { pending = Some (from, bytes); events = Received s.requests from bytes ∷ s.events }) requests server pending timers now events;
-      }))
+  pub receives_as : (s t : LoopState S F D) (from : Endpoint) (bytes : List ℕ) → s.pending ≡ None
+      → t ≡ record s { pending = Some (from, bytes); marked = true; events = Received s.requests from bytes ∷ s.events } → Runs meaning sources s t
+  receives_as s t from bytes none is = once (Work_by (Request_received (record { from = from; bytes = bytes; none = none; is = is })) tt)
 
-  -- it was lost
-  pub loses_request : (s : LoopState S F D) (from : Endpoint) (bytes : List ℕ) → s.pending ≡ Some (from, bytes) → Runs meaning sources s (record s { pending = None })
-  loses_request s from bytes pending = once (Request_lost (record { from = from; bytes = bytes; pending = pending; is = refl }))
+  -- the step of the store, if it was set
+  abbrev pub Sets : LoopState S F D → LoopState S F D → Type 0
+  Sets s t = (t ≡ s) ⊎ SetsStore meaning sources s t
 
-  -- the store was set
-  pub sets_store : (s : LoopState S F D) (server : ServerState S F D) → server ≡ record s.server { store = server.store } → meaning.stored server.store ≡ meaning.stored s.server.store
-      → Runs meaning sources s (record s { server = server })
-  sets_store s server rest same = once (Store_set (record { store = server.store; same = same; is = ap (λ (v : ServerState S F D). record s { server = v }) rest }))
+  set_as : (s : LoopState S F D) (server : ServerState S F D) → server ≡ record s.server { store = server.store } → meaning.stored server.store ≡ meaning.stored s.server.store
+      → SetsStore meaning sources s (record s { server = server })
+  set_as s server rest same = record { store = server.store; same = same; is = ap (λ (v : ServerState S F D). record s { server = v }) rest }
 
   -- an admission is one of the server whose store was set
   pub admits_set : (old new : ServerState S F D) (from : Endpoint) (bytes : List ℕ) (ask : Ask) → new ≡ record old { store = new.store } → Admits old from bytes ask → Admits new from bytes ask
@@ -59,46 +54,50 @@ module _ {S F D : Type 0} (meaning : StoreMeaning S D) (sources : SourceMeaning 
         left = o.left;
       }
 
-  -- the datagram was answered
-  pub answers_request : (s t : LoopState S F D) (from : Endpoint) (bytes : List ℕ) (tid : ℕ) (left : Left S F D) → s.pending ≡ Some (from, bytes) → at tid s.server.held ≡ None
-      → RequestStep meaning sources s.server from bytes tid left → t.requests ≡ s.requests → t.server ≡ left.new → t.pending ≡ None
-      → t.timers ≡ with_timer s.now from left.opened.tid left.new.held s.timers → t.now ≡ s.now
-      → t.events ≡ replied (answering_port s.requests left.opened.tid) left.opened.to left.sent s.events → Runs meaning sources s t
-  answers_request s t from bytes tid left pending free steps requests server none timers now events =
-      once (Request_answered (record {
-        from = from;
-        bytes = bytes;
-        pending = pending;
-        tid = tid;
-        free = free;
-        left = left;
-        steps = steps;
-        is = same_state t (after_request s from left) requests server none timers now events;
-      }))
+  -- it acts still
+  acts_set : (old new : ServerState S F D) (from : Endpoint) (bytes : List ℕ) → new ≡ record old { store = new.store } → Acts old from bytes → Acts new from bytes
+  acts_set old new from bytes rest acts = (acts.0, admits_set old new from bytes acts.0 rest acts.1, acts.2)
+
+  -- an admission that asks the store is no ignored one
+  pub asks_acts : (s t : LoopState S F D) (from : Endpoint) (bytes : List ℕ) (before : ServerState S F D) (admission : AdmissionState) → s.server ≡ record before { store = s.server.store }
+      → IsAdmission before from bytes admission → asks_store admission.ask ≡ true → RequestLoss meaning sources s t from bytes
+  asks_acts s t from bytes before admission rest admitted asks =
+      No_memory (admission.ask, admits_set before s.server from bytes admission.ask rest admitted.admits, λ e. true≢false (sym asks ∙ ap asks_store e))
 
   -- the datagram was lost, and nothing changed
-  pub loses_as : (s t : LoopState S F D) (from : Endpoint) (bytes : List ℕ) → s.pending ≡ Some (from, bytes) → t.requests ≡ s.requests → t.server ≡ s.server → t.pending ≡ None
-      → t.timers ≡ s.timers → t.now ≡ s.now → t.events ≡ s.events → Runs meaning sources s t
-  loses_as s t from bytes pending requests server none timers now events =
-      once (Request_lost (record { from = from; bytes = bytes; pending = pending; is = same_state t (record s { pending = None }) requests server none timers now events }))
+  pub loses_as : (s t : LoopState S F D) (from : Endpoint) (bytes : List ℕ) → s.pending ≡ Some (from, bytes) → RequestLoss meaning sources s t from bytes → t ≡ record s { pending = None }
+      → Concludes meaning sources s t
+  loses_as s t from bytes pending why is = record {
+    middle = s;
+    set = inl refl;
+    ends = inr (record { from = from; bytes = bytes; pending = pending; why = why; is = is });
+  }
 
   -- the store was set, and the datagram was lost
   pub sets_and_loses : (s t : LoopState S F D) (from : Endpoint) (bytes : List ℕ) (set : ServerState S F D) → s.pending ≡ Some (from, bytes)
-      → set ≡ record s.server { store = set.store } → meaning.stored set.store ≡ meaning.stored s.server.store → t.requests ≡ s.requests → t.server ≡ set → t.pending ≡ None
-      → t.timers ≡ s.timers → t.now ≡ s.now → t.events ≡ s.events → Runs meaning sources s t
-  sets_and_loses s t from bytes set pending rest same requests server none timers now events =
-      onward (sets_store s set rest same) (loses_as (record s { server = set }) t from bytes pending requests server none timers now events)
+      → set ≡ record s.server { store = set.store } → meaning.stored set.store ≡ meaning.stored s.server.store
+      → RequestLoss meaning sources (record s { server = set }) t from bytes → t ≡ record s { server = set; pending = None } → Concludes meaning sources s t
+  sets_and_loses s t from bytes set pending rest same why is = record {
+    middle = record s { server = set };
+    set = inr (set_as s set rest same);
+    ends = inr (record { from = from; bytes = bytes; pending = pending; why = why; is = is });
+  }
 
   -- the store was set, and an admission was carried out and answered
   pub sets_and_answers : (s t : LoopState S F D) (from : Endpoint) (bytes : List ℕ) (tid : ℕ) (set new : ServerState S F D) (admission : AdmissionState) (cleared out : List ℕ) (opened : Opened)
       → s.pending ≡ Some (from, bytes) → IsAdmission s.server from bytes admission
       → set ≡ record s.server { store = set.store } → meaning.stored set.store ≡ meaning.stored s.server.store
       → (sent : List ℕ) × (out ≡ cleared ++ sent) × CarriesOut meaning sources set admission.from admission.bytes admission.ask tid (record { new = new; opened = opened; sent = sent })
-      → at tid set.held ≡ None → cleared ≡ []
-      → t.requests ≡ s.requests → t.server ≡ new → t.pending ≡ None
-      → t.timers ≡ with_timer s.now from opened.tid new.held s.timers → t.now ≡ s.now
-      → t.events ≡ replied (answering_port s.requests opened.tid) opened.to out s.events → Runs meaning sources s t
-  sets_and_answers s t from bytes tid set new admission cleared out opened pending admitted rest same carried free empty requests server none timers now events =
+      → at tid set.held ≡ None → IfSome opened.tid (IsOneOf s.range) → cleared ≡ []
+      → t ≡ record s {
+        server = new;
+        pending = None;
+        timers = with_timer s.now from opened.tid new.held s.timers;
+        events = replied (answering_port s.requests opened.tid) opened.to out s.events;
+      }
+      → Concludes meaning sources s t
+  sets_and_answers s t from bytes tid set new admission cleared out opened pending admitted rest same carried free port
+      empty is =
       let sent = carried.0 in
       let left : Left S F D = record { new = new; opened = opened; sent = sent } in
       let At : Endpoint → Type 0 = λ e. CarriesOut meaning sources set e admission.bytes admission.ask tid left in
@@ -106,9 +105,38 @@ module _ {S F D : Type 0} (meaning : StoreMeaning S D) (sources : SourceMeaning 
       let carries = subst Of admitted.same_bytes (subst At admitted.same_from carried.2) in
       let steps = request_step set from bytes admission.ask tid left (admits_set s.server set from bytes admission.ask rest admitted.admits) carries in
       let put : out ≡ sent = carried.1 ∙ ap (λ (bs : List ℕ). bs ++ sent) empty in
-      onward (sets_store s set rest same)
-      (answers_request (record s { server = set }) t from bytes tid left pending free steps requests server none timers now
-      (events ∙ ap (λ (bs : List ℕ). replied (answering_port s.requests opened.tid) opened.to bs s.events) put))
+      record {
+        middle = record s { server = set };
+        set = inr (set_as s set rest same);
+        ends = inl (record {
+          from = from;
+          bytes = bytes;
+          pending = pending;
+          tid = tid;
+          free = free;
+          left = left;
+          port = port;
+          steps = steps;
+          is = is ∙ ap (λ (bs : List ℕ). record s {
+            server = new;
+            pending = None;
+            timers = with_timer s.now from opened.tid new.held s.timers;
+            events = replied (answering_port s.requests opened.tid) opened.to bs s.events;
+          }) put;
+        });
+      }
+
+  -- what was concluded is work
+  sets_run : (s t : LoopState S F D) → Sets s t → Runs meaning sources s t
+  sets_run s t (inl e) = idle e
+  sets_run s t (inr d) = once (Work_by (Store_set d) tt)
+
+  ends_run : (s t : LoopState S F D) → AnswersRequest meaning sources s t ⊎ LosesRequest meaning sources s t → Runs meaning sources s t
+  ends_run s t (inl d) = once (Work_by (Request_answered d) tt)
+  ends_run s t (inr d) = once (Work_by (Request_lost d) tt)
+
+  pub concludes_run : (s t : LoopState S F D) → Concludes meaning sources s t → Runs meaning sources s t
+  concludes_run s t c = onward (sets_run s c.middle c.set) (ends_run c.middle t c.ends)
 
   -- if the store is not asked, no transfer opens
   pub opens_none : (old : ServerState S F D) (from : Endpoint) (bytes : List ℕ) (ask : Ask) (tid : ℕ) (left : Left S F D) → CarriesOut meaning sources old from bytes ask tid left

@@ -1,3 +1,12 @@
 pub mod Run
 pub mod Serves
 pub mod Served
+pub mod PortOrder
+pub mod PortPool
+pub mod Tended
+pub mod Fair
+pub mod Sleeps
+pub mod Reported
+pub mod Expiry
+pub mod Handled
+pub mod PortsInTurn

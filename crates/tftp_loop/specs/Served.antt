@@ -1,11 +1,10 @@
 -- The loop's own values as states of its run.
-use Rattle.std.specs.Prelude.{ℕ, ◌≡◌, ◌<◌, List, ◌∷◌, map, length, slice_index_or}
-use Rattle.std.specs.Prelude.{Option, Some, None, IsSome}
+use Rattle.std.specs.Prelude.{ℕ, ◌≡◌, ◌⊎◌, ⊤, List, ◌∷◌, map, take, Option, Some, None, IfSome}
 use Rattle.tftp_file.specs.Source.{SourceMeaning}
 use Rattle.tftp_ends.specs.declared.endpoint.Endpoint.{Endpoint}
 use Rattle.tftp_store.specs.Store.{StoreMeaning}
 use Rattle.tftp_ends.specs.declared.record.Record.{Record}
-use Rattle.tftp_server.specs.State.{ServerState, at, taken_of}
+use Rattle.tftp_server.specs.State.{ServerState}
 use Rattle.tftp_server.specs.Request.{Admits, AdmissionState}
 use Rattle.tftp_server.specs.declared.opened.Opened.{Opened}
 use Rattle.tftp_host.specs.declared.server.port.Port.{Port}
@@ -16,10 +15,14 @@ use Rattle.tftp_ends.specs.declared.outcome.Outcome.{Outcome}
 use Rattle.tftp_host.specs.Printed.{line_text}
 use Rattle.tftp_host.specs.declared.server.printed.Printed.TheVariants.{Closed}
 use Rattle.tftp_loop.specs.declared.transfer_port.TransferSocket.{TransferSocket}
+use Rattle.tftp_loop.specs.PortOrder.{IsOneOf}
 use Rattle.tftp_loop.specs.Run.{Run}
 use Rattle.tftp_loop.specs.declared.daemon.Daemon.{Daemon}
+use Rattle.tftp_loop.specs.declared.serving.LoopFault.{LoopFault}
+use Rattle.tftp_loop.specs.declared.serving.LoopFault.TheVariants as faults
 use Rattle.tftp_loop.specs.Serves.{Timer, PortState, AtPort, LoopState, Does}
 use Rattle.tftp_loop.specs.Serves.{answering_port, with_timer}
+use Rattle.tftp_loop.specs.Serves.Does.{Waited, Clock_read}
 
 -- the timer of a port
 abbrev pub timer_of : Port TransferSocket → Timer
@@ -29,6 +32,8 @@ timer_of port =
       peer = port.socket.peer;
       interval = port.socket.interval;
       deadline = port.socket.times_out_at;
+      marked = port.is_ready;
+      look_at = port.due;
     }
 
 module _ {S F D : Type 0} where
@@ -64,56 +69,94 @@ abbrev pub close_reported : ℕ → Endpoint → Option Record → List Event �
 close_reported port peer None events = events
 close_reported port peer (Some r) events = close_printed port peer r.outcome events
 
+-- a line could not be printed; its event is the last
+pub record FailsToPrint (fault : LoopFault) (events : List Event) : Type 0 where
+  pub is_output : fault ≡ faults.Output
+  pub line : List ℕ
+  pub earlier : List Event
+  pub last : events ≡ Printed line ∷ earlier
+
+-- the request port could not be bound, and nothing was done
+abbrev pub FailsToBind : LoopFault → List Event → List Event → Type 0
+FailsToBind (faults.Socket reason) before after = after ≡ before
+FailsToBind _ before after = ⊥
+
+-- why a server whose port is bound stops: no memory for its buffers, or a line is not printed
+abbrev pub StopsServing : LoopFault → List Event → Type 0
+StopsServing fault events = (fault ≡ faults.Memory) ⊎ FailsToPrint fault events
+
+-- the pending datagram, from its length and the buffer that it is in
+abbrev pub pending_in : Option (Endpoint × ℕ) → List ℕ → Option (Endpoint × List ℕ)
+pending_in None buffer = None
+pending_in (Some pending) buffer = Some (pending.0, take pending.1 buffer)
+
 module _ {S F D : Type 0} where
   -- the state of a daemon with this datagram pending, if there is one
   abbrev pub loop_state : Option (Endpoint × List ℕ) → Daemon S F D → LoopState S F D
   loop_state pending d =
       record {
         requests = d.sockets.requests.port;
+        range = d.sockets.pool.range;
         server = d.server;
         pending = pending;
         timers = map timer_of d.ports.items;
         now = d.sockets.watch.now;
+        marked = d.sockets.is_ready;
+        left = d.left;
+        rounds = d.rounds;
         events = d.journal.events;
       }
 
-  -- from one state of a daemon to another, whether a datagram is pending or not
-  abbrev pub OnlyServes : StoreMeaning S D → SourceMeaning F → Daemon S F D → Daemon S F D → Type 0
-  OnlyServes meaning sources old new =
-      (pending : Option (Endpoint × List ℕ))
-      → Run (Does meaning sources) (loop_state pending old) (loop_state pending new)
+  -- the state of a daemon whose pending datagram is in this buffer
+  abbrev pub state_of : List ℕ → Daemon S F D → LoopState S F D
+  state_of buffer d = loop_state (pending_in d.pending buffer) d
 
-  -- from one state of a daemon to another, without a pending datagram
-  abbrev pub ServesRounds : StoreMeaning S D → SourceMeaning F
-      → Daemon S F D → Daemon S F D → Type 0
-  ServesRounds meaning sources old new =
-      Run (Does meaning sources) (loop_state None old) (loop_state None new)
+  module _ (meaning : StoreMeaning S D) (sources : SourceMeaning F) where
+    -- a step that is no wait and does not read the clock
+    abbrev pub IsWork : {old new : LoopState S F D} → Does meaning sources old new → Type 0
+    IsWork (Waited waits) = ⊥
+    IsWork (Clock_read reads) = ⊥
+    IsWork does = ⊤
 
-  -- from a state with this datagram pending to one without
-  abbrev pub AnswersPending : StoreMeaning S D → SourceMeaning F → Endpoint → List ℕ
-      → Daemon S F D → Daemon S F D → Type 0
-  AnswersPending meaning sources from bytes old new =
-      Run (Does meaning sources) (loop_state (Some (from, bytes)) old) (loop_state None new)
+    pub data Works (old new : LoopState S F D) : Type 0 where
+      Work_by : (does : Does meaning sources old new) → IsWork does → Works old new
 
-  -- the answer to a datagram of the request port was sent, and a transfer that opened has its port
+    -- from one state of a daemon to another, whatever its buffer has
+    abbrev pub OnlyServes : Daemon S F D → Daemon S F D → Type 0
+    OnlyServes old new =
+        (buffer : List ℕ) → Run (Does meaning sources) (state_of buffer old) (state_of buffer new)
+
+    -- the same, without a wait
+    abbrev pub OnlyWorks : Daemon S F D → Daemon S F D → Type 0
+    OnlyWorks old new = (buffer : List ℕ) → Run Works (state_of buffer old) (state_of buffer new)
+
+    -- from one state of a daemon and its buffer to another
+    abbrev pub ServesRounds : List ℕ → Daemon S F D → List ℕ → Daemon S F D → Type 0
+    ServesRounds before old after new =
+        Run (Does meaning sources) (state_of before old) (state_of after new)
+
+    -- the same, without a wait
+    abbrev pub WorksRound : List ℕ → Daemon S F D → List ℕ → Daemon S F D → Type 0
+    WorksRound before old after new = Run Works (state_of before old) (state_of after new)
+
+  -- the answer to a datagram of the request port was sent, and a transfer that opened has its port,
+  -- one of the range, if there is one
   pub record HasAnswered (from : Endpoint) (opened : Opened) (sent : List ℕ)
       (old new : Daemon S F D) : Type 0 where
     pub requests : new.sockets.requests.port ≡ old.sockets.requests.port
+    pub range : new.sockets.pool.range ≡ old.sockets.pool.range
+    pub port : IfSome opened.tid (IsOneOf old.sockets.pool.range)
     pub server : new.server ≡ old.server
     pub timers : map timer_of new.ports.items
         ≡ with_timer old.sockets.watch.now from opened.tid old.server.held
         (map timer_of old.ports.items)
     pub now : new.sockets.watch.now ≡ old.sockets.watch.now
+    pub marked : new.sockets.is_ready ≡ old.sockets.is_ready
+    pub left_to_close : new.left ≡ old.left
+    pub rounds : new.rounds ≡ old.rounds
     pub events : new.journal.events
         ≡ replied (answering_port old.sockets.requests.port opened.tid) opened.to sent
         old.journal.events
-
-  -- the transfer of the port at this index has closed
-  pub record ClosedAt (index : ℕ) (d : Daemon S F D) : Type 0 where
-    pub timer : Timer
-    pub within : index < length (map timer_of d.ports.items)
-    pub is_timer : timer ≡ slice_index_or (map timer_of d.ports.items) index timer
-    pub closed : IsSome (taken_of (at timer.port d.server.held))
 
   -- the admission is of this datagram by this server
   pub record IsAdmission (server : ServerState S F D) (from : Endpoint) (bytes : List ℕ)

@@ -1,8 +1,10 @@
--- A run of a server over UDP: each step is followed at once by its answer, and nothing else is
--- sent or printed (RFC 1350, sections 2 and 4).
-use Rattle.std.specs.Prelude.{ℕ, ◌≡◌, ◌≤◌, ◌<◌, Bool, true, false, List, [], ◌∷◌, ◌++◌, length}
-use Rattle.std.specs.Prelude.{slice_set, slice_index_or, Option, Some, None}
-use Rattle.std.specs.List.{swap_remove}
+-- A run of a server over UDP: each step is followed at once by its answer, nothing else is sent or
+-- printed, and the server waits only when its work is done (RFC 1350, sections 2 and 4).
+use Rattle.std.specs.Prelude.{ℕ, ◌≡◌, ◌≢◌, ◌≤◌, ◌<◌, ◌-◌, ◌+◌, ◌||◌, ◌⊎◌, min, Bool, true, false}
+use Rattle.std.specs.Prelude.{if◌then◌else◌, List, [], ◌∷◌, ◌++◌, length, map}
+use Rattle.std.specs.Prelude.{slice_set, slice_index_or, Option, Some, None, is_some, IsSome}
+use Rattle.std.specs.Prelude.{All, IfSome}
+use Rattle.std.specs.List.{swap_remove, list_any}
 use Rattle.tftp_file.specs.Source.{SourceMeaning}
 use Rattle.tftp_ends.specs.declared.endpoint.Endpoint.{Endpoint}
 use Rattle.tftp_ends.specs.declared.outcome.Outcome.{Outcome}
@@ -16,14 +18,22 @@ use Rattle.tftp_store.specs.Store.{StoreMeaning}
 use Rattle.tftp_server.specs.State.{HeldTransfer, ServerState, at, is_open, taken_of, without}
 use Rattle.tftp_server.specs.Steps.{TakesDatagramLent, TimesOutLent, DatagramFaultLent, KeepsHeld}
 use Rattle.tftp_server.specs.declared.fault.ServerFault.{ServerFault}
-use Rattle.tftp_server.specs.Request.{RequestStep, Left}
+use Rattle.tftp_server.specs.Port.{Ask, asks_store}
+use Rattle.tftp_server.specs.Request.{Acts, Admits, RequestStep, Left}
 use Rattle.tftp_server.specs.Work.{WorksAt}
-use Rattle.tftp_host.specs.Watch.{deadline_of}
+use Rattle.tftp_host.specs.Watch.{deadline_of, last_moment}
+use Rattle.tftp_host.specs.declared.watch.TheConstants.{LONGEST_WAIT}
 use Rattle.tftp_host.specs.Printed.{line_text}
 use Rattle.tftp_host.specs.declared.server.printed.Printed.TheVariants.{Closed, Listening}
+use Rattle.tftp_sockets.specs.Bound.{IsBoundTo}
 use Rattle.tftp_sockets.specs.Journal.{Event, replied, answered}
-use Rattle.tftp_sockets.specs.Journal.Event.{Received, Watched, Elapsed, Printed}
+use Rattle.tftp_sockets.specs.Journal.Event.{Received, Watched, Elapsed, Printed, Quiet}
+use Rattle.tftp_sockets.specs.Journal.QuietEvent.{Empty, Failed, Slept, Woke}
+use Rattle.tftp_sockets.specs.Quiet.{is_among, was_tried}
+use Rattle.tftp_loop.specs.PortOrder.{IsOneOf}
 use Rattle.tftp_loop.specs.Run.{Run}
+use Rattle.tftp_loop.specs.declared.port_order.PortRange.{PortRange}
+use Rattle.tftp_loop.specs.declared.serving.Ending.{Ending}
 
 -- ---- the state
 
@@ -35,6 +45,10 @@ pub record Timer : Type 0 where
   pub peer : Endpoint
   pub interval : ℕ
   pub deadline : ℕ
+  -- whether a datagram may be at the port
+  pub marked : Bool
+  -- when the port is read again, marked or not
+  pub look_at : ℕ
 
 -- a server, the timer of one of its transfers, and the journal
 pub record PortState (S F D : Type 0) : Type 0 where
@@ -46,6 +60,8 @@ pub record PortState (S F D : Type 0) : Type 0 where
 pub record LoopState (S F D : Type 0) : Type 0 where
   -- the request port
   pub requests : ℕ
+  -- the range that the ports of transfers are of, if there is one
+  pub range : Option PortRange
   pub server : ServerState S F D
   -- the datagram received there and not handled yet
   pub pending : Option (Endpoint × List ℕ)
@@ -53,22 +69,62 @@ pub record LoopState (S F D : Type 0) : Type 0 where
   pub timers : List Timer
   -- the last reading of the clock, in milliseconds
   pub now : ℕ
+  -- whether a datagram may be at the request port
+  pub marked : Bool
+  -- how many transfers are yet to close, and how many waits may still begin
+  pub left : ℕ
+  pub rounds : ℕ
   -- the last event first
   pub events : List Event
 
+-- the time after an opening or progress at which a port is read again though no wait reported it,
+-- in milliseconds: a second datagram that arrived with the first is reported only once
+abbrev pub look_after : ℕ
+look_after = 500
+
+-- when a port is read again, if its transfer opens or advances now
+abbrev pub next_look : ℕ → ℕ → ℕ
+next_look now interval = min (deadline_of now interval) (min (now + look_after) last_moment)
+
 -- the timer, expiring one interval from now
 abbrev pub restarted : ℕ → Timer → Timer
-restarted now timer = record timer { deadline = deadline_of now timer.interval }
+restarted now timer =
+    record timer {
+      deadline = deadline_of now timer.interval;
+      look_at = deadline_of now timer.interval;
+    }
 
--- the timer after a step: progress restarts it
+-- the timer whose port may have a datagram, or has none: it is read when it is marked, or when the
+-- timer expires
+abbrev pub marked_as : Bool → Timer → Timer
+marked_as marked timer = record timer { marked = marked; look_at = timer.deadline }
+
+-- the timer after a datagram: progress restarts it, and the port is left for a while; else more
+-- datagrams may be there
 abbrev pub timer_after : ℕ → Bool → Timer → Timer
-timer_after now true timer = restarted now timer
-timer_after now false timer = timer
+timer_after now true timer =
+    record timer {
+      deadline = deadline_of now timer.interval;
+      marked = false;
+      look_at = next_look now timer.interval;
+    }
+timer_after now false timer = marked_as true timer
 
 -- the timer of a transfer that opens now
 abbrev pub started : ℕ → ℕ → Endpoint → ℕ → Timer
 started now port peer interval =
-    record { port = port; peer = peer; interval = interval; deadline = deadline_of now interval }
+    record {
+      port = port;
+      peer = peer;
+      interval = interval;
+      deadline = deadline_of now interval;
+      marked = false;
+      look_at = next_look now interval;
+    }
+
+-- the timer after a wait that reported these ports
+abbrev pub marked_by : List ℕ → Timer → Timer
+marked_by ports timer = record timer { marked = timer.marked || is_among timer.port ports }
 
 -- ---- at the port of a transfer
 
@@ -121,13 +177,28 @@ module _ {S F D : Type 0} (meaning : StoreMeaning S D) (sources : SourceMeaning 
       pub from : Endpoint
       pub bytes : List ℕ
       pub loses : LosesDatagram old.timer.port from bytes old.server new.server
-      pub timer : new.timer ≡ old.timer
+      pub timer : new.timer ≡ marked_as true old.timer
       pub events : new.events ≡ Received old.timer.port from bytes ∷ old.events
 
-    -- a due timeout is delivered, and the timer restarts (RFC 1350, section 2)
+    -- a receive finds nothing
+    pub record FindsNothing : Type 0 where
+      pub server : new.server ≡ old.server
+      pub timer : new.timer ≡ marked_as false old.timer
+      pub events : new.events ≡ Quiet (Empty old.timer.port) ∷ old.events
+
+    -- a receive fails otherwise: the port stays marked
+    pub record FailsToReceive : Type 0 where
+      pub server : new.server ≡ old.server
+      pub timer : new.timer ≡ marked_as true old.timer
+      pub events : new.events ≡ Quiet (Failed old.timer.port) ∷ old.events
+
+    -- a due timeout is delivered, once its port was read and is not left for a while, and the timer
+    -- restarts (RFC 1350, section 2)
     pub record DeliversTimeout : Type 0 where
       pub step : Step
       pub due : old.timer.deadline ≤ now
+      pub tried : was_tried old.timer.port old.events ≡ true
+      pub looked : old.timer.look_at ≡ old.timer.deadline
       pub times_out : AnswersTimeout old.timer.port old.server new.server
           (Elapsed old.timer.port now ∷ old.events) new.events step
       pub timer : new.timer ≡ restarted now old.timer
@@ -135,6 +206,7 @@ module _ {S F D : Type 0} (meaning : StoreMeaning S D) (sources : SourceMeaning 
     -- a due timeout finds no open transfer, and nothing is sent
     pub record MissesTimeout : Type 0 where
       pub due : old.timer.deadline ≤ now
+      pub looked : old.timer.look_at ≡ old.timer.deadline
       pub closed : is_open (at old.timer.port old.server.held) ≡ false
       pub server : new.server ≡ old.server
       pub timer : new.timer ≡ restarted now old.timer
@@ -150,6 +222,8 @@ module _ {S F D : Type 0} (meaning : StoreMeaning S D) (sources : SourceMeaning 
     pub data AtPort : Type 0 where
       A_datagram : ReceivesAndHandles → AtPort
       A_lost_datagram : ReceivesAndLoses → AtPort
+      Nothing_found : FindsNothing → AtPort
+      A_failed_receive : FailsToReceive → AtPort
       A_timeout : DeliversTimeout → AtPort
       A_missed_timeout : MissesTimeout → AtPort
       Work : FileWorks → AtPort
@@ -191,8 +265,60 @@ module _ {S F D : Type 0} where
             old.events;
       }
 
+-- ---- waits
+
+-- until the nearest time at which a port is read, at most a second, in milliseconds
+abbrev pub until_look : ℕ → List Timer → ℕ
+until_look now [] = LONGEST_WAIT
+until_look now (timer ∷ timers) = min (timer.look_at - now) (until_look now timers)
+
+module _ {S F D : Type 0} where
+  -- whether the server has something to do at once: a port that is marked, or a pending datagram
+  abbrev pub is_busy : LoopState S F D → Bool
+  is_busy old = old.marked || (is_some old.pending || list_any (λ timer. timer.marked) old.timers)
+
+  -- the longest wait, in milliseconds: none if there is something to do
+  abbrev pub most_millis : LoopState S F D → ℕ
+  most_millis old = if is_busy old then 0 else until_look old.now old.timers
+
+  -- a transfer is served: its port is not marked, or was read since the last wait; it is not due, or
+  -- its timer started at this moment; and if it closed it is removed
+  pub record IsServed (old : LoopState S F D) (timer : Timer) : Type 0 where
+    pub read : timer.marked ≡ true → was_tried timer.port old.events ≡ true
+    pub due : (old.now < timer.deadline) ⊎ (timer.deadline ≡ deadline_of old.now timer.interval)
+    pub look : (old.now < timer.look_at) ⊎ ((timer.look_at ≡ timer.deadline)
+        ⊎ (timer.look_at ≡ next_look old.now timer.interval))
+    pub not_closed : taken_of (at timer.port old.server.held) ≡ None
+
+  -- a wait of at most so long, which reported these ports, is allowed
+  pub record MayWait (old : LoopState S F D) (millis : ℕ) (ports : List ℕ) : Type 0 where
+    -- the loop goes on
+    pub left : 1 ≤ old.left
+    pub rounds : 1 ≤ old.rounds
+    -- the request port was read since the last wait, if it is marked or its datagram is pending: so a
+    -- datagram is pending at one wait at most, since it is not read while one is
+    pub requests : (old.marked || is_some old.pending) ≡ true
+        → was_tried old.requests old.events ≡ true
+    pub transfers : All (IsServed old) old.timers
+    -- it is no longer than there is nothing to do
+    pub longest : millis ≤ most_millis old
+    -- it takes no time only if there is something to do, or ports were reported at once
+    pub shortest : millis ≡ 0 → (most_millis old ≡ 0) ⊎ (ports ≢ [])
+
 module _ {S F D : Type 0} (meaning : StoreMeaning S D) (sources : SourceMeaning F)
     (old new : LoopState S F D) where
+  -- the server waits, and marks the ports that were reported
+  pub record Waits : Type 0 where
+    pub millis : ℕ
+    pub ports : List ℕ
+    pub may : MayWait old millis ports
+    pub is : new ≡ record old {
+      marked = old.marked || is_among old.requests ports;
+      timers = map (marked_by ports) old.timers;
+      rounds = old.rounds - 1;
+      events = Quiet (Woke ports) ∷ Quiet (Slept millis) ∷ old.events;
+    }
+
   -- a step at the port of a transfer
   pub record ServesPort : Type 0 where
     pub index : ℕ
@@ -214,12 +340,30 @@ module _ {S F D : Type 0} (meaning : StoreMeaning S D) (sources : SourceMeaning 
     pub none : old.pending ≡ None
     pub is : new ≡ record old {
       pending = Some (from, bytes);
+      marked = true;
       events = Received old.requests from bytes ∷ old.events;
+    }
+
+  -- a receive at the request port finds nothing, while none is pending
+  pub record FindsNoRequest : Type 0 where
+    pub none : old.pending ≡ None
+    pub is : new ≡ record old {
+      marked = false;
+      events = Quiet (Empty old.requests) ∷ old.events;
+    }
+
+  -- a receive at the request port fails otherwise, while none is pending: it stays marked
+  pub record FailsToReceiveRequest : Type 0 where
+    pub none : old.pending ≡ None
+    pub is : new ≡ record old {
+      marked = true;
+      events = Quiet (Failed old.requests) ∷ old.events;
     }
 
   -- the server, as it is now, handles the pending datagram, and the answer is sent at once: an
   -- ERROR from the request port, or the first datagram of a transfer from a port that no transfer
-  -- has (RFC 1350, section 4; RFC 2347, "Negotiation Protocol")
+  -- has, and that is one of the range, if there is one (RFC 1350, section 4; RFC 2347, "Negotiation
+  -- Protocol")
   pub record AnswersRequest : Type 0 where
     pub from : Endpoint
     pub bytes : List ℕ
@@ -227,14 +371,24 @@ module _ {S F D : Type 0} (meaning : StoreMeaning S D) (sources : SourceMeaning 
     pub tid : ℕ
     pub free : at tid old.server.held ≡ None
     pub left : Left S F D
+    pub port : IfSome left.opened.tid (IsOneOf old.range)
     pub steps : RequestStep meaning sources old.server from bytes tid left
     pub is : new ≡ after_request old from left
 
-  -- the pending datagram is lost: out of memory, no port, or the loop ends
+  -- why the pending datagram is lost: there is no memory for what it asks, it may open a transfer and
+  -- no port could be bound, or a transfer has the identifier 0, which stands for no transfer
+  pub data RequestLoss (from : Endpoint) (bytes : List ℕ) : Type 0 where
+    No_memory : Acts old.server from bytes → RequestLoss from bytes
+    No_port : (ask : Ask) → Admits old.server from bytes ask → asks_store ask ≡ true
+        → RequestLoss from bytes
+    No_identifier : IsSome (at 0 old.server.held) → RequestLoss from bytes
+
+  -- the pending datagram is lost
   pub record LosesRequest : Type 0 where
     pub from : Endpoint
     pub bytes : List ℕ
     pub pending : old.pending ≡ Some (from, bytes)
+    pub why : RequestLoss from bytes
     pub is : new ≡ record old { pending = None }
 
   -- the clock is read, which never goes back
@@ -260,51 +414,89 @@ module _ {S F D : Type 0} (meaning : StoreMeaning S D) (sources : SourceMeaning 
     pub is_taken : taken_of (at timer.port old.server.held) ≡ Some taken
     pub outcome : Outcome
     pub has_outcome : taken.0.outcome ≡ Some outcome
+    pub left : 1 ≤ old.left
     pub is : new ≡ record old {
       server = record old.server { held = without timer.port old.server.held };
       timers = swap_remove old.timers index timer;
+      left = old.left - 1;
       events = Printed (line_text (Closed timer.port timer.peer.port outcome)) ∷ old.events;
     }
 
   -- the steps of the loop
   pub data Does : Type 0 where
+    Waited : Waits → Does
     At_port : ServesPort → Does
     Request_received : ReceivesRequest → Does
+    No_request_found : FindsNoRequest → Does
+    Request_not_received : FailsToReceiveRequest → Does
     Request_answered : AnswersRequest → Does
     Request_lost : LosesRequest → Does
     Clock_read : ReadsClock → Does
     Store_set : SetsStore → Does
     Transfer_closed : Closes → Does
 
--- a server with a bound request port that has received nothing
-abbrev pub at_start : {S F D : Type 0} → ℕ → ServerState S F D → List Event → LoopState S F D
-at_start requests server events =
+-- a server with a bound request port that has received nothing, whose transfers have ports of this
+-- range, if there is one, and that ends after so many closed transfers or waits
+abbrev pub at_start_in : {S F D : Type 0} → Option PortRange → ℕ → Ending → ServerState S F D
+    → List Event → LoopState S F D
+at_start_in range requests ending server events =
     record {
       requests = requests;
+      range = range;
       server = server;
       pending = None;
       timers = [];
       now = 0;
+      marked = true;
+      left = ending.transfers;
+      rounds = ending.rounds;
       events = events;
     }
+
+-- the same, whatever ports its transfers have
+abbrev pub at_start : {S F D : Type 0} → ℕ → Ending → ServerState S F D → List Event
+    → LoopState S F D
+at_start = at_start_in None
 
 -- the journal after the line of the request port was printed
 abbrev pub listening : List ℕ → ℕ → List Event → List Event
 listening ip port events =
     Printed (line_text (Listening (record { ip = ip; port = port }))) ∷ events
 
--- a server with a bound request port serves there, from one journal to the other
-abbrev pub ServesFrom : {S F D : Type 0} → StoreMeaning S D → SourceMeaning F → ℕ
-    → ServerState S F D → List Event → List Event → Type 0
-ServesFrom {S} {F} {D} meaning sources port server before after =
-    (last : LoopState S F D) × Run (Does meaning sources) (at_start port server before) last
-    × (after ≡ last.events)
+module _ {S F D : Type 0} (meaning : StoreMeaning S D) (sources : SourceMeaning F) where
+  -- a server with a bound request port serves there, from one journal to the other, and its
+  -- transfers have ports of this range, if there is one
+  abbrev pub ServesFromIn : Option PortRange → ℕ → Ending → ServerState S F D
+      → List Event → List Event → Type 0
+  ServesFromIn range port ending server before after =
+      (last : LoopState S F D)
+      × Run (Does meaning sources) (at_start_in range port ending server before) last
+      × (after ≡ last.events)
 
--- a whole run, from one journal to the other: the request port could not be bound, or its line is
--- printed and then the server serves
-pub data Serves {S F D : Type 0} (meaning : StoreMeaning S D) (sources : SourceMeaning F)
-    (listen : Endpoint) (server : ServerState S F D) (before after : List Event) : Type 0 where
-  Unbound : after ≡ before → Serves meaning sources listen server before after
-  Bound : (port : ℕ)
-      → ServesFrom meaning sources port server (listening listen.ip port before) after
-      → Serves meaning sources listen server before after
+  -- the same, to the end: so many transfers closed, or so many waits are over
+  abbrev pub ServesToEndIn : Option PortRange → ℕ → Ending → ServerState S F D
+      → List Event → List Event → Type 0
+  ServesToEndIn range port ending server before after =
+      (last : LoopState S F D)
+      × Run (Does meaning sources) (at_start_in range port ending server before) last
+      × (after ≡ last.events) × ((last.left ≡ 0) ⊎ (last.rounds ≡ 0))
+
+  -- a whole run, from one journal to the other: the request port could not be bound; or it is at
+  -- the address and the port that it was to listen at, any port for 0, its line is printed, and
+  -- then the server serves, and its transfers have ports of this range, if there is one
+  pub data ServesIn (range : Option PortRange) (listen : Endpoint) (ending : Ending)
+      (server : ServerState S F D) (before after : List Event) : Type 0 where
+    Unbound : after ≡ before → ServesIn range listen ending server before after
+    Bound : (port : ℕ) → IsBoundTo listen listen.ip port
+        → ServesFromIn range port ending server (listening listen.ip port before) after
+        → ServesIn range listen ending server before after
+
+  -- the same, whatever ports the transfers have
+  abbrev pub ServesFrom : ℕ → Ending → ServerState S F D → List Event → List Event → Type 0
+  ServesFrom = ServesFromIn None
+
+  abbrev pub ServesToEnd : ℕ → Ending → ServerState S F D → List Event → List Event → Type 0
+  ServesToEnd = ServesToEndIn None
+
+  abbrev pub Serves : Endpoint → Ending → ServerState S F D → List Event → List Event → Type 0
+  Serves = ServesIn None

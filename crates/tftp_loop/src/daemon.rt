@@ -1,24 +1,34 @@
 //! The loop over the ports of a server, in one thread.
 
-ghost use Rattle.std.specs.Prelude.{◌≡◌, map, []};
-ghost use Rattle.tftp_loop.specs.Served.{ClosedAt, OnlyServes, ServesRounds, timer_of};
-ghost use Rattle.tftp_loop.specs.declared.transfer_port.PortStatus.TheVariants as statuses;
+ghost use Rattle.std.specs.Prelude.{◌≡◌, ◌≤◌, ◌<◌, ◌+◌, ◌⊎◌, ◌||◌, IfErr, OnOk, None, is_some, []};
+ghost use Rattle.std.specs.Prelude.{length, if◌then◌else◌};
+ghost use Rattle.std.specs.List.{list_any};
+ghost use Rattle.tftp_loop.specs.Served.{FailsToPrint, OnlyWorks, OnlyServes, ServesRounds};
+ghost use Rattle.tftp_loop.specs.Served.{WorksRound};
+ghost use Rattle.tftp_loop.specs.Tended.{AreRead, AreTimed, Finishes, HasWoken, IsSettled, IsTended};
+ghost use Rattle.tftp_loop.specs.Tended.{TakesTurn, millis_of};
+ghost use Rattle.tftp_loop.specs.Tended.{leaves_read, leaves_timed};
 
-use crate::report::{record_of_closed, report_close};
+use crate::report::{log_unsent, record_of_closed, report_close};
 use crate::server_udp::ServerUdp;
 use crate::serving::{Ending, LoopFault};
-use crate::sockets::{REQUESTS, Sockets};
+use crate::sockets::Sockets;
 use crate::store::ServedStore;
-use crate::transfer_port::{PortStatus, TransferPort, take_due, take_ready};
-use mio::{Events, Token};
+use crate::transfer_port::{TransferPort, count_active, mark_all, take_due, take_ready, work_at};
 use std::alloc::{AllocError, Global};
 use std::time::Clock;
-use tftp_host::{DATAGRAM_BUFFER, Port, index_of, wait_for};
+use tftp_ends::Endpoint;
+use tftp_host::{DATAGRAM_BUFFER, index_of, wait_for};
 use tftp_server::{Server, Store};
-use tftp_sockets::Journal;
+use tftp_sockets::{Journal, Reports, look, read_watch, wait};
 
-/// The most events that one wait reports.
-const MOST_EVENTS: usize = 128;
+/// The most ports that one wait reports.
+const MOST_REPORTS: usize = 128;
+
+/// The number of polls before a wait that may sleep, while several transfers are active: some 25
+/// microseconds. A client that sends to a sleeping server has to wake it, which slows all clients of
+/// one processor.
+const POLLS: u32 = 64;
 
 /// A server with its sockets.
 #[derive(Drop)]
@@ -29,24 +39,33 @@ pub(crate) struct Daemon<S: Store + Drop> {
     pub(crate) journal: Journal,
     /// The answer to a datagram of the request port.
     pub(crate) out: Vec<u8>,
-    tids: Vec<u16>,
+    /// A datagram of the request port that is to be admitted again: its sender, and its length in
+    /// bytes.
+    pub(crate) pending: Option<(Endpoint, usize)>,
+    /// The number of active transfers, as of the last wait.
+    active: usize,
+    /// The number of transfers that are yet to close.
+    pub(crate) left: u64,
+    /// The number of waits that may still begin.
+    pub(crate) rounds: u64,
     pub(crate) logs: bool,
     pub(crate) alloc: Global,
 }
 
-/// Buffers for events, a datagram of the request port and one of a transfer.
+/// The ports that a wait reports, and buffers for a datagram of the request port and one of a
+/// transfer.
 #[derive(Drop)]
 pub(crate) struct Buffers {
-    events: Events,
-    request: Vec<u8>,
-    datagram: Vec<u8>,
+    pub(crate) reports: Reports,
+    pub(crate) request: Vec<u8>,
+    pub(crate) datagram: Vec<u8>,
 }
 
 impl Buffers {
     /// Buffers for the longest datagrams.
     pub(crate) fn new(alloc: Global) -> Result<Buffers, AllocError> {
         Ok(Buffers {
-            events: Events::with_capacity(alloc, MOST_EVENTS)?,
+            reports: Reports::new(alloc, MOST_REPORTS)?,
             request: Vec::from_elem(alloc, 0u8, DATAGRAM_BUFFER)?,
             datagram: Vec::from_elem(alloc, 0u8, DATAGRAM_BUFFER)?,
         })
@@ -59,6 +78,7 @@ impl<S: ServedStore + Drop> Daemon<S> {
         alloc: Global,
         server: Server<S>,
         sockets: Sockets,
+        ending: Ending,
         logs: bool,
         journal: Journal,
     ) -> Daemon<S>
@@ -66,6 +86,9 @@ impl<S: ServedStore + Drop> Daemon<S> {
         ensures sockets { result.sockets ≡ sockets }
         ensures ports { result.ports.items ≡ [] }
         ensures journal { result.journal ≡ journal }
+        ensures pending { result.pending ≡ None }
+        ensures left { result.left ≡ ending.transfers }
+        ensures rounds { result.rounds ≡ ending.rounds }
     {
         Daemon {
             server,
@@ -73,248 +96,340 @@ impl<S: ServedStore + Drop> Daemon<S> {
             ports: Vec::new(alloc),
             journal,
             out: Vec::new(alloc),
-            tids: Vec::new(alloc),
+            pending: None,
+            active: 0,
+            left: ending.transfers,
+            rounds: ending.rounds,
             logs,
             alloc,
         }
     }
 
-    /// Serves, wait by wait, until a count of `ending` is reached.
+    /// Serves, wait by wait, until no transfer is yet to close or no wait may begin.
     pub(crate) fn take_rounds<N: ServerUdp + Clock + Print + Eprint>(
         &mut self,
         rt: &N,
-        ending: Ending,
-        buffers: &mut Buffers,
+        reports: &mut Reports,
+        request: &mut [u8],
+        datagram: &mut [u8],
     ) -> Result<(), LoopFault>
-        ensures { ServesRounds S.meaning S.Source.meaning self.old self.new }
+        requires { IsSettled self.old }
+        ensures serves { ServesRounds S.meaning S.Source.meaning request.old self.old
+            request.new self.new }
+        ensures end { OnOk result ((self.new.left ≡ 0) ⊎ (self.new.rounds ≡ 0)) }
+        ensures fault { IfErr result (λ fault. FailsToPrint fault self.new.journal.events) }
     {
-        let mut left = ending.transfers;
-        for _ in 0..ending.rounds {
-            left = self.take_round(rt, left, buffers)?;
-            if left == 0 {
+        self.take_ports(rt, request, datagram)?;
+        while self.rounds > 0 {
+            if self.left == 0 {
                 return Ok(());
             }
+            self.wait(rt, reports);
+            self.take_ports(rt, request, datagram)?;
         }
         Ok(())
     }
 
-    /// Waits once, and handles datagrams and due timeouts. Transfers precede requests, because an
-    /// acknowledgement may free the slot that its client's next request needs. `left` is the number
-    /// of transfers yet to close.
-    fn take_round<N: ServerUdp + Clock + Print + Eprint>(
+    /// Handles datagrams and due timeouts, until no transfer is yet to close. Transfers precede a
+    /// request, because an acknowledgement may free the slot that its client's next request needs.
+    fn take_ports<N: ServerUdp + Print + Eprint>(
         &mut self,
         rt: &N,
-        left: u64,
-        buffers: &mut Buffers,
-    ) -> Result<u64, LoopFault>
-        ensures { ServesRounds S.meaning S.Source.meaning self.old self.new }
+        request: &mut [u8],
+        datagram: &mut [u8],
+    ) -> Result<(), LoopFault>
+        requires { IsSettled self.old }
+        ensures works { WorksRound S.meaning S.Source.meaning request.old self.old request.new
+            self.new }
+        ensures tended { OnOk result (1 ≤ self.new.left → IsTended self.new) }
+        ensures rounds { self.new.rounds ≡ self.old.rounds }
+        ensures fault { IfErr result (λ fault. FailsToPrint fault self.new.journal.events) }
     {
-        self.wait(rt, &mut buffers.events);
-        let left = self.take_transfers(rt, left, buffers.datagram.as_mut_slice())?;
-        let left = self.take_requests(
-            rt,
-            left,
-            buffers.request.as_mut_slice(),
-            &mut buffers.events,
-            buffers.datagram.as_mut_slice(),
-        )?;
-        self.take_timeouts(rt, left, buffers.datagram.as_mut_slice())
+        self.take_transfers(rt, datagram)?;
+        if self.left == 0 {
+            return Ok(());
+        }
+        self.take_request(rt, request);
+        self.take_timeouts(rt, datagram)
     }
 
-    /// Waits until a datagram is ready or a transfer is due, for at most a second.
-    fn wait<C: Clock>(&mut self, clock: &C, events: &mut Events)
-        ensures { OnlyServes S.meaning S.Source.meaning self.old self.new }
+    /// Waits once, until a datagram has arrived or a port is to be read, for at most a second. A
+    /// draft that is to be synced is synced before, if no datagram has arrived: all other transfers
+    /// wait for it.
+    fn wait<C: Clock>(&mut self, clock: &C, reports: &mut Reports)
+        requires tended { IsTended self.old }
+        requires left { 1 ≤ self.old.left }
+        requires rounds { 1 ≤ self.old.rounds }
+        ensures serves { OnlyServes S.meaning S.Source.meaning self.old self.new }
+        ensures settled { IsSettled self.new }
+        ensures rounds { self.new.rounds + 1 ≡ self.old.rounds }
     {
         let millis = self.millis_to_wait();
-        self.look(clock, events, millis);
+        if millis > 0 {
+            if let Some(tid) = self.server.store().take_unsynced() {
+                self.sync_and_wait(clock, reports, tid);
+                return;
+            }
+        }
+        self.sleep(clock, reports);
     }
 
-    /// The longest wait, in milliseconds.
-    fn millis_to_wait(&self) -> u64 {
-        if self.sockets.is_ready {
+    /// Looks, and syncs the draft of a transfer and waits if no datagram has arrived.
+    fn sync_and_wait<C: Clock>(&mut self, clock: &C, reports: &mut Reports, tid: u16)
+        requires tended { IsTended self.old }
+        requires left { 1 ≤ self.old.left }
+        requires rounds { 1 ≤ self.old.rounds }
+        ensures serves { OnlyServes S.meaning S.Source.meaning self.old self.new }
+        ensures settled { IsSettled self.new }
+        ensures rounds { self.new.rounds + 1 ≡ self.old.rounds }
+    {
+        if look(&mut self.sockets.poll, reports, &mut self.journal) {
+            self.wake(clock, reports);
+            return;
+        }
+        self.sync(tid);
+        self.sleep(clock, reports);
+    }
+
+    /// Syncs the draft of a transfer.
+    fn sync(&mut self, tid: u16)
+        ensures works { OnlyWorks S.meaning S.Source.meaning self.old self.new }
+        ensures settled { IsSettled self.old → IsSettled self.new }
+        ensures rest { self.new ≡ record self.old { server = self.new.server } }
+    {
+        let Some(index) = index_of(tid, self.ports.as_slice()) else {
+            return;
+        };
+        if index >= self.ports.len() {
+            return;
+        }
+        let port = &self.ports[index];
+        self.server.store().let_sync();
+        work_at(&mut self.server, port);
+    }
+
+    /// Waits until a datagram has arrived or a port is to be read, for at most a second.
+    fn sleep<C: Clock>(&mut self, clock: &C, reports: &mut Reports)
+        requires tended { IsTended self.old }
+        requires left { 1 ≤ self.old.left }
+        requires rounds { 1 ≤ self.old.rounds }
+        ensures serves { OnlyServes S.meaning S.Source.meaning self.old self.new }
+        ensures settled { IsSettled self.new }
+        ensures rounds { self.new.rounds + 1 ≡ self.old.rounds }
+    {
+        let millis = self.millis_to_wait();
+        self.active = count_active(self.sockets.watch.now, self.ports.as_slice());
+        let polls = polls_before(millis, self.active);
+        wait(
+            &mut self.sockets.poll,
+            reports,
+            &mut self.journal,
+            millis,
+            polls,
+        );
+        self.wake(clock, reports);
+    }
+
+    /// Marks the ports that a wait reported, counts the wait, and reads the clock.
+    fn wake<C: Clock>(&mut self, clock: &C, reports: &Reports)
+        ensures { HasWoken reports.now.ports.items self.old self.new }
+    {
+        let ports = reports.ports();
+        mark_all(self.ports.as_mut_slice(), ports);
+        self.sockets.mark(ports);
+        self.rounds = self.rounds.saturating_sub(1);
+        read_watch(clock, &mut self.journal, &mut self.sockets.watch);
+    }
+
+    /// The longest wait, in milliseconds: none if a port is marked or a datagram is pending, and
+    /// else until the nearest time at which a port is read, at most a second.
+    fn millis_to_wait(&self) -> u64
+        ensures { result ≡ millis_of self.now }
+    {
+        if self.is_busy() {
             return 0;
         }
-        millis_to_wait(self.sockets.watch.now, self.ports.as_slice())
+        wait_for(self.sockets.watch.now, self.ports.as_slice())
     }
 
-    /// Waits until a datagram is ready, for at most `millis` milliseconds, and marks ready ports.
-    pub(crate) fn look<C: Clock>(&mut self, clock: &C, events: &mut Events, millis: u64)
-        ensures { OnlyServes S.meaning S.Source.meaning self.old self.new }
+    /// Whether a port is marked or a datagram is pending.
+    fn is_busy(&self) -> bool
+        ensures { result ≡ (self.now.sockets.is_ready || (is_some self.now.pending
+            || list_any (λ port. port.is_ready) self.now.ports.items)) }
     {
-        let open = self.ports.len();
-        self.sockets
-            .wait(clock, &mut self.journal, events, millis, open);
-        note_all(
-            events,
-            &mut self.sockets.is_ready,
-            self.ports.as_mut_slice(),
-        );
+        if self.sockets.is_ready {
+            return true;
+        }
+        if self.pending.is_some() {
+            return true;
+        }
+        is_any_ready(self.ports.as_slice())
     }
 
-    /// Handles the datagrams at the ports of transfers. `left` is the number of transfers yet to
-    /// close.
+    /// Handles the datagrams at the marked ports of transfers.
     pub(crate) fn take_transfers<P: Print + Eprint>(
         &mut self,
         rt: &P,
-        left: u64,
         buffer: &mut [u8],
-    ) -> Result<u64, LoopFault>
-        ensures { OnlyServes S.meaning S.Source.meaning self.old self.new }
+    ) -> Result<(), LoopFault>
+        requires { IsSettled self.old }
+        ensures works { OnlyWorks S.meaning S.Source.meaning self.old self.new }
+        ensures settled { IsSettled self.new }
+        ensures read { OnOk result (1 ≤ self.new.left → AreRead 0 self.new) }
+        ensures rounds { self.new.rounds ≡ self.old.rounds }
+        ensures fault { IfErr result (λ fault. FailsToPrint fault self.new.journal.events) }
     {
-        let mut left = left;
         // In reverse order, because a close moves the last port to the freed index.
-        for index in (0..self.ports.len()).rev() {
-            let status = self.take_ready_at(index, buffer);
-            left = self.finish(rt, left, index, status)?;
+        let mut index = self.ports.len();
+        while index > 0 {
+            if self.left == 0 {
+                return Ok(());
+            }
+            index -= 1;
+            self.visit_ready(rt, index, buffer)?;
         }
-        Ok(left)
+        Ok(())
     }
 
-    /// Handles the datagrams at the port of a transfer, if it is marked ready.
-    fn take_ready_at(&mut self, index: usize, buffer: &mut [u8]) -> PortStatus
-        ensures serves { OnlyServes S.meaning S.Source.meaning self.old self.new }
-        ensures closed { result ≡ statuses.Closed → ClosedAt index self.new }
+    /// Handles the datagrams at the port of a transfer, if it is marked, and removes the transfer if
+    /// it closes.
+    fn visit_ready<P: Print + Eprint>(
+        &mut self,
+        rt: &P,
+        index: usize,
+        buffer: &mut [u8],
+    ) -> Result<(), LoopFault>
+        requires left { 1 ≤ self.old.left }
+        requires settled { IsSettled self.old }
+        ensures works { OnlyWorks S.meaning S.Source.meaning self.old self.new }
+        ensures settled { IsSettled self.new }
+        ensures read { AreRead (index + 1) self.old → AreRead index self.new }
+        ensures rounds { self.new.rounds ≡ self.old.rounds }
+        ensures fault { IfErr result (λ fault. FailsToPrint fault self.new.journal.events) }
     {
         if index >= self.ports.len() {
-            return PortStatus::Empty;
+            return Ok(());
         }
-        let now = self.sockets.watch.now;
-        let open = self.ports.len();
-        let port = &mut self.ports[index];
-        take_ready(&mut self.server, port, &mut self.journal, now, open, buffer)
+        self.turn_ready(index, buffer);
+        self.finish(rt, index)
     }
 
-    /// Serves the due ports, in the order of the server's identifiers: datagrams first, then the
-    /// timeout.
+    /// Handles the datagrams at the port of a transfer, if it is marked.
+    fn turn_ready(&mut self, index: usize, buffer: &mut [u8])
+        requires { index < length self.old.ports.items }
+        ensures { TakesTurn S.meaning S.Source.meaning leaves_read index self.old self.new }
+    {
+        let now = self.sockets.watch.now;
+        let active = self.active;
+        let port = &mut self.ports[index];
+        take_ready(
+            &mut self.server,
+            port,
+            &mut self.journal,
+            now,
+            active,
+            buffer,
+        );
+    }
+
+    /// Serves the due ports: datagrams first, then the timeout.
     fn take_timeouts<P: Print + Eprint>(
         &mut self,
         rt: &P,
-        left: u64,
         buffer: &mut [u8],
-    ) -> Result<u64, LoopFault>
-        ensures { OnlyServes S.meaning S.Source.meaning self.old self.new }
+    ) -> Result<(), LoopFault>
+        requires { IsSettled self.old }
+        ensures works { OnlyWorks S.meaning S.Source.meaning self.old self.new }
+        ensures settled { IsSettled self.new }
+        ensures timed { OnOk result (1 ≤ self.new.left → AreTimed 0 self.new) }
+        ensures rounds { self.new.rounds ≡ self.old.rounds }
+        ensures fault { IfErr result (λ fault. FailsToPrint fault self.new.journal.events) }
     {
-        if wait_for(self.sockets.watch.now, self.ports.as_slice()) > 0 {
-            return Ok(left);
+        let mut index = self.ports.len();
+        while index > 0 {
+            if self.left == 0 {
+                return Ok(());
+            }
+            index -= 1;
+            self.visit_due(rt, index, buffer)?;
         }
-        self.tids.clear();
-        if self.server.tids(&mut self.tids).is_err() {
-            return Ok(left);
-        }
-        let mut left = left;
-        for at in 0..self.tids.len() {
-            left = self.take_timeout_of(rt, left, at, buffer)?;
-        }
-        Ok(left)
+        Ok(())
     }
 
-    /// Serves the port of the transfer at this index of the identifiers, if it is due.
-    fn take_timeout_of<P: Print + Eprint>(
+    /// Handles the datagrams at a port, or else its timeout, if it is due, and removes the transfer
+    /// if it closes.
+    fn visit_due<P: Print + Eprint>(
         &mut self,
         rt: &P,
-        left: u64,
-        at: usize,
+        index: usize,
         buffer: &mut [u8],
-    ) -> Result<u64, LoopFault>
-        ensures { OnlyServes S.meaning S.Source.meaning self.old self.new }
-    {
-        let Some(tid) = self.tids.get(at).copied() else {
-            return Ok(left);
-        };
-        let Some(index) = index_of(tid, self.ports.as_slice()) else {
-            return Ok(left);
-        };
-        let status = self.take_due_at(index, buffer);
-        self.finish(rt, left, index, status)
-    }
-
-    /// Handles the datagrams at a due port, or else its timeout.
-    fn take_due_at(&mut self, index: usize, buffer: &mut [u8]) -> PortStatus
-        ensures serves { OnlyServes S.meaning S.Source.meaning self.old self.new }
-        ensures closed { result ≡ statuses.Closed → ClosedAt index self.new }
+    ) -> Result<(), LoopFault>
+        requires left { 1 ≤ self.old.left }
+        requires settled { IsSettled self.old }
+        ensures works { OnlyWorks S.meaning S.Source.meaning self.old self.new }
+        ensures settled { IsSettled self.new }
+        ensures timed { AreTimed (index + 1) self.old → AreTimed index self.new }
+        ensures rounds { self.new.rounds ≡ self.old.rounds }
+        ensures fault { IfErr result (λ fault. FailsToPrint fault self.new.journal.events) }
     {
         if index >= self.ports.len() {
-            return PortStatus::Empty;
+            return Ok(());
         }
+        self.turn_due(index, buffer);
+        self.finish(rt, index)
+    }
+
+    /// Handles the datagrams at a port, or else its timeout, if it is due.
+    fn turn_due(&mut self, index: usize, buffer: &mut [u8])
+        requires within { index < length self.old.ports.items }
+        requires settled { IsSettled self.old }
+        ensures { TakesTurn S.meaning S.Source.meaning leaves_timed index self.old self.new }
+    {
         let now = self.sockets.watch.now;
-        let open = self.ports.len();
+        let active = self.active;
         let port = &mut self.ports[index];
-        take_due(&mut self.server, port, &mut self.journal, now, open, buffer)
+        take_due(
+            &mut self.server,
+            port,
+            &mut self.journal,
+            now,
+            active,
+            buffer,
+        );
     }
 
-    /// Closes the port of a closed transfer, and returns how many transfers are yet to close.
-    fn finish<P: Print + Eprint>(
-        &mut self,
-        rt: &P,
-        left: u64,
-        index: usize,
-        status: PortStatus,
-    ) -> Result<u64, LoopFault>
-        requires { status ≡ statuses.Closed → ClosedAt index self.old }
-        ensures { OnlyServes S.meaning S.Source.meaning self.old self.new }
+    /// Logs what the transfer at this index could not send. If it has closed, removes it with its
+    /// port, and prints its outcome: it is one less to close.
+    fn finish<P: Print + Eprint>(&mut self, rt: &P, index: usize) -> Result<(), LoopFault>
+        requires left { 1 ≤ self.old.left }
+        requires within { index < length self.old.ports.items }
+        ensures finishes { Finishes S.meaning S.Source.meaning index self.old self.new }
+        ensures rounds { self.new.rounds ≡ self.old.rounds }
+        ensures fault { IfErr result (λ fault. FailsToPrint fault self.new.journal.events) }
     {
-        if status != PortStatus::Closed {
-            return Ok(left);
+        let port = &self.ports[index];
+        log_unsent(rt, port);
+        let closed = record_of_closed(&mut self.server, port.socket.udp.port());
+        if closed.is_none() {
+            return Ok(());
         }
-        match self.close(rt, index) {
-            Ok(()) => Ok(left.saturating_sub(1)),
-            Err(fault) => Err(fault),
-        }
-    }
-
-    /// Removes a closed transfer and its port, and prints its outcome.
-    fn close<P: Print + Eprint>(&mut self, rt: &P, index: usize) -> Result<(), LoopFault>
-        requires { ClosedAt index self.old }
-        ensures { OnlyServes S.meaning S.Source.meaning self.old self.new }
-    {
+        self.left -= 1;
         let port = self.ports.swap_remove(index);
         let reason = self.server.store().take_reason();
-        let record = record_of_closed(&mut self.server, port.socket.udp.port());
-        let now = self.sockets.watch.now;
-        report_close(rt, &mut self.journal, &port, record, now, reason)
+        let reading = self.sockets.watch.reading;
+        report_close(rt, &mut self.journal, &port, closed, reading, reason)
     }
 }
 
-/// The longest wait, in milliseconds, if the request port is not ready.
-fn millis_to_wait<S>(now: u64, ports: &[Port<S>]) -> u64 {
-    if ports.iter().any(|port| port.is_ready) {
-        0
-    } else {
-        wait_for(now, ports)
-    }
+/// The number of polls before a wait of at most `millis` milliseconds, with this number of active
+/// transfers.
+fn polls_before(millis: u64, active: usize) -> u32 {
+    if millis > 0 && active > 1 { POLLS } else { 0 }
 }
 
-/// Marks the ready ports.
-fn note_all(events: &Events, is_ready: &mut bool, ports: &mut [TransferPort])
-    ensures { map timer_of ports.new ≡ map timer_of ports.old }
+/// Whether a port is marked.
+fn is_any_ready(ports: &[TransferPort]) -> bool
+    ensures { result ≡ list_any (λ port. port.is_ready) ports.now }
 {
-    for event in events.iter() {
-        note(event.token(), is_ready, ports);
-    }
-}
-
-/// Marks the port of a token ready.
-fn note(token: Token, is_ready: &mut bool, ports: &mut [TransferPort])
-    ensures { map timer_of ports.new ≡ map timer_of ports.old }
-{
-    if token == REQUESTS {
-        *is_ready = true;
-        return;
-    }
-    note_ready(token, ports);
-}
-
-/// Marks the port of a transfer ready.
-fn note_ready(token: Token, ports: &mut [TransferPort])
-    ensures { map timer_of ports.new ≡ map timer_of ports.old }
-{
-    let Ok(tid) = u16::try_from(token.0) else {
-        return;
-    };
-    let Some(index) = index_of(tid, ports) else {
-        return;
-    };
-    if index < ports.len() {
-        ports[index].is_ready = true;
-    }
+    ports.iter().any(|port| port.is_ready)
 }

@@ -10,7 +10,10 @@
 #![tactic(auto)]
 
 mod daemon;
+pub mod laws;
 mod log_entry;
+mod port_order;
+mod port_pool;
 mod report;
 mod requests;
 mod server_udp;
@@ -19,6 +22,7 @@ mod sockets;
 mod store;
 mod transfer_port;
 
+pub use port_order::{PortOrder, PortRange};
 pub use server_udp::ServerUdp;
 pub use serving::{Ending, LoopConfig, LoopFault, serve};
 pub use store::ServedStore;

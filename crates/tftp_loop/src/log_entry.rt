@@ -1,6 +1,7 @@
 //! The log entry of a transfer.
 
 use std::alloc::Global;
+use std::cell::Cell;
 use tftp_ends::{Endpoint, Outcome};
 use tftp_host::{LogLine, Reason};
 use tftp_wire::{PacketRef, decode_ref, show_datagram};
@@ -11,13 +12,16 @@ pub(crate) struct LogEntry {
     peer: Endpoint,
     request: String,
     answer: String,
+    /// The reading of the clock at the opening, in milliseconds.
     opened_at: u64,
     /// The number of DATA bytes sent or received, without repetitions.
     bytes: u64,
+    /// Why the system refused to send a datagram, until it is taken.
+    unsent: Cell<Option<Reason>>,
 }
 
 impl LogEntry {
-    /// The entry of a transfer that a request opened, with its answer.
+    /// The entry of a transfer that a request opened, with its answer, at this reading of the clock.
     pub(crate) fn new(
         alloc: Global,
         peer: Endpoint,
@@ -31,12 +35,31 @@ impl LogEntry {
             answer: shown(alloc, answer),
             opened_at,
             bytes: data_length(answer),
+            unsent: Cell::new(None),
         }
     }
 
     /// Adds the DATA bytes of a datagram.
     pub(crate) fn count(&mut self, datagram: &[u8]) {
         self.bytes = self.bytes.saturating_add(data_length(datagram));
+    }
+
+    /// Keeps why the system refused to send a datagram.
+    pub(crate) fn keep_unsent(&self, reason: Reason) {
+        self.unsent.set(Some(reason));
+    }
+
+    /// The line of a datagram that the system refused to send since the last call, if it did.
+    pub(crate) fn take_unsent(&self, port: u16) -> Option<LogLine<'_>> {
+        match self.unsent.replace(None) {
+            Some(reason) => Some(LogLine::Unsent {
+                port,
+                peer: self.peer,
+                request: self.request.as_str(),
+                reason,
+            }),
+            None => None,
+        }
     }
 
     /// The line of the opening.
@@ -49,11 +72,12 @@ impl LogEntry {
         }
     }
 
-    /// The line of the close. `reason` is the system's reason for refusing the last file call.
+    /// The line of the close at this reading of the clock. `reason` is why the last file call was
+    /// refused.
     pub(crate) fn closed(
         &self,
         port: u16,
-        now: u64,
+        reading: u64,
         outcome: Outcome,
         reason: Option<Reason>,
     ) -> LogLine<'_> {
@@ -63,12 +87,11 @@ impl LogEntry {
             request: self.request.as_str(),
             answer: self.answer.as_str(),
             bytes: self.bytes,
-            millis: now.saturating_sub(self.opened_at),
+            millis: reading.saturating_sub(self.opened_at),
             outcome,
-            reason: if outcome == Outcome::StoreFault {
-                reason
-            } else {
-                None
+            reason: match outcome {
+                Outcome::SourceFault | Outcome::StoreFault => reason,
+                _ => None,
             },
         }
     }

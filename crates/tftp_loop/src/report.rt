@@ -1,8 +1,8 @@
 //! The printed and logged lines of transfers and requests.
 
-ghost use Rattle.std.specs.Prelude.{◌≡◌, is_some, option_map, if◌then◌else◌};
+ghost use Rattle.std.specs.Prelude.{◌≡◌, IfErr, is_some, option_map, if◌then◌else◌};
 ghost use Rattle.tftp_server.specs.State.{at, taken_of, without};
-ghost use Rattle.tftp_loop.specs.Served.{close_reported};
+ghost use Rattle.tftp_loop.specs.Served.{FailsToPrint, close_reported};
 
 use crate::log_entry::shown;
 use crate::serving::LoopFault;
@@ -52,6 +52,36 @@ pub(crate) fn log_lost<E: Eprint>(rt: &E, alloc: Global, peer: Endpoint, bytes: 
     let _ = eprintln!(rt; "{line}");
 }
 
+/// Logs the answer to a datagram of the request port that the system refused to send.
+pub(crate) fn log_unsent_answer<E: Eprint>(
+    rt: &E,
+    alloc: Global,
+    port: u16,
+    peer: Endpoint,
+    bytes: &[u8],
+    reason: Reason,
+) {
+    let request = shown(alloc, bytes);
+    let line = LogLine::Unsent {
+        port,
+        peer,
+        request: request.as_str(),
+        reason,
+    };
+    let _ = eprintln!(rt; "{line}");
+}
+
+/// Logs a datagram of a transfer that the system refused to send since the last call, if there is a
+/// log and it did.
+pub(crate) fn log_unsent<E: Eprint>(rt: &E, port: &TransferPort) {
+    let Some(entry) = &port.socket.log_entry else {
+        return;
+    };
+    if let Some(line) = entry.take_unsent(port.socket.udp.port()) {
+        let _ = eprintln!(rt; "{line}");
+    }
+}
+
 /// Removes a closed transfer from the server, and returns its record.
 pub(crate) fn record_of_closed<S: Store + Drop>(server: &mut Server<S>, tid: u16) -> Option<Record>
     ensures found { result ≡ option_map (λ taken. taken.0) (taken_of (at tid server.old.held)) }
@@ -65,19 +95,20 @@ pub(crate) fn record_of_closed<S: Store + Drop>(server: &mut Server<S>, tid: u16
     }
 }
 
-/// Prints the outcome of a transfer, and logs its close. `reason` is the system's reason for
-/// refusing the last file call.
+/// Prints the outcome of a transfer, and logs its close. `reading` is the newest reading of the
+/// clock, and `reason` the system's reason for refusing the last file call.
 pub(crate) fn report_close<P: Print + Eprint>(
     rt: &P,
     journal: &mut Journal,
     port: &TransferPort,
     closed: Option<Record>,
-    now: u64,
+    reading: u64,
     reason: Option<Reason>,
 ) -> Result<(), LoopFault>
-    ensures { journal.new.events
+    ensures events { journal.new.events
         ≡ close_reported port.now.socket.udp.port port.now.socket.peer closed
         journal.old.events }
+    ensures fault { IfErr result (λ fault. FailsToPrint fault journal.new.events) }
 {
     let Some(record) = closed else {
         return Ok(());
@@ -85,7 +116,7 @@ pub(crate) fn report_close<P: Print + Eprint>(
     let Some(outcome) = record.outcome else {
         return Ok(());
     };
-    log_closed(rt, port, now, outcome, reason);
+    log_closed(rt, port, reading, outcome, reason);
     let line = Printed::Closed {
         port: port.socket.udp.port(),
         peer: port.socket.peer.port,
@@ -101,12 +132,12 @@ pub(crate) fn report_close<P: Print + Eprint>(
 fn log_closed<E: Eprint>(
     rt: &E,
     port: &TransferPort,
-    now: u64,
+    reading: u64,
     outcome: Outcome,
     reason: Option<Reason>,
 ) {
     if let Some(entry) = &port.socket.log_entry {
-        let line = entry.closed(port.socket.udp.port(), now, outcome, reason);
+        let line = entry.closed(port.socket.udp.port(), reading, outcome, reason);
         let _ = eprintln!(rt; "{line}");
     }
 }

@@ -1,27 +1,28 @@
 //! The datagrams of the request port, and the transfers that they open.
 
-ghost use Rattle.std.specs.Prelude.{◌≡◌, ◌<◌, ◌++◌, ◌∷◌, [], true, false, None, IfOk, IfSome};
-ghost use Rattle.std.specs.Prelude.{vec_len, vec_capacity, map};
+ghost use Rattle.std.specs.Prelude.{◌≡◌, ◌<◌, ◌≤◌, ◌++◌, ◌∷◌, [], true, false, None, Some, IfOk};
+ghost use Rattle.std.specs.Prelude.{IfSome, vec_len, vec_capacity, map, take, length};
+ghost use Rattle.std.specs.Prelude.{if◌then◌else◌};
 ghost use Rattle.tftp_server.specs.Port.{asks_store};
 ghost use Rattle.tftp_server.specs.Request.{Admits};
 ghost use Rattle.tftp_server.specs.State.{at};
+ghost use Rattle.tftp_loop.specs.PortOrder.{IsOneOf};
+ghost use Rattle.tftp_loop.specs.PortPool.{IsOfPool};
 ghost use Rattle.tftp_loop.specs.Serves.{answering_port, interval_at, started, with_timer};
-ghost use Rattle.tftp_loop.specs.Served.{AnswersPending, HasAnswered, IsAdmission, ServesRounds};
-ghost use Rattle.tftp_loop.specs.Served.{timer_of};
+ghost use Rattle.tftp_loop.specs.Served.{HasAnswered, IsAdmission, WorksRound, timer_of};
+ghost use Rattle.tftp_loop.specs.Tended.{AnswersPending, HandlesReceived, HasTriedRequests};
+ghost use Rattle.tftp_loop.specs.Tended.{IsSettled};
 
 use crate::daemon::Daemon;
 use crate::log_entry::LogEntry;
-use crate::report::{log_lost, log_unopened};
+use crate::report::{log_lost, log_unopened, log_unsent_answer};
 use crate::server_udp::ServerUdp;
-use crate::serving::LoopFault;
 use crate::store::ServedStore;
-use crate::transfer_port::{MOST_AT_ONCE, TransferPort, TransferSocket, reply};
-use mio::Events;
-use std::time::Clock;
+use crate::transfer_port::{TransferPort, TransferSocket, next_look, reply};
 use tftp_ends::{DEFAULT_INTERVAL, Endpoint};
 use tftp_host::{Lost, Port, Reason, deadline};
 use tftp_server::{Admission, Opened, Server, Store};
-use tftp_sockets::ServerSocket;
+use tftp_sockets::{Receipt, ServerSocket};
 
 /// The identifier passed to the server for a datagram that opens no transfer.
 const NO_PORT: u16 = 0;
@@ -31,81 +32,44 @@ const NO_PORT: u16 = 0;
 const MOST_AHEAD: usize = 1 << 20;
 
 impl<S: ServedStore + Drop> Daemon<S> {
-    /// Handles the datagrams at the request port, at most `MOST_AT_ONCE`. `left` is the number of
-    /// transfers yet to close.
-    pub(crate) fn take_requests<N: ServerUdp + Clock + Print + Eprint>(
-        &mut self,
-        rt: &N,
-        left: u64,
-        request: &mut [u8],
-        events: &mut Events,
-        datagram: &mut [u8],
-    ) -> Result<u64, LoopFault>
-        ensures { ServesRounds S.meaning S.Source.meaning self.old self.new }
+    /// Handles the pending datagram of the request port, and then the next one, if there is one. It
+    /// is the only one of its round, since an opening asks the store while transfers wait.
+    pub(crate) fn take_request<N: ServerUdp + Eprint>(&mut self, rt: &N, request: &mut [u8])
+        ensures works { WorksRound S.meaning S.Source.meaning request.old self.old request.new
+            self.new }
+        ensures settled { IsSettled self.old → IsSettled self.new }
+        ensures tried { HasTriedRequests self.new }
+        ensures rounds { self.new.rounds ≡ self.old.rounds }
     {
-        let mut left = left;
-        for _ in 0..MOST_AT_ONCE {
-            if left == 0 {
-                return Ok(left);
-            }
-            if self.ports.try_reserve(1).is_err() {
-                return Ok(left);
-            }
-            let Some((from, count)) = self.sockets.receive_request(&mut self.journal, request)
-            else {
-                return Ok(left);
-            };
-            let bytes = &request[..count];
-            left = self.take_request(rt, left, from, bytes, events, datagram)?;
-        }
-        Ok(left)
-    }
-
-    /// Handles a datagram of the request port. If it would open no transfer, the datagrams of
-    /// transfers are handled first, and then it is admitted again: an acknowledgement that its
-    /// client sent just before may free a slot.
-    fn take_request<N: ServerUdp + Clock + Print + Eprint>(
-        &mut self,
-        rt: &N,
-        left: u64,
-        from: Endpoint,
-        bytes: &[u8],
-        events: &mut Events,
-        datagram: &mut [u8],
-    ) -> Result<u64, LoopFault>
-        ensures { AnswersPending S.meaning S.Source.meaning from bytes.now self.old self.new }
-    {
-        let Ok(admission) = self.server.admit(from, bytes) else {
-            self.lose(rt, from, bytes, Lost::Memory);
-            return Ok(left);
-        };
-        if admission.may_open() {
-            self.open_request(rt, from, bytes, admission);
-            return Ok(left);
-        }
-        self.look(rt, events, 0);
-        match self.take_transfers(rt, left, datagram) {
-            Ok(left) => {
-                self.answer_later(rt, left, from, bytes);
-                Ok(left)
-            }
-            Err(fault) => Err(fault),
-        }
-    }
-
-    /// Answers a datagram of the request port, unless no transfer is yet to close.
-    fn answer_later<N: ServerUdp + Eprint>(
-        &mut self,
-        rt: &N,
-        left: u64,
-        from: Endpoint,
-        bytes: &[u8],
-    )
-        ensures { AnswersPending S.meaning S.Source.meaning from bytes.now self.old self.new }
-    {
-        if left == 0 {
+        self.take_pending(rt, request);
+        if !self.sockets.is_ready {
             return;
         }
+        self.receive_request(rt, request);
+    }
+
+    /// Handles the pending datagram of the request port, if there is one.
+    fn take_pending<N: ServerUdp + Eprint>(&mut self, rt: &N, request: &[u8])
+        ensures works { WorksRound S.meaning S.Source.meaning request.now self.old request.now
+            self.new }
+        ensures settled { IsSettled self.old → IsSettled self.new }
+        ensures pending { self.new.pending ≡ None }
+        ensures rounds { self.new.rounds ≡ self.old.rounds }
+    {
+        let Some((from, count)) = self.pending else {
+            return;
+        };
+        let bytes = &request[..count.min(request.len())];
+        self.answer_pending(rt, from, bytes);
+        self.pending = None;
+    }
+
+    /// Answers the pending datagram of the request port.
+    fn answer_pending<N: ServerUdp + Eprint>(&mut self, rt: &N, from: Endpoint, bytes: &[u8])
+        ensures answers { AnswersPending S.meaning S.Source.meaning from bytes.now self.old
+            self.new }
+        ensures rounds { self.new.rounds ≡ self.old.rounds }
+    {
         let Ok(admission) = self.server.admit(from, bytes) else {
             self.lose(rt, from, bytes, Lost::Memory);
             return;
@@ -115,6 +79,53 @@ impl<S: ServedStore + Drop> Daemon<S> {
             return;
         }
         self.refuse_request(rt, from, bytes, admission);
+    }
+
+    /// Receives a datagram at the request port, and handles it.
+    fn receive_request<N: ServerUdp + Eprint>(&mut self, rt: &N, request: &mut [u8])
+        requires pending { self.old.pending ≡ None }
+        requires marked { self.old.sockets.is_ready ≡ true }
+        ensures works { WorksRound S.meaning S.Source.meaning request.old self.old request.new
+            self.new }
+        ensures settled { IsSettled self.old → IsSettled self.new }
+        ensures tried { HasTriedRequests self.new }
+        ensures rounds { self.new.rounds ≡ self.old.rounds }
+    {
+        match self.sockets.requests.receive(&mut self.journal, request) {
+            Receipt::Datagram(from, count) => self.take_received(rt, from, count, request),
+            Receipt::Nothing => self.sockets.is_ready = false,
+            // A datagram may be there: the port stays marked.
+            Receipt::Failed => {}
+        }
+    }
+
+    /// Handles a datagram that was received at the request port. If it would open no transfer, it is
+    /// kept: the datagrams of transfers are handled first, and then it is admitted again, since an
+    /// acknowledgement that its client sent just before may free a slot.
+    fn take_received<N: ServerUdp + Eprint>(
+        &mut self,
+        rt: &N,
+        from: Endpoint,
+        count: usize,
+        request: &[u8],
+    )
+        requires count { count ≤ length request.now }
+        requires pending { self.old.pending ≡ None }
+        ensures handles { HandlesReceived S.meaning S.Source.meaning from count request.now
+            self.old self.new }
+        ensures rounds { self.new.rounds ≡ self.old.rounds }
+    {
+        let bytes = &request[..count];
+        let Ok(admission) = self.server.admit(from, bytes) else {
+            self.lose(rt, from, bytes, Lost::Memory);
+            return;
+        };
+        if admission.may_open() {
+            self.open_request(rt, from, bytes, admission);
+            self.pending = None;
+            return;
+        }
+        self.pending = Some((from, count));
     }
 
     /// Carries out the admission of a datagram that may open a transfer, at a port of its own. The
@@ -128,7 +139,9 @@ impl<S: ServedStore + Drop> Daemon<S> {
     )
         requires admitted { IsAdmission self.old.server from bytes.now admission }
         requires may_open { asks_store admission.ask ≡ true }
-        ensures { AnswersPending S.meaning S.Source.meaning from bytes.now self.old self.new }
+        ensures answers { AnswersPending S.meaning S.Source.meaning from bytes.now self.old
+            self.new }
+        ensures rounds { self.new.rounds ≡ self.old.rounds }
     {
         if self.ports.try_reserve(1).is_err() {
             self.lose(rt, from, bytes, Lost::Memory);
@@ -151,8 +164,12 @@ impl<S: ServedStore + Drop> Daemon<S> {
         spare: ServerSocket,
     )
         requires admitted { IsAdmission self.old.server from bytes.now admission }
+        requires may_open { asks_store admission.ask ≡ true }
+        requires port { IsOfPool self.old.sockets.pool spare }
         requires reserved { vec_len self.old.ports < vec_capacity self.old.ports }
-        ensures { AnswersPending S.meaning S.Source.meaning from bytes.now self.old self.new }
+        ensures answers { AnswersPending S.meaning S.Source.meaning from bytes.now self.old
+            self.new }
+        ensures rounds { self.new.rounds ≡ self.old.rounds }
     {
         let tid = spare.port();
         set_store(&mut self.server, &admission, tid);
@@ -180,7 +197,8 @@ impl<S: ServedStore + Drop> Daemon<S> {
         reason: Option<Reason>,
     )
         requires reserved { vec_len self.old.ports < vec_capacity self.old.ports }
-        requires port { IfSome opened.tid (λ tid. tid ≡ spare.port) }
+        requires port { IsOfPool self.old.sockets.pool spare }
+        requires tid { IfSome opened.tid (λ tid. tid ≡ spare.port) }
         ensures { HasAnswered from opened self.old.out.items self.old self.new }
     {
         match opened.tid {
@@ -202,7 +220,9 @@ impl<S: ServedStore + Drop> Daemon<S> {
     )
         requires admitted { IsAdmission self.old.server from bytes.now admission }
         requires opens_none { asks_store admission.ask ≡ false }
-        ensures { AnswersPending S.meaning S.Source.meaning from bytes.now self.old self.new }
+        ensures answers { AnswersPending S.meaning S.Source.meaning from bytes.now self.old
+            self.new }
+        ensures rounds { self.new.rounds ≡ self.old.rounds }
     {
         set_store(&mut self.server, &admission, NO_PORT);
         self.out.clear();
@@ -231,13 +251,18 @@ impl<S: ServedStore + Drop> Daemon<S> {
         bytes: &[u8],
         reason: Option<Reason>,
     )
-        ensures { HasAnswered from (record { tid = None; to = to }) self.old.out.items self.old
-            self.new }
+        ensures answered { HasAnswered from (record { tid = None; to = to }) self.old.out.items
+            self.old self.new }
+        ensures pool { self.new.sockets.pool ≡ self.old.sockets.pool }
     {
         let answer = self.out.as_slice();
-        reply(&self.sockets.requests, &mut self.journal, to, answer);
+        let sent = reply(&self.sockets.requests, &mut self.journal, to, answer);
         if self.logs {
             log_unopened(rt, self.alloc, from, bytes, answer, reason);
+            if let Err(reason) = sent {
+                let port = self.sockets.requests.port();
+                log_unsent_answer(rt, self.alloc, port, from, bytes, reason);
+            }
         }
     }
 
@@ -250,12 +275,13 @@ impl<S: ServedStore + Drop> Daemon<S> {
         spare: ServerSocket,
         to: Option<Endpoint>,
     )
-        requires { vec_len self.old.ports < vec_capacity self.old.ports }
+        requires port { IsOneOf self.old.sockets.pool.range spare.port }
+        requires reserved { vec_len self.old.ports < vec_capacity self.old.ports }
         ensures { HasAnswered from (record { tid = Some spare.port; to = to })
             self.old.out.items self.old self.new }
     {
-        reply(&spare, &mut self.journal, to, self.out.as_slice());
-        let log_entry = self.log_opened(rt, spare.port(), from, bytes);
+        let sent = reply(&spare, &mut self.journal, to, self.out.as_slice());
+        let log_entry = self.log_opened(rt, spare.port(), from, bytes, sent);
         let port = self.port_of(spare, from, log_entry);
         self.ports.push_reserved(port);
     }
@@ -267,23 +293,25 @@ impl<S: ServedStore + Drop> Daemon<S> {
         peer: Endpoint,
         log_entry: Option<LogEntry>,
     ) -> TransferPort
-        ensures { timer_of result ≡ started self.now.sockets.watch.now spare.port peer
+        ensures tid { result.tid ≡ spare.port }
+        ensures timer { timer_of result ≡ started self.now.sockets.watch.now spare.port peer
             (interval_at (at spare.port self.now.server.held)) }
     {
         let mut udp = spare;
         self.sockets.register(&mut udp);
         let tid = udp.port();
         let interval = interval_of(&self.server, tid);
-        let due = deadline(self.sockets.watch.now, interval);
+        let times_out_at = deadline(self.sockets.watch.now, interval);
         Port {
             tid,
-            due,
+            due: times_out_at.min(next_look(self.sockets.watch.now)),
             is_ready: false,
             socket: TransferSocket {
                 udp,
                 peer,
                 interval,
-                times_out_at: due,
+                times_out_at,
+                moved_at: self.sockets.watch.now,
                 works_up_to: works_up_to(&self.server, tid),
                 log_entry,
             },
@@ -298,14 +326,19 @@ impl<S: ServedStore + Drop> Daemon<S> {
         tid: u16,
         from: Endpoint,
         bytes: &[u8],
+        sent: Result<(), Reason>,
     ) -> Option<LogEntry> {
         if !self.logs {
             return None;
         }
         let first = self.out.as_slice();
-        let entry = LogEntry::new(self.alloc, from, bytes, first, self.sockets.watch.now);
+        let reading = self.sockets.watch.reading;
+        let entry = LogEntry::new(self.alloc, from, bytes, first, reading);
         let line = entry.opened(tid);
         let _ = eprintln!(rt; "{line}");
+        if let Err(reason) = sent {
+            log_unsent_answer(rt, self.alloc, tid, from, bytes, reason);
+        }
         Some(entry)
     }
 }
@@ -331,7 +364,7 @@ fn interval_of<S: Store>(server: &Server<S>, tid: u16) -> u8
     }
 }
 
-/// The number of open transfers up to which this one's file reads ahead: as many as have a block
+/// The number of active transfers up to which this one's file reads ahead: as many as have a block
 /// each in `MOST_AHEAD` bytes. A file that is written has no bound: its writes go on beside others.
 fn works_up_to<S: Store>(server: &Server<S>, tid: u16) -> usize {
     match server.record(tid) {

@@ -1,25 +1,44 @@
-//! Opens the UDP sockets of a server.
+//! Opens the UDP sockets of a server, and orders their ports.
 
+ghost use Rattle.std.specs.Prelude.{IfOk};
+ghost use Rattle.tftp_sockets.specs.Bound.{IsBoundTo};
+ghost use Rattle.tftp_loop.specs.PortOrder.{IsOrderOf};
+
+use crate::port_order::{PortOrder, PortRange};
 use mio::Poll;
+use std::alloc::Global;
 use std::io;
-use std::net::{Net, SocketAddr};
+use std::net::Net;
+use std::random::RandomSource;
+use tftp_ends::Endpoint;
 use tftp_sockets::ServerSocket;
 
-/// Opens UDP sockets: a [`Net`] without its streams and listeners.
+/// Opens UDP sockets, a [`Net`] without its streams and listeners, and orders their ports by random
+/// bytes of the system.
 pub trait ServerUdp {
-    /// Binds a non-blocking socket.
-    fn bind(&self, address: SocketAddr) -> io::Result<ServerSocket>;
+    /// Binds a non-blocking socket to the endpoint; the system chooses a port for 0.
+    fn bind(&self, at: Endpoint) -> io::Result<ServerSocket>
+        ensures { IfOk result (λ socket. IsBoundTo at socket.ip socket.port) };
 
     /// Creates the poll of non-blocking sockets.
     fn poll(&self) -> io::Result<Poll>;
+
+    /// The ports of the range in a random order. It fails if the system gives no random bytes, or
+    /// when out of memory.
+    fn order(&self, alloc: Global, range: PortRange) -> io::Result<PortOrder>
+        ensures { IfOk result (IsOrderOf range) };
 }
 
-impl<N: Net> ServerUdp for N {
-    fn bind(&self, address: SocketAddr) -> io::Result<ServerSocket> {
-        ServerSocket::bind(self, address)
+impl<N: Net + RandomSource> ServerUdp for N {
+    fn bind(&self, at: Endpoint) -> io::Result<ServerSocket> {
+        ServerSocket::bind(self, at)
     }
 
     fn poll(&self) -> io::Result<Poll> {
         Poll::new(self)
+    }
+
+    fn order(&self, alloc: Global, range: PortRange) -> io::Result<PortOrder> {
+        PortOrder::new(self, alloc, range)
     }
 }

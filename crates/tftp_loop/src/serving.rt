@@ -1,16 +1,19 @@
 //! Serves over UDP, from the bind of the request port to the end.
 
-ghost use Rattle.std.specs.Prelude.{◌≡◌};
-ghost use Rattle.tftp_loop.specs.Serves.{Serves, ServesFrom, listening};
+ghost use Rattle.std.specs.Prelude.{◌≡◌, ◌⊎◌, IfErr, OnOk, ℕ, true};
+ghost use Rattle.tftp_loop.specs.Served.{FailsToBind, StopsServing};
+ghost use Rattle.tftp_loop.specs.Serves.{Serves, ServesFromIn, ServesIn, ServesToEnd};
+ghost use Rattle.tftp_loop.specs.Serves.{ServesToEndIn, listening};
 
 use crate::daemon::{Buffers, Daemon};
+use crate::port_order::PortRange;
 use crate::server_udp::ServerUdp;
 use crate::sockets::Sockets;
 use crate::store::ServedStore;
 use std::alloc::Global;
 use std::time::Clock;
 use tftp_ends::Endpoint;
-use tftp_host::Printed;
+use tftp_host::{Printed, Reason, reason_of};
 use tftp_server::Server;
 use tftp_sockets::{Journal, print_line};
 
@@ -19,6 +22,8 @@ use tftp_sockets::{Journal, print_line};
 pub struct LoopConfig {
     /// The endpoint of the request port.
     pub listen: Endpoint,
+    /// The ports that transfers use, each once before any again; `None` if the system chooses.
+    pub ports: Option<PortRange>,
     /// When the loop ends.
     pub ending: Ending,
     /// Whether each request and each close is logged as a line on standard error.
@@ -45,8 +50,9 @@ impl Ending {
 /// Why a server did not serve, or stopped.
 #[derive(Clone, Copy)]
 pub enum LoopFault {
-    /// The request port could not be bound.
-    Socket,
+    /// The request port could not be bound, or the ports of transfers not be ordered, for this
+    /// reason.
+    Socket(Reason),
     /// A line could not be printed.
     Output,
     /// Out of memory.
@@ -54,6 +60,11 @@ pub enum LoopFault {
 }
 
 /// Serves until the end of `config`. Adds its events to the journal, and returns it.
+///
+/// It returns `Ok` only at that end: so many transfers closed, or so many waits are over.
+/// `Socket` is returned only if no port was bound and nothing done, `Output` only if the last event
+/// is the line that could not be printed. If the configuration has a range of ports, each transfer
+/// that opens has one of them.
 pub fn serve<N: ServerUdp + Clock + Print + Eprint, S: ServedStore + Drop>(
     rt: &N,
     alloc: Global,
@@ -61,12 +72,19 @@ pub fn serve<N: ServerUdp + Clock + Print + Eprint, S: ServedStore + Drop>(
     config: &LoopConfig,
     journal: Journal,
 ) -> (Result<(), LoopFault>, Journal)
-    ensures { Serves S.meaning S.Source.meaning config.now.listen server journal.events
-        result.1.events }
+    ensures serves { Serves S.meaning S.Source.meaning config.now.listen config.now.ending server
+        journal.events result.1.events }
+    ensures ports { ServesIn S.meaning S.Source.meaning config.now.ports config.now.listen
+        config.now.ending server journal.events result.1.events }
+    ensures end { OnOk result.0 ((port : ℕ) × ServesToEnd S.meaning S.Source.meaning port
+        config.now.ending server (listening config.now.listen.ip port journal.events)
+        result.1.events) }
+    ensures fault { IfErr result.0 (λ fault. FailsToBind fault journal.events result.1.events
+        ⊎ StopsServing fault result.1.events) }
 {
-    match Sockets::bind(rt, config.listen) {
+    match Sockets::bind(rt, alloc, config) {
         Ok(sockets) => listen(rt, alloc, server, sockets, config, journal),
-        Err(_) => (Err(LoopFault::Socket), journal),
+        Err(error) => (Err(LoopFault::Socket(reason_of(&error))), journal),
     }
 }
 
@@ -79,9 +97,16 @@ fn listen<N: ServerUdp + Clock + Print + Eprint, S: ServedStore + Drop>(
     config: &LoopConfig,
     journal: Journal,
 ) -> (Result<(), LoopFault>, Journal)
-    requires { sockets.watch.now ≡ 0 }
-    ensures { ServesFrom S.meaning S.Source.meaning sockets.requests.port server
-        (listening sockets.ip sockets.requests.port journal.events) result.1.events }
+    requires time { sockets.watch.now ≡ 0 }
+    requires marked { sockets.is_ready ≡ true }
+    requires range { sockets.pool.range ≡ config.now.ports }
+    ensures serves { ServesFromIn S.meaning S.Source.meaning config.now.ports sockets.requests.port
+        config.now.ending server (listening sockets.requests.ip sockets.requests.port journal.events)
+        result.1.events }
+    ensures end { OnOk result.0 (ServesToEndIn S.meaning S.Source.meaning config.now.ports
+        sockets.requests.port config.now.ending server
+        (listening sockets.requests.ip sockets.requests.port journal.events) result.1.events) }
+    ensures fault { IfErr result.0 (λ fault. StopsServing fault result.1.events) }
 {
     let mut journal = journal;
     let line = Printed::Listening(sockets.listening());
@@ -100,14 +125,24 @@ fn run<N: ServerUdp + Clock + Print + Eprint, S: ServedStore + Drop>(
     config: &LoopConfig,
     journal: Journal,
 ) -> (Result<(), LoopFault>, Journal)
-    requires { sockets.watch.now ≡ 0 }
-    ensures { ServesFrom S.meaning S.Source.meaning sockets.requests.port server
-        journal.events result.1.events }
+    requires time { sockets.watch.now ≡ 0 }
+    requires marked { sockets.is_ready ≡ true }
+    requires range { sockets.pool.range ≡ config.now.ports }
+    ensures serves { ServesFromIn S.meaning S.Source.meaning config.now.ports sockets.requests.port
+        config.now.ending server journal.events result.1.events }
+    ensures end { OnOk result.0 (ServesToEndIn S.meaning S.Source.meaning config.now.ports
+        sockets.requests.port config.now.ending server journal.events result.1.events) }
+    ensures fault { IfErr result.0 (λ fault. StopsServing fault result.1.events) }
 {
     let Ok(mut buffers) = Buffers::new(alloc) else {
         return (Err(LoopFault::Memory), journal);
     };
-    let mut daemon = Daemon::new(alloc, server, sockets, config.logs, journal);
-    let result = daemon.take_rounds(rt, config.ending, &mut buffers);
+    let mut daemon = Daemon::new(alloc, server, sockets, config.ending, config.logs, journal);
+    let result = daemon.take_rounds(
+        rt,
+        &mut buffers.reports,
+        buffers.request.as_mut_slice(),
+        buffers.datagram.as_mut_slice(),
+    );
     (result, daemon.journal)
 }

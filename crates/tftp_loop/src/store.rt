@@ -4,18 +4,45 @@ ghost use Rattle.std.specs.Prelude.{◌≡◌};
 
 use tftp_host::Reason;
 use tftp_server::Store;
+use tftp_store::MemStore;
 
-/// A store that is set before each request is carried out, and that keeps the system's reasons.
+/// A store that is set before each request is carried out, that keeps the reasons for what it
+/// refuses, and that syncs drafts when its loop lets it.
 pub trait ServedStore: Store {
     /// Sets the port of the next transfer, which names its draft.
     fn set_port(&mut self, port: u16)
         ensures { Self.meaning.stored self.new ≡ Self.meaning.stored self.old };
 
-    /// Sets the longest length on the wire that can be sent, in bytes. A longer file is not read to
-    /// measure it.
+    /// Sets the longest length on the wire that can be sent, in bytes. A file with more bytes is not
+    /// read to measure it.
     fn set_longest(&mut self, bytes: u64)
         ensures { Self.meaning.stored self.new ≡ Self.meaning.stored self.old };
 
-    /// Takes the system's reason for refusing the last open, begin, append or commit.
+    /// Takes the reason for refusing the last open, begin, append or commit, or the last fill of a
+    /// source.
     fn take_reason(&self) -> Option<Reason>;
+
+    /// Takes the port of a transfer whose draft is to be synced, if there is one since the last
+    /// call.
+    fn take_unsynced(&self) -> Option<u16>;
+
+    /// Lets the next `write_behind` sync its draft.
+    fn let_sync(&self);
+}
+
+/// Files in memory need no port and no sync, and have no reasons.
+impl ServedStore for MemStore {
+    fn set_port(&mut self, _port: u16) {}
+
+    fn set_longest(&mut self, _bytes: u64) {}
+
+    fn take_reason(&self) -> Option<Reason> {
+        None
+    }
+
+    fn take_unsynced(&self) -> Option<u16> {
+        None
+    }
+
+    fn let_sync(&self) {}
 }

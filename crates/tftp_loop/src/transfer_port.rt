@@ -1,33 +1,46 @@
 //! The port of a transfer: its datagrams and its timeouts.
 
-ghost use Rattle.std.specs.Prelude.{◌≡◌, ◌≤◌, ◌⊎◌, IsSome, MatchOption, IfSome, true, false};
+ghost use Rattle.std.specs.Prelude.{◌≡◌, ◌≢◌, ◌≤◌, ◌⊎◌, ◌||◌, IsSome, MatchOption, IfSome};
+ghost use Rattle.std.specs.Prelude.{true, false, map, min, None, ◌+◌, ℕ};
 ghost use Rattle.tftp_server.specs.State.{at, is_open, taken_of};
 ghost use Rattle.tftp_sockets.specs.Journal.{replied};
+ghost use Rattle.tftp_sockets.specs.Quiet.{was_tried};
+ghost use Rattle.tftp_loop.specs.Fair.{ReceivesAtMost, ReceivesFew};
 ghost use Rattle.tftp_loop.specs.Serves.{AnswersDatagram, AnswersTimeout, LosesDatagram};
-ghost use Rattle.tftp_loop.specs.Serves.{WorksAtPort, restarted, timer_after};
+ghost use Rattle.tftp_host.specs.Watch.{last_moment};
+ghost use Rattle.tftp_loop.specs.Serves.{WorksAtPort, look_after, marked_as, restarted};
+ghost use Rattle.tftp_loop.specs.Serves.{Timer, timer_after};
 ghost use Rattle.tftp_loop.specs.Served.{AnswersReceived, OnlyServesPort, timer_of};
+ghost use Rattle.tftp_loop.specs.Tended.{IsRead, IsTimed, KeepsTries, LeavesTimer};
+ghost use Rattle.tftp_loop.specs.Tended.{marked_if};
 
 use crate::log_entry::LogEntry;
 use tftp_ends::{Endpoint, Step};
-use tftp_host::{Port, deadline, is_due};
+use tftp_host::{Port, Reason, deadline, is_due};
 use tftp_server::{Server, Store};
-use tftp_sockets::{Journal, ServerSocket};
+use tftp_sockets::{Journal, Receipt, ServerSocket};
 
 /// The most datagrams received from one socket in a wake-up, so that a flood at one port does not
 /// starve the others.
-pub(crate) const MOST_AT_ONCE: usize = 32;
+const MOST_AT_ONCE: usize = 32;
 
-/// The time after progress at which a port is read again without a readiness event, in
-/// milliseconds. A second datagram that arrived with the first causes no event of its own.
+const _: () = prove!(1 <= MOST_AT_ONCE && MOST_AT_ONCE <= 32);
+
+/// The time after an opening or progress at which a port is read again though no wait reported it,
+/// in milliseconds. A second datagram that arrived with the first is reported only once.
 const LOOK_AFTER: u64 = 500;
+
+/// The time after its opening and after progress for which a transfer counts as active, in
+/// milliseconds.
+const ACTIVE_FOR: u64 = 500;
 
 /// The result of serving a transfer's port.
 #[derive(Clone, Copy, PartialEq, Eq)]
 pub(crate) enum PortStatus {
-    /// No datagram is left.
+    /// No datagram was received.
     Empty,
-    /// The transfer advanced. Datagrams that are left are received at the next readiness event, or
-    /// when the port is due.
+    /// The transfer advanced. Datagrams that are left are received once a wait reports the port, or
+    /// when it is due.
     Onward,
     /// Datagrams may be left.
     Unfinished,
@@ -45,7 +58,9 @@ pub(crate) struct TransferSocket {
     pub(crate) interval: u8,
     /// When the transfer times out, in milliseconds. The port may be due earlier, to be read again.
     pub(crate) times_out_at: u64,
-    /// The number of open transfers up to which its file reads ahead or is written back.
+    /// When the transfer was opened or last made progress, in milliseconds.
+    pub(crate) moved_at: u64,
+    /// The number of active transfers up to which its file reads ahead or is written back.
     pub(crate) works_up_to: usize,
     /// The log entry, if there is a log.
     pub(crate) log_entry: Option<LogEntry>,
@@ -54,18 +69,32 @@ pub(crate) struct TransferSocket {
 /// The port of a transfer.
 pub(crate) type TransferPort = Port<TransferSocket>;
 
-/// Sends the answer of a step, if it has one.
+/// The number of transfers that were opened or made progress lately. One that only waits for a
+/// repeated datagram, or whose client vanished, does not count.
+pub(crate) fn count_active(now: u64, ports: &[TransferPort]) -> usize {
+    ports.iter().filter(|port| is_active(now, port)).count()
+}
+
+/// Whether a transfer was opened or made progress lately.
+fn is_active(now: u64, port: &TransferPort) -> bool {
+    now <= port.socket.moved_at.saturating_add(ACTIVE_FOR)
+}
+
+/// Sends the answer of a step, if it has one. If the system refuses it, it is lost, and its reason
+/// returned.
 pub(crate) fn reply(
     socket: &ServerSocket,
     journal: &mut Journal,
     to: Option<Endpoint>,
     bytes: &[u8],
-)
-    ensures { journal.new.events ≡ replied socket.now.port to bytes.now journal.old.events }
+) -> Result<(), Reason>
+    ensures events { journal.new.events ≡ replied socket.now.port to bytes.now
+        journal.old.events }
+    ensures received { ReceivesAtMost 0 journal.old.events journal.new.events }
 {
     match to {
         Some(to) => socket.send(journal, to, bytes),
-        None => {}
+        None => Ok(()),
     }
 }
 
@@ -88,12 +117,15 @@ fn handle<S: Store>(
         server.new journal.old.events journal.new.events step) }
     ensures closed { IfSome result (λ step. IsSome step.closed
         → IsSome (taken_of (at udp.now.port server.new.held))) }
+    ensures tries { KeepsTries journal.old.events journal.new.events }
+    ensures received { ReceivesAtMost 0 journal.old.events journal.new.events }
 {
     let Ok((step, outgoing)) = server.handle_datagram(tid, from, bytes) else {
         return None;
     };
     let answer = server.bytes_of(tid, outgoing).unwrap_or(&[]);
-    reply(udp, journal, step.to, answer);
+    let sent = reply(udp, journal, step.to, answer);
+    keep_unsent(log_entry, sent);
     count_data(log_entry, step.progress, answer);
     count_data(log_entry, step.progress, bytes);
     Some(step)
@@ -108,13 +140,71 @@ fn count_data(log_entry: &mut Option<LogEntry>, is_progress: bool, datagram: &[u
     }
 }
 
-/// Restarts the timer of a transfer if a step was progress.
-fn restart_by(port: &mut TransferPort, now: u64, is_progress: bool)
+/// Keeps for the log, if there is one, why the system refused to send a datagram.
+fn keep_unsent(log_entry: &Option<LogEntry>, sent: Result<(), Reason>) {
+    let Err(reason) = sent else {
+        return;
+    };
+    if let Some(entry) = log_entry {
+        entry.keep_unsent(reason);
+    }
+}
+
+/// Restarts the timer of a transfer if a step was progress, and leaves the port for a while. Else
+/// the port stays marked.
+fn note_step(port: &mut TransferPort, now: u64, is_progress: bool)
     ensures { timer_of port.new ≡ timer_after now is_progress (timer_of port.old) }
 {
     if is_progress {
-        port.socket.times_out_at = deadline(now, port.socket.interval);
-        port.due = port.socket.times_out_at.min(now.saturating_add(LOOK_AFTER));
+        note_progress(port, now);
+    } else {
+        mark(port, true);
+    }
+}
+
+/// Restarts the timer of a transfer, and leaves its port for a while.
+fn note_progress(port: &mut TransferPort, now: u64)
+    ensures { timer_of port.new ≡ timer_after now true (timer_of port.old) }
+{
+    let deadline = deadline(now, port.socket.interval);
+    port.socket.moved_at = now;
+    port.socket.times_out_at = deadline;
+    port.is_ready = false;
+    port.due = deadline.min(next_look(now));
+}
+
+/// When a port is read again, if its transfer opens or advances at `now` and does not expire before.
+pub(crate) fn next_look(now: u64) -> u64
+    ensures { result ≡ min (now + look_after) last_moment }
+{
+    now.saturating_add(LOOK_AFTER)
+}
+
+/// Marks that a datagram may be at a transfer's port, or that none is. The port is read when it is
+/// marked, or when the transfer times out.
+fn mark(port: &mut TransferPort, is_ready: bool)
+    ensures { timer_of port.new ≡ marked_as is_ready (timer_of port.old) }
+{
+    port.is_ready = is_ready;
+    port.due = port.socket.times_out_at;
+}
+
+/// Marks the ports that a wait reported.
+pub(crate) fn mark_all(ports: &mut [TransferPort], reported: &[u16])
+    ensures { ports.new ≡ map (marked_if reported.now) ports.old }
+{
+    for port in ports.iter_mut() {
+        mark_reported(port, reported);
+    }
+}
+
+/// Marks a port if a wait reported it.
+fn mark_reported(port: &mut TransferPort, reported: &[u16])
+    ensures { port.new ≡ marked_if reported.now port.old }
+{
+    let number = port.socket.udp.port();
+    if reported.contains(&number) {
+        port.is_ready = true;
     }
 }
 
@@ -137,9 +227,19 @@ fn work_after<S: Store>(server: &mut Server<S>, tid: u16, step: &Step, may_work:
     server.work(tid);
 }
 
+/// Lets the file of the transfer at the port be written back, or read ahead.
+pub(crate) fn work_at<S: Store>(server: &mut Server<S>, port: &TransferPort)
+    ensures { WorksAtPort S.meaning S.Source.meaning port.now.socket.udp.port server.old
+        server.new }
+{
+    server.work(port.socket.udp.port());
+}
+
 /// The result of a step.
 fn status_of(step: &Step) -> PortStatus
-    ensures { result ≡ PortStatus.Closed → IsSome step.now.closed }
+    ensures closed { result ≡ PortStatus.Closed → IsSome step.now.closed }
+    ensures timer { (now : ℕ) (timer : Timer)
+        → LeavesTimer result now (timer_after now step.now.progress timer) }
 {
     if step.closed.is_some() {
         return PortStatus::Closed;
@@ -152,24 +252,42 @@ fn status_of(step: &Step) -> PortStatus
 }
 
 /// Receives a datagram at a transfer's port, if there is one, and handles it. The datagram is lost
-/// when out of memory. `open` is the number of open transfers.
+/// when out of memory. `active` is the number of active transfers.
 fn take_datagram<S: Store>(
     server: &mut Server<S>,
     port: &mut TransferPort,
     journal: &mut Journal,
     now: u64,
-    open: usize,
+    active: usize,
     buffer: &mut [u8],
 ) -> PortStatus
     ensures serves { OnlyServesPort S.meaning S.Source.meaning now server.old port.old journal.old
         server.new port.new journal.new }
     ensures closed { result ≡ PortStatus.Closed
         → IsSome (taken_of (at port.new.socket.udp.port server.new.held)) }
+    ensures tried { was_tried port.new.socket.udp.port journal.new.events ≡ true }
+    ensures timer { LeavesTimer result now (timer_of port.new) }
+    ensures received { ReceivesAtMost 1 journal.old.events journal.new.events }
 {
-    let Some((from, count)) = port.socket.udp.receive(journal, buffer) else {
-        return PortStatus::Empty;
-    };
-    answer_received(server, port, journal, now, open, from, &buffer[..count])
+    match port.socket.udp.receive(journal, buffer) {
+        Receipt::Datagram(from, count) => answer_received(
+            server,
+            port,
+            journal,
+            now,
+            active,
+            from,
+            &buffer[..count],
+        ),
+        Receipt::Nothing => {
+            mark(port, false);
+            PortStatus::Empty
+        }
+        Receipt::Failed => {
+            mark(port, true);
+            PortStatus::Empty
+        }
+    }
 }
 
 /// Handles a datagram received at the port of a transfer, and sends the answer. After that the file
@@ -179,7 +297,7 @@ fn answer_received<S: Store>(
     port: &mut TransferPort,
     journal: &mut Journal,
     now: u64,
-    open: usize,
+    active: usize,
     from: Endpoint,
     bytes: &[u8],
 ) -> PortStatus
@@ -187,6 +305,9 @@ fn answer_received<S: Store>(
         port.old journal.old server.new port.new journal.new }
     ensures closed { result ≡ PortStatus.Closed
         → IsSome (taken_of (at port.new.socket.udp.port server.new.held)) }
+    ensures tries { KeepsTries journal.old.events journal.new.events }
+    ensures received { ReceivesAtMost 0 journal.old.events journal.new.events }
+    ensures timer { LeavesTimer result now (timer_of port.new) }
 {
     let tid = port.socket.udp.port();
     let socket = &mut port.socket;
@@ -199,10 +320,11 @@ fn answer_received<S: Store>(
         from,
         bytes,
     ) else {
+        mark(port, true);
         return PortStatus::Unfinished;
     };
-    restart_by(port, now, step.progress);
-    let may_work = open <= port.socket.works_up_to;
+    note_step(port, now, step.progress);
+    let may_work = active <= port.socket.works_up_to;
     work_after(server, port.socket.udp.port(), &step, may_work);
     status_of(&step)
 }
@@ -213,60 +335,43 @@ fn take_datagrams<S: Store>(
     port: &mut TransferPort,
     journal: &mut Journal,
     now: u64,
-    open: usize,
+    active: usize,
     buffer: &mut [u8],
 ) -> PortStatus
     ensures serves { OnlyServesPort S.meaning S.Source.meaning now server.old port.old journal.old
         server.new port.new journal.new }
     ensures closed { result ≡ PortStatus.Closed
         → IsSome (taken_of (at port.new.socket.udp.port server.new.held)) }
+    ensures tried { was_tried port.new.socket.udp.port journal.new.events ≡ true }
+    ensures timer { LeavesTimer result now (timer_of port.new) }
+    ensures received { ReceivesFew journal.old.events journal.new.events }
 {
-    for _ in 0..MOST_AT_ONCE {
-        let status = take_datagram(server, port, journal, now, open, buffer);
-        if status != PortStatus::Unfinished {
-            return status;
+    for turn in 0..MOST_AT_ONCE {
+        match take_datagram(server, port, journal, now, active, buffer) {
+            PortStatus::Unfinished => {}
+            status => return status,
         }
     }
     PortStatus::Unfinished
 }
 
-/// As [`take_datagrams`], and marks the port ready if datagrams may be left.
-fn take_noted<S: Store>(
-    server: &mut Server<S>,
-    port: &mut TransferPort,
-    journal: &mut Journal,
-    now: u64,
-    open: usize,
-    buffer: &mut [u8],
-) -> PortStatus
-    ensures serves { OnlyServesPort S.meaning S.Source.meaning now server.old port.old journal.old
-        server.new port.new journal.new }
-    ensures closed { result ≡ PortStatus.Closed
-        → IsSome (taken_of (at port.new.socket.udp.port server.new.held)) }
-{
-    let status = take_datagrams(server, port, journal, now, open, buffer);
-    port.is_ready = status == PortStatus::Unfinished;
-    status
-}
-
-/// Handles the datagrams at a transfer's port, if it is marked ready.
+/// Handles the datagrams at a transfer's port, if it is marked.
 pub(crate) fn take_ready<S: Store>(
     server: &mut Server<S>,
     port: &mut TransferPort,
     journal: &mut Journal,
     now: u64,
-    open: usize,
+    active: usize,
     buffer: &mut [u8],
-) -> PortStatus
+)
     ensures serves { OnlyServesPort S.meaning S.Source.meaning now server.old port.old journal.old
         server.new port.new journal.new }
-    ensures closed { result ≡ PortStatus.Closed
-        → IsSome (taken_of (at port.new.socket.udp.port server.new.held)) }
+    ensures read { IsRead journal.new.events (timer_of port.new) }
+    ensures received { ReceivesFew journal.old.events journal.new.events }
 {
-    if !port.is_ready {
-        return PortStatus::Empty;
+    if port.is_ready {
+        take_datagrams(server, port, journal, now, active, buffer);
     }
-    take_noted(server, port, journal, now, open, buffer)
 }
 
 /// Handles the datagrams at a due port. Without progress, delivers the timeout if that is due.
@@ -275,25 +380,27 @@ pub(crate) fn take_due<S: Store>(
     port: &mut TransferPort,
     journal: &mut Journal,
     now: u64,
-    open: usize,
+    active: usize,
     buffer: &mut [u8],
-) -> PortStatus
+)
+    requires { port.old.due ≤ port.old.socket.times_out_at }
     ensures serves { OnlyServesPort S.meaning S.Source.meaning now server.old port.old journal.old
         server.new port.new journal.new }
-    ensures closed { result ≡ PortStatus.Closed
-        → IsSome (taken_of (at port.new.socket.udp.port server.new.held)) }
+    ensures timed { (taken_of (at port.new.socket.udp.port server.new.held) ≡ None)
+        → IsTimed now (timer_of port.new) }
+    ensures received { ReceivesFew journal.old.events journal.new.events }
 {
     if !is_due(now, port.due) {
-        return PortStatus::Empty;
+        return;
     }
-    let status = take_noted(server, port, journal, now, open, buffer);
+    let status = take_datagrams(server, port, journal, now, active, buffer);
     if status == PortStatus::Closed {
-        return PortStatus::Closed;
+        return;
     }
     if status == PortStatus::Onward {
-        return PortStatus::Onward;
+        return;
     }
-    take_silence(server, port, journal, now)
+    take_silence(server, port, journal, now);
 }
 
 /// Handles a due port without progress: delivers the timeout if that is due.
@@ -302,17 +409,17 @@ fn take_silence<S: Store>(
     port: &mut TransferPort,
     journal: &mut Journal,
     now: u64,
-) -> PortStatus
+)
+    requires tried { was_tried port.old.socket.udp.port journal.old.events ≡ true }
+    requires look { port.old.due ≡ port.old.socket.times_out_at }
     ensures serves { OnlyServesPort S.meaning S.Source.meaning now server.old port.old journal.old
         server.new port.new journal.new }
-    ensures closed { result ≡ PortStatus.Closed
-        → IsSome (taken_of (at port.new.socket.udp.port server.new.held)) }
+    ensures timed { IsTimed now (timer_of port.new) }
+    ensures received { ReceivesAtMost 0 journal.old.events journal.new.events }
 {
-    port.due = port.socket.times_out_at;
-    if !is_due(now, port.socket.times_out_at) {
-        return PortStatus::Empty;
+    if is_due(now, port.socket.times_out_at) {
+        take_timeout(server, port, journal, now);
     }
-    take_timeout(server, port, journal, now)
 }
 
 /// Delivers a timeout to a transfer, and sends the datagram of its step.
@@ -321,19 +428,18 @@ fn take_timeout<S: Store>(
     port: &mut TransferPort,
     journal: &mut Journal,
     now: u64,
-) -> PortStatus
-    requires { port.old.socket.times_out_at ≤ now }
+)
+    requires due { port.old.socket.times_out_at ≤ now }
+    requires tried { was_tried port.old.socket.udp.port journal.old.events ≡ true }
+    requires look { port.old.due ≡ port.old.socket.times_out_at }
     ensures serves { OnlyServesPort S.meaning S.Source.meaning now server.old port.old journal.old
         server.new port.new journal.new }
-    ensures closed { result ≡ PortStatus.Closed
-        → IsSome (taken_of (at port.new.socket.udp.port server.new.held)) }
+    ensures timer { timer_of port.new ≡ restarted now (timer_of port.old) }
+    ensures received { ReceivesAtMost 0 journal.old.events journal.new.events }
 {
     restart(port, now);
     journal.elapsed(port.socket.udp.port(), now);
-    match time_out(server, &port.socket.udp, journal) {
-        Some(step) => status_of(&step),
-        None => PortStatus::Empty,
-    }
+    time_out(server, &port.socket.udp, &port.socket.log_entry, journal);
 }
 
 /// Restarts the timer of a transfer.
@@ -349,6 +455,7 @@ fn restart(port: &mut TransferPort, now: u64)
 fn time_out<S: Store>(
     server: &mut Server<S>,
     udp: &ServerSocket,
+    log_entry: &Option<LogEntry>,
     journal: &mut Journal,
 ) -> Option<Step>
     ensures steps { MatchOption result
@@ -356,14 +463,14 @@ fn time_out<S: Store>(
         × (journal.new.events ≡ journal.old.events))
         (λ step. AnswersTimeout udp.now.port server.old server.new journal.old.events
         journal.new.events step) }
-    ensures closed { IfSome result (λ step. IsSome step.closed
-        → IsSome (taken_of (at udp.now.port server.new.held))) }
+    ensures received { ReceivesAtMost 0 journal.old.events journal.new.events }
 {
     let tid = udp.port();
     let Ok((step, outgoing)) = server.handle_timeout(tid) else {
         return None;
     };
     let answer = server.bytes_of(tid, outgoing).unwrap_or(&[]);
-    reply(udp, journal, step.to, answer);
+    let sent = reply(udp, journal, step.to, answer);
+    keep_unsent(log_entry, sent);
     Some(step)
 }

@@ -3,6 +3,17 @@ use Rattle.std.specs.Prelude.{ℕ, List, ◌∷◌, Option, Some, None}
 use Rattle.tftp_ends.specs.Step.{Reply}
 use Rattle.tftp_ends.specs.declared.endpoint.Endpoint.{Endpoint}
 
+-- what a program learns of its sockets without a datagram (ours)
+pub data QuietEvent : Type 0 where
+  -- a receive at the port found nothing
+  Empty : (port : ℕ) → QuietEvent
+  -- a receive at the port failed otherwise: a datagram may be there
+  Failed : (port : ℕ) → QuietEvent
+  -- a wait began, of at most so many milliseconds
+  Slept : (millis : ℕ) → QuietEvent
+  -- the wait ended, and reported that datagrams may be at these ports
+  Woke : (ports : List ℕ) → QuietEvent
+
 pub data Event : Type 0 where
   -- a datagram was received at the port, from this endpoint, with these bytes (RFC 1350, section 4)
   Received : (port : ℕ) (from : Endpoint) (bytes : List ℕ) → Event
@@ -15,6 +26,8 @@ pub data Event : Type 0 where
   Elapsed : (port : ℕ) (time : ℕ) → Event
   -- a line was printed on standard output, without its end
   Printed : (line : List ℕ) → Event
+  -- nothing was received, or the program waited
+  Quiet : QuietEvent → Event
 
 -- the journal after these bytes were sent from the port, if they go somewhere
 abbrev pub replied : ℕ → Option Endpoint → List ℕ → List Event → List Event

@@ -1,1 +1,4 @@
+pub mod Bound
 pub mod Journal
+pub mod Quiet
+pub mod Receipt

@@ -6,7 +6,8 @@ ghost use Rattle.tftp_host.specs.ClientOutcome.{end_text};
 ghost use Rattle.tftp_host.specs.Printed.{line_text};
 ghost use Rattle.tftp_sockets.specs.Journal.{Event};
 ghost use Rattle.tftp_sockets.specs.Journal.Event.{Received, Sent, Watched};
-ghost use Rattle.tftp_sockets.specs.Journal.Event.{Elapsed, Printed as Line};
+ghost use Rattle.tftp_sockets.specs.Journal.Event.{Elapsed, Printed as Line, Quiet};
+ghost use Rattle.tftp_sockets.specs.Journal.QuietEvent.{Empty, Failed, Slept, Woke};
 
 use std::marker::{Model, PhantomData};
 use tftp_ends::Endpoint;
@@ -43,6 +44,26 @@ impl Journal {
     /// Notes a datagram that is sent.
     pub(crate) fn sent(&mut self, port: u16, to: &Endpoint, bytes: &[u8])
         ensures { self.new.events ≡ Sent port to.now bytes.now ∷ self.old.events }
+    {}
+
+    /// Notes a receive that found nothing.
+    pub(crate) fn empty(&mut self, port: u16)
+        ensures { self.new.events ≡ Quiet (Empty port) ∷ self.old.events }
+    {}
+
+    /// Notes a receive that failed.
+    pub(crate) fn failed(&mut self, port: u16)
+        ensures { self.new.events ≡ Quiet (Failed port) ∷ self.old.events }
+    {}
+
+    /// Notes the begin of a wait of at most so many milliseconds.
+    pub(crate) fn slept(&mut self, millis: u64)
+        ensures { self.new.events ≡ Quiet (Slept millis) ∷ self.old.events }
+    {}
+
+    /// Notes the end of a wait, which reported these ports.
+    pub(crate) fn woke(&mut self, ports: &[u16])
+        ensures { self.new.events ≡ Quiet (Woke ports.now) ∷ self.old.events }
     {}
 
     /// Notes a reading of the watch, in milliseconds.

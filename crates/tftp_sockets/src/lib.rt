@@ -5,7 +5,11 @@
 #![tactic(auto)]
 
 mod journal;
+mod receipt;
 mod sockets;
 
 pub use journal::Journal;
-pub use sockets::{ClientSocket, ServerSocket, print_end, print_line, read_watch};
+pub use receipt::Receipt;
+pub use sockets::{
+    ClientSocket, Reports, ServerSocket, look, print_end, print_line, read_watch, wait,
+};

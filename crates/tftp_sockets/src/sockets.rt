@@ -1,42 +1,75 @@
-//! UDP sockets, the clock and the printer, with notes in a [`Journal`].
+//! **Trusted by reading**: UDP sockets, waits, the clock and the printer, with notes in a [`Journal`].
 //!
-//! **The bodies of this file are trusted: review alone shows that a note is true.** The sockets,
-//! the clock and the printer of std and `mio` have no model. Each datagram, reading of the clock
-//! and printed line has one note: what was passed to the system or returned by it, and for a
-//! datagram the port that the socket is bound to. Once they have their command line, `tftp` and
-//! `tftpd` call no socket and print no line of standard output elsewhere, and read the clock
+//! Review alone shows that a note is true: the sockets, the clock and the printer of std and `mio`
+//! have no model. Each datagram, wait, receive without a datagram, reading of the clock and printed
+//! line has one note: what was passed to the system or returned by it, and for a receive or a
+//! datagram the port that the socket is bound to. That a port stays empty, once a receive found
+//! nothing there, until a wait reports it, is trusted too. Once they have their command line, `tftp`
+//! and `tftpd` call no socket and print no line of standard output elsewhere, and read the clock
 //! elsewhere only to start their watch. Help and versions are printed before that.
 //!
-//! A failed send counts as a lost datagram. A failed receive is no event.
+//! A failed send counts as a lost datagram; the server's says why. A look that takes no time and
+//! finds no port is no event.
 
-ghost use Rattle.std.specs.Prelude.{◌≡◌, ◌≤◌, ◌∷◌, length, take, IfOk, IfSome, MatchOption};
+ghost use Rattle.std.specs.Prelude.{◌≡◌, ◌≢◌, ◌≤◌, ◌∷◌, [], true, length, max};
+ghost use Rattle.std.specs.Prelude.{IfOk, if◌then◌else◌};
 ghost use Rattle.tftp_host.specs.ClientOutcome.{end_text};
 ghost use Rattle.tftp_host.specs.Printed.{line_text};
-ghost use Rattle.tftp_sockets.specs.Journal.Event.{Received, Sent, Watched, Printed as Line};
+ghost use Rattle.tftp_sockets.specs.Journal.Event.{Sent, Watched, Printed as Line, Quiet};
+ghost use Rattle.tftp_sockets.specs.Journal.QuietEvent.{Slept, Woke};
+ghost use Rattle.tftp_sockets.specs.Bound.{IsBoundTo};
+ghost use Rattle.tftp_sockets.specs.Receipt.{Fits, receive_event};
 
 use crate::journal::Journal;
+use crate::receipt::Receipt;
 use mio::net::UdpSocket as ReadySocket;
-use mio::{Interest, Registry, Token};
-use std::io;
+use mio::{Events, Interest, Poll, Registry, Token};
+use std::alloc::{AllocError, Global};
+use std::io::{self, ErrorKind};
 use std::net::{Net, SocketAddr, UdpSocket};
 use std::time::{Clock, Duration};
 use tftp_ends::Endpoint;
-use tftp_host::{ClientOutcome, LONGEST_WAIT, Printed, Watch, address_of, endpoint_of, read_clock};
+use tftp_host::{
+    ClientOutcome, LONGEST_WAIT, Printed, Reason, Watch, address_of, endpoint_of, read_clock,
+    reason_of,
+};
 
 /// A non-blocking socket of a server.
 #[derive(Drop)]
 pub struct ServerSocket {
+    /// The address that the socket is bound to.
+    ip: [u8; 4],
     /// The port that the socket is bound to, as the system reports it.
     port: u16,
     udp: ReadySocket,
 }
 
 impl ServerSocket {
-    /// Binds a socket to the address.
-    pub fn bind<N: Net>(net: &N, address: SocketAddr) -> io::Result<ServerSocket> {
-        let udp = ReadySocket::bind(net, address)?;
+    /// Binds a socket to the endpoint; the system chooses a port for 0. It fails with the system's
+    /// error, or with `AddrNotAvailable` if the system reports another port.
+    pub fn bind<N: Net>(net: &N, at: Endpoint) -> io::Result<ServerSocket>
+        ensures { IfOk result (λ socket. IsBoundTo at socket.ip socket.port) }
+    {
+        let udp = ReadySocket::bind(net, address_of(at))?;
         let port = udp.local_addr()?.port();
-        Ok(ServerSocket { port, udp })
+        if at.port != 0 && port != at.port {
+            return Err(io::Error::from(ErrorKind::AddrNotAvailable));
+        }
+        Ok(ServerSocket {
+            ip: at.ip,
+            port,
+            udp,
+        })
+    }
+
+    /// The endpoint that the socket is bound to.
+    pub fn endpoint(&self) -> Endpoint
+        ensures { result ≡ record { ip = self.now.ip; port = self.now.port } }
+    {
+        Endpoint {
+            ip: self.ip,
+            port: self.port,
+        }
     }
 
     /// The port that the socket is bound to.
@@ -46,32 +79,34 @@ impl ServerSocket {
         self.port
     }
 
-    /// Registers the socket for readable events under the token.
-    pub fn register(&mut self, registry: &Registry, token: Token) -> io::Result<()>
-        ensures { self.new.port ≡ self.old.port }
+    /// Registers the socket, so that a wait reports its port when a datagram has arrived.
+    pub fn register(&mut self, registry: &Registry) -> io::Result<()>
+        ensures port { self.new.port ≡ self.old.port }
+        ensures ip { self.new.ip ≡ self.old.ip }
     {
+        let token = Token(usize::from(self.port));
         registry.register(&mut self.udp, token, Interest::READABLE)
     }
 
-    /// Receives a datagram, if one has arrived. Returns its sender and its length in bytes.
-    pub fn receive(&self, journal: &mut Journal, buffer: &mut [u8]) -> Option<(Endpoint, usize)>
-        ensures noted { MatchOption result
-            (journal.new.events ≡ journal.old.events)
-            (λ datagram. journal.new.events
-            ≡ Received self.now.port datagram.0 (take datagram.1 buffer.new)
-            ∷ journal.old.events) }
-        ensures count { IfSome result (λ datagram. datagram.1 ≤ length buffer.new) }
+    /// Receives a datagram, if one has arrived.
+    pub fn receive(&self, journal: &mut Journal, buffer: &mut [u8]) -> Receipt
+        ensures noted { journal.new.events ≡ receive_event self.now.port buffer.new result
+            ∷ journal.old.events }
+        ensures fits { Fits buffer.new result }
     {
         let received = self.udp.recv_from(buffer);
         note(journal, self.port, received, buffer)
     }
 
-    /// Sends a datagram. If the system reports an error, the datagram is lost.
-    pub fn send(&self, journal: &mut Journal, peer: Endpoint, bytes: &[u8])
+    /// Sends a datagram. If the system refuses it, the datagram is lost, and its reason returned.
+    pub fn send(&self, journal: &mut Journal, peer: Endpoint, bytes: &[u8]) -> Result<(), Reason>
         ensures { journal.new.events ≡ Sent self.now.port peer bytes.now ∷ journal.old.events }
     {
         journal.sent(self.port, &peer, bytes);
-        let _ = self.udp.send_to(bytes, address_of(peer));
+        match self.udp.send_to(bytes, address_of(peer)) {
+            Ok(_) => Ok(()),
+            Err(error) => Err(reason_of(&error)),
+        }
     }
 }
 
@@ -106,35 +141,36 @@ impl ClientSocket {
         self.port
     }
 
-    /// Waits at most `wait` milliseconds for a datagram; 0 counts as 1. Returns its sender and its
-    /// length in bytes.
-    pub fn receive(
-        &mut self,
-        journal: &mut Journal,
-        wait: u64,
-        buffer: &mut [u8],
-    ) -> Option<(Endpoint, usize)>
+    /// Waits at most `wait` milliseconds for a datagram; 0 counts as 1.
+    pub fn receive(&mut self, journal: &mut Journal, wait: u64, buffer: &mut [u8]) -> Receipt
         ensures port { self.new.port ≡ self.old.port }
-        ensures noted { MatchOption result
-            (journal.new.events ≡ journal.old.events)
-            (λ datagram. journal.new.events
-            ≡ Received self.old.port datagram.0 (take datagram.1 buffer.new)
-            ∷ journal.old.events) }
-        ensures count { IfSome result (λ datagram. datagram.1 ≤ length buffer.new) }
+        ensures noted { journal.new.events ≡ receive_event self.old.port buffer.new result
+            ∷ Quiet (Slept (max wait 1)) ∷ journal.old.events }
+        ensures fits { Fits buffer.new result }
     {
-        self.set_wait(wait.max(1));
+        let wait = wait.max(1);
+        journal.slept(wait);
+        if !self.set_wait(wait) {
+            journal.failed(self.port);
+            return Receipt::Failed;
+        }
         let received = self.udp.recv_from(buffer);
         note(journal, self.port, received, buffer)
     }
 
-    /// Sets the read timeout, if it changes. An error of the system leaves it unchanged.
-    fn set_wait(&mut self, wait: u64)
+    /// Sets the read timeout, if it changes. False if the system refuses.
+    fn set_wait(&mut self, wait: u64) -> bool
         ensures { self.new.port ≡ self.old.port }
     {
+        if wait == self.wait {
+            return true;
+        }
         let time = Some(Duration::from_millis(wait));
-        if wait != self.wait && self.udp.set_read_timeout(time).is_ok() {
+        let is_set = self.udp.set_read_timeout(time).is_ok();
+        if is_set {
             self.wait = wait;
         }
+        is_set
     }
 
     /// Sends a datagram. If the system reports an error, the datagram is lost.
@@ -146,30 +182,131 @@ impl ClientSocket {
     }
 }
 
-/// Notes the result of a receive at the port. Returns the sender and the length in bytes.
+/// Notes the result of a receive at the port.
 fn note(
     journal: &mut Journal,
     port: u16,
     answer: io::Result<(usize, SocketAddr)>,
     buffer: &[u8],
-) -> Option<(Endpoint, usize)>
+) -> Receipt
     requires { IfOk answer (λ datagram. datagram.0 ≤ length buffer.now) }
-    ensures noted { MatchOption result
-        (journal.new.events ≡ journal.old.events)
-        (λ datagram. journal.new.events
-        ≡ Received port datagram.0 (take datagram.1 buffer.now) ∷ journal.old.events) }
-    ensures count { IfSome result (λ datagram. datagram.1 ≤ length buffer.now) }
+    ensures noted { journal.new.events ≡ receive_event port buffer.now result
+        ∷ journal.old.events }
+    ensures fits { Fits buffer.now result }
 {
     match answer {
         Ok((count, address)) => match endpoint_of(address) {
             Some(from) => {
                 journal.received(port, &from, &buffer[..count]);
-                Some((from, count))
+                Receipt::Datagram(from, count)
             }
-            None => None,
+            None => {
+                journal.failed(port);
+                Receipt::Failed
+            }
         },
-        Err(_) => None,
+        Err(error) => note_error(journal, port, &error, buffer),
     }
+}
+
+/// Notes a receive at the port that returned an error.
+fn note_error(journal: &mut Journal, port: u16, error: &io::Error, buffer: &[u8]) -> Receipt
+    ensures noted { journal.new.events ≡ receive_event port buffer.now result
+        ∷ journal.old.events }
+    ensures fits { Fits buffer.now result }
+{
+    match error.kind() {
+        ErrorKind::WouldBlock | ErrorKind::TimedOut => {
+            journal.empty(port);
+            Receipt::Nothing
+        }
+        _ => {
+            journal.failed(port);
+            Receipt::Failed
+        }
+    }
+}
+
+/// The ports that a wait reports: datagrams may be there.
+#[derive(Drop)]
+pub struct Reports {
+    events: Events,
+    ports: Vec<u16>,
+}
+
+impl Reports {
+    /// Room for so many ports a wait. Others are reported by the next.
+    pub fn new(alloc: Global, most: usize) -> Result<Reports, AllocError>
+        ensures { IfOk result (λ reports. reports.ports.items ≡ []) }
+    {
+        Ok(Reports {
+            events: Events::with_capacity(alloc, most)?,
+            ports: Vec::with_capacity(alloc, most)?,
+        })
+    }
+
+    /// The ports that the newest wait reported.
+    pub fn ports(&self) -> &[u16]
+        ensures { result.now ≡ self.now.ports.items }
+    {
+        self.ports.as_slice()
+    }
+
+    /// Polls for at most `millis` milliseconds. An interrupted poll reports no port.
+    fn poll(&mut self, poll: &mut Poll, millis: u64) {
+        self.ports.clear();
+        let time = Some(Duration::from_millis(millis));
+        if poll.poll(&mut self.events, time).is_err() {
+            return;
+        }
+        for event in self.events.iter() {
+            if let Ok(port) = u16::try_from(event.token().0) {
+                // There is room for as many ports as events.
+                let _ = self.ports.push(port);
+            }
+        }
+    }
+}
+
+/// Looks which ports datagrams have arrived at, without waiting. Returns whether there are any; if
+/// not, nothing is noted.
+pub fn look(poll: &mut Poll, reports: &mut Reports, journal: &mut Journal) -> bool
+    ensures noted { journal.new.events ≡ (if result
+        then Quiet (Woke reports.new.ports.items) ∷ Quiet (Slept 0) ∷ journal.old.events
+        else journal.old.events) }
+    ensures some { result ≡ true → reports.new.ports.items ≢ [] }
+{
+    reports.poll(poll, 0);
+    if reports.ports.is_empty() {
+        return false;
+    }
+    journal.slept(0);
+    journal.woke(reports.ports());
+    true
+}
+
+/// Waits until a datagram has arrived at a port, for at most `millis` milliseconds. Before it sleeps
+/// it polls up to `polls` times: a client that sends to a sleeping program has to wake it.
+pub fn wait(poll: &mut Poll, reports: &mut Reports, journal: &mut Journal, millis: u64, polls: u32)
+    ensures { journal.new.events ≡ Quiet (Woke reports.new.ports.items)
+        ∷ Quiet (Slept millis) ∷ journal.old.events }
+{
+    journal.slept(millis);
+    if !finds_port(poll, reports, polls) {
+        reports.poll(poll, millis);
+    }
+    journal.woke(reports.ports());
+}
+
+/// Polls without a sleep, until a port is reported.
+fn finds_port(poll: &mut Poll, reports: &mut Reports, polls: u32) -> bool {
+    for _ in 0..polls {
+        reports.poll(poll, 0);
+        if !reports.ports.is_empty() {
+            return true;
+        }
+    }
+    false
 }
 
 /// Reads the clock, and returns the new time of the watch, in milliseconds.

@@ -4,6 +4,7 @@ ghost use Rattle.std.specs.Prelude.{◌≡◌, true};
 ghost use Rattle.tftp_ends.specs.End.{is_complete};
 ghost use Rattle.tftp_ends.specs.Files.{AreFilesOf};
 ghost use Rattle.tftp_host.specs.declared.client.client_outcome.ClientOutcome.TheVariants as ends;
+ghost use Rattle.tftp_client.specs.Conversation.{IsReady};
 
 use crate::local::{LocalFile, LocalSource};
 use crate::transfer::conversation::Conversation;
@@ -23,6 +24,7 @@ pub(crate) struct Completed<R: FileSystem + Drop> {
     pub(crate) count: u64,
     ghost complete: { is_complete conversation.end.position.phase ≡ true },
     ghost files_fit: { ∥ AreFilesOf conversation.end.role.side files ∥₁ },
+    ghost ready: { IsReady conversation },
 }
 
 impl<R: FileSystem + Drop> Completed<R> {

@@ -1,11 +1,14 @@
-//! A client's end from its opening to its close, over its socket.
+//! A client's end from its opening to its close, over its socket. It waits there while its end is
+//! open, no longer than to its deadline and never longer than a second. A wait that ends behind the
+//! deadline without progress is followed by the timeout (RFC 1350, section 2).
 
-ghost use Rattle.std.specs.Prelude.{◌≡◌, ◌≤◌, true, length, take, IfOk, IfErr, OnOk};
+ghost use Rattle.std.specs.Prelude.{◌≡◌, ◌≤◌, ◌+◌, true, length, take, IfOk, IfErr, OnOk};
 ghost use Rattle.tftp_ends.specs.End.{is_complete};
 ghost use Rattle.tftp_ends.specs.Files.{AreFilesOf};
 ghost use Rattle.tftp_sockets.specs.Journal.{replied};
+ghost use Rattle.tftp_sockets.specs.Quiet.{waits};
 ghost use Rattle.tftp_client.specs.Converses.{Converses, HandlesReceived, MayElapse, WorksOnFile};
-ghost use Rattle.tftp_client.specs.Converses.{EndsBy, deadline_at, due_after};
+ghost use Rattle.tftp_client.specs.Converses.{EndsBy, IsOpen, deadline_at, due_after};
 
 use crate::transfer::failure::Reason;
 use std::alloc::{AllocError, Global};
@@ -16,11 +19,13 @@ use tftp_host::{
     DATAGRAM_BUFFER, LONGEST_WAIT, LineClock, ProgressLine, Watch, deadline, is_due, read_clock,
 };
 use tftp_negotiate::stated_tsize;
-use tftp_sockets::{ClientSocket, Journal, read_watch};
+use tftp_sockets::{ClientSocket, Journal, Receipt, read_watch};
 use tftp_wire::{PacketRef, show_ref};
 
 /// The limit of waits in a run.
 const MAX_WAITS: u32 = 1_000_000;
+
+const _: () = prove!(MAX_WAITS == 1_000_000);
 
 /// Erases the rest of a terminal's line.
 const ERASE_REST: &str = "\x1b[K";
@@ -51,7 +56,7 @@ pub(crate) struct Conversation {
 }
 
 impl Conversation {
-    ghost use Rattle.tftp_client.specs.Conversation.{state_of};
+    ghost use Rattle.tftp_client.specs.Conversation.{IsReady, state_of};
 
     /// A conversation at its start. The caller sends the end's request.
     pub(crate) fn new<C: Clock>(
@@ -87,21 +92,25 @@ impl Conversation {
     }
 
     /// Runs the transfer until it is complete. Fails with the outcome of a closed end, or with
-    /// `TimedOut` after too many waits.
+    /// `TimedOut` after [`MAX_WAITS`] waits.
     pub(crate) fn run<C: Clock + Eprint, S: Source, K: Sink>(
         &mut self,
         rt: &C,
         journal: &mut Journal,
         files: &mut Files<S, K>,
     ) -> Result<(), Outcome>
-        requires { AreFilesOf self.old.end.role.side files.old }
+        requires files { AreFilesOf self.old.end.role.side files.old }
+        requires not_closed { IsOpen self.old.end }
+        requires ready { IsReady self.old }
         ensures converses { Converses S.meaning K.meaning self.old.socket.port
             (state_of self.old journal.old.events) files.old
             (state_of self.new journal.new.events) files.new }
         ensures port { self.new.socket.port ≡ self.old.socket.port }
         ensures complete { OnOk result (is_complete self.new.end.position.phase ≡ true) }
-        ensures failed { IfErr result (λ outcome. EndsBy self.new.end outcome) }
+        ensures failed { IfErr result (λ outcome. EndsBy (state_of self.old journal.old.events)
+            (state_of self.new journal.new.events) outcome) }
         ensures files { AreFilesOf self.new.end.role.side files.new }
+        ensures ready { OnOk result (IsReady self.new) }
     {
         for _ in 0..MAX_WAITS {
             self.turn(rt, journal, files);
@@ -125,7 +134,8 @@ impl Conversation {
         journal: &mut Journal,
         files: &mut Files<S, K>,
     )
-        requires { AreFilesOf self.old.end.role.side files.old }
+        requires files { AreFilesOf self.old.end.role.side files.old }
+        requires ready { IsReady self.old }
         ensures converses { Converses S.meaning K.meaning self.old.socket.port
             (state_of self.old journal.old.events) files.old
             (state_of self.new journal.new.events) files.new }
@@ -140,22 +150,26 @@ impl Conversation {
     }
 
     /// Waits once, and handles the datagram that arrived, if any. Without progress, delivers a
-    /// timeout that is due.
+    /// timeout that is due: no wait begins behind the deadline.
     fn turn<C: Clock, S: Source, K: Sink>(
         &mut self,
         clock: &C,
         journal: &mut Journal,
         files: &mut Files<S, K>,
     )
-        requires { AreFilesOf self.old.end.role.side files.old }
+        requires files { AreFilesOf self.old.end.role.side files.old }
+        requires not_closed { IsOpen self.old.end }
+        requires ready { IsReady self.old }
         ensures converses { Converses S.meaning K.meaning self.old.socket.port
             (state_of self.old journal.old.events) files.old
             (state_of self.new journal.new.events) files.new }
         ensures port { self.new.socket.port ≡ self.old.socket.port }
         ensures files { AreFilesOf self.new.end.role.side files.new }
+        ensures ready { IsReady self.new }
+        ensures waits { waits journal.new.events ≡ 1 + waits journal.old.events }
     {
         let step = self.take_received(clock, journal, files);
-        if step.closed.is_some() {
+        if self.end.outcome().is_some() {
             return;
         }
         if step.progress {
@@ -166,19 +180,25 @@ impl Conversation {
         self.take_timeout(journal);
     }
 
-    /// Waits once, and handles the datagram that arrived, if any.
+    /// Waits once, until the end is due for a timeout, at most a second, and handles the datagram
+    /// that arrived, if any. A failed receive counts as none.
     fn take_received<C: Clock, S: Source, K: Sink>(
         &mut self,
         clock: &C,
         journal: &mut Journal,
         files: &mut Files<S, K>,
     ) -> Step
-        requires { AreFilesOf self.old.end.role.side files.old }
+        requires files { AreFilesOf self.old.end.role.side files.old }
+        requires not_closed { IsOpen self.old.end }
+        requires ready { IsReady self.old }
         ensures converses { Converses S.meaning K.meaning self.old.socket.port
             (state_of self.old journal.old.events) files.old
             (state_of self.new journal.new.events) files.new }
         ensures port { self.new.socket.port ≡ self.old.socket.port }
         ensures files { AreFilesOf self.new.end.role.side files.new }
+        ensures advanced { result.progress ≡ true
+            → self.new.due ≡ deadline_at self.new.watch.now self.new.end }
+        ensures waits { waits journal.new.events ≡ 1 + waits journal.old.events }
     {
         let wait = self.due.saturating_sub(self.watch.now).min(LONGEST_WAIT);
         let received = self
@@ -186,8 +206,9 @@ impl Conversation {
             .receive(journal, wait, self.buffer.as_mut_slice());
         read_watch(clock, journal, &mut self.watch);
         match received {
-            Some((from, count)) => self.take_datagram(journal, files, from, count),
-            None => NO_STEP,
+            Receipt::Datagram(from, count) => self.take_datagram(journal, files, from, count),
+            Receipt::Nothing => NO_STEP,
+            Receipt::Failed => NO_STEP,
         }
     }
 
@@ -208,6 +229,8 @@ impl Conversation {
             (state_of self.new journal.new.events) files.new }
         ensures port { self.new.socket.port ≡ self.old.socket.port }
         ensures files { AreFilesOf self.new.end.role.side files.new }
+        ensures advanced { result.progress ≡ true
+            → self.new.due ≡ deadline_at self.new.watch.now self.new.end }
     {
         let bytes = datagram_in(self.buffer.as_slice(), count);
         let Ok((step, outgoing)) = self.end.handle_datagram(files, from, bytes) else {
@@ -238,6 +261,7 @@ impl Conversation {
             (state_of self.old journal.old.events) (state_of self.new journal.new.events) }
         ensures port { self.new.socket.port ≡ self.old.socket.port }
         ensures side { self.new.end.role.side ≡ self.old.end.role.side }
+        ensures ready { IsReady self.new }
     {
         if !is_due(self.watch.now, self.due) {
             return;
@@ -252,6 +276,7 @@ impl Conversation {
             (state_of self.old journal.old.events) (state_of self.new journal.new.events) }
         ensures port { self.new.socket.port ≡ self.old.socket.port }
         ensures side { self.new.end.role.side ≡ self.old.end.role.side }
+        ensures ready { IsReady self.new }
     {
         let now = self.watch.now;
         let seconds = self.end.interval();

@@ -56,6 +56,14 @@ pub enum LogLine<'a> {
         request: &'a str,
         lost: Lost,
     },
+    /// The system refused to send a datagram, from this port, to the peer that made the request.
+    /// It is lost like one that the network loses.
+    Unsent {
+        port: u16,
+        peer: Endpoint,
+        request: &'a str,
+        reason: Reason,
+    },
     /// A transfer closed, after `bytes` bytes of DATA and `millis` milliseconds; the reason, if the
     /// system refused a call on its file. `answer` is its first datagram, which has the agreed
     /// options.
@@ -118,6 +126,12 @@ impl fmt::Display for LogLine<'_> {
                 request,
                 lost,
             } => write!(f, "lost {peer} {request}: {lost}"),
+            LogLine::Unsent {
+                port,
+                peer,
+                request,
+                reason,
+            } => write!(f, "unsent {port} {peer} {request}: {reason}"),
             LogLine::Closed {
                 port,
                 peer,

@@ -7,8 +7,8 @@ use Rattle.tftp_client.proofs.Conversing.{state_is}
 use Rattle.tftp_client.proofs.Running.{goes_on}
 use Rattle.tftp_client.proofs.arguments.conclude.Goals as goal
 
-pub returns-then-not-lingers-clause-goes : goal.returns-then-not-lingers-clause-goes
-returns-then-not-lingers-clause-goes g c =
+pub returns-then-not-order-clause-goes : goal.returns-then-not-order-clause-goes
+returns-then-not-order-clause-goes g c =
     record {
       last = printed c.args.completed.count (state_of c.args.completed.conversation c.args.journal.now.events);
       files = c.args.completed.files;

@@ -2,6 +2,9 @@
 use Rattle.std.proofs.Common.{Some, ap, refl}
 use Rattle.std.proofs.lemmas.Result.{IfOk-weaker}
 use Rattle.tftp_negotiate.specs.declared.known.Kind.TheVariants.{Read}
+use Rattle.tftp_client.specs.Conversation.{state_of}
+use Rattle.tftp_client.specs.Runs.{opens}
+use Rattle.tftp_client.proofs.Conversing.{begun_open, begun_ready, opens_open}
 use Rattle.tftp_client.proofs.Counting.{runs_as}
 use Rattle.tftp_client.proofs.Running.{fails, if_err, runs}
 use Rattle.tftp_client.proofs.transfer.get_into.Goals as goal
@@ -15,3 +18,13 @@ returns-in-Ok-clause-ok g c =
 pub returns-in-Ok-clause-err : goal.returns-in-Ok-clause-err
 returns-in-Ok-clause-err g c =
     if_err c.converse.result _ _ (λ failure stopped. fails _ _ failure.end _ _ _ _ c.in-Ok.ensures.begins stopped) c.converse.ensures.err
+
+pub converse-requires-clause-not_closed : goal.converse-requires-clause-not_closed
+converse-requires-clause-not_closed g c =
+    begun_open {s = state_of c.in-Ok.conversation c.ask_to_get.new.journal.events} c.in-Ok.conversation.socket.port (opens Read c.args.job.now 0) c.args.journal.now.events
+    c.in-Ok.ensures.begins (opens_open Read c.args.job.now 0)
+
+pub converse-requires-clause-ready : goal.converse-requires-clause-ready
+converse-requires-clause-ready g c is_open due =
+    begun_ready {s = state_of c.in-Ok.conversation c.ask_to_get.new.journal.events} c.in-Ok.conversation.socket.port (opens Read c.args.job.now 0) c.args.journal.now.events
+    c.in-Ok.ensures.begins

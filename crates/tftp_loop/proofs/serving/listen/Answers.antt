@@ -5,16 +5,31 @@ use Rattle.tftp_host.specs.declared.server.printed.Printed.TheVariants.{Listenin
 use Rattle.tftp_sockets.specs.Journal.{Event}
 use Rattle.tftp_sockets.specs.Journal.Event.{Printed}
 use Rattle.tftp_loop.specs.Run.Run.{Start}
-use Rattle.tftp_loop.specs.Serves.{ServesFrom, at_start, listening}
+use Rattle.tftp_loop.specs.Serves.{ServesFromIn, ServesToEndIn, at_start_in, listening}
+use Rattle.tftp_loop.proofs.Receipts.{on_ok_weaker}
 use Rattle.tftp_loop.proofs.serving.listen.Goals as goal
 
-pub returns-in-Ok : goal.returns-in-Ok
-returns-in-Ok g c =
+pub returns-in-Ok-clause-serves : goal.returns-in-Ok-clause-serves
+returns-in-Ok-clause-serves g c =
     let line = c.print_line.ensures ∙ ap (λ (e : Endpoint). Printed (line_text (Listening e)) ∷ c.args.journal.events) c.listening.ensures in
-    let At : List Event → Type 0 = λ es. ServesFrom g.S.Store.meaning g.S.Source.Source.meaning c.args.sockets.requests.port c.args.server es c.run.result.1.events in
-    subst At line c.run.ensures
+    let At : List Event → Type 0 = λ es. ServesFromIn g.S.Store.meaning g.S.Source.Source.meaning
+    c.args.config.now.ports c.args.sockets.requests.port c.args.config.now.ending c.args.server es
+    c.run.result.1.events in
+    subst At line c.run.ensures.serves
 
-pub returns-in-Err : goal.returns-in-Err
-returns-in-Err g c =
+pub returns-in-Ok-clause-end : goal.returns-in-Ok-clause-end
+returns-in-Ok-clause-end g c =
     let line = c.print_line.ensures ∙ ap (λ (e : Endpoint). Printed (line_text (Listening e)) ∷ c.args.journal.events) c.listening.ensures in
-    (at_start c.args.sockets.requests.port c.args.server (listening c.args.sockets.ip c.args.sockets.requests.port c.args.journal.events), Start, line)
+    let At : List Event → Type 0 = λ es. ServesToEndIn g.S.Store.meaning g.S.Source.Source.meaning
+    c.args.config.now.ports c.args.sockets.requests.port c.args.config.now.ending c.args.server es
+    c.run.result.1.events in
+    on_ok_weaker c.run.result.0 _ _ (λ end. subst At line end) c.run.ensures.end
+
+pub returns-in-Err-clause-serves : goal.returns-in-Err-clause-serves
+returns-in-Err-clause-serves g c =
+    let line = c.print_line.ensures ∙ ap (λ (e : Endpoint). Printed (line_text (Listening e)) ∷ c.args.journal.events) c.listening.ensures in (
+      at_start_in c.args.config.now.ports c.args.sockets.requests.port c.args.config.now.ending c.args.server
+          (listening c.args.sockets.requests.ip c.args.sockets.requests.port c.args.journal.events),
+      Start,
+      line,
+    )

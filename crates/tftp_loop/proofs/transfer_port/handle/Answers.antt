@@ -14,7 +14,7 @@ returns-clause-handled g c =
     bytes_lent c.bytes_of.result _ c.unwrap_or-answer.result _ (lent c.in-Ok.outgoing c.in-Ok.ensures.takes.next.end) c.bytes_of.ensures
     (ap (option_map (λ held. lent c.in-Ok.outgoing held.end)) found) c.unwrap_or-answer.ensures in
     handled g.S.Store.meaning g.S.Source.Source.meaning c.args.tid c.args.server.now c.handle_datagram.new.self c.in-Ok.step c.in-Ok.outgoing c.args.udp.now.port c.args.from c.args.bytes.now
-    c.args.journal.now.events c.reply.new.journal.events c.unwrap_or-answer.result.now c.requires c.in-Ok.ensures.takes c.in-Ok.ensures.rest sent c.reply.ensures
+    c.args.journal.now.events c.reply-sent.new.journal.events c.unwrap_or-answer.result.now c.requires c.in-Ok.ensures.takes c.in-Ok.ensures.rest sent c.reply-sent.ensures.events
 
 pub returns-clause-closed : goal.returns-clause-closed
 returns-clause-closed g c =

@@ -1,25 +1,39 @@
-use Rattle.std.proofs.Common.{refl, sym, ap, ◌∙◌, ℕ, Option}
-use Rattle.std.specs.Prelude.{Some, None}
+use Rattle.std.proofs.Common.{refl, sym, ap, subst, inl, inr, ◌∙◌, ℕ, Option}
+use Rattle.std.specs.Prelude.{Some, None, Err, IfSome}
 use Rattle.tftp_server.specs.State.{at}
 use Rattle.tftp_sockets.specs.Journal.{replied}
-use Rattle.tftp_loop.specs.Serves.{answering_port, with_timer}
+use Rattle.tftp_loop.specs.PortOrder.{IsOneOf}
+use Rattle.tftp_loop.specs.Serves.{answering_port, with_timer, No_identifier, No_memory}
 use Rattle.tftp_loop.specs.Served.{loop_state}
-use Rattle.tftp_loop.proofs.RequestRuns.{sets_and_answers, sets_and_loses, is_free, ok-err, opens_none}
+use Rattle.tftp_loop.proofs.LoopRuns.{same_state}
+use Rattle.tftp_loop.proofs.RequestRuns.{admits_set, sets_and_answers, sets_and_loses, is_free, ok-err, opens_none}
 use Rattle.tftp_loop.proofs.daemon.Daemon.refuse_request.Goals as goal
 
-pub returns-in-Ok : goal.returns-in-Ok
-returns-in-Ok g c =
-    let a = c.refuse.ensures in
+pub returns-in-Ok-clause-answers : goal.returns-in-Ok-clause-answers
+returns-in-Ok-clause-answers g c =
+    let a = c.refuse.ensures.answered in
     let s = loop_state (Some (c.args.from, c.args.bytes.now)) c.args.self.now in
     let free = is_free (at 0 c.set_store.new.server.held) (λ h. ok-err c.in-Ok.opened _ (c.in-Ok.ensures.in_use.1 h)) in
     let none = opens_none g.S.Store.meaning g.S.Source.Source.meaning c.set_store.new.server c.args.admission.from c.args.admission.bytes c.args.admission.ask 0 _ c.in-Ok.ensures.carries_out.2 c.requires.opens_none in
     sets_and_answers g.S.Store.meaning g.S.Source.Source.meaning s (loop_state None c.refuse.new.self)
     c.args.from c.args.bytes.now 0 c.set_store.new.server c.open-opened.new.self c.args.admission c.clear.new.self.items c.open-opened.new.out.items c.in-Ok.opened
-    refl c.requires.admitted c.set_store.ensures.rest c.set_store.ensures.same c.in-Ok.ensures.carries_out free c.clear.ensures.items a.requests a.server refl
-    (a.timers ∙ ap (λ (o : Option ℕ). with_timer s.now c.args.from o c.open-opened.new.self.held s.timers) (sym none)) a.now
-    (a.events ∙ ap (λ (o : Option ℕ). replied (answering_port s.requests o) c.in-Ok.opened.to c.open-opened.new.out.items s.events) (sym none))
+    refl c.requires.admitted c.set_store.ensures.rest c.set_store.ensures.same c.in-Ok.ensures.carries_out free
+    (subst (λ (o : Option ℕ). IfSome o (IsOneOf s.range)) (sym none) tt) c.clear.ensures.items
+    (same_state _ _ a.requests a.range a.server refl
+    (a.timers ∙ ap (λ (o : Option ℕ). with_timer s.now c.args.from o c.open-opened.new.self.held s.timers) (sym none)) a.now a.marked a.left_to_close a.rounds
+    (a.events ∙ ap (λ (o : Option ℕ). replied (answering_port s.requests o) c.in-Ok.opened.to c.open-opened.new.out.items s.events) (sym none)))
 
-pub returns-in-Err : goal.returns-in-Err
-returns-in-Err g c =
-    sets_and_loses g.S.Store.meaning g.S.Source.Source.meaning (loop_state (Some (c.args.from, c.args.bytes.now)) c.args.self.now) _ c.args.from c.args.bytes.now c.set_store.new.server
-    refl c.set_store.ensures.rest c.set_store.ensures.same refl c.in-Err.ensures.err.0 refl refl refl refl
+pub returns-in-Ok-clause-rounds : goal.returns-in-Ok-clause-rounds
+returns-in-Ok-clause-rounds g c = c.refuse.ensures.answered.rounds
+
+pub returns-in-Err-clause-answers : goal.returns-in-Err-clause-answers
+returns-in-Err-clause-answers g c =
+    let s = loop_state (Some (c.args.from, c.args.bytes.now)) c.args.self.now in
+    let why = c.in-Err.ensures in
+    sets_and_loses g.S.Store.meaning g.S.Source.Source.meaning s _ c.args.from c.args.bytes.now c.set_store.new.server
+    refl c.set_store.ensures.rest c.set_store.ensures.same
+    (elim why.fault [
+      | inl e ↦ No_identifier (why.in_use.0 (ap Err e))
+      | inr e ↦ No_memory (c.args.admission.ask, admits_set g.S.Store.meaning g.S.Source.Source.meaning c.args.self.now.server c.set_store.new.server c.args.from c.args.bytes.now c.args.admission.ask c.set_store.ensures.rest c.requires.admitted.admits, why.acts (ap Err e))
+    ])
+    (same_state _ _ refl refl why.err.0 refl refl refl refl refl refl refl)

@@ -1,15 +1,25 @@
-use Rattle.tftp_loop.specs.Run.Run.{Start}
+use Rattle.tftp_loop.proofs.LoopRuns.{runs_as}
 use Rattle.tftp_loop.proofs.RunLemmas.{onward}
 use Rattle.tftp_loop.proofs.daemon.Daemon.take_rounds.Goals as goal
 
-pub loop-init : goal.loop-init
-loop-init g c = Start
+pub returns-in_err-take_ports-clause-serves : goal.returns-in_err-take_ports-clause-serves
+returns-in_err-take_ports-clause-serves g c = runs_as g.S.Store.meaning g.S.Source.Source.meaning c.take_ports.ensures.works
 
-pub returns-in_err-left : goal.returns-in_err-left
-returns-in_err-left g c = onward c.loop.invariant c.take_round.ensures
+pub loop-self-init : goal.loop-self-init
+loop-self-init g c = record {
+  serves = runs_as g.S.Store.meaning g.S.Source.Source.meaning c.take_ports.ensures.works;
+  tended = c.in_ok-take_ports.ensures.tended;
+}
 
-pub returns-then-left-eq0 : goal.returns-then-left-eq0
-returns-then-left-eq0 g c = onward c.loop.invariant c.take_round.ensures
+pub loop-self-preserved : goal.loop-self-preserved
+loop-self-preserved g c = record {
+  serves =
+      onward c.loop-self.invariant.serves
+      (onward (c.wait.ensures.serves c.loop-self.request) (runs_as g.S.Store.meaning g.S.Source.Source.meaning c.take_ports-in-loop-self.ensures.works));
+  tended = c.in_ok-take_ports-2.ensures.tended;
+}
 
-pub loop-preserved : goal.loop-preserved
-loop-preserved g c = onward c.loop.invariant c.take_round.ensures
+pub returns-in_err-take_ports-2-clause-serves : goal.returns-in_err-take_ports-2-clause-serves
+returns-in_err-take_ports-2-clause-serves g c =
+    onward c.loop-self.invariant.serves
+    (onward (c.wait.ensures.serves c.loop-self.request) (runs_as g.S.Store.meaning g.S.Source.Source.meaning c.take_ports-in-loop-self.ensures.works))

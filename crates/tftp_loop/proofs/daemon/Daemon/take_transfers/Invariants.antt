@@ -1,5 +1,17 @@
-use Rattle.tftp_loop.specs.Served.{OnlyServes}
+use Rattle.std.proofs.Common.{◌≡◌}
+use Rattle.tftp_loop.specs.Served.{OnlyWorks}
+use Rattle.tftp_loop.specs.Tended.{AreRead, IsSettled}
 use Rattle.tftp_loop.proofs.daemon.Daemon.take_transfers.Given as goal
 
+-- the ports from the index on had their turn
 abbrev pub invariant-loop-index : goal.invariant-loop-index
-invariant-loop-index g l = OnlyServes g.S.Store.meaning g.S.Source.Source.meaning l.initial.self l.self
+invariant-loop-index g l =
+    record {
+      works : OnlyWorks g.S.Store.meaning g.S.Source.Source.meaning l.initial.self l.self;
+      settled : IsSettled l.self;
+      turns : AreRead l.index l.self;
+      rounds : l.self.rounds ≡ l.initial.self.rounds;
+    }
+
+abbrev pub decreases-loop-index : goal.decreases-loop-index
+decreases-loop-index g l = l.index

@@ -1,19 +1,20 @@
 -- A timeout: its step, its note and its answer.
-use Rattle.std.proofs.Common.{◌∙◌, ap, refl, ◌∷◌, ℕ, sym, subst}
+use Rattle.std.proofs.Common.{◌∙◌, ap, inr, refl, ◌∷◌, ℕ, sym, subst}
+use Rattle.tftp_ends.specs.End.{EndState}
 use Rattle.tftp_ends.specs.Step.{timeout_turn}
 use Rattle.tftp_host.specs.Watch.{deadline_of}
 use Rattle.tftp_client.specs.Conversation.{state_of}
-use Rattle.tftp_client.specs.Converses.{MayElapse, State}
+use Rattle.tftp_client.specs.Converses.{IsOpen, MayElapse, State, deadline_at}
 use Rattle.tftp_client.specs.Converses.MayElapse.{Stays, Elapses}
 use Rattle.tftp_sockets.specs.Journal.Event.{Elapsed}
-use Rattle.tftp_client.proofs.Conversing.{not_refused, replies, state_is}
+use Rattle.tftp_client.proofs.Conversing.{due_elapsed, is_closed, not_refused, replies, state_is}
 use Rattle.tftp_client.proofs.transfer.conversation.Conversation.deliver_timeout.Goals as goal
 
 pub returns-in_default-clause-elapses : goal.returns-in_default-clause-elapses
 returns-in_default-clause-elapses c =
     let s : State = state_of c.args.self.now c.args.journal.now.events in
     let At : State → Type 0 = λ t. MayElapse c.args.self.now.socket.port s t in
-    subst At (state_is (sym c.in_default.ensures.err) refl refl refl) Stays
+    subst At (state_is (sym c.in_default.ensures.err) refl refl refl) (Stays (inr (is_closed c.in_default.field-0 c.in_default.ensures.closed c.in_default.ensures.memory)))
 
 pub returns-clause-elapses : goal.returns-clause-elapses
 returns-clause-elapses c =
@@ -26,3 +27,14 @@ returns-clause-elapses c =
     let due = c.deadline-self.ensures.value ∙ ap (λ (n : ℕ). deadline_of s.now n) c.interval-seconds.ensures in
     subst At (sym (state_is lends.state refl due sent))
     (Elapses c.requires (not_refused _ _ c.in-Ok.ensures.closed))
+
+pub returns-in_default-clause-ready : goal.returns-in_default-clause-ready
+returns-in_default-clause-ready c is_open due =
+    absurd (subst IsOpen c.in_default.ensures.err is_open (is_closed c.in_default.field-0 c.in_default.ensures.closed c.in_default.ensures.memory))
+
+pub returns-clause-ready : goal.returns-clause-ready
+returns-clause-ready c is_open due =
+    let s : State = state_of c.args.self.now c.args.journal.now.events in
+    c.deadline-self.ensures.value
+    ∙ (ap (λ (n : ℕ). deadline_of s.now n) c.interval-seconds.ensures
+    ∙ (due_elapsed s ∙ ap (λ (e : EndState). deadline_at s.now e) (sym c.in-Ok.ensures.steps.0.state)))

@@ -1,6 +1,12 @@
 -- No timeout is due.
+use Rattle.std.proofs.Common.{inl, sym, ◌∙◌}
+use Rattle.std.proofs.Math.Nat.{lt_of_not-le}
+use Rattle.std.proofs.lemmas.Bool.{true≢false}
 use Rattle.tftp_client.specs.Converses.MayElapse.{Stays}
 use Rattle.tftp_client.proofs.transfer.conversation.Conversation.take_timeout.Goals as goal
 
 pub returns-then-not-is_due-clause-elapses : goal.returns-then-not-is_due-clause-elapses
-returns-then-not-is_due-clause-elapses c = Stays
+returns-then-not-is_due-clause-elapses c = Stays (inl (lt_of_not-le (λ due. true≢false (sym (c.is_due.ensures.1 due) ∙ c.if-not-is_due.true))))
+
+pub returns-then-not-is_due-clause-ready : goal.returns-then-not-is_due-clause-ready
+returns-then-not-is_due-clause-ready c is_open due = absurd (true≢false (sym (c.is_due.ensures.1 due) ∙ c.if-not-is_due.true))

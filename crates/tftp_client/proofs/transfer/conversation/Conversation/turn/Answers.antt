@@ -1,8 +1,9 @@
 -- A wait, and then the file's work or the timeout that is due.
-use Rattle.std.proofs.Common.{ℕ, subst}
+use Rattle.std.proofs.Common.{ℕ, ◌∙◌, subst}
 use Rattle.tftp_client.specs.Conversation.{state_of}
 use Rattle.tftp_client.specs.Converses.{MayElapse, State}
 use Rattle.tftp_client.specs.Converses.Converses.{Rests, Times}
+use Rattle.tftp_client.proofs.Conversing.{waits_elapsed}
 use Rattle.tftp_client.proofs.transfer.conversation.Conversation.turn.Goals as goal
 
 pub returns-then-step-clause-converses : goal.returns-then-step-clause-converses
@@ -14,3 +15,9 @@ returns-clause-converses g c =
     let next : State = state_of c.take_timeout.new.self c.take_timeout.new.journal.events in
     let Of : ℕ → Type 0 = λ p. MayElapse p s next in
     Times {s = s} c.take_received-step.ensures.converses (subst Of c.take_received-step.ensures.port c.take_timeout.ensures.elapses)
+
+pub returns-clause-waits : goal.returns-clause-waits
+returns-clause-waits g c = waits_elapsed c.take_timeout.ensures.elapses ∙ c.take_received-step.ensures.waits
+
+pub returns-then-step-clause-ready : goal.returns-then-step-clause-ready
+returns-then-step-clause-ready g c is_open due = c.take_received-step.ensures.advanced c.if-step.true

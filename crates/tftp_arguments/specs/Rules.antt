@@ -1,0 +1,32 @@
+-- The arguments of a command line, as `clap` parses them (own).
+use Rattle.std.specs.Prelude.{ℕ, ◌≡◌, true, false, List, Some}
+use Rattle.clap.specs.Simple.{App, app_of, new_rule, with_rule}
+use Rattle.clap.specs.Walk.{Rule, rule_of}
+use Rattle.clap.specs.declared.builder.action.ArgAction.TheVariants.{SetTrue}
+use Rattle.clap.specs.declared.builder.arg.Arg.{Arg}
+use Rattle.clap.specs.declared.builder.command.Command.{Command}
+use Rattle.clap.specs.declared.builder.command.Command.TheViews.{out-Command as fields_of}
+use Rattle.clap.specs.declared.builder.value_parser.ValueParser.{ValueParser}
+
+-- a required positional word
+abbrev pub word_rule : List ℕ → Rule
+word_rule id = record (new_rule id) { required = true }
+
+-- an option with a number
+abbrev pub number_rule : List ℕ → ValueParser → Rule
+number_rule id parser =
+    record (new_rule id) { long = Some id; value_names = 1; parser = Some parser }
+
+-- an option without a value
+abbrev pub flag_rule : List ℕ → Rule
+flag_rule id = record (new_rule id) { long = Some id; action = Some SetTrue }
+
+-- an argument of one command alone, with this rule
+pub record HasRule (rule : Rule) (a : Arg) : Type 0 where
+  pub rule_is : rule_of a ≡ rule
+  pub is_local : a.global ≡ false
+
+-- a command without global arguments, with these arguments and subcommands
+pub record IsApp (app : App) (command : Command) : Type 0 where
+  pub app_is : app_of command ≡ app
+  pub is_local : (fields_of command).has_globals ≡ false

@@ -1,0 +1,26 @@
+-- What the program did for an order of its command line, and for a command line.
+use Rattle.std.specs.Prelude.{ℕ, ◌≡◌, ◌≤◌, ◌⊎◌, List}
+use Rattle.tftp_file.specs.Sink.{SinkMeaning}
+use Rattle.tftp_file.specs.Source.{SourceMeaning}
+use Rattle.tftp_host.specs.ClientOutcome.{status_of}
+use Rattle.tftp_host.specs.declared.client.client_outcome.ClientOutcome.{ClientOutcome}
+use Rattle.tftp_sockets.specs.Journal.{Event}
+use Rattle.tftp_client.specs.Runs.{Completes, FailsTransfer}
+use Rattle.tftp_client.specs.declared.transfer.Job.{Job}
+use Rattle.tftp_client.specs.Words.{WordsName}
+
+module _ {S K : Type 0} (sources : SourceMeaning S) (sinks : SinkMeaning K) where
+  -- a job was run, and the program ends with this status: the job is complete, and the status is 0,
+  -- or 2 if a line could not be printed; or it failed, and the status is that of its end, or that 2
+  abbrev pub RunsOrder : Job → ℕ → List Event → List Event → Type 0
+  RunsOrder job status before after =
+      (((status ≡ 0) ⊎ (status ≡ 2)) × Completes sources sinks job before after)
+      ⊎ ((1 ≤ status) × (end : ClientOutcome) × ((status ≡ status_of end) ⊎ (status ≡ 2))
+      × FailsTransfer sources sinks job before after end)
+
+  -- nothing was done over UDP, as for a help text; or the job that the words name was run, whatever
+  -- the status
+  abbrev pub RunsWords : List (List ℕ) → ℕ → List Event → List Event → Type 0
+  RunsWords words status before after =
+      (after ≡ before)
+      ⊎ ((job : Job) × WordsName words job × RunsOrder job status before after)

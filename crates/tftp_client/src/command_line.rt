@@ -1,0 +1,389 @@
+//! The command line of `tftp`, and the job that its words name.
+
+ghost use Rattle.std.specs.Prelude.{◌≡◌, ◌≤◌, codes, Some, None, map, [], ◌∷◌};
+ghost use Rattle.std.specs.Prelude.{IfOk, IfErr, IfSome};
+ghost use Rattle.clap.specs.Simple.{App, subcommand_rows_of};
+ghost use Rattle.tftp_wire.specs.declared.mode.Mode.TheVariants.{Octet, Netascii};
+ghost use Rattle.tftp_arguments.specs.Read.{IsChosen, IsFlag, text_of};
+ghost use Rattle.tftp_arguments.specs.Rules.{HasRule, IsApp, word_rule};
+ghost use Rattle.tftp_client.specs.CommandLine.{AsksAs, NamesJob, kind_named};
+ghost use Rattle.tftp_client.specs.Words.{NamesBy, WordsName, bare_app, get_app, put_app, tftp_app};
+ghost use Rattle.tftp_client.specs.Words.{with_asked, with_options, with_reports, within};
+ghost use Rattle.tftp_client.specs.declared.local.Existing.TheVariants.{Refused, Replaced};
+
+use crate::local::Existing;
+use crate::transfer::Job;
+use clap::error::ErrorKind;
+use clap::{Arg, ArgMatches, Command, value_parser};
+use std::alloc::{AllocError, Global};
+use std::convert::AsStr;
+use tftp_arguments::{VERSION, flag, number, print_usage, word};
+use tftp_host::endpoint_in;
+use tftp_negotiate::{Asked, DEFAULT_BLOCK, Kind, MAX_BLOCK, MIN_BLOCK};
+use tftp_wire::Mode;
+
+const EXAMPLES: &str = "\
+Examples:
+  tftp get 192.0.2.1:69 boot.img boot.img --blksize 1428 --tsize --progress
+  tftp put 127.0.0.1:6969 notes.txt notes.txt --netascii";
+
+const LINGERING: &str = "\
+Once LOCAL has its name, `complete N` is printed. The client then stays for two timeouts, 2 seconds
+or twice the agreed timeout, to acknowledge the last block again if the server repeats it (RFC 1350,
+section 6).";
+
+/// The order of a command line.
+#[derive(Clone, Copy)]
+pub(crate) struct Order<'a> {
+    pub(crate) job: Job<'a>,
+    /// Whether a receiver lingers to repeat its last acknowledgement.
+    pub(crate) lingers: bool,
+    /// Whether the reason of a failure is printed.
+    pub(crate) is_verbose: bool,
+}
+
+/// An order, or the exit status of a command line that orders no transfer.
+pub(crate) type Ordered<'a> = Result<Order<'a>, u8>;
+
+/// Parses the words as a command line of `tftp`.
+pub(crate) fn read_words<'a, P: Print + Eprint, S: AsStr>(
+    rt: &P,
+    alloc: Global,
+    texts: &'a BlockTexts,
+    words: &'a [S],
+    has_terminal: bool,
+) -> anyhow::Result<Ordered<'a>>
+    ensures status { IfOk result (λ ordered. IfErr ordered (λ status. status ≤ 2)) }
+    ensures names { IfOk result (λ ordered. IfOk ordered (λ order.
+        WordsName (map S.text words.now) order.job)) }
+{
+    match command(alloc, texts) {
+        Ok(mut command) => match_words(rt, &mut command, words, has_terminal),
+        Err(error) => Err(error),
+    }
+}
+
+/// Parses the words with the command.
+fn match_words<'a, P: Print + Eprint, S: AsStr>(
+    rt: &P,
+    command: &mut Command<'a>,
+    words: &'a [S],
+    has_terminal: bool,
+) -> anyhow::Result<Ordered<'a>>
+    requires { IsApp tftp_app command.old }
+    ensures status { IfOk result (λ ordered. IfErr ordered (λ status. status ≤ 2)) }
+    ensures names { IfOk result (λ ordered. IfOk ordered (λ order.
+        WordsName (map S.text words.now) order.job)) }
+{
+    match command.try_get_matches_from_mut(words) {
+        Ok(matches) => read_matches(rt, command, &matches, has_terminal),
+        Err(error) => Ok(Err(print_usage(rt, &error))),
+    }
+}
+
+/// The order of a valid command line, if its address is valid too.
+fn read_matches<'a, P: Print + Eprint>(
+    rt: &P,
+    command: &mut Command<'a>,
+    matches: &ArgMatches<'a>,
+    has_terminal: bool,
+) -> anyhow::Result<Ordered<'a>>
+    ensures status { IfOk result (λ ordered. IfErr ordered (λ status. status ≤ 2)) }
+    ensures names { IfOk result (λ ordered. IfOk ordered (λ order.
+        NamesBy (subcommand_rows_of matches.now) order.job)) }
+{
+    let Some((word, matches)) = matches.subcommand() else {
+        return Ok(Err(2));
+    };
+    match job_of(kind_of(word), matches, has_terminal) {
+        Some(job) => Ok(Ok(Order {
+            job,
+            lingers: !matches.get_flag("no-linger"),
+            is_verbose: matches.get_flag("verbose"),
+        })),
+        None => Ok(Err(report_address(rt, command)?)),
+    }
+}
+
+/// The kind of request of a subcommand.
+fn kind_of(word: &str) -> Kind
+    ensures { result ≡ kind_named word.now }
+{
+    if word == "put" {
+        Kind::Write
+    } else {
+        Kind::Read
+    }
+}
+
+/// Reports an invalid address of the server, and returns the status.
+fn report_address<P: Print + Eprint>(rt: &P, command: &mut Command<'_>) -> anyhow::Result<u8>
+    ensures { IfOk result (λ status. status ≤ 2) }
+{
+    let message = "invalid value for '<ADDR:PORT>': not an IPv4 address and a port";
+    let error = command.error(ErrorKind::InvalidValue, message)?;
+    Ok(print_usage(rt, &error))
+}
+
+/// The job of a valid command line, or `None` if its address is invalid.
+fn job_of<'a>(kind: Kind, matches: &ArgMatches<'a>, has_terminal: bool) -> Option<Job<'a>>
+    ensures { IfSome result (NamesJob kind matches.now) }
+{
+    Some(Job {
+        kind,
+        server: endpoint_in(matches.get_str("ADDR:PORT")?)?,
+        name: matches.get_str("NAME")?,
+        local: matches.get_str("LOCAL")?,
+        existing: existing(matches),
+        mode: mode(matches),
+        asked: asked(matches),
+        retries: matches.get_one::<u8>("retries")?,
+        falls_back: is_set(matches, "fallback"),
+        shows_progress: has_terminal && matches.get_flag("progress"),
+    })
+}
+
+/// What becomes of a LOCAL that exists.
+fn existing(matches: &ArgMatches<'_>) -> Existing
+    ensures { IsChosen (text_of matches.now (codes "replace")) Replaced Refused result }
+{
+    if is_set(matches, "replace") {
+        Existing::Replaced
+    } else {
+        Existing::Refused
+    }
+}
+
+/// The transfer mode.
+fn mode(matches: &ArgMatches<'_>) -> Mode
+    ensures { IsChosen (text_of matches.now (codes "netascii")) Netascii Octet result }
+{
+    if is_set(matches, "netascii") {
+        Mode::Netascii
+    } else {
+        Mode::Octet
+    }
+}
+
+/// The requested options.
+fn asked(matches: &ArgMatches<'_>) -> Asked
+    ensures { AsksAs matches.now result }
+{
+    Asked {
+        blksize: matches.get_one::<u16>("blksize"),
+        timeout: matches.get_one::<u8>("timeout"),
+        tsize: asked_length(matches),
+    }
+}
+
+/// The value of a requested `tsize`.
+fn asked_length(matches: &ArgMatches<'_>) -> Option<u64>
+    ensures { IsChosen (text_of matches.now (codes "tsize")) (Some 0) None result }
+{
+    if is_set(matches, "tsize") {
+        Some(0)
+    } else {
+        None
+    }
+}
+
+/// Whether a flag is set.
+fn is_set(matches: &ArgMatches<'_>, name: &str) -> bool
+    ensures { IsFlag (text_of matches.now name.now) result }
+{
+    matches.get_flag(name)
+}
+
+/// The command line of `tftp`.
+fn command<'a>(alloc: Global, texts: &'a BlockTexts) -> anyhow::Result<Command<'a>>
+    ensures { IfOk result (IsApp tftp_app) }
+{
+    let command = bare_command(alloc)?;
+    let get = get_command(alloc, texts)?;
+    let command = command.subcommand(get)?;
+    let put = put_command(alloc, texts)?;
+    Ok(command.subcommand(put)?)
+}
+
+/// The command line of `tftp` without its subcommands.
+fn bare_command<'a>(alloc: Global) -> anyhow::Result<Command<'a>>
+    ensures { IfOk result (IsApp bare_app) }
+{
+    let command = Command::new(alloc, "tftp").bin_name("tftp")?;
+    Ok(
+        command
+            .about("Transfers a file by TFTP (RFC 1350, RFC 2347 to 2349)")
+            .version(VERSION)
+            .after_help(EXAMPLES)
+            .subcommand_required(true)
+            .arg_required_else_help(true),
+    )
+}
+
+/// The command line of `tftp get`.
+fn get_command<'a>(alloc: Global, texts: &'a BlockTexts) -> anyhow::Result<Command<'a>>
+    ensures { IfOk result (IsApp get_app) }
+{
+    let local = word(
+        alloc,
+        "LOCAL",
+        "The path of the file here, which must not exist without --replace",
+    );
+    let command = Command::new(alloc, "get").about("Fetches a file");
+    let command = command.arg(server(alloc))?;
+    let command = command.arg(name(alloc))?;
+    let command = with_options(alloc, command.arg(local)?, texts)?;
+    let replace = flag(
+        alloc,
+        "replace",
+        "Replaces LOCAL, if it is a regular file, once the new file is whole",
+    );
+    let command = command.arg(replace)?;
+    let no_linger = flag(
+        alloc,
+        "no-linger",
+        "Ends once LOCAL has its name; a lost last ACK is then not sent again",
+    );
+    Ok(command.arg(no_linger)?.after_help(LINGERING))
+}
+
+/// The command line of `tftp put`.
+fn put_command<'a>(alloc: Global, texts: &'a BlockTexts) -> anyhow::Result<Command<'a>>
+    ensures { IfOk result (IsApp put_app) }
+{
+    let local = word(alloc, "LOCAL", "The path of the file here");
+    let command = Command::new(alloc, "put").about("Sends a file");
+    let command = command.arg(server(alloc))?;
+    let command = command.arg(local)?;
+    with_options(alloc, command.arg(name(alloc))?, texts)
+}
+
+/// The argument for the server's address.
+fn server<'a>(alloc: Global) -> Arg<'a>
+    ensures { HasRule (word_rule (codes "ADDR:PORT")) result }
+{
+    word(
+        alloc,
+        "ADDR:PORT",
+        "IPv4 address and UDP port of the server's requests",
+    )
+}
+
+/// The argument for the file's name at the server.
+fn name<'a>(alloc: Global) -> Arg<'a>
+    ensures { HasRule (word_rule (codes "NAME")) result }
+{
+    word(alloc, "NAME", "The name of the file at the server")
+}
+
+/// Adds the arguments for the options of a transfer.
+fn with_options<'a>(
+    alloc: Global,
+    command: Command<'a>,
+    texts: &'a BlockTexts,
+) -> anyhow::Result<Command<'a>>
+    ensures { (app : App) → IsApp app command.entry → IfOk result (IsApp (with_options app)) }
+{
+    let netascii = flag(
+        alloc,
+        "netascii",
+        "The file is text, and travels with CR LF at its line ends",
+    );
+    let command = command.arg(netascii)?;
+    let command = with_asked(alloc, command, texts)?;
+    let command = command.arg(retries(alloc))?;
+    let fallback = flag(
+        alloc,
+        "fallback",
+        "Tries again without options where the server refuses them",
+    );
+    with_reports(alloc, command.arg(fallback)?)
+}
+
+/// The argument for the limit of retransmissions.
+fn retries<'a>(alloc: Global) -> Arg<'a>
+    ensures { HasRule (record (within (codes "retries") 0 10) { defaults = codes "5" ∷ [] })
+        result }
+{
+    let retries = number(
+        alloc,
+        "retries",
+        "0..10",
+        value_parser!(u8).range(0..=10),
+        "How often a datagram is sent again without progress, 0 to 10",
+    );
+    retries.default_value("5")
+}
+
+/// Adds the flags for reports on standard error.
+fn with_reports<'a>(alloc: Global, command: Command<'a>) -> anyhow::Result<Command<'a>>
+    ensures { (app : App) → IsApp app command.entry → IfOk result (IsApp (with_reports app)) }
+{
+    let progress = flag(
+        alloc,
+        "progress",
+        "Shows how far the transfer came, where standard error is a terminal",
+    );
+    let command = command.arg(progress)?;
+    let verbose = flag(alloc, "verbose", "Prints the reason of a failure in words");
+    Ok(command.arg(verbose.short('v'))?)
+}
+
+/// The help texts for the block size.
+#[derive(Drop)]
+pub(crate) struct BlockTexts {
+    range: String,
+    help: String,
+}
+
+impl BlockTexts {
+    pub(crate) fn new(alloc: Global) -> Result<BlockTexts, AllocError> {
+        Ok(BlockTexts {
+            range: format!(in alloc; "{MIN_BLOCK}..{MAX_BLOCK}")?,
+            help: format!(in alloc;
+                "Block size that is asked, in bytes, {MIN_BLOCK} to {MAX_BLOCK}; \
+                 without it blocks have {DEFAULT_BLOCK}"
+            )?,
+        })
+    }
+}
+
+/// Adds the arguments for the options that are requested from the server.
+fn with_asked<'a>(
+    alloc: Global,
+    command: Command<'a>,
+    texts: &'a BlockTexts,
+) -> anyhow::Result<Command<'a>>
+    ensures { (app : App) → IsApp app command.entry → IfOk result (IsApp (with_asked app)) }
+{
+    let command = command.arg(blksize(alloc, texts))?;
+    let command = command.arg(timeout(alloc))?;
+    Ok(command.arg(flag(alloc, "tsize", "Asks for the length of the file"))?)
+}
+
+/// The argument for the requested block size (RFC 2348, "Blocksize Option Specification").
+fn blksize<'a>(alloc: Global, texts: &'a BlockTexts) -> Arg<'a>
+    ensures { HasRule (record (within (codes "blksize") 8 65464) { short = Some 98 }) result }
+{
+    let blksize = number(
+        alloc,
+        "blksize",
+        texts.range.as_str(),
+        value_parser!(u16).range(i64::from(MIN_BLOCK)..=i64::from(MAX_BLOCK)),
+        texts.help.as_str(),
+    );
+    blksize.short('b')
+}
+
+/// The argument for the requested timeout (RFC 2349, "Timeout Interval Option Specification").
+fn timeout<'a>(alloc: Global) -> Arg<'a>
+    ensures { HasRule (within (codes "timeout") 1 255) result }
+{
+    number(
+        alloc,
+        "timeout",
+        "1..255",
+        value_parser!(u8).range(1..=255),
+        "Timeout that is asked, in seconds, 1 to 255; without it a datagram is sent again after 1",
+    )
+}

@@ -1,0 +1,15 @@
+//! Laws of every run of a client, over the definitions alone.
+
+ghost use Rattle.tftp_client.specs.Silence.{TimesOut, WaitsForEachSending};
+
+use tftp_file::{Sink, Source};
+
+/// A client to whom nothing comes ends by itself. In each run of a client in which nothing is
+/// received and each wait lasts as long as it was to, an end that is still open has waited at most
+/// once for its request and once for each retransmission: at most one more than its retries, each a
+/// second at most. The end that closes then has timed out, and never as complete (RFC 1350,
+/// section 2).
+pub fn a_client_alone_times_out<S: Source, K: Sink>()
+    ensures waits { WaitsForEachSending S.meaning K.meaning }
+    ensures outcome { TimesOut S.meaning K.meaning }
+{}

@@ -1,0 +1,32 @@
+-- What a status says, and what was done for words.
+use Rattle.std.proofs.Common.{◌≡◌, ℕ, List, arith, inl, inr, subst}
+use Rattle.std.specs.Prelude.{Result, Ok, Err, IfOk, IfErr, OnOk}
+use Rattle.tftp_file.specs.Source.{SourceMeaning}
+use Rattle.tftp_store.specs.Store.{StoreMeaning}
+use Rattle.tftp_sockets.specs.Journal.{Event}
+use Rattle.tftp_daemon.specs.Configured.{MayServe, ServesWords, status_of}
+use Rattle.tftp_daemon.specs.Words.{WordsConfigure}
+use Rattle.tftp_daemon.specs.declared.daemon.DaemonConfig.{DaemonConfig}
+use Rattle.tftp_daemon.specs.declared.folder.FolderStore.{FolderStore}
+
+-- a result with a status of 0 is a success
+pub on_zero : {A E : Type 0} (r : Result A E) (P : Type 0) → OnOk r P → status_of r ≡ 0 → P
+on_zero (Ok done) P holds zero = holds
+on_zero (Err fault) P holds zero = absurd (omega arith)
+
+module _ {R G H F D : Type 0} {meaning : StoreMeaning (FolderStore R G H) D} {sources : SourceMeaning F}
+    {before after : List Event} where
+  -- what was noted is the same by another name of the status
+  pub with_status : {config : DaemonConfig} {status other : ℕ} → status ≡ other
+      → MayServe meaning sources config status before after
+      → MayServe meaning sources config other before after
+  with_status {config} same serves = subst (λ (n : ℕ). MayServe meaning sources config n before after) same serves
+
+  -- a server ran with the configuration that the words name, or without one nothing was done
+  pub serves_words : (words : List (List ℕ)) {status : ℕ} (asked : Result DaemonConfig ℕ)
+      → IfOk asked (WordsConfigure words)
+      → IfOk asked (λ config. MayServe meaning sources config status before after) → IfErr asked (λ _. after ≡ before)
+      → ServesWords meaning sources words status before after
+  serves_words words (Ok config) names (inl same) none = inl same
+  serves_words words (Ok config) names (inr serves) none = inr (config, names, serves)
+  serves_words words (Err status) names runs none = inl none

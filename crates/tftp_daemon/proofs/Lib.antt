@@ -1,0 +1,4 @@
+mod UploadLemmas
+mod ConfiguredLemmas
+mod Commands
+mod Keeping

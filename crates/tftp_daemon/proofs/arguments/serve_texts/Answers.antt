@@ -1,0 +1,9 @@
+-- A server ran, or there is no configuration and nothing was done.
+use Rattle.std.proofs.Common.{map}
+use Rattle.tftp_daemon.proofs.ConfiguredLemmas.{serves_words}
+use Rattle.tftp_daemon.proofs.arguments.serve_texts.Goals as goal
+
+pub returns-in-Ok-clause-runs : goal.returns-in-Ok-clause-runs
+returns-in-Ok-clause-runs g c =
+    serves_words (map g.S.AsStr.text c.args.words.now) c.in-Ok.asked c.in-Ok.ensures.names c.serve_asked.ensures.runs
+    c.serve_asked.ensures.none

@@ -1,0 +1,15 @@
+-- The matches are those of the words.
+use Rattle.std.proofs.Common.{IfOk, List, map, subst}
+use Rattle.clap.specs.Simple.{App, HasMatchesOf}
+use Rattle.clap.specs.Walk.{Row}
+use Rattle.tftp_daemon.specs.CommandLine.{NamesServer, read_in}
+use Rattle.tftp_daemon.proofs.Commands.{simple}
+use Rattle.tftp_daemon.proofs.command_line.match_words.Goals as goal
+
+pub returns-in-Ok-clause-names : goal.returns-in-Ok-clause-names
+returns-in-Ok-clause-names g c =
+    let At : App → Type 0 = λ a. HasMatchesOf a (map g.S.AsStr.text c.args.words.now) c.in-Ok.matches in
+    let known = subst At c.requires.app_is c.in-Ok.ensures.ok.2 in
+    let Names : List Row → Type 0 = λ rows. IfOk c.read_matches.result
+    (λ asked. IfOk asked (NamesServer (read_in rows))) in
+    subst Names (known simple).0 c.read_matches.ensures.names

@@ -1,0 +1,8 @@
+use Rattle.tftp_daemon.proofs.UploadLemmas.{below}
+use Rattle.tftp_daemon.proofs.folder.is_below.Goals as goal
+
+-- src/folder.rt:213:1
+pub returns-in-Some-len1-up : goal.returns-in-Some-len1-up
+returns-in-Some-len1-up c =
+    let cases = c.in-Some-len1-up.ensures.cases in
+    λ slash. below _ _ c.in-Some-len1-up.field-0.now cases.0 cases.1 c.in-Some-len1-up.len_at_least slash

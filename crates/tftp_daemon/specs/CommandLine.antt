@@ -1,0 +1,71 @@
+-- The server that the words of a command line configure, as they were read (own).
+use Rattle.std.specs.Prelude.{ℕ, ◌≡◌, ◌≤◌, true, false, List, ◌∷◌, ◌++◌, codes}
+use Rattle.std.specs.Prelude.{Option, Some, None, option_map}
+use Rattle.clap.specs.Matches.{first_value, found_of}
+use Rattle.clap.specs.Walk.{Row, first_of, one_of}
+use Rattle.clap.specs.declared.parser.matches.ArgMatches.{ArgMatches}
+use Rattle.tftp_server.specs.declared.config.Config.{Config}
+use Rattle.tftp_arguments.specs.Read.{IsFlag, IsNumber, text_of}
+use Rattle.tftp_host.specs.Address.{Names}
+use Rattle.tftp_loop.specs.declared.port_order.PortRange.{PortRange}
+use Rattle.tftp_loop.specs.declared.serving.Ending.{Ending}
+use Rattle.tftp_daemon.specs.declared.daemon.DaemonConfig.{DaemonConfig}
+
+-- what was read of each argument: its word, and the text of its flag or number
+pub record Reads : Type 0 where
+  pub word : List ℕ → Option (List ℕ)
+  pub text : List ℕ → Option (List ℕ)
+
+-- what was read of the matches
+abbrev pub read_of : ArgMatches → Reads
+read_of matches = record { word = first_value (found_of matches); text = text_of matches }
+
+-- what was read of the rows of a parse
+abbrev pub read_in : List Row → Reads
+read_in rows = record { word = λ id. first_of id rows; text = λ id. one_of id rows }
+
+-- the limits of transfers, as they were read
+pub record ConfiguresAs (read : Reads) (config : Config) : Type 0 where
+  pub max_block : IsNumber 16 (read.text (codes "max-block")) (Some config.limits.max_block)
+  pub max_file : IsNumber 64 (read.text (codes "max-file")) (Some config.limits.max_file)
+  pub retries : IsNumber 8 (read.text (codes "retries")) (Some config.retries)
+  pub cap : IsNumber 8 (read.text (codes "cap")) (Some config.cap)
+  pub overwrite : IsFlag (read.text (codes "overwrite")) config.overwrite
+
+-- when the server ends, as it was read: never, or after so many closed transfers or waits
+pub data EndsAs (read : Reads) (ending : Ending) : Type 0 where
+  Never : IsFlag (read.text (codes "forever")) true
+      → ending.transfers ≡ 18446744073709551615 → ending.rounds ≡ 18446744073709551615
+      → EndsAs read ending
+  After : IsFlag (read.text (codes "forever")) false
+      → IsNumber 32 (read.text (codes "transfers")) (Some ending.transfers)
+      → IsNumber 32 (read.text (codes "rounds")) (Some ending.rounds)
+      → EndsAs read ending
+
+-- a range of ports that a word names: two numbers with a colon (58) between them
+pub record NamesPorts (word : List ℕ) (range : PortRange) : Type 0 where
+  pub first : List ℕ
+  pub last : List ℕ
+  pub is : word ≡ first ++ (58 ∷ last)
+  pub from : IsNumber 16 (Some first) (Some range.first)
+  pub to : IsNumber 16 (Some last) (Some range.last)
+  pub least : 1 ≤ range.first
+  pub rising : range.first ≤ range.last
+
+-- the ports of transfers, if a word names them
+abbrev pub PortsAs : Option (List ℕ) → Option PortRange → Type 0
+PortsAs None ports = ports ≡ None
+PortsAs (Some word) None = ⊥
+PortsAs (Some word) (Some range) = NamesPorts word range
+
+-- the configuration has the folder, the address, the ports, the limits and the flags that were read
+pub record NamesServer (read : Reads) (config : DaemonConfig) : Type 0 where
+  pub root : read.word (codes "ROOT") ≡ Some config.root.now
+  pub listen : (word : List ℕ) × (read.word (codes "listen") ≡ Some word)
+      × Names word (Some config.service.listen)
+  pub ports : PortsAs (read.word (codes "ports")) config.service.ports
+  pub limits : ConfiguresAs read config.config
+  pub read_only : IsFlag (read.text (codes "read-only")) config.read_only
+  pub uploads : read.word (codes "uploads") ≡ option_map (λ folder. folder.now) config.uploads
+  pub ending : EndsAs read config.service.ending
+  pub logs : IsFlag (read.text (codes "log")) config.service.logs

@@ -1,0 +1,60 @@
+-- What the program did for the words of a command line (own).
+use Rattle.std.specs.Prelude.{ℕ, ◌≡◌, ◌⊎◌, List, [], Option, Some, None, Result, Ok, Err}
+use Rattle.std.specs.Prelude.{option_map}
+use Rattle.tftp_file.specs.Path.{path_of_name}
+use Rattle.tftp_file.specs.Source.{SourceMeaning}
+use Rattle.tftp_store.specs.Store.{StoreMeaning}
+use Rattle.tftp_server.specs.State.{ServerState}
+use Rattle.tftp_sockets.specs.Journal.{Event}
+use Rattle.tftp_loop.specs.Serves.{Serves, ServesIn, ServesToEnd, listening}
+use Rattle.tftp_daemon.specs.Words.{WordsConfigure}
+use Rattle.tftp_daemon.specs.declared.daemon.DaemonConfig.{DaemonConfig}
+use Rattle.tftp_daemon.specs.declared.folder.FolderStore.{FolderStore}
+
+-- the status of the program: 0, or 2 for a fault
+abbrev pub status_of : {A E : Type 0} → Result A E → ℕ
+status_of (Ok done) = 0
+status_of (Err fault) = 2
+
+-- the folder that takes all writes is the one that is named, if one is
+abbrev pub IsUploads : Option (List ℕ) → Option (List ℕ) → Type 0
+IsUploads None uploads = uploads ≡ None
+IsUploads (Some folder) uploads =
+    (path : List ℕ) × (path_of_name folder ≡ Ok path) × (uploads ≡ Some path)
+
+module _ {R G H F D : Type 0} where
+  -- the server of a configuration, without transfers: its limits, and a store that refuses writes,
+  -- or takes them below one folder alone, as it says
+  pub record IsServerOf (config : DaemonConfig) (server : ServerState (FolderStore R G H) F D)
+      : Type 0 where
+    pub limits : server.config ≡ config.config
+    pub empty : server.held ≡ []
+    pub read_only : server.store.is_read_only ≡ config.read_only
+    pub uploads : IsUploads (option_map (λ folder. folder.now) config.uploads) server.store.uploads
+
+  module _ (meaning : StoreMeaning (FolderStore R G H) D) (sources : SourceMeaning F) where
+    -- a server of the configuration ran over UDP, from one journal to the other; its transfers have
+    -- ports of the range, if there is one; with a status of 0 it served to its end
+    pub record ServesConfig (config : DaemonConfig) (status : ℕ) (before after : List Event)
+        : Type 0 where
+      pub server : ServerState (FolderStore R G H) F D
+      pub is_server : IsServerOf config server
+      pub serves : Serves meaning sources config.service.listen config.service.ending server
+          before after
+      pub ports : ServesIn meaning sources config.service.ports config.service.listen
+          config.service.ending server before after
+      pub ends : status ≡ 0 → (port : ℕ) × ServesToEnd meaning sources port
+          config.service.ending server (listening config.service.listen.ip port before) after
+
+    -- nothing was done over UDP, as without the folder, or a server of the configuration ran
+    abbrev pub MayServe : DaemonConfig → ℕ → List Event → List Event → Type 0
+    MayServe config status before after =
+        (after ≡ before) ⊎ ServesConfig config status before after
+
+    -- nothing was done over UDP, as for a help text; or a server ran with the configuration that
+    -- the words name, whatever the status
+    abbrev pub ServesWords : List (List ℕ) → ℕ → List Event → List Event → Type 0
+    ServesWords words status before after =
+        (after ≡ before)
+        ⊎ ((config : DaemonConfig) × WordsConfigure words config
+        × ServesConfig config status before after)

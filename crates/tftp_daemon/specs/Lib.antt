@@ -1,0 +1,6 @@
+pub mod Uploads
+pub mod Settings
+pub mod Kept
+pub mod CommandLine
+pub mod Words
+pub mod Configured

@@ -1,0 +1,6 @@
+-- The folder that takes all writes (ours).
+use Rattle.std.specs.Prelude.{ℕ, ◌≡◌, List, ◌∷◌, ◌++◌}
+
+-- a path of a file in the folder or below it: the folder, a slash, and a rest
+abbrev pub IsBelow : List ℕ → List ℕ → Type 0
+IsBelow folder path = (rest : List ℕ) × (path ≡ folder ++ (47 ∷ rest))

@@ -1,0 +1,80 @@
+-- The configuration that the words of a command line name (own).
+use Rattle.std.specs.Prelude.{ℕ, true, false, List, codes, Some, pos, ◌∷◌, []}
+use Rattle.std.specs.Fmt.{decimal}
+use Rattle.clap.specs.Simple.{App, matches_of, new_app, new_rule, on_top, with_rule}
+use Rattle.clap.specs.Walk.{Rule}
+use Rattle.clap.specs.declared.builder.value_parser.ValueParser.TheVariants as parsers
+use Rattle.tftp_server.specs.Config.{default_config}
+use Rattle.tftp_arguments.specs.Rules.{flag_rule, number_rule, word_rule}
+use Rattle.tftp_daemon.specs.CommandLine.{NamesServer, read_in}
+use Rattle.tftp_daemon.specs.declared.daemon.DaemonConfig.{DaemonConfig}
+
+-- ---- the command line
+-- an option with a word
+abbrev pub option_rule : List ℕ → Rule
+option_rule id = record (new_rule id) { long = Some id; value_names = 1 }
+
+-- a number from the least to the most
+abbrev pub within : List ℕ → ℕ → ℕ → Rule
+within id least most = number_rule id (parsers.Signed (pos least) (pos most))
+
+-- any number below 2^64
+abbrev pub any_number : List ℕ → Rule
+any_number id = number_rule id (parsers.Unsigned 0 18446744073709551615)
+
+-- an option that has this text where it is not used
+abbrev pub by_default : List ℕ → Rule → Rule
+by_default text rule = record rule { defaults = text ∷ [] }
+
+-- with the folder, the address of the request port and the ports of transfers
+abbrev pub with_places : App → App
+with_places app =
+    with_rule
+    (with_rule (with_rule app (word_rule (codes "ROOT")))
+    (by_default (codes "127.0.0.1:6969") (option_rule (codes "listen"))))
+    (option_rule (codes "ports"))
+
+-- with the limits of transfers
+-- (RFC 2348, "Blocksize Option Specification", for the block size; the rest is our choice)
+abbrev pub with_limits : App → App
+with_limits app =
+    with_rule
+    (with_rule
+    (with_rule
+    (with_rule app
+    (by_default (decimal default_config.limits.max_block)
+    (within (codes "max-block") 8 65464)))
+    (by_default (decimal default_config.limits.max_file) (any_number (codes "max-file"))))
+    (by_default (decimal default_config.retries) (within (codes "retries") 0 10)))
+    (by_default (decimal default_config.cap) (within (codes "cap") 1 64))
+
+-- with the options of writes
+abbrev pub with_writes : App → App
+with_writes app =
+    with_rule
+    (with_rule (with_rule app (flag_rule (codes "overwrite"))) (flag_rule (codes "read-only")))
+    (option_rule (codes "uploads"))
+
+-- with the end of the server: `--forever` is not used beside a count
+abbrev pub with_ending : App → App
+with_ending app =
+    with_rule
+    (with_rule
+    (with_rule app (by_default (codes "1") (within (codes "transfers") 1 4294967295)))
+    (by_default (codes "1000000") (within (codes "rounds") 1 4294967295)))
+    (record (flag_rule (codes "forever")) { is_free = false })
+
+-- `tftpd` without arguments
+abbrev pub bare_app : App
+bare_app = on_top (λ top. record top { has_version = true }) (new_app (codes "tftpd"))
+
+-- `tftpd`
+abbrev pub tftpd_app : App
+tftpd_app =
+    with_rule (with_ending (with_writes (with_limits (with_places bare_app))))
+    (flag_rule (codes "log"))
+
+-- ---- the configuration
+-- the words name this configuration
+abbrev pub WordsConfigure : List (List ℕ) → DaemonConfig → Type 0
+WordsConfigure words config = NamesServer (read_in (matches_of tftpd_app words)) config

@@ -1,0 +1,472 @@
+//! The command line of `tftpd`, and the configuration that its words name.
+
+ghost use Rattle.std.specs.Prelude.{◌≡◌, ◌≤◌, ◌∷◌, ◌++◌, Some, false, codes, map};
+ghost use Rattle.std.specs.Prelude.{IfOk, IfErr, IfSome};
+ghost use Rattle.std.specs.Fmt.{decimal};
+ghost use Rattle.std.specs.String.{string_bytes};
+ghost use Rattle.clap.specs.Matches.{first_value, found_of};
+ghost use Rattle.clap.specs.Simple.{App};
+ghost use Rattle.clap.specs.Walk.{rows_of};
+ghost use Rattle.tftp_server.specs.Config.{IsConfig, default_config};
+ghost use Rattle.tftp_arguments.specs.Read.{IsFlag, IsNumber, text_of};
+ghost use Rattle.tftp_arguments.specs.Rules.{HasRule, IsApp, flag_rule};
+ghost use Rattle.tftp_daemon.specs.CommandLine.{ConfiguresAs, EndsAs, NamesPorts, NamesServer};
+ghost use Rattle.tftp_daemon.specs.CommandLine.{PortsAs, read_in, read_of};
+ghost use Rattle.tftp_daemon.specs.Words.{WordsConfigure, any_number, bare_app, by_default};
+ghost use Rattle.tftp_daemon.specs.Words.{option_rule, tftpd_app, with_ending, with_limits};
+ghost use Rattle.tftp_daemon.specs.Words.{with_places, with_writes, within};
+
+use crate::daemon::DaemonConfig;
+use anyhow::Result;
+use clap::error::ErrorKind;
+use clap::{Arg, ArgMatches, Command, value_parser};
+use std::alloc::{AllocError, Global};
+use std::convert::AsStr;
+use tftp_arguments::{VERSION, flag, number, print_usage, word};
+use tftp_host::endpoint_in;
+use tftp_loop::{Ending, LoopConfig, PortRange};
+use tftp_negotiate::{Limits, MAX_BLOCK, MIN_BLOCK};
+use tftp_server::Config;
+
+const EXAMPLES: &str = "\
+Examples:
+  tftpd /srv/tftp --listen 192.0.2.1:6969 --forever --read-only
+  tftpd /srv/tftp --listen 192.0.2.1:6969 --forever --uploads incoming
+  tftpd . --listen 127.0.0.1:0 --max-block 8192 --cap 64";
+
+const PORTS: &str = "ports";
+
+const NO_ADDRESS: &str = "invalid value for '--listen <ADDR:PORT>': not an IPv4 address and a port";
+
+const NO_PORTS: &str =
+    "invalid value for '--ports <A:B>': not two ports from 1 to 65535, the lower first";
+
+const TRANSFERS: &str = "transfers";
+
+const ROUNDS: &str = "rounds";
+
+const FOREVER: &str = "forever";
+
+/// The configuration of a command line, or the status if there is nothing to serve.
+pub(crate) type Asked<'a> = std::result::Result<DaemonConfig<'a>, u8>;
+
+/// Reads the words.
+pub(crate) fn read_words<'a, P: Print + Eprint, S: AsStr>(
+    rt: &P,
+    alloc: Global,
+    texts: &'a Texts,
+    words: &'a [S],
+) -> Result<Asked<'a>>
+    ensures valid { IfOk result (λ asked. IfOk asked (λ config. IsConfig config.config)) }
+    ensures names { IfOk result (λ asked. IfOk asked (WordsConfigure (map S.text words.now))) }
+    ensures status { IfOk result (λ asked. IfErr asked (λ status. status ≤ 2)) }
+{
+    match command(alloc, texts) {
+        Ok(mut command) => match_words(rt, &mut command, words),
+        Err(error) => Err(error),
+    }
+}
+
+/// Reads the words by the command.
+fn match_words<'a, P: Print + Eprint, S: AsStr>(
+    rt: &P,
+    command: &mut Command<'a>,
+    words: &'a [S],
+) -> Result<Asked<'a>>
+    requires { IsApp tftpd_app command.old }
+    ensures valid { IfOk result (λ asked. IfOk asked (λ config. IsConfig config.config)) }
+    ensures names { IfOk result (λ asked. IfOk asked (WordsConfigure (map S.text words.now))) }
+    ensures status { IfOk result (λ asked. IfErr asked (λ status. status ≤ 2)) }
+{
+    match command.try_get_matches_from_mut(words) {
+        Ok(matches) => read_matches(rt, command, &matches),
+        Err(error) => Ok(Err(print_usage(rt, &error))),
+    }
+}
+
+/// The configuration of the matched words.
+fn read_matches<'a, P: Print + Eprint>(
+    rt: &P,
+    command: &mut Command<'a>,
+    matches: &ArgMatches<'a>,
+) -> Result<Asked<'a>>
+    ensures valid { IfOk result (λ asked. IfOk asked (λ config. IsConfig config.config)) }
+    ensures names { IfOk result (λ asked. IfOk asked
+        (NamesServer (read_in (rows_of (found_of matches.now))))) }
+    ensures status { IfOk result (λ asked. IfErr asked (λ status. status ≤ 2)) }
+{
+    let Ok(ports) = port_range(matches) else {
+        return Ok(Err(report_invalid(rt, command, NO_PORTS)?));
+    };
+    match service(matches, ports) {
+        Some(service) => Ok(Ok(service)),
+        None => Ok(Err(report_invalid(rt, command, NO_ADDRESS)?)),
+    }
+}
+
+/// Reports an invalid value.
+fn report_invalid<P: Print + Eprint>(rt: &P, command: &mut Command<'_>, message: &str) -> Result<u8>
+    ensures { IfOk result (λ status. status ≤ 2) }
+{
+    let error = command.error(ErrorKind::InvalidValue, message)?;
+    Ok(print_usage(rt, &error))
+}
+
+/// The value of `--ports` is no range of ports.
+#[derive(Clone, Copy)]
+struct NoPorts;
+
+/// The ports of transfers, or `None` if the system chooses.
+fn port_range(matches: &ArgMatches<'_>) -> std::result::Result<Option<PortRange>, NoPorts>
+    ensures { IfOk result (PortsAs (first_value (found_of matches.now) (codes "ports"))) }
+{
+    let Some(word) = matches.get_str(PORTS) else {
+        return Ok(None);
+    };
+    match ports_in(word) {
+        Some(range) => Ok(Some(range)),
+        None => Err(NoPorts),
+    }
+}
+
+/// The range in a word `A:B`, from 1 to 65535 and A at most B; else `None`.
+fn ports_in(word: &str) -> Option<PortRange>
+    ensures { IfSome result (NamesPorts word.now) }
+{
+    let (first, last) = split_at_colon(word)?;
+    let first = port_in(first)?;
+    let last = port_in(last)?;
+    if last < first {
+        return None;
+    }
+    Some(PortRange { first, last })
+}
+
+/// What is before and after the first colon of a word.
+fn split_at_colon(word: &str) -> Option<(&str, &str)>
+    ensures { IfSome result (λ parts. word.now ≡ parts.0.now ++ (58 ∷ parts.1.now)) }
+{
+    word.split_once(':')
+}
+
+/// The port in a word, from 1 to 65535; else `None`.
+fn port_in(word: &str) -> Option<u16>
+    ensures number { IfSome result (λ port. IsNumber 16 (Some word.now) (Some port)) }
+    ensures least { IfSome result (λ port. 1 ≤ port) }
+{
+    match word.parse::<u16>() {
+        Ok(port) if port > 0 => Some(port),
+        _ => None,
+    }
+}
+
+/// The configuration of the matched words, or `None` if the address is invalid.
+fn service<'a>(matches: &ArgMatches<'a>, ports: Option<PortRange>) -> Option<DaemonConfig<'a>>
+    requires { PortsAs (first_value (found_of matches.now) (codes "ports")) ports }
+    ensures valid { IfSome result (λ config. IsConfig config.config) }
+    ensures names { IfSome result (NamesServer (read_of matches.now)) }
+{
+    let root = matches.get_str("ROOT")?;
+    let listen = endpoint_in(matches.get_str("listen")?)?;
+    let config = config(matches)?;
+    let service = LoopConfig {
+        listen,
+        ports,
+        ending: ending(matches)?,
+        logs: is_set(matches, "log"),
+    };
+    Some(DaemonConfig {
+        root,
+        config,
+        read_only: is_set(matches, "read-only"),
+        uploads: matches.get_str("uploads"),
+        service,
+    })
+}
+
+/// When the server ends.
+fn ending(matches: &ArgMatches<'_>) -> Option<Ending>
+    ensures { IfSome result (EndsAs (read_of matches.now)) }
+{
+    if is_set(matches, FOREVER) {
+        return Some(Ending::NEVER);
+    }
+    Some(Ending {
+        transfers: u64::from(matches.get_one::<u32>(TRANSFERS)?),
+        rounds: u64::from(matches.get_one::<u32>(ROUNDS)?),
+    })
+}
+
+/// The limits of transfers.
+fn config(matches: &ArgMatches<'_>) -> Option<Config>
+    ensures valid { IfSome result IsConfig }
+    ensures limits { IfSome result (ConfiguresAs (read_of matches.now)) }
+{
+    let config = Config {
+        limits: Limits {
+            max_block: matches.get_one::<u16>("max-block")?,
+            max_file: matches.get_one::<u64>("max-file")?,
+        },
+        retries: matches.get_one::<u8>("retries")?,
+        cap: matches.get_one::<u8>("cap")?,
+        overwrite: is_set(matches, "overwrite"),
+    };
+    if config.is_valid() {
+        Some(config)
+    } else {
+        None
+    }
+}
+
+/// Whether a flag is set.
+fn is_set(matches: &ArgMatches<'_>, name: &str) -> bool
+    ensures { IsFlag (text_of matches.now name.now) result }
+{
+    matches.get_flag(name)
+}
+
+/// The texts of the help and the defaults with numbers that other crates define.
+#[derive(Drop)]
+pub(crate) struct Texts {
+    block_range: String,
+    block_help: String,
+    max_block: String,
+    max_file: String,
+    retries: String,
+    cap: String,
+    ghost max_block_is: { string_bytes max_block ≡ decimal default_config.limits.max_block },
+    ghost max_file_is: { string_bytes max_file ≡ decimal default_config.limits.max_file },
+    ghost retries_is: { string_bytes retries ≡ decimal default_config.retries },
+    ghost cap_is: { string_bytes cap ≡ decimal default_config.cap },
+}
+
+impl Texts {
+    /// The range of a block size, and the defaults of a server.
+    pub(crate) fn new(alloc: Global) -> Result<Texts, AllocError> {
+        let config = Config::default();
+        Ok(Texts {
+            block_range: format!(in alloc; "{MIN_BLOCK}..{MAX_BLOCK}")?,
+            block_help: format!(in alloc;
+                "Largest block size that is agreed, in bytes, {MIN_BLOCK} to {MAX_BLOCK}"
+            )?,
+            max_block: config.limits.max_block.to_string(alloc)?,
+            max_file: config.limits.max_file.to_string(alloc)?,
+            retries: config.retries.to_string(alloc)?,
+            cap: config.cap.to_string(alloc)?,
+        })
+    }
+}
+
+/// The command line of `tftpd`.
+fn command<'a>(alloc: Global, texts: &'a Texts) -> Result<Command<'a>>
+    ensures { IfOk result (IsApp tftpd_app) }
+{
+    let command = bare_command(alloc)?;
+    let command = with_places(alloc, command)?;
+    let command = with_limits(alloc, command, texts)?;
+    let command = with_writes(alloc, command)?;
+    let command = with_ending(alloc, command)?;
+    let log = flag(
+        alloc,
+        "log",
+        "Writes a line on standard error for each request and each close",
+    );
+    Ok(command.arg(log)?)
+}
+
+/// The command line of `tftpd` without arguments.
+fn bare_command<'a>(alloc: Global) -> Result<Command<'a>>
+    ensures { IfOk result (IsApp bare_app) }
+{
+    let command = Command::new(alloc, "tftpd").bin_name("tftpd")?;
+    Ok(
+        command
+            .about("Serves the files of a folder by TFTP (RFC 1350, RFC 2347 to 2349)")
+            .version(VERSION)
+            .after_help(EXAMPLES),
+    )
+}
+
+/// An option `--name WORD`.
+fn option<'a>(alloc: Global, name: &'a str, value: &'a str, help: &'a str) -> Arg<'a>
+    ensures { HasRule (option_rule name.now) result }
+{
+    Arg::new(alloc, name)
+        .long(name)
+        .value_name(value)
+        .help(help)
+}
+
+/// Adds the folder, the address of the request port and the ports of transfers.
+fn with_places<'a>(alloc: Global, command: Command<'a>) -> Result<Command<'a>>
+    ensures { (app : App) → IsApp app command.entry → IfOk result (IsApp (with_places app)) }
+{
+    let root = word(alloc, "ROOT", "The folder whose files are served");
+    let command = command.arg(root)?;
+    let command = command.arg(listen(alloc))?;
+    let ports = option(
+        alloc,
+        PORTS,
+        "A:B",
+        "UDP ports of transfers, A to B, each used once before any again",
+    );
+    Ok(command.arg(ports)?)
+}
+
+/// The argument for the address of the request port.
+fn listen<'a>(alloc: Global) -> Arg<'a>
+    ensures { HasRule (by_default (codes "127.0.0.1:6969") (option_rule (codes "listen")))
+        result }
+{
+    let listen = option(
+        alloc,
+        "listen",
+        "ADDR:PORT",
+        "IPv4 address and UDP port of the requests; port 0 lets the system choose",
+    );
+    listen.default_value("127.0.0.1:6969")
+}
+
+/// Adds the limits of transfers.
+fn with_limits<'a>(alloc: Global, command: Command<'a>, texts: &'a Texts) -> Result<Command<'a>>
+    ensures { (app : App) → IsApp app command.entry → IfOk result (IsApp (with_limits app)) }
+{
+    let command = command.arg(max_block(alloc, texts))?;
+    let command = command.arg(max_file(alloc, texts))?;
+    let command = command.arg(retries(alloc, texts))?;
+    Ok(command.arg(cap(alloc, texts))?)
+}
+
+/// The argument for the largest block size (RFC 2348, "Blocksize Option Specification").
+fn max_block<'a>(alloc: Global, texts: &'a Texts) -> Arg<'a>
+    ensures { HasRule (by_default (decimal default_config.limits.max_block)
+        (within (codes "max-block") 8 65464)) result }
+{
+    let max_block = number(
+        alloc,
+        "max-block",
+        texts.block_range.as_str(),
+        value_parser!(u16).range(i64::from(MIN_BLOCK)..=i64::from(MAX_BLOCK)),
+        texts.block_help.as_str(),
+    );
+    max_block.default_value(texts.max_block.as_str())
+}
+
+/// The argument for the longest file.
+fn max_file<'a>(alloc: Global, texts: &'a Texts) -> Arg<'a>
+    ensures { HasRule (by_default (decimal default_config.limits.max_file)
+        (any_number (codes "max-file"))) result }
+{
+    let max_file = number(
+        alloc,
+        "max-file",
+        "0..2^64-1",
+        value_parser!(u64),
+        "Longest file that is taken, in bytes, any number below 2^64",
+    );
+    max_file.default_value(texts.max_file.as_str())
+}
+
+/// The argument for the limit of retransmissions.
+fn retries<'a>(alloc: Global, texts: &'a Texts) -> Arg<'a>
+    ensures { HasRule (by_default (decimal default_config.retries)
+        (within (codes "retries") 0 10)) result }
+{
+    let retries = number(
+        alloc,
+        "retries",
+        "0..10",
+        value_parser!(u8).range(0..=10),
+        "How often a datagram is sent again without progress, 0 to 10",
+    );
+    retries.default_value(texts.retries.as_str())
+}
+
+/// The argument for the limit of open transfers.
+fn cap<'a>(alloc: Global, texts: &'a Texts) -> Arg<'a>
+    ensures { HasRule (by_default (decimal default_config.cap) (within (codes "cap") 1 64))
+        result }
+{
+    let cap = number(
+        alloc,
+        "cap",
+        "1..64",
+        value_parser!(u8).range(1..=64),
+        "Transfers that are open at once, 1 to 64",
+    );
+    cap.default_value(texts.cap.as_str())
+}
+
+/// Adds the options of writes.
+fn with_writes<'a>(alloc: Global, command: Command<'a>) -> Result<Command<'a>>
+    ensures { (app : App) → IsApp app command.entry → IfOk result (IsApp (with_writes app)) }
+{
+    let overwrite = flag(alloc, "overwrite", "A write replaces a file that is there");
+    let command = command.arg(overwrite)?;
+    let read_only = flag(
+        alloc,
+        "read-only",
+        "Refuses every write as an access violation (ERROR 2), and touches no file for it",
+    );
+    let command = command.arg(read_only)?;
+    let uploads = option(
+        alloc,
+        "uploads",
+        "FOLDER",
+        "Takes writes below this folder of ROOT alone, and makes the drafts there",
+    );
+    Ok(command.arg(uploads)?)
+}
+
+/// Adds when the server ends.
+fn with_ending<'a>(alloc: Global, command: Command<'a>) -> Result<Command<'a>>
+    ensures { (app : App) → IsApp app command.entry → IfOk result (IsApp (with_ending app)) }
+{
+    let command = command.arg(transfers(alloc))?;
+    let command = command.arg(rounds(alloc))?;
+    let forever = forever(alloc)?;
+    Ok(command.arg(forever)?)
+}
+
+/// The argument for the number of closed transfers.
+fn transfers<'a>(alloc: Global) -> Arg<'a>
+    ensures { HasRule (by_default (codes "1") (within (codes "transfers") 1 4294967295))
+        result }
+{
+    let transfers = number(
+        alloc,
+        TRANSFERS,
+        "1..4294967295",
+        value_parser!(u32).range(1..=4_294_967_295),
+        "Ends after so many closed transfers, 1 to 4294967295",
+    );
+    transfers.default_value("1")
+}
+
+/// The argument for the number of waits.
+fn rounds<'a>(alloc: Global) -> Arg<'a>
+    ensures { HasRule (by_default (codes "1000000") (within (codes "rounds") 1 4294967295))
+        result }
+{
+    let rounds = number(
+        alloc,
+        ROUNDS,
+        "1..4294967295",
+        value_parser!(u32).range(1..=4_294_967_295),
+        "Ends after so many waits, each of a second at most, 1 to 4294967295",
+    );
+    rounds.default_value("1000000")
+}
+
+/// The flag of a server that does not end.
+fn forever<'a>(alloc: Global) -> Result<Arg<'a>>
+    ensures { IfOk result (HasRule (record (flag_rule (codes "forever")) { is_free = false })) }
+{
+    let forever = flag(
+        alloc,
+        FOREVER,
+        "Ends by no count of transfers or waits; not beside --transfers or --rounds",
+    );
+    let forever = forever.conflicts_with(TRANSFERS)?;
+    Ok(forever.conflicts_with(ROUNDS)?)
+}

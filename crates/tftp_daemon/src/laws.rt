@@ -1,0 +1,18 @@
+//! Laws of the runs of `tftpd`, over the definitions alone.
+
+ghost use Rattle.tftp_daemon.specs.Kept.{RunKeepsSettings};
+
+use crate::folder::FolderStore;
+use crate::folder_source::FolderSource;
+use std::rt::Files;
+use tftp_file::Source;
+use tftp_server::Store;
+
+/// A run leaves the settings of its store: one that refuses writes refuses them to its end, and one
+/// that takes them below a folder alone takes them there alone. It is as long as that setting the
+/// store for the next transfer and losing a datagram leave them, of which the definition of a run
+/// says nothing.
+pub fn a_run_keeps_the_settings<R: Files + Drop>()
+    ensures { RunKeepsSettings ⟦<FolderStore<R> as Store>⟧.meaning
+        ⟦<FolderSource<R::File> as Source>⟧.meaning }
+{}

@@ -1,0 +1,94 @@
+-- Each step notes events after those before, and the clock never goes back.
+use Rattle.std.proofs.Common.{arith, ◌≡◌, ◌≤◌, ℕ, List, [], ◌∷◌, ◌++◌, Option, Some, None, refl, sym, ap, subst, ◌∙◌}
+use Rattle.std.proofs.lemmas.List.{append_assoc}
+use Rattle.tftp_file.specs.Source.{SourceMeaning}
+use Rattle.tftp_ends.specs.declared.endpoint.Endpoint.{Endpoint}
+use Rattle.tftp_ends.specs.Step.{Reply}
+use Rattle.tftp_store.specs.Store.{StoreMeaning}
+use Rattle.tftp_sockets.specs.Journal.{Event, answered, replied}
+use Rattle.tftp_sockets.specs.Journal.Event.{Received, Sent, Watched, Elapsed}
+use Rattle.tftp_loop.specs.Serves.{PortState, LoopState, AtPort, Does, port_state}
+use Rattle.tftp_loop.specs.Serves.AtPort.{A_datagram, A_lost_datagram, Nothing_found, A_failed_receive, A_timeout}
+use Rattle.tftp_loop.specs.Serves.AtPort.{A_missed_timeout, Work}
+use Rattle.tftp_loop.specs.Serves.Does.{Waited, At_port, Request_received, No_request_found, Request_not_received}
+use Rattle.tftp_loop.specs.Serves.Does.{Request_answered, Request_lost, Clock_read, Store_set, Transfer_closed}
+
+pub record Adds (before after : List Event) : Type 0 where
+  pub more : List Event
+  pub is : after ≡ more ++ before
+
+pub adds_none : (es fs : List Event) → fs ≡ es → Adds es fs
+adds_none es fs e = record { more = []; is = e }
+
+pub adds_one : (event : Event) (es fs : List Event) → fs ≡ event ∷ es → Adds es fs
+adds_one event es fs e = record { more = event ∷ []; is = e }
+
+pub adds_more : (es fs gs : List Event) → Adds es fs → Adds fs gs → Adds es gs
+adds_more es fs gs a b = record {
+  more = b.more ++ a.more;
+  is =
+      b.is ∙ (ap (λ (xs : List Event). b.more ++ xs) a.is ∙ sym (append_assoc b.more a.more es));
+}
+
+adds_to : (es fs gs : List Event) → gs ≡ fs → Adds es fs → Adds es gs
+adds_to es fs gs e a = record { more = a.more; is = e ∙ a.is }
+
+answered_adds : (port : ℕ) (reply : Option Reply) (es : List Event) → Adds es (answered port reply es)
+answered_adds port None es = adds_none es es refl
+answered_adds port (Some reply) es = adds_one (Sent port reply.to reply.bytes) es _ refl
+
+replied_adds : (port : ℕ) (to : Option Endpoint) (bytes : List ℕ) (es : List Event)
+    → Adds es (replied port to bytes es)
+replied_adds port None bytes es = adds_none es es refl
+replied_adds port (Some to) bytes es = adds_one (Sent port to bytes) es _ refl
+
+module _ {S F D : Type 0} (meaning : StoreMeaning S D) (sources : SourceMeaning F) where
+  port_adds : (now : ℕ) (old new : PortState S F D) → AtPort meaning sources now old new → Adds old.events new.events
+  port_adds now old new (A_datagram d) =
+      let received = Received old.timer.port d.from d.bytes ∷ old.events in
+      adds_to old.events _ new.events d.handles.events
+      (adds_more old.events received _ (adds_one (Received old.timer.port d.from d.bytes) old.events received refl)
+      (answered_adds old.timer.port d.handles.takes.takes.turn.reply received))
+  port_adds now old new (A_lost_datagram d) = adds_one
+      (Received old.timer.port d.from d.bytes) old.events new.events d.events
+  port_adds now old new (Nothing_found d) = adds_one _ old.events new.events d.events
+  port_adds now old new (A_failed_receive d) = adds_one _ old.events new.events d.events
+  port_adds now old new (A_timeout d) =
+      let elapsed = Elapsed old.timer.port now ∷ old.events in
+      adds_to old.events _ new.events d.times_out.events
+      (adds_more old.events elapsed _ (adds_one (Elapsed old.timer.port now) old.events elapsed refl)
+      (answered_adds old.timer.port _ elapsed))
+  port_adds now old new (A_missed_timeout d) = adds_one (Elapsed old.timer.port now) old.events new.events d.events
+  port_adds now old new (Work d) = adds_none old.events new.events d.events
+
+  pub step_adds : (s t : LoopState S F D) → Does meaning sources s t → Adds s.events t.events
+  step_adds s t (Waited d) =
+      adds_more s.events _ t.events (adds_one _ s.events _ refl)
+      (adds_one _ _ t.events (ap (λ (u : LoopState S F D). u.events) d.is))
+  step_adds s t (At_port d) = adds_to s.events d.next.events t.events (ap (λ (u : LoopState S F D). u.events) d.is)
+      (port_adds s.now (port_state s d.timer) d.next d.does)
+  step_adds s t (Request_received d) = adds_one _ s.events t.events (ap (λ (u : LoopState S F D). u.events) d.is)
+  step_adds s t (No_request_found d) = adds_one _ s.events t.events (ap (λ (u : LoopState S F D). u.events) d.is)
+  step_adds s t (Request_not_received d) = adds_one _ s.events t.events (ap (λ (u : LoopState S F D). u.events) d.is)
+  step_adds s t (Request_answered d) = adds_to s.events _ t.events (ap (λ (u : LoopState S F D). u.events) d.is)
+      (replied_adds _ d.left.opened.to d.left.sent s.events)
+  step_adds s t (Request_lost d) = adds_none s.events t.events (ap (λ (u : LoopState S F D). u.events) d.is)
+  step_adds s t (Clock_read d) = adds_one (Watched d.time) s.events t.events
+      (ap (λ (u : LoopState S F D). u.events) d.is)
+  step_adds s t (Store_set d) = adds_none s.events t.events (ap (λ (u : LoopState S F D). u.events) d.is)
+  step_adds s t (Transfer_closed d) = adds_one _ s.events t.events (ap (λ (u : LoopState S F D). u.events) d.is)
+
+  same_now : (now : ℕ) (t u : LoopState S F D) → t ≡ u → now ≤ u.now → now ≤ t.now
+  same_now now t u e h = subst (λ (v : LoopState S F D). now ≤ v.now) (sym e) h
+
+  pub step_forward : (s t : LoopState S F D) → Does meaning sources s t → s.now ≤ t.now
+  step_forward s t (Waited d) = same_now s.now t _ d.is (omega arith)
+  step_forward s t (At_port d) = same_now s.now t _ d.is (omega arith)
+  step_forward s t (Request_received d) = same_now s.now t _ d.is (omega arith)
+  step_forward s t (No_request_found d) = same_now s.now t _ d.is (omega arith)
+  step_forward s t (Request_not_received d) = same_now s.now t _ d.is (omega arith)
+  step_forward s t (Request_answered d) = same_now s.now t _ d.is (omega arith)
+  step_forward s t (Request_lost d) = same_now s.now t _ d.is (omega arith)
+  step_forward s t (Clock_read d) = same_now s.now t _ d.is d.forward
+  step_forward s t (Store_set d) = same_now s.now t _ d.is (omega arith)
+  step_forward s t (Transfer_closed d) = same_now s.now t _ d.is (omega arith)

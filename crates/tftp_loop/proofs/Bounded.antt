@@ -1,0 +1,262 @@
+-- In each state of a run a deadline is an interval away at most, and no end has more than its retries.
+use Rattle.std.proofs.Common.{arith, ◌≡◌, ◌<◌, ◌≤◌, ℕ, true, false, List, [], ◌∷◌, length}
+use Rattle.std.proofs.Common.{Option, Some, None, IsSome, refl, sym, ap, subst, ◌∙◌, inl, inr}
+use Rattle.std.specs.Prelude.{All, slice_index_or, slice_set, Result, Ok, Err, ⊤}
+use Rattle.std.specs.List.{swap_remove}
+use Rattle.std.proofs.lemmas.List.{length-map}
+use Rattle.std.proofs.lemmas.Option.{same_Some}
+use Rattle.tftp_wire.specs.declared.mode.Mode.{Mode}
+use Rattle.tftp_negotiate.specs.declared.known.Known.{Known}
+use Rattle.tftp_file.specs.Source.{SourceMeaning}
+use Rattle.tftp_file.specs.declared.fault.StoreFault.{StoreFault}
+use Rattle.tftp_ends.specs.End.{EndState}
+use Rattle.tftp_ends.specs.Opening.{ServesRead, serving_read, serving_write}
+use Rattle.tftp_ends.specs.declared.endpoint.Endpoint.{Endpoint}
+use Rattle.tftp_store.specs.Store.{StoreMeaning}
+use Rattle.tftp_store.specs.declared.store.Opening.{Opening}
+use Rattle.tftp_server.specs.Port.{Ask, Ignores, Refuses, Reads, Writes, Service, Silent, Refused, Sends, Takes}
+use Rattle.tftp_server.specs.Request.{Came, Goes, Left, Nothing, An_error, A_transfer, Sent, Taken, left_by}
+use Rattle.tftp_server.specs.State.{HeldTransfer, ServerState, at, with_new, without}
+use Rattle.tftp_server.specs.declared.config.Config.{Config}
+use Rattle.tftp_loop.specs.Run.{Run}
+use Rattle.tftp_loop.specs.Run.Run.{Start, Then}
+use Rattle.tftp_loop.specs.Serves.{Timer, PortState, LoopState, AtPort, Does, interval_at, marked_by}
+use Rattle.tftp_loop.specs.Serves.{port_state, started, with_timer}
+use Rattle.tftp_loop.specs.Serves.Does.{Waited, At_port, Request_received, No_request_found, Request_not_received}
+use Rattle.tftp_loop.specs.Serves.Does.{Request_answered, Request_lost, Clock_read, Store_set, Transfer_closed}
+use Rattle.tftp_loop.specs.Expiry.{IsIdleAt, ReceivesNoneAt}
+use Rattle.tftp_loop.specs.Tended.{AreKept}
+use Rattle.tftp_loop.proofs.LoopStays.{all_appended, all_removed, all_set, other_port, some_none}
+use Rattle.tftp_loop.proofs.PortEnds.{HasLimit, IsNear, at_transfer, changes_limit, changes_near, restarted_near}
+use Rattle.tftp_loop.proofs.PortEnds.{same_config, same_timer}
+use Rattle.tftp_loop.proofs.PortStays.{stays_at}
+use Rattle.tftp_loop.proofs.Sleeping.{step_kept}
+use Rattle.tftp_loop.proofs.Tables.{inserted_apart, inserted_own, removed_apart}
+use Rattle.tftp_loop.proofs.Waits.{marked_at}
+
+pub some_at : {T : Type 0} (o : Option T) → IsSome o → (x : T) × (o ≡ Some x)
+some_at None h = absurd (let e : false ≡ true = h in cc)
+some_at (Some x) h = (x, refl)
+
+-- ---- the end of a transfer that opens
+module _ {S F D : Type 0} where
+  abbrev opened_end : Came S F D → Option EndState
+  opened_end Nothing = None
+  opened_end (An_error reply store) = None
+  opened_end (A_transfer transfer store) = Some transfer.end
+
+abbrev LimitIn : ℕ → Option EndState → Type 0
+LimitIn retries None = ⊤
+LimitIn retries (Some e) = HasLimit retries e
+
+read_limit : (agreed : List Known) (peer : Endpoint) (mode : Mode) (length retries : ℕ) (piece : List ℕ)
+    → HasLimit retries (serving_read agreed peer mode length retries piece)
+read_limit [] peer mode length retries piece = record { role = refl; left = omega arith }
+read_limit (known ∷ others) peer mode length retries piece = record { role = refl; left = omega arith }
+
+write_limit : (agreed : List Known) (peer : Endpoint) (mode : Mode) (retries : ℕ)
+    → HasLimit retries (serving_write agreed peer mode retries)
+write_limit [] peer mode retries = record { role = refl; left = omega arith }
+write_limit (known ∷ others) peer mode retries = record { role = refl; left = omega arith }
+
+serves_limit : {F : Type 0} (sources : SourceMeaning F) (agreed : List Known) (peer : Endpoint) (mode : Mode)
+    (length retries : ℕ) (source rest : F) (e : EndState)
+    → ServesRead sources agreed peer mode length retries source rest e → HasLimit retries e
+serves_limit sources [] peer mode length retries source rest e serves =
+    subst (HasLimit retries) (sym serves.2) (read_limit [] peer mode length retries serves.0)
+serves_limit sources (known ∷ others) peer mode length retries source rest e serves =
+    subst (HasLimit retries) (sym serves.1) (read_limit (known ∷ others) peer mode length retries [])
+
+module _ {S F D : Type 0} (meaning : StoreMeaning S D) (sources : SourceMeaning F) where
+  abbrev InCame : ℕ → Came S F D → Type 0
+  InCame retries came = LimitIn retries (opened_end came)
+
+  in_came : (retries : ℕ) (came other : Came S F D) → came ≡ other → InCame retries other → InCame retries came
+  in_came retries came other same h = subst (InCame retries) (sym same) h
+
+  sent_limit : (old : ServerState S F D) (from : Endpoint) (bytes : List ℕ) (service : Service)
+      (file : Result (Opening F) StoreFault) (came : Came S F D)
+      → Sent meaning sources old from bytes service file came
+      → InCame old.config.retries came
+  sent_limit old from bytes Silent file came sent = absurd sent
+  sent_limit old from bytes (Refused reply) file came sent =
+      in_came old.config.retries came (An_error reply old.store) sent tt
+  sent_limit old from bytes (Sends path mode length agreed) (Ok file) came (inl serves) =
+      in_came old.config.retries came (A_transfer _ old.store) serves.opens
+      (serves_limit sources agreed from mode length old.config.retries file.source serves.rest serves.end
+      serves.serves)
+  sent_limit old from bytes (Sends path mode length agreed) (Ok file) came (inr changed) =
+      in_came old.config.retries came (An_error _ old.store) changed.2 tt
+  sent_limit old from bytes (Sends path mode length agreed) (Err fault) came sent = absurd sent
+  sent_limit old from bytes (Takes path mode agreed) file came sent = absurd sent
+
+  taken_limit : (old : ServerState S F D) (from : Endpoint) (bytes : List ℕ) (service : Service)
+      (draft : Result D StoreFault) (store : S) (came : Came S F D)
+      → Taken meaning sources old from bytes service draft store came
+      → InCame old.config.retries came
+  taken_limit old from bytes Silent draft store came taken = absurd taken
+  taken_limit old from bytes (Refused reply) draft store came taken =
+      in_came old.config.retries came (An_error reply store) taken tt
+  taken_limit old from bytes (Sends path mode length agreed) draft store came taken = absurd taken
+  taken_limit old from bytes (Takes path mode agreed) (Ok draft) store came taken =
+      in_came old.config.retries came (A_transfer _ store) taken (write_limit agreed from mode old.config.retries)
+  taken_limit old from bytes (Takes path mode agreed) (Err fault) store came taken = absurd taken
+
+  goes_limit : (old : ServerState S F D) (from : Endpoint) (bytes : List ℕ) (ask : Ask) (came : Came S F D)
+      → Goes meaning sources old from bytes ask came → InCame old.config.retries came
+  goes_limit old from bytes Ignores came goes = in_came old.config.retries came Nothing goes tt
+  goes_limit old from bytes (Refuses reply) came goes =
+      in_came old.config.retries came (An_error reply old.store) goes tt
+  goes_limit old from bytes (Reads path mode options) came goes =
+      sent_limit old from bytes _ goes.file came goes.goes_on
+  goes_limit old from bytes (Writes path mode agreed) came goes =
+      taken_limit old from bytes _ goes.draft goes.store came goes.goes_on
+
+  -- ---- at each timer
+  pub record IsBounded (server : ServerState S F D) (now : ℕ) (timer : Timer) : Type 0 where
+    pub near : IsNear now timer
+    pub limit : (transfer : HeldTransfer F D) → at timer.port server.held ≡ Some transfer
+        → HasLimit server.config.retries transfer.end
+
+  -- what is at the port of a timer is as it was
+  same_bounded : (old new : ServerState S F D) (now : ℕ) (timer : Timer) → new.config ≡ old.config
+      → at timer.port new.held ≡ at timer.port old.held → IsBounded old now timer → IsBounded new now timer
+  same_bounded old new now timer config same bounded = record {
+    near = bounded.near;
+    limit = λ transfer found. subst (λ (n : ℕ). HasLimit n transfer.end) (sym (ap (λ (c : Config). c.retries) config))
+        (bounded.limit transfer (sym same ∙ found));
+  }
+
+  set_bounded : (s : LoopState S F D) (index : ℕ) (timer : Timer) (next : PortState S F D) → index < length s.timers
+      → timer ≡ slice_index_or s.timers index timer → AtPort meaning sources s.now (port_state s timer) next
+      → AreKept s.server.held s.timers → All (IsBounded s.server s.now) s.timers
+      → All (IsBounded next.server s.now) (slice_set s.timers index next.timer)
+  set_bounded s index timer next within is does kept bounded =
+      let Q = IsBounded next.server s.now in
+      let stays = stays_at meaning sources s.now (port_state s timer) next does in
+      let config = same_config meaning sources s.now (port_state s timer) next does in
+      let same = same_timer meaning sources s.now (port_state s timer) next does in
+      let own : IsBounded s.server s.now timer = subst (IsBounded s.server s.now) (sym is)
+      (bounded index timer within) in
+      let some = some_at (at timer.port s.server.held)
+      (subst (λ (t : Timer). IsSome (at t.port s.server.held)) (sym is) (kept.each index timer within).there) in
+      let changed = at_transfer meaning sources s.now (port_state s timer) next does some.0 some.1 in
+      λ k d h.
+      all_set Q s.timers 0 index next.timer within
+      (λ k d l h apart.
+      same_bounded s.server next.server s.now (slice_index_or s.timers k d) config
+      (stays.held.others (slice_index_or s.timers k d).port
+      (other_port s.timers index timer k d kept.apart within is h apart)) (bounded k d h))
+      (record {
+        near = changes_near (IsIdleAt meaning sources does)
+            (ReceivesNoneAt meaning sources does) s.now timer next.timer some.0.end changed.next.end changed.changes
+            own.near;
+        limit = λ transfer found.
+            let here : changed.next ≡ transfer = same_Some changed.next transfer
+            (sym changed.found ∙ (ap (λ (p : ℕ). at p next.server.held) (sym same.port) ∙ found)) in
+            let limit = changes_limit (IsIdleAt meaning sources does)
+            (ReceivesNoneAt meaning sources does) s.now timer next.timer some.0.end changed.next.end changed.changes
+            s.server.config.retries (own.limit some.0 some.1) in
+            subst (λ (t : HeldTransfer F D). HasLimit next.server.config.retries t.end) here
+            (subst (λ (n : ℕ). HasLimit n changed.next.end) (sym (ap (λ (c : Config). c.retries) config)) limit);
+      }) k d (omega arith) h
+
+  opened_bounded : (now : ℕ) (from : Endpoint) (tid : ℕ) (old : ServerState S F D) (timers : List Timer)
+      (came : Came S F D) → at tid old.held ≡ None → InCame old.config.retries came → AreKept old.held timers
+      → All (IsBounded old now) timers → All (IsBounded (left_by came old from tid).new now)
+      (with_timer now from (left_by came old from tid).opened.tid (left_by came old from tid).new.held timers)
+  opened_bounded now from tid old timers Nothing free limit kept bounded = bounded
+  opened_bounded now from tid old timers (An_error reply store) free limit kept bounded =
+      λ k d h. same_bounded old (record old { store = store }) now (slice_index_or timers k d) refl refl
+      (bounded k d h)
+  opened_bounded now from tid old timers (A_transfer transfer store) free limit kept bounded =
+      let new : ServerState S F D = record old { store = store; held = with_new tid transfer old.held } in
+      let timer = started now tid from (interval_at (at tid (with_new tid transfer old.held))) in
+      let own = inserted_own tid transfer old.held in
+      all_appended (IsBounded new now) timers timer
+      (λ k d h.
+      let t = slice_index_or timers k d in
+      let apart : t.port ≡ tid → ⊥ = λ e. some_none (at t.port old.held) (kept.each k d h).there
+      (ap (λ (p : ℕ). at p old.held) e ∙ free) in
+      same_bounded old new now t refl (inserted_apart tid t.port transfer old.held apart) (bounded k d h))
+      (record {
+        near = restarted_near now timer;
+        limit = λ held found. subst (λ (t : HeldTransfer F D). HasLimit old.config.retries t.end)
+            (same_Some transfer held (sym own ∙ found)) limit;
+      })
+
+  removed_bounded : (old : ServerState S F D) (now : ℕ) (timers : List Timer) (index : ℕ) (timer : Timer)
+      → index < length timers → timer ≡ slice_index_or timers index timer → AreKept old.held timers
+      → All (IsBounded old now) timers → All (IsBounded (record old { held = without timer.port old.held }) now)
+      (swap_remove timers index timer)
+  removed_bounded old now timers index timer within is kept bounded =
+      let new : ServerState S F D = record old { held = without timer.port old.held } in
+      λ k d h.
+      all_removed (IsBounded new now) timers 0 index timer (omega arith) within
+      (λ k d l h apart.
+      let t = slice_index_or timers k d in
+      same_bounded old new now t refl (removed_apart timer.port t.port old.held
+      (other_port timers index timer k d kept.apart within is h apart)) (bounded k d h)) k d (omega arith) h
+
+  later_near : (now time : ℕ) (timer : Timer) → now ≤ time → IsNear now timer → IsNear time timer
+  later_near now time timer forward near = omega (arith, forward, near)
+
+  abbrev AreBounded : LoopState S F D → Type 0
+  AreBounded s = All (IsBounded s.server s.now) s.timers
+
+  step_bounded : (s t : LoopState S F D) → Does meaning sources s t → AreKept s.server.held s.timers → AreBounded s
+      → AreBounded t
+  step_bounded s t (Waited d) kept bounded =
+      subst AreBounded (sym d.is)
+      (λ k e h.
+      let long = length-map s.timers (marked_by d.ports) in
+      let h' : k < length s.timers = omega (arith, long, h) in
+      let was = bounded k e h' in
+      subst (IsBounded s.server s.now) (sym (marked_at d.ports s.timers k e h'))
+      (record { near = was.near; limit = was.limit }))
+  step_bounded s t (Clock_read d) kept bounded =
+      subst AreBounded (sym d.is)
+      (λ k e h. let was = bounded k e h in record {
+        near =
+            later_near s.now d.time (slice_index_or s.timers k e) d.forward was.near;
+        limit = was.limit;
+      })
+  step_bounded s t (At_port d) kept bounded = subst AreBounded (sym d.is)
+      (set_bounded s d.index d.timer d.next d.within d.is_timer d.does kept bounded)
+  step_bounded s t (Request_received d) kept bounded = subst AreBounded (sym d.is) bounded
+  step_bounded s t (No_request_found d) kept bounded = subst AreBounded (sym d.is) bounded
+  step_bounded s t (Request_not_received d) kept bounded = subst AreBounded (sym d.is) bounded
+  step_bounded s t (Request_answered d) kept bounded =
+      subst AreBounded (sym d.is)
+      (subst (λ (left : Left S F D). All (IsBounded left.new s.now)
+      (with_timer s.now d.from left.opened.tid left.new.held s.timers)) (sym d.steps.left)
+      (opened_bounded s.now d.from d.tid s.server s.timers d.steps.came d.free
+      (goes_limit s.server d.from d.bytes _ d.steps.came d.steps.goes) kept bounded))
+  step_bounded s t (Request_lost d) kept bounded = subst AreBounded (sym d.is) bounded
+  step_bounded s t (Store_set d) kept bounded =
+      subst AreBounded (sym d.is) (λ k e h. same_bounded s.server (record s.server { store = d.store }) s.now
+      (slice_index_or s.timers k e) refl refl (bounded k e h))
+  step_bounded s t (Transfer_closed d) kept bounded = subst AreBounded (sym d.is)
+      (removed_bounded s.server s.now s.timers d.index d.timer d.within d.is_timer kept bounded)
+
+  -- ---- along a run
+  pub record IsSound (s : LoopState S F D) : Type 0 where
+    pub kept : AreKept s.server.held s.timers
+    pub bounded : All (IsBounded s.server s.now) s.timers
+
+  pub sound_along : (start s : LoopState S F D) → start.timers ≡ [] → Run (Does meaning sources) start s → IsSound s
+  sound_along start s empty Start =
+      let none : length start.timers ≡ 0 = ap (λ (ts : List Timer). length ts) empty in
+      record {
+        kept = record {
+          apart = λ j k d e hj hk h. absurd (omega (arith, hj, none));
+          each = λ k d h. absurd (omega (arith, h, none));
+        };
+        bounded = λ k d h. absurd (omega (arith, h, none));
+      }
+  sound_along start s empty (Then {middle} run does) =
+      let was = sound_along start middle empty run in
+      record {
+        kept = step_kept meaning sources middle s does was.kept;
+        bounded = step_bounded middle s does was.kept was.bounded;
+      }

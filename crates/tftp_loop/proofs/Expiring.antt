@@ -1,0 +1,605 @@
+-- A transfer that makes no progress is closed in time, and its line is printed.
+use Rattle.std.proofs.Common.{arith, ◌≡◌, ◌<◌, ◌≤◌, ◌+◌, ◌*◌, ◌-◌, ◌⊎◌, max, mul-add, ℕ, Bool, true, false, List}
+use Rattle.std.proofs.Common.{[], ◌∷◌, ◌++◌, length, Option, Some, None, IsSome, refl, sym, ap, subst, ◌∙◌, inl}
+use Rattle.std.proofs.Common.{inr}
+use Rattle.std.specs.Prelude.{slice_index_or, slice_set, if◌then◌else◌}
+use Rattle.std.specs.List.{Contains}
+use Rattle.std.proofs.lemmas.Bool.{cases_eq}
+use Rattle.std.proofs.lemmas.List.{append_assoc, length-map}
+use Rattle.std.proofs.lemmas.Option.{none-some, same_Some}
+use Rattle.tftp_file.specs.Source.{SourceMeaning}
+use Rattle.tftp_ends.specs.declared.endpoint.Endpoint.{Endpoint}
+use Rattle.tftp_ends.specs.declared.outcome.Outcome.{Outcome}
+use Rattle.tftp_ends.specs.declared.record.Record.{Record}
+use Rattle.tftp_ends.specs.End.{EndState, is_complete, outcome_of, record_of}
+use Rattle.tftp_ends.specs.Step.{after_turn, timeout_turn}
+use Rattle.tftp_store.specs.Store.{StoreMeaning}
+use Rattle.tftp_server.specs.State.{HeldTransfer, at, draft_of, is_closed, taken_of, with_new}
+use Rattle.tftp_server.specs.Request.{Came, Left, Nothing, An_error, A_transfer, left_by}
+use Rattle.tftp_host.specs.Watch.{deadline_of, last_moment}
+use Rattle.tftp_host.specs.Printed.{line_text}
+use Rattle.tftp_host.specs.declared.server.printed.Printed.TheVariants.{Closed}
+use Rattle.tftp_sockets.specs.Journal.{Event, replied}
+use Rattle.tftp_sockets.specs.Journal.Event.{Printed}
+use Rattle.tftp_loop.specs.Run.{Run}
+use Rattle.tftp_loop.specs.Serves.{Timer, PortState, LoopState, AtPort, Does, Waits, answering_port}
+use Rattle.tftp_loop.specs.Serves.{interval_at, marked_by, port_state, started, timer_after}
+use Rattle.tftp_loop.specs.Serves.{with_timer}
+use Rattle.tftp_loop.specs.Serves.Does.{Waited, At_port, Request_received, No_request_found, Request_not_received}
+use Rattle.tftp_loop.specs.Serves.Does.{Request_answered, Request_lost, Clock_read, Store_set, Transfer_closed}
+use Rattle.tftp_loop.specs.Reported.{IsNoWait}
+use Rattle.tftp_loop.specs.Expiry.{NoneReceived, At_first, ClosesInSilence, After_work, PrintsClose, Idles, IsIdle}
+use Rattle.tftp_loop.specs.Expiry.{IsIdleAt}
+use Rattle.tftp_loop.specs.Expiry.{ReceivesNone, ReceivesNoneAt, After_wait, closing_time}
+use Rattle.tftp_loop.specs.Tended.{AreKept}
+use Rattle.tftp_loop.proofs.Adding.{Adds, adds_more, step_adds, step_forward}
+use Rattle.tftp_loop.proofs.Bounded.{some_at, sound_along}
+use Rattle.tftp_loop.proofs.EndSteps.{most_left, open_left, timeout_spends, timeouts_left}
+use Rattle.tftp_loop.proofs.ListLemmas.{set_long}
+use Rattle.tftp_loop.proofs.PortEnds.{By_datagram, By_late_timeout, By_nothing, By_timeout, Changes, SameTimer}
+use Rattle.tftp_loop.proofs.PortEnds.{at_transfer, same_timer}
+use Rattle.tftp_loop.proofs.PortStays.{stays_at}
+use Rattle.tftp_loop.proofs.Sleeping.{step_kept}
+use Rattle.tftp_loop.proofs.Tables.{any_default, appended_at, appended_long, inserted_apart, removed_apart}
+use Rattle.tftp_loop.proofs.Tables.{removed_place, set_other, set_own}
+use Rattle.tftp_loop.proofs.Waits.{marked_at}
+
+-- ---- the time that is left
+-- so many timeouts are over, and each took an interval and a round at most
+record InTime (start millis round most since deadline left : ℕ) : Type 0 where
+  pub spent : ℕ
+  pub few : left + spent ≤ most + 1
+  pub due : deadline ≤ start + (millis + round) * spent + millis
+  pub newest : since ≤ start + (millis + round) * spent + millis
+
+module _ (start millis round most : ℕ) where
+  first_time : (deadline left : ℕ) → deadline ≤ start + millis → left ≤ most + 1
+      → InTime start millis round most start deadline left
+  first_time deadline left near few =
+      let none : (millis + round) * 0 ≡ 0 = omega arith in
+      record { spent = 0; few = omega (arith, few); due = omega (arith, near, none); newest = omega (arith, none) }
+
+  no_later : (since deadline deadline' left left' : ℕ) → deadline' ≤ deadline → left' ≤ left
+      → InTime start millis round most since deadline left → InTime start millis round most since deadline' left'
+  no_later since deadline deadline' left left' sooner fewer t =
+      let few = t.few in
+      let due = t.due in
+      record { spent = t.spent; few = omega (arith, few, fewer); due = omega (arith, due, sooner); newest = t.newest }
+
+  -- a timeout in the round in which it was due
+  timed_out : (since deadline deadline' now left left' : ℕ) → now ≤ since + round → deadline' ≤ now + millis
+      → left' + 1 ≤ left → InTime start millis round most since deadline left
+      → InTime start millis round most since deadline' left'
+  timed_out since deadline deadline' now left left' soon near fewer t =
+      let few = t.few in
+      let newest = t.newest in
+      let more : (millis + round) * (t.spent + 1) ≡ (millis + round) * t.spent + (millis + round) * 1 =
+      mul-add (millis + round) t.spent 1 in
+      let one : (millis + round) * 1 ≡ millis + round = omega arith in
+      record {
+        spent = t.spent + 1;
+        few = omega (arith, few, fewer);
+        due =
+            omega (arith, newest, soon, near, more, one);
+        newest = omega (arith, newest, more, one);
+      }
+
+  -- at a wait the deadline is to come
+  rested : (since deadline now left : ℕ) → now ≤ deadline → InTime start millis round most since deadline left
+      → InTime start millis round most now deadline left
+  rested since deadline now left before t =
+      let due = t.due in
+      record { spent = t.spent; few = t.few; due = t.due; newest = omega (arith, due, before) }
+
+  at_last : (since deadline now left : ℕ) → 1 ≤ left → now ≤ deadline
+      → InTime start millis round most since deadline left → now ≤ start + millis + (millis + round) * most
+  at_last since deadline now left some before t =
+      let few = t.few in
+      let due = t.due in
+      let rest = most - t.spent in
+      let all : (millis + round) * (t.spent + rest) ≡ (millis + round) * t.spent + (millis + round) * rest =
+      mul-add (millis + round) t.spent rest in
+      let sum : t.spent + rest ≡ most = omega (arith, few, some) in
+      let same : (millis + round) * (t.spent + rest) ≡ (millis + round) * most =
+      ap (λ (n : ℕ). (millis + round) * n) sum in
+      omega (arith, due, before, all, same)
+
+-- ---- what a step at the port leaves
+module _ (start millis round most : ℕ) (Idle Silent : Type 0) (now since : ℕ) (timer timer' : Timer) (e e' : EndState)
+    (changes : Changes Idle Silent now timer timer' e e') where
+  changes_in_time : Idle → timer.interval * 1000 ≡ millis → now ≤ since + round
+      → (1 ≤ timeouts_left e → InTime start millis round most since timer.deadline (timeouts_left e))
+      → 1 ≤ timeouts_left e' → InTime start millis round most since timer'.deadline (timeouts_left e')
+  changes_in_time idle interval soon before some = elim changes [
+    | By_datagram progress handled is_idle silent is ↦
+        let still = is_idle idle in
+        let fewer = handled.left still in
+        let deadline : timer'.deadline ≡ timer.deadline =
+        ap (λ (t : Timer). t.deadline) is ∙ ap (λ (b : Bool). (timer_after now b timer).deadline) still in
+        no_later start millis round most since timer.deadline timer'.deadline (timeouts_left e) (timeouts_left e')
+        (omega (arith, deadline)) fewer (before (omega (arith, some, fewer)))
+    | By_timeout end is ↦
+        let same : timeouts_left e' ≡ timeouts_left (after_turn e (timeout_turn e)) =
+        ap (λ (f : EndState). timeouts_left f) end in
+        let spends : timeouts_left (after_turn e (timeout_turn e)) + 1 ≤ timeouts_left e =
+        (timeout_spends e).left (omega (arith, some, same)) in
+        let deadline : timer'.deadline ≡ deadline_of now timer.interval = ap (λ (t : Timer). t.deadline) is in
+        timed_out start millis round most since timer.deadline timer'.deadline now (timeouts_left e)
+        (timeouts_left e') soon (omega (arith, deadline, interval)) (omega (arith, spends, same))
+        (before (omega (arith, spends)))
+    | By_late_timeout end none is ↦
+        let same : timeouts_left e' ≡ timeouts_left e = ap (λ (f : EndState). timeouts_left f) end in
+        absurd (omega (arith, some, same, none))
+    | By_nothing end deadline interval' ↦
+        let same : timeouts_left e' ≡ timeouts_left e = ap (λ (f : EndState). timeouts_left f) end in
+        no_later start millis round most since timer.deadline timer'.deadline (timeouts_left e) (timeouts_left e')
+        (omega (arith, deadline)) (omega (arith, same)) (before (omega (arith, some, same)))
+  ]
+
+  changes_complete : Silent → is_complete e'.position.phase ≡ is_complete e.position.phase
+  changes_complete quiet = elim changes [
+    | By_datagram progress handled is_idle silent is ↦ absurd (silent quiet)
+    | By_timeout end is ↦ ap (λ (f : EndState). is_complete f.position.phase) end ∙ (timeout_spends e).complete
+    | By_late_timeout end none is ↦ ap (λ (f : EndState). is_complete f.position.phase) end
+    | By_nothing end deadline interval ↦ ap (λ (f : EndState). is_complete f.position.phase) end
+  ]
+
+  -- from the end before to the first one
+  closes_first : (e0 : EndState) (outcome : Outcome) → is_complete e.position.phase ≡ is_complete e0.position.phase
+      → ((o : Outcome) → outcome_of e.position.phase ≡ Some o → ClosesInSilence e0.position.phase o)
+      → ClosesInSilence e.position.phase outcome → ClosesInSilence e0.position.phase outcome
+  closes_first e0 outcome complete closes (inl timed) = inl timed
+  closes_first e0 outcome complete closes (inr (inl done)) = inr (inl (done.0, sym complete ∙ done.1))
+  closes_first e0 outcome complete closes (inr (inr closed)) = closes outcome closed
+
+  changes_closes : Silent → (e0 : EndState) → is_complete e.position.phase ≡ is_complete e0.position.phase
+      → ((o : Outcome) → outcome_of e.position.phase ≡ Some o → ClosesInSilence e0.position.phase o)
+      → (o : Outcome) → outcome_of e'.position.phase ≡ Some o → ClosesInSilence e0.position.phase o
+  changes_closes quiet e0 complete closes o closed = elim changes [
+    | By_datagram progress handled is_idle silent is ↦ absurd (silent quiet)
+    | By_timeout end is ↦
+        closes_first e0 o complete closes ((timeout_spends e).closes o
+        (sym (ap (λ (f : EndState). outcome_of f.position.phase) end) ∙ closed))
+    | By_late_timeout end none is ↦ closes o (sym (ap (λ (f : EndState). outcome_of f.position.phase) end) ∙ closed)
+    | By_nothing end deadline interval ↦ closes o (sym (ap (λ (f : EndState). outcome_of f.position.phase) end)
+        ∙ closed)
+  ]
+
+-- what was taken is the record of the transfer
+taken_by : {X : Type 0} (b : Bool) (x y : X) → (if b then Some x else None) ≡ Some y → x ≡ y
+taken_by true x y h = same_Some x y h
+taken_by false x y h = absurd (none-some y h)
+
+not_taken : {X : Type 0} (b : Bool) (x : X) → (if b then Some x else None) ≡ None → b ≡ false
+not_taken true x h = absurd (none-some x (sym h))
+not_taken false x h = refl
+
+module _ {S F D : Type 0} (meaning : StoreMeaning S D) (sources : SourceMeaning F) (first : LoopState S F D)
+    (timer : Timer) (e0 : EndState) (round : ℕ) where
+  abbrev millis : ℕ
+  millis = timer.interval * 1000
+
+  abbrev most : ℕ
+  most = max 1 first.server.config.retries
+
+  abbrev CountsDown : ℕ → ℕ → ℕ → Type 0
+  CountsDown since deadline left = 1 ≤ left → InTime first.now millis round most since deadline left
+
+  -- the transfer is held still
+  record Lasts (Quiet : Type 0) (since : ℕ) (s : LoopState S F D) : Type 0 where
+    pub place : ℕ
+    pub here : Timer
+    pub within : place < length s.timers
+    pub is : (d : Timer) → slice_index_or s.timers place d ≡ here
+    pub same : SameTimer timer here
+    pub transfer : HeldTransfer F D
+    pub found : at timer.port s.server.held ≡ Some transfer
+    pub counts : CountsDown since here.deadline (timeouts_left transfer.end)
+    pub complete : Quiet → is_complete transfer.end.position.phase ≡ is_complete e0.position.phase
+    pub closes : Quiet → (o : Outcome) → outcome_of transfer.end.position.phase ≡ Some o
+        → ClosesInSilence e0.position.phase o
+    pub adds : Adds first.events s.events
+
+  -- its line was printed
+  record Gone (Quiet : Type 0) (s : LoopState S F D) : Type 0 where
+    pub outcome : Outcome
+    pub closed : PrintsClose timer.port timer.peer.port outcome first.events s.events
+    pub why : Quiet → ClosesInSilence e0.position.phase outcome
+
+  abbrev Lives : Type 0 → ℕ → LoopState S F D → Type 0
+  Lives Quiet since s = Gone Quiet s ⊎ Lasts Quiet since s
+
+  gone_on : (Quiet More : Type 0) (s t : LoopState S F D) → (More → Quiet) → Adds s.events t.events → Gone Quiet s
+      → Gone More t
+  gone_on Quiet More s t fewer adds gone = record {
+    outcome = gone.outcome;
+    closed = (
+      adds.more ++ gone.closed.0,
+      gone.closed.1,
+      adds.is ∙ (ap (λ (xs : List Event). adds.more ++ xs) gone.closed.2
+          ∙ sym (append_assoc adds.more gone.closed.0 _)),
+    );
+    why = λ quiet. gone.why (fewer quiet);
+  }
+
+  -- nothing happened to the transfer
+  same_lasts : (Quiet More : Type 0) (since : ℕ) (s t : LoopState S F D) → (More → Quiet) → Adds s.events t.events
+      → t.timers ≡ s.timers → t.server.held ≡ s.server.held → Lasts Quiet since s → Lasts More since t
+  same_lasts Quiet More since s t fewer adds timers held lasts = record {
+    place = lasts.place;
+    here = lasts.here;
+    within = subst (λ (ts : List Timer). lasts.place < length ts) (sym timers) lasts.within;
+    is = λ d. ap (λ (ts : List Timer). slice_index_or ts lasts.place d) timers ∙ lasts.is d;
+    same = lasts.same;
+    transfer = lasts.transfer;
+    found = ap (λ (h : List (ℕ × HeldTransfer F D)). at timer.port h) held ∙ lasts.found;
+    counts = lasts.counts;
+    complete = λ quiet. lasts.complete (fewer quiet);
+    closes = λ quiet. lasts.closes (fewer quiet);
+    adds = adds_more first.events s.events t.events lasts.adds adds;
+  }
+
+  -- a step at a port
+  step_at : (Quiet More : Type 0) (since : ℕ) (s : LoopState S F D) (index : ℕ) (own : Timer) (next : PortState S F D)
+      → index < length s.timers → own ≡ slice_index_or s.timers index own
+      → (does : AtPort meaning sources s.now (port_state s own) next) → AreKept s.server.held s.timers
+      → (More → Quiet) → (own.port ≡ timer.port → IsIdleAt meaning sources does)
+      → (More → own.port ≡ timer.port → ReceivesNoneAt meaning sources does) → s.now ≤ since + round
+      → Adds s.events next.events → Lasts Quiet since s
+      → Lasts More since
+      (record s { server = next.server; timers = slice_set s.timers index next.timer; events = next.events })
+  step_at Quiet More since s index own next within is does kept fewer idle silent soon adds lasts =
+      let stays = stays_at meaning sources s.now (port_state s own) next does in
+      let long = set_long s.timers index next.timer in
+      let inside = lasts.within in
+      elim (cases_eq lasts.place index) [
+        | inl here ↦
+            let own_is : own ≡ lasts.here = is ∙ (ap (λ (j : ℕ). slice_index_or s.timers j own) (sym here)
+            ∙ lasts.is own) in
+            let port_is : own.port ≡ timer.port = ap (λ (t : Timer). t.port) own_is ∙ lasts.same.port in
+            let same = same_timer meaning sources s.now (port_state s own) next does in
+            let changed = at_transfer meaning sources s.now (port_state s own) next does lasts.transfer
+            (ap (λ (p : ℕ). at p s.server.held) port_is ∙ lasts.found) in
+            let interval : own.interval * 1000 ≡ millis =
+            ap (λ (t : Timer). t.interval * 1000) own_is ∙ ap (λ (n : ℕ). n * 1000) lasts.same.interval in
+            let counts : CountsDown since own.deadline (timeouts_left lasts.transfer.end) =
+            subst (λ (t : Timer). CountsDown since t.deadline (timeouts_left lasts.transfer.end))
+            (sym own_is) lasts.counts in
+            let Idle = IsIdleAt meaning sources does in
+            let Silent = ReceivesNoneAt meaning sources does in
+            record {
+              place = index;
+              here = next.timer;
+              within = omega (arith, long, within);
+              is = λ d. set_own s.timers index next.timer d within;
+              same = record {
+                port = same.port ∙ port_is;
+                peer = same.peer ∙ (ap (λ (t : Timer). t.peer) own_is ∙ lasts.same.peer);
+                interval = same.interval ∙ (ap (λ (t : Timer). t.interval) own_is ∙ lasts.same.interval);
+              };
+              transfer = changed.next;
+              found = ap (λ (p : ℕ). at p next.server.held) (sym port_is) ∙ changed.found;
+              counts = changes_in_time first.now millis round most Idle Silent s.now since own next.timer
+                  lasts.transfer.end changed.next.end changed.changes (idle port_is) interval soon counts;
+              complete = λ quiet.
+                  changes_complete first.now millis round most Idle Silent s.now since own next.timer
+                  lasts.transfer.end changed.next.end changed.changes (silent quiet port_is)
+                  ∙ lasts.complete (fewer quiet);
+              closes = λ quiet.
+                  changes_closes first.now millis round most Idle Silent s.now since own next.timer lasts.transfer.end
+                  changed.next.end changed.changes (silent quiet port_is) e0 (lasts.complete (fewer quiet))
+                  (lasts.closes (fewer quiet));
+              adds = adds_more first.events s.events next.events lasts.adds adds;
+            }
+        | inr other ↦
+            let apart : timer.port ≡ own.port → ⊥ =
+            λ e. other (kept.apart lasts.place index own own lasts.within within
+            (ap (λ (t : Timer). t.port) (lasts.is own) ∙ (lasts.same.port ∙ (e ∙ ap (λ (t : Timer). t.port) is)))) in
+            record {
+              place = lasts.place;
+              here = lasts.here;
+              within = omega (arith, long, inside);
+              is = λ d. set_other s.timers index next.timer lasts.place d other ∙ lasts.is d;
+              same = lasts.same;
+              transfer = lasts.transfer;
+              found = stays.held.others timer.port apart ∙ lasts.found;
+              counts = lasts.counts;
+              complete = λ quiet. lasts.complete (fewer quiet);
+              closes = λ quiet. lasts.closes (fewer quiet);
+              adds = adds_more first.events s.events next.events lasts.adds adds;
+            }
+      ]
+
+  -- another transfer opens
+  opens_lasts : (Quiet More : Type 0) (since : ℕ) (from : Endpoint) (tid : ℕ) (s : LoopState S F D) (es : List Event)
+      (came : Came S F D) → at tid s.server.held ≡ None → AreKept s.server.held s.timers
+      → (More → Quiet) → Adds s.events es → Lasts Quiet since s
+      → Lasts More since (record s {
+        server = (left_by came s.server from tid).new;
+        pending = None;
+        timers = with_timer s.now from (left_by came s.server from tid).opened.tid
+            (left_by came s.server from tid).new.held s.timers;
+        events = es;
+      })
+  opens_lasts Quiet More since from tid s es Nothing free kept fewer adds lasts =
+      same_lasts Quiet More since s _ fewer adds refl refl lasts
+  opens_lasts Quiet More since from tid s es (An_error reply store) free kept fewer adds lasts =
+      same_lasts Quiet More since s _ fewer adds refl refl lasts
+  opens_lasts Quiet More since from tid s es (A_transfer transfer store) free kept fewer adds lasts =
+      let opened = started s.now tid from (interval_at (at tid (with_new tid transfer s.server.held))) in
+      let long = appended_long s.timers opened in
+      let inside = lasts.within in
+      let apart : timer.port ≡ tid → ⊥ = λ e. none-some lasts.transfer
+      (sym free ∙ (ap (λ (p : ℕ). at p s.server.held) (sym e) ∙ lasts.found)) in
+      record {
+        place = lasts.place;
+        here = lasts.here;
+        within = omega (arith, long, inside);
+        is = λ d. appended_at s.timers opened lasts.place d lasts.within ∙ lasts.is d;
+        same = lasts.same;
+        transfer = lasts.transfer;
+        found = inserted_apart tid timer.port transfer s.server.held apart ∙ lasts.found;
+        counts = lasts.counts;
+        complete = λ quiet. lasts.complete (fewer quiet);
+        closes = λ quiet. lasts.closes (fewer quiet);
+        adds = adds_more first.events s.events es lasts.adds adds;
+      }
+
+  -- ---- one step
+  step_lives : (Quiet More : Type 0) (since : ℕ) (s t : LoopState S F D) (does : Does meaning sources s t)
+      → IsNoWait meaning sources does → IsIdle meaning sources timer.port does → (More → Quiet)
+      → (More → ReceivesNone meaning sources timer.port does) → t.now ≤ since + round → AreKept s.server.held s.timers
+      → Lasts Quiet since s → Lives More since t
+  step_lives Quiet More since s t (Waited d) is idle fewer silent soon kept lasts = absurd is
+  step_lives Quiet More since s t (At_port d) is idle fewer silent soon kept lasts =
+      let adds = step_adds meaning sources s t (At_port d) in
+      inr (subst (Lasts More since) (sym d.is)
+      (step_at Quiet More since s d.index d.timer d.next d.within d.is_timer d.does kept fewer idle silent
+      (subst (λ (u : LoopState S F D). u.now ≤ since + round) d.is soon)
+      (subst (λ (u : LoopState S F D). Adds s.events u.events) d.is adds) lasts))
+  step_lives Quiet More since s t (Request_received d) is idle fewer silent soon kept lasts =
+      inr (same_lasts Quiet More since s t fewer (step_adds meaning sources s t (Request_received d))
+      (ap (λ (u : LoopState S F D). u.timers) d.is) (ap (λ (u : LoopState S F D). u.server.held) d.is) lasts)
+  step_lives Quiet More since s t (No_request_found d) is idle fewer silent soon kept lasts =
+      inr (same_lasts Quiet More since s t fewer (step_adds meaning sources s t (No_request_found d))
+      (ap (λ (u : LoopState S F D). u.timers) d.is) (ap (λ (u : LoopState S F D). u.server.held) d.is) lasts)
+  step_lives Quiet More since s t (Request_not_received d) is idle fewer silent soon kept lasts =
+      inr (same_lasts Quiet More since s t fewer (step_adds meaning sources s t (Request_not_received d))
+      (ap (λ (u : LoopState S F D). u.timers) d.is) (ap (λ (u : LoopState S F D). u.server.held) d.is) lasts)
+  step_lives Quiet More since s t (Request_answered d) is idle fewer silent soon kept lasts =
+      let fs = replied (answering_port s.requests d.left.opened.tid) d.left.opened.to d.left.sent s.events in
+      let adds = subst (λ (u : LoopState S F D). Adds s.events u.events) d.is
+      (step_adds meaning sources s t (Request_answered d)) in
+      inr (subst (Lasts More since) (sym d.is)
+      (subst (λ (left : Left S F D). Lasts More since (record s {
+        server = left.new;
+        pending = None;
+        timers =
+            with_timer s.now d.from left.opened.tid left.new.held s.timers;
+        events = fs;
+      })) (sym d.steps.left)
+      (opens_lasts Quiet More since d.from d.tid s fs d.steps.came d.free kept fewer adds lasts)))
+  step_lives Quiet More since s t (Request_lost d) is idle fewer silent soon kept lasts =
+      inr (same_lasts Quiet More since s t fewer (step_adds meaning sources s t (Request_lost d))
+      (ap (λ (u : LoopState S F D). u.timers) d.is) (ap (λ (u : LoopState S F D). u.server.held) d.is) lasts)
+  step_lives Quiet More since s t (Clock_read d) is idle fewer silent soon kept lasts =
+      inr (same_lasts Quiet More since s t fewer (step_adds meaning sources s t (Clock_read d))
+      (ap (λ (u : LoopState S F D). u.timers) d.is) (ap (λ (u : LoopState S F D). u.server.held) d.is) lasts)
+  step_lives Quiet More since s t (Store_set d) is idle fewer silent soon kept lasts =
+      inr (same_lasts Quiet More since s t fewer (step_adds meaning sources s t (Store_set d))
+      (ap (λ (u : LoopState S F D). u.timers) d.is) (ap (λ (u : LoopState S F D). u.server.held) d.is) lasts)
+  step_lives Quiet More since s t (Transfer_closed d) is idle fewer silent soon kept lasts =
+      elim (cases_eq lasts.place d.index) [
+        | inl here ↦
+            let own_is : d.timer ≡ lasts.here = d.is_timer
+            ∙ (ap (λ (j : ℕ). slice_index_or s.timers j d.timer) (sym here) ∙ lasts.is d.timer) in
+            let port_is : d.timer.port ≡ timer.port = ap (λ (u : Timer). u.port) own_is ∙ lasts.same.port in
+            let peer_is : d.timer.peer.port ≡ timer.peer.port =
+            ap (λ (u : Timer). u.peer.port) own_is ∙ ap (λ (p : Endpoint). p.port) lasts.same.peer in
+            let line = λ (port peer : ℕ). Printed (line_text (Closed port peer d.outcome)) in
+            let held : taken_of (Some lasts.transfer) ≡ Some d.taken =
+            ap (λ (o : Option (HeldTransfer F D)). taken_of o) (sym lasts.found)
+            ∙ (ap (λ (p : ℕ). taken_of (at p s.server.held)) (sym port_is) ∙ d.is_taken) in
+            let record_is : record_of lasts.transfer.end ≡ d.taken.0 =
+            ap (λ (p : Record × Option D). p.0) (taken_by (is_closed lasts.transfer)
+            (record_of lasts.transfer.end, draft_of lasts.transfer.files) d.taken held) in
+            let outcome_is : outcome_of lasts.transfer.end.position.phase ≡ Some d.outcome =
+            ap (λ (r : Record). r.outcome) record_is ∙ d.has_outcome in
+            inl (record {
+              outcome = d.outcome;
+              closed = (
+                [],
+                lasts.adds.more,
+                ap (λ (u : LoopState S F D). u.events) d.is
+                    ∙ (ap (λ (p : ℕ). line p d.timer.peer.port ∷ s.events) port_is
+                    ∙ (ap (λ (p : ℕ). line timer.port p ∷ s.events) peer_is
+                    ∙ ap (λ (es : List Event). line timer.port timer.peer.port ∷ es) lasts.adds.is)),
+              );
+              why = λ quiet. lasts.closes (fewer quiet) d.outcome outcome_is;
+            })
+        | inr other ↦
+            let apart : timer.port ≡ d.timer.port → ⊥ =
+            λ e. other (kept.apart lasts.place d.index d.timer d.timer lasts.within d.within
+            (ap (λ (u : Timer). u.port) (lasts.is d.timer)
+            ∙ (lasts.same.port ∙ (e ∙ ap (λ (u : Timer). u.port) d.is_timer)))) in
+            let place = removed_place s.timers d.index d.timer lasts.place d.within lasts.within other in
+            let adds = subst (λ (u : LoopState S F D). Adds s.events u.events) d.is
+            (step_adds meaning sources s t (Transfer_closed d)) in
+            inr (subst (Lasts More since) (sym d.is) (record {
+              place = place.0;
+              here = lasts.here;
+              within = place.1;
+              is = λ e. place.2 e ∙ lasts.is e;
+              same = lasts.same;
+              transfer = lasts.transfer;
+              found = removed_apart d.timer.port timer.port s.server.held apart ∙ lasts.found;
+              counts = lasts.counts;
+              complete = λ quiet. lasts.complete (fewer quiet);
+              closes = λ quiet. lasts.closes (fewer quiet);
+              adds = adds_more first.events s.events _ lasts.adds adds;
+            }))
+      ]
+
+  -- ---- at a wait
+  due_later : (now : ℕ) (here : Timer) → (now < here.deadline) ⊎ (here.deadline ≡ deadline_of now here.interval)
+      → now ≤ last_moment → now ≤ here.deadline
+  due_later now here (inl early) soon = omega (arith, early)
+  due_later now here (inr starts) soon = omega (arith, starts, soon)
+
+  rests_early : (Quiet : Type 0) (since : ℕ) (s t : LoopState S F D) → Waits meaning sources s t → s.now ≤ last_moment
+      → (lasts : Lasts Quiet since s) → s.now ≤ lasts.here.deadline
+  rests_early Quiet since s t waits soon lasts =
+      due_later s.now lasts.here
+      (subst (λ (u : Timer). (s.now < u.deadline) ⊎ (u.deadline ≡ deadline_of s.now u.interval)) (lasts.is timer)
+      (waits.may.transfers lasts.place timer lasts.within).due) soon
+
+  rests_lives : (Quiet : Type 0) (since : ℕ) (s t : LoopState S F D) → Waits meaning sources s t → s.now ≤ last_moment
+      → Lasts Quiet since s → Lasts Quiet s.now t
+  rests_lives Quiet since s t waits soon lasts =
+      let more = length-map s.timers (marked_by waits.ports) in
+      let inside = lasts.within in
+      let early = rests_early Quiet since s t waits soon lasts in
+      let adds = subst (λ (u : LoopState S F D). Adds s.events u.events) waits.is
+      (step_adds meaning sources s t (Waited waits)) in
+      subst (Lasts Quiet s.now) (sym waits.is) (record {
+        place = lasts.place;
+        here = marked_by waits.ports lasts.here;
+        within = omega (arith, more, inside);
+        is = λ d. marked_at waits.ports s.timers lasts.place d lasts.within ∙ ap (marked_by waits.ports) (lasts.is d);
+        same = record { port = lasts.same.port; peer = lasts.same.peer; interval = lasts.same.interval };
+        transfer = lasts.transfer;
+        found = lasts.found;
+        counts = λ some. rested first.now millis round most since lasts.here.deadline s.now
+            (timeouts_left lasts.transfer.end) early (lasts.counts some);
+        complete = lasts.complete;
+        closes = lasts.closes;
+        adds = adds_more first.events s.events _ lasts.adds adds;
+      })
+
+  -- ---- along a run
+  record LivesOn (Quiet : Type 0) (since : ℕ) (s : LoopState S F D) : Type 0 where
+    pub kept : AreKept s.server.held s.timers
+    pub lives : Lives Quiet since s
+
+  lives_along : {since : ℕ} {s : LoopState S F D} (idles : Idles meaning sources timer.port round first since s)
+      → s.now ≤ last_moment → LivesOn (Unit {0}) first.now first
+      → LivesOn (NoneReceived meaning sources idles) since s
+  lives_along At_first soon start = start
+  lives_along (After_work {since} {middle} {last} run does is idle within) soon start =
+      let forward = step_forward meaning sources middle last does in
+      let was = lives_along run (omega (arith, forward, soon)) start in
+      let Quiet = NoneReceived meaning sources run in
+      let More = Quiet × ReceivesNone meaning sources timer.port does in
+      record {
+        kept = step_kept meaning sources middle last does was.kept;
+        lives = elim was.lives [
+          | inl gone ↦ inl (gone_on Quiet More middle last (λ m. m.0)
+              (step_adds meaning sources middle last does) gone)
+          | inr lasts ↦ step_lives Quiet More since middle last does is idle (λ m. m.0)
+              (λ m. m.1) within was.kept lasts
+        ];
+      }
+  lives_along (After_wait {since} {middle} {last} run waits) soon start =
+      let forward = step_forward meaning sources middle last (Waited waits) in
+      let before : middle.now ≤ last_moment = omega (arith, forward, soon) in
+      let was = lives_along run before start in
+      let Quiet = NoneReceived meaning sources run in
+      record {
+        kept = step_kept meaning sources middle last (Waited waits) was.kept;
+        lives = elim was.lives [
+          | inl gone ↦ inl (gone_on Quiet Quiet middle last (λ m. m)
+              (step_adds meaning sources middle last (Waited waits)) gone)
+          | inr lasts ↦ inr (rests_lives Quiet since middle last waits before lasts)
+        ];
+      }
+
+  too_late : (Quiet : Type 0) (since : ℕ) (s t : LoopState S F D) → Waits meaning sources s t → s.now ≤ last_moment
+      → closing_time first.now timer.interval first.server.config.retries round < s.now → Lasts Quiet since s → ⊥
+  too_late Quiet since s t waits soon late lasts =
+      let early = rests_early Quiet since s t waits soon lasts in
+      let port_is : (slice_index_or s.timers lasts.place timer).port ≡ timer.port =
+      ap (λ (u : Timer). u.port) (lasts.is timer) ∙ lasts.same.port in
+      let not_closed : taken_of (Some lasts.transfer) ≡ None =
+      ap (λ (o : Option (HeldTransfer F D)). taken_of o) (sym lasts.found)
+      ∙ (ap (λ (p : ℕ). taken_of (at p s.server.held)) (sym port_is)
+      ∙ (waits.may.transfers lasts.place timer lasts.within).not_closed) in
+      let some = open_left lasts.transfer.end.position.phase lasts.transfer.end.position.retries_left
+      (not_taken (is_closed lasts.transfer) (record_of lasts.transfer.end, draft_of lasts.transfer.files)
+      not_closed) in
+      let last = at_last first.now millis round most since lasts.here.deadline s.now
+      (timeouts_left lasts.transfer.end) some early (lasts.counts some) in
+      omega (arith, last, late)
+
+-- ---- the laws
+module _ {S F D : Type 0} (meaning : StoreMeaning S D) (sources : SourceMeaning F) where
+  -- a transfer lasts at first
+  begins : (start first : LoopState S F D) (timer : Timer) (transfer : HeldTransfer F D) (round : ℕ)
+      → start.timers ≡ [] → Run (Does meaning sources) start first → Contains first.timers timer
+      → at timer.port first.server.held ≡ Some transfer
+      → LivesOn meaning sources first timer transfer.end round (Unit {0}) first.now first
+  begins start first timer transfer round empty run has found =
+      let sound = sound_along meaning sources start first empty run in
+      let bounded = sound.bounded has.0 timer has.1 in
+      let is : (d : Timer) → slice_index_or first.timers has.0 d ≡ timer =
+      λ d. any_default first.timers has.0 d timer has.1 ∙ has.2 in
+      let near : timer.deadline ≤ first.now + timer.interval * 1000 =
+      subst (λ (t : Timer). t.deadline ≤ first.now + t.interval * 1000) has.2 bounded.near in
+      let limit = bounded.limit transfer (ap (λ (t : Timer). at t.port first.server.held) has.2 ∙ found) in
+      let few = most_left transfer.end.position.phase transfer.end.position.retries_left first.server.config.retries
+      limit.left in
+      record {
+        kept = sound.kept;
+        lives = inr (record {
+          place = has.0;
+          here = timer;
+          within = has.1;
+          is = is;
+          same = record { port = refl; peer = refl; interval = refl };
+          transfer = transfer;
+          found = found;
+          counts = λ some. first_time first.now (timer.interval * 1000) round
+              (max 1 first.server.config.retries) timer.deadline (timeouts_left transfer.end) near few;
+          complete = λ quiet. refl;
+          closes = λ quiet o closed. inr (inr closed);
+          adds = record { more = []; is = refl };
+        });
+      }
+
+  pub times_out_in_silence : (start first last new : LoopState S F D) (timer : Timer) (transfer : HeldTransfer F D)
+      (round since : ℕ)
+      → start.timers ≡ [] → Run (Does meaning sources) start first → Contains first.timers timer
+      → at timer.port first.server.held ≡ Some transfer
+      → (idles : Idles meaning sources timer.port round first since last) → NoneReceived meaning sources idles
+      → Waits meaning sources last new
+      → closing_time first.now timer.interval first.server.config.retries round < last.now → last.now ≤ last_moment
+      → (outcome : Outcome) × PrintsClose timer.port timer.peer.port outcome first.events last.events
+      × ClosesInSilence transfer.end.position.phase outcome
+  times_out_in_silence start first last new timer transfer round since empty run has found idles
+      silent waits late soon =
+      let along = lives_along meaning sources first timer transfer.end round idles soon
+      (begins start first timer transfer round empty run has found) in
+      elim along.lives [
+        | inl gone ↦ (gone.outcome, gone.closed, gone.why silent)
+        | inr lasts ↦ absurd (too_late meaning sources first timer transfer.end round
+            (NoneReceived meaning sources idles) since last new waits soon late lasts)
+      ]
+
+  pub closes_without_progress : (start first last new : LoopState S F D) (timer : Timer) (round since : ℕ)
+      → start.timers ≡ [] → Run (Does meaning sources) start first → Contains first.timers timer
+      → Idles meaning sources timer.port round first since last → Waits meaning sources last new
+      → closing_time first.now timer.interval first.server.config.retries round < last.now → last.now ≤ last_moment
+      → (outcome : Outcome) × PrintsClose timer.port timer.peer.port outcome first.events last.events
+  closes_without_progress start first last new timer round since empty run has idles waits late soon
+      =
+      let sound = sound_along meaning sources start first empty run in
+      let there : IsSome (at timer.port first.server.held) =
+      subst (λ (t : Timer). IsSome (at t.port first.server.held)) has.2
+      (sound.kept.each has.0 timer has.1).there in
+      let some = some_at (at timer.port first.server.held) there in
+      let along = lives_along meaning sources first timer some.0.end round idles soon
+      (begins start first timer some.0 round empty run has some.1) in
+      elim along.lives [
+        | inl gone ↦ (gone.outcome, gone.closed)
+        | inr lasts ↦ absurd (too_late meaning sources first timer some.0.end round
+            (NoneReceived meaning sources idles) since last new waits soon late lasts)
+      ]

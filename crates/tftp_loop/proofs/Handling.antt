@@ -1,0 +1,269 @@
+-- What becomes of a datagram of the request port before a server sleeps.
+use Rattle.std.proofs.Common.{arith, ◌≡◌, ◌≤◌, ◌==◌, ◌||◌, ◌⊎◌, ℕ, Bool, true, false, List, ◌∷◌, cond, Option, Some}
+use Rattle.std.proofs.Common.{None, sym, ap, subst, ◌∙◌, inl, inr}
+use Rattle.std.specs.Prelude.{is_some, All, ◌≢◌}
+use Rattle.std.specs.List.{list_any}
+use Rattle.std.proofs.lemmas.Bool.{ne_eqb}
+use Rattle.std.proofs.lemmas.Option.{none-some, same_Some}
+use Rattle.tftp_file.specs.Source.{SourceMeaning}
+use Rattle.tftp_ends.specs.declared.endpoint.Endpoint.{Endpoint}
+use Rattle.tftp_ends.specs.Step.{Reply}
+use Rattle.tftp_store.specs.Store.{StoreMeaning}
+use Rattle.tftp_sockets.specs.Journal.{Event, answered, replied}
+use Rattle.tftp_sockets.specs.Journal.Event.{Received, Elapsed}
+use Rattle.tftp_sockets.specs.Quiet.{is_among, was_tried}
+use Rattle.tftp_loop.specs.Run.{Run}
+use Rattle.tftp_loop.specs.Run.Run.{Start, Then}
+use Rattle.tftp_loop.specs.Serves.{Timer, PortState, LoopState, AtPort, Does, Waits, ReceivesRequest, port_state}
+use Rattle.tftp_loop.specs.Serves.{until_look}
+use Rattle.tftp_loop.specs.Serves.AtPort.{A_datagram, A_lost_datagram, Nothing_found, A_failed_receive, A_timeout}
+use Rattle.tftp_loop.specs.Serves.AtPort.{A_missed_timeout, Work}
+use Rattle.tftp_loop.specs.Serves.Does.{Waited, At_port, Request_received, No_request_found, Request_not_received}
+use Rattle.tftp_loop.specs.Serves.Does.{Request_answered, Request_lost, Clock_read, Store_set, Transfer_closed}
+use Rattle.tftp_loop.specs.Reported.{GoesOn, Goes_by, IsNoWait}
+use Rattle.tftp_loop.specs.Handled.{By_answer, By_loss, IsResolved}
+use Rattle.tftp_loop.specs.Sleeps.{HasItsOwnPort}
+use Rattle.tftp_loop.proofs.PortStays.{or_left, or_right, own_receive, replied_tries, stays_at}
+use Rattle.tftp_loop.proofs.RunLemmas.{onward}
+
+-- a wait with a pending datagram takes no time
+no_time : (a p c : Bool) (n m : ℕ) → p ≡ true → m ≤ cond (a || (p || c)) 0 n → m ≤ 0
+no_time true p c n m e h = h
+no_time false true c n m e h = h
+no_time false false c n m e h = absurd (let f : false ≡ true = e in cc)
+
+-- a receive at another port
+other_untried : (port r : ℕ) (tried : Bool) → (port ≡ r → ⊥) → tried ≡ false → ((port == r) || tried) ≡ false
+other_untried port r tried apart h = ap (λ (b : Bool). b || tried) (ne_eqb port r apart) ∙ h
+
+answered_untried : (r port : ℕ) (reply : Option Reply) (es : List Event) → was_tried r es ≡ false
+    → was_tried r (answered port reply es) ≡ false
+answered_untried r port None es h = h
+answered_untried r port (Some reply) es h = h
+
+replied_untried : (r port : ℕ) (to : Option Endpoint) (bytes : List ℕ) (es : List Event) → was_tried r es ≡ false
+    → was_tried r (replied port to bytes es) ≡ false
+replied_untried r port None bytes es h = h
+replied_untried r port (Some to) bytes es h = h
+
+module _ {S F D : Type 0} (meaning : StoreMeaning S D) (sources : SourceMeaning F) where
+  -- ---- a pending datagram
+  abbrev IsPending : Endpoint → List ℕ → LoopState S F D → LoopState S F D → Type 0
+  IsPending from bytes first s = (s.pending ≡ Some (from, bytes)) ⊎ IsResolved meaning sources from bytes first s
+
+  step_pending : (from : Endpoint) (bytes : List ℕ) (first s t : LoopState S F D) → Run (Does meaning sources) first s
+      → Does meaning sources s t → s.pending ≡ Some (from, bytes) → IsPending from bytes first t
+  step_pending from bytes first s t run (Waited d) pending =
+      inl (ap (λ (u : LoopState S F D). u.pending) d.is ∙ pending)
+  step_pending from bytes first s t run (At_port d) pending =
+      inl (ap (λ (u : LoopState S F D). u.pending) d.is ∙ pending)
+  step_pending from bytes first s t run (Request_received d) pending =
+      absurd (none-some (from, bytes) (sym d.none ∙ pending))
+  step_pending from bytes first s t run (No_request_found d) pending =
+      absurd (none-some (from, bytes) (sym d.none ∙ pending))
+  step_pending from bytes first s t run (Request_not_received d) pending =
+      absurd (none-some (from, bytes) (sym d.none ∙ pending))
+  step_pending from bytes first s t run (Request_answered d) pending =
+      let same = same_Some (d.from, d.bytes) (from, bytes) (sym d.pending ∙ pending) in
+      inr (record {
+        old = s;
+        new = t;
+        earlier = run;
+        resolves = By_answer d (ap (λ (p : Endpoint × List ℕ). p.0) same) (ap (λ (p : Endpoint × List ℕ). p.1) same);
+        later = Start;
+      })
+  step_pending from bytes first s t run (Request_lost d) pending =
+      let same = same_Some (d.from, d.bytes) (from, bytes) (sym d.pending ∙ pending) in
+      inr (record {
+        old = s;
+        new = t;
+        earlier = run;
+        resolves = By_loss d (ap (λ (p : Endpoint × List ℕ). p.0) same) (ap (λ (p : Endpoint × List ℕ). p.1) same);
+        later = Start;
+      })
+  step_pending from bytes first s t run (Clock_read d) pending =
+      inl (ap (λ (u : LoopState S F D). u.pending) d.is ∙ pending)
+  step_pending from bytes first s t run (Store_set d) pending =
+      inl (ap (λ (u : LoopState S F D). u.pending) d.is ∙ pending)
+  step_pending from bytes first s t run (Transfer_closed d) pending =
+      inl (ap (λ (u : LoopState S F D). u.pending) d.is ∙ pending)
+
+  pending_along : (from : Endpoint) (bytes : List ℕ) (first s : LoopState S F D) → Run (Does meaning sources) first s
+      → first.pending ≡ Some (from, bytes) → IsPending from bytes first s
+  pending_along from bytes first s Start pending = inl pending
+  pending_along from bytes first s (Then {middle} run does) pending =
+      elim (pending_along from bytes first middle run pending) [
+        | inl still ↦ step_pending from bytes first middle s run does still
+        | inr done ↦ inr (record {
+          old = done.old;
+          new = done.new;
+          earlier = done.earlier;
+          resolves =
+              done.resolves;
+          later = Then done.later does;
+        })
+      ]
+
+  pub handles_before_it_sleeps : (old received last new : LoopState S F D)
+      (receives : ReceivesRequest meaning sources old received) → Run (Does meaning sources) received last
+      → (waits : Waits meaning sources last new) → 1 ≤ waits.millis
+      → IsResolved meaning sources receives.from receives.bytes received last
+  handles_before_it_sleeps old received last new receives run waits some =
+      elim (pending_along receives.from receives.bytes received last run
+      (ap (λ (u : LoopState S F D). u.pending) receives.is)) [
+        | inl still ↦
+            let none = no_time last.marked (is_some last.pending)
+            (list_any (λ (timer : Timer). timer.marked) last.timers)
+            (until_look last.now last.timers) waits.millis (ap is_some still) waits.may.longest in
+            absurd (omega (arith, none, some))
+        | inr done ↦ done
+      ]
+
+  -- ---- by the next wait
+  does_of : (s t : LoopState S F D) → Run (GoesOn meaning sources) s t → Run (Does meaning sources) s t
+  does_of s t Start = Start
+  does_of s t (Then {middle} run (Goes_by does is)) = Then (does_of s middle run) does
+
+  port_untried : (r now : ℕ) (old new : PortState S F D) → AtPort meaning sources now old new
+      → (old.timer.port ≡ r → ⊥) → was_tried r old.events ≡ false → was_tried r new.events ≡ false
+  port_untried r now old new (A_datagram d) apart h =
+      let received = Received old.timer.port d.from d.bytes ∷ old.events in
+      ap (was_tried r) d.handles.events ∙ answered_untried r old.timer.port d.handles.takes.takes.turn.reply received
+      (other_untried old.timer.port r (was_tried r old.events) apart h)
+  port_untried r now old new (A_lost_datagram d) apart h =
+      ap (was_tried r) d.events ∙ other_untried old.timer.port r (was_tried r old.events) apart h
+  port_untried r now old new (Nothing_found d) apart h =
+      ap (was_tried r) d.events ∙ other_untried old.timer.port r (was_tried r old.events) apart h
+  port_untried r now old new (A_failed_receive d) apart h =
+      ap (was_tried r) d.events ∙ other_untried old.timer.port r (was_tried r old.events) apart h
+  port_untried r now old new (A_timeout d) apart h =
+      ap (was_tried r) d.times_out.events ∙ answered_untried r old.timer.port _
+      (Elapsed old.timer.port now ∷ old.events) h
+  port_untried r now old new (A_missed_timeout d) apart h = ap (was_tried r) d.events ∙ h
+  port_untried r now old new (Work d) apart h = ap (was_tried r) d.events ∙ h
+
+  abbrev Untried : LoopState S F D → Type 0
+  Untried s = was_tried s.requests s.events ≡ false
+
+  -- while the datagram is pending the request port is not read
+  step_untried : (from : Endpoint) (bytes : List ℕ) (s t : LoopState S F D) (does : Does meaning sources s t)
+      → IsNoWait meaning sources does → All (λ (timer : Timer). timer.port ≢ s.requests) s.timers
+      → s.pending ≡ Some (from, bytes) → Untried s → Untried t
+  step_untried from bytes s t (Waited d) is own pending h = absurd is
+  step_untried from bytes s t (At_port d) is own pending h =
+      subst Untried (sym d.is)
+      (port_untried s.requests s.now (port_state s d.timer) d.next d.does
+      (λ e. own d.index d.timer d.within (ap (λ (u : Timer). u.port) (sym d.is_timer) ∙ e)) h)
+  step_untried from bytes s t (Request_received d) is own pending h =
+      absurd (none-some (from, bytes) (sym d.none ∙ pending))
+  step_untried from bytes s t (No_request_found d) is own pending h =
+      absurd (none-some (from, bytes) (sym d.none ∙ pending))
+  step_untried from bytes s t (Request_not_received d) is own pending h =
+      absurd (none-some (from, bytes) (sym d.none ∙ pending))
+  step_untried from bytes s t (Request_answered d) is own pending h =
+      subst Untried (sym d.is) (replied_untried s.requests _ d.left.opened.to d.left.sent s.events h)
+  step_untried from bytes s t (Request_lost d) is own pending h = subst Untried (sym d.is) h
+  step_untried from bytes s t (Clock_read d) is own pending h = subst Untried (sym d.is) h
+  step_untried from bytes s t (Store_set d) is own pending h = subst Untried (sym d.is) h
+  step_untried from bytes s t (Transfer_closed d) is own pending h = subst Untried (sym d.is) h
+
+  abbrev Stays_pending : Endpoint → List ℕ → LoopState S F D → LoopState S F D → Type 0
+  Stays_pending from bytes first s = ((s.pending ≡ Some (from, bytes)) × Untried s)
+      ⊎ IsResolved meaning sources from bytes first s
+
+  untried_along : (from : Endpoint) (bytes : List ℕ) (first woken s : LoopState S F D)
+      → Run (Does meaning sources) first woken → Untried woken → first.pending ≡ Some (from, bytes)
+      → Run (GoesOn meaning sources) woken s → HasItsOwnPort meaning sources woken s
+      → Stays_pending from bytes first s
+  untried_along from bytes first woken s before untried pending Start own =
+      elim (pending_along from bytes first woken before pending) [
+        | inl still ↦ inl (still, untried)
+        | inr done ↦ inr done
+      ]
+  untried_along from bytes first woken s before untried pending (Then {middle} run (Goes_by does is)) own =
+      elim (untried_along from bytes first woken middle before untried pending run
+      (λ now begins ends. own now begins (Then ends does))) [
+        | inl was ↦ elim (step_pending from bytes first middle s
+            (onward before (does_of woken middle run)) does was.0) [
+              | inl still ↦ inl (
+                still,
+                step_untried from bytes middle s does is
+                    (own middle (does_of woken middle run) (Then Start does)) was.0 was.1,
+              )
+              | inr done ↦ inr done
+            ]
+        | inr done ↦ inr (record {
+          old = done.old;
+          new = done.new;
+          earlier = done.earlier;
+          resolves =
+              done.resolves;
+          later = Then done.later does;
+        })
+      ]
+
+  pub handles_by_the_next_wait : (old received waiting woken last new : LoopState S F D)
+      (receives : ReceivesRequest meaning sources old received) → Run (Does meaning sources) received waiting
+      → Waits meaning sources waiting woken → Run (GoesOn meaning sources) woken last
+      → HasItsOwnPort meaning sources woken last → Waits meaning sources last new
+      → IsResolved meaning sources receives.from receives.bytes received last
+  handles_by_the_next_wait old received waiting woken last new receives run waits goes own next =
+      elim (untried_along receives.from receives.bytes received woken last (Then run (Waited waits))
+      (ap (λ (u : LoopState S F D). was_tried u.requests u.events) waits.is)
+      (ap (λ (u : LoopState S F D). u.pending) receives.is) goes own) [
+        | inl still ↦ absurd
+            (let tried : was_tried last.requests last.events ≡ true =
+            next.may.requests (or_right last.marked (is_some last.pending) (ap is_some still.0)) in
+            let e : true ≡ false = sym tried ∙ still.1 in
+            cc)
+        | inr done ↦ done
+      ]
+
+  -- ---- a port that was reported
+  abbrev Reads : LoopState S F D → Type 0
+  Reads s = (s.marked ≡ true) ⊎ (was_tried s.requests s.events ≡ true)
+
+  same_reads : (s t : LoopState S F D) → t.marked ≡ s.marked → t.requests ≡ s.requests
+      → (was_tried s.requests s.events ≡ true → was_tried s.requests t.events ≡ true) → Reads s → Reads t
+  same_reads s t marked requests tries (inl h) = inl (marked ∙ h)
+  same_reads s t marked requests tries (inr h) = inr (subst (λ (port : ℕ). was_tried port t.events ≡ true)
+      (sym requests) (tries h))
+
+  kept_tries : (port : ℕ) (es fs : List Event) → fs ≡ es → was_tried port es ≡ true → was_tried port fs ≡ true
+  kept_tries port es fs same h = ap (was_tried port) same ∙ h
+
+  step_reads : (s t : LoopState S F D) (does : Does meaning sources s t) → IsNoWait meaning sources does → Reads s
+      → Reads t
+  step_reads s t (Waited d) is reads = absurd is
+  step_reads s t (At_port d) is reads =
+      same_reads s t (ap (λ (u : LoopState S F D). u.marked) d.is) (ap (λ (u : LoopState S F D). u.requests) d.is)
+      (λ h. kept_tries s.requests d.next.events t.events (ap (λ (u : LoopState S F D). u.events) d.is)
+      ((stays_at meaning sources s.now (port_state s d.timer) d.next d.does).tries s.requests h)) reads
+  step_reads s t (Request_received d) is reads = inl (ap (λ (u : LoopState S F D). u.marked) d.is)
+  step_reads s t (No_request_found d) is reads = subst Reads (sym d.is)
+      (inr (own_receive s.requests (was_tried s.requests s.events)))
+  step_reads s t (Request_not_received d) is reads = inl (ap (λ (u : LoopState S F D). u.marked) d.is)
+  step_reads s t (Request_answered d) is reads =
+      same_reads s t (ap (λ (u : LoopState S F D). u.marked) d.is) (ap (λ (u : LoopState S F D). u.requests) d.is)
+      (λ h. kept_tries s.requests _ t.events (ap (λ (u : LoopState S F D). u.events) d.is)
+      (replied_tries _ d.left.opened.to d.left.sent s.events s.requests h)) reads
+  step_reads s t (Request_lost d) is reads = subst Reads (sym d.is) reads
+  step_reads s t (Clock_read d) is reads = subst Reads (sym d.is) reads
+  step_reads s t (Store_set d) is reads = subst Reads (sym d.is) reads
+  step_reads s t (Transfer_closed d) is reads = subst Reads (sym d.is) reads
+
+  reads_along : (s t : LoopState S F D) → Run (GoesOn meaning sources) s t → Reads s → Reads t
+  reads_along s t Start reads = reads
+  reads_along s t (Then {middle} run (Goes_by does is)) reads =
+      step_reads middle t does is (reads_along s middle run reads)
+
+  pub reads_the_request_port : (old woken last new : LoopState S F D) (waits : Waits meaning sources old woken)
+      → is_among old.requests waits.ports ≡ true → Run (GoesOn meaning sources) woken last
+      → Waits meaning sources last new → was_tried last.requests last.events ≡ true
+  reads_the_request_port old woken last new waits among run next =
+      let marked : woken.marked ≡ true = ap (λ (u : LoopState S F D). u.marked) waits.is
+      ∙ or_right old.marked (is_among old.requests waits.ports) among in
+      elim (reads_along woken last run (inl marked)) [
+        | inl still ↦ next.may.requests (or_left last.marked (is_some last.pending) still)
+        | inr tried ↦ tried
+      ]

@@ -1,0 +1,202 @@
+-- A port of a transfer that is not marked is drained, or is left for a while.
+use Rattle.std.proofs.Common.{arith, ◌≡◌, ◌≤◌, ◌<◌, ◌==◌, ◌||◌, ◌&&◌, ◌+◌, ◌⊎◌, not, ℕ, Bool, true, false, List, ◌∷◌}
+use Rattle.std.proofs.Common.{length, Option, Some, None, inl, inr, refl, sym, ap, subst, ◌∙◌}
+use Rattle.std.specs.Prelude.{slice_index_or, All, ◌≢◌}
+use Rattle.std.specs.List.{swap_remove}
+use Rattle.std.proofs.lemmas.List.{length-map}
+use Rattle.tftp_file.specs.Source.{SourceMeaning}
+use Rattle.tftp_ends.specs.declared.endpoint.Endpoint.{Endpoint}
+use Rattle.tftp_store.specs.Store.{StoreMeaning}
+use Rattle.tftp_server.specs.State.{HeldTransfer, at}
+use Rattle.tftp_host.specs.Watch.{deadline_of}
+use Rattle.tftp_sockets.specs.Journal.{Event}
+use Rattle.tftp_sockets.specs.Journal.Event.{Received, Elapsed, Watched, Quiet}
+use Rattle.tftp_sockets.specs.Journal.QuietEvent.{Empty, Failed, Slept, Woke}
+use Rattle.tftp_sockets.specs.Quiet.{is_among, is_drained}
+use Rattle.tftp_loop.specs.Serves.{Timer, PortState, LoopState, AtPort, Does, answering_port, interval_at, look_after}
+use Rattle.tftp_loop.specs.Serves.{marked_by, next_look, port_state, restarted, started, timer_after, with_timer}
+use Rattle.tftp_loop.specs.Serves.AtPort.{A_datagram, A_lost_datagram, Nothing_found, A_failed_receive, A_timeout}
+use Rattle.tftp_loop.specs.Serves.AtPort.{A_missed_timeout, Work}
+use Rattle.tftp_loop.specs.Serves.Does.{Waited, At_port, Request_received, No_request_found, Request_not_received}
+use Rattle.tftp_loop.specs.Serves.Does.{Request_answered, Request_lost, Clock_read, Store_set, Transfer_closed}
+use Rattle.tftp_loop.specs.Tended.{AreApart}
+use Rattle.tftp_loop.proofs.Drained.{answered_drained, either_drained, other_drained, port_drained, replied_drained}
+use Rattle.tftp_loop.proofs.LoopStays.{all_appended, all_removed, all_set, other_port}
+use Rattle.tftp_loop.proofs.PortStays.{or_left, or_right, own_receive}
+use Rattle.tftp_loop.proofs.Waits.{marked_at}
+
+-- the port is left for a while after an opening or progress: it is read again soon, and if that is at its deadline,
+-- the interval is as short
+pub record IsLeft (now : ℕ) (timer : Timer) : Type 0 where
+  pub soon : timer.look_at ≤ now + look_after
+  pub short : timer.look_at ≡ timer.deadline → (n : ℕ) → now ≤ n → deadline_of n timer.interval ≤ n + look_after
+
+pub data IsLooked (events : List Event) (now : ℕ) (timer : Timer) : Type 0 where
+  Marked : timer.marked ≡ true → IsLooked events now timer
+  Drained : is_drained timer.port events ≡ true → IsLooked events now timer
+  Left : IsLeft now timer → IsLooked events now timer
+
+pub looked_at_rest : (timer : Timer) (events : List Event) (now : ℕ) → timer.marked ≡ false → IsLooked events now timer
+    → (is_drained timer.port events ≡ true) ⊎ (timer.look_at ≤ now + look_after)
+looked_at_rest timer events now unmarked (Marked m) = absurd (let e : true ≡ false = sym m ∙ unmarked in cc)
+looked_at_rest timer events now unmarked (Drained d) = inl d
+looked_at_rest timer events now unmarked (Left l) = inr l.soon
+
+short_after : (now n interval : ℕ) → now ≤ n → next_look now interval ≡ deadline_of now interval
+    → deadline_of n interval ≤ n + look_after
+short_after now n interval h e = omega (arith, h, e)
+
+soon_after : (now interval : ℕ) → next_look now interval ≤ now + look_after
+soon_after now interval = omega arith
+
+-- a timer that starts, or that progress restarts
+left_now : (now : ℕ) (timer : Timer) → timer.deadline ≡ deadline_of now timer.interval
+    → timer.look_at ≡ next_look now timer.interval → IsLeft now timer
+left_now now timer due look = record {
+  soon = let s = soon_after now timer.interval in omega (arith, s, look);
+  short = λ same n h. short_after now n timer.interval h (sym look ∙ (same ∙ due));
+}
+
+-- what an event leaves that drains no port of a transfer
+still : (es fs : List Event) (now : ℕ) (timer : Timer)
+    → (is_drained timer.port es ≡ true → is_drained timer.port fs ≡ true) → IsLooked es now timer
+    → IsLooked fs now timer
+still es fs now timer on (Marked m) = Marked m
+still es fs now timer on (Drained d) = Drained (on d)
+still es fs now timer on (Left l) = Left l
+
+later : (es : List Event) (now n : ℕ) (timer : Timer) → now ≤ n → IsLooked es now timer → IsLooked es n timer
+later es now n timer h (Marked m) = Marked m
+later es now n timer h (Drained d) = Drained d
+later es now n timer h (Left l) = Left (record {
+  soon = let s = l.soon in omega (arith, s, h);
+  short = λ e m k. l.short
+      e m (omega (arith, h, k));
+})
+
+after_datagram : (es : List Event) (now : ℕ) (progress : Bool) (timer : Timer)
+    → IsLooked es now (timer_after now progress timer)
+after_datagram es now true timer = Left (left_now now (timer_after now true timer) refl refl)
+after_datagram es now false timer = Marked refl
+
+after_timeout : (es fs : List Event) (now : ℕ) (timer : Timer) → timer.look_at ≡ timer.deadline
+    → (is_drained timer.port es ≡ true → is_drained timer.port fs ≡ true)
+    → IsLooked es now timer → IsLooked fs now (restarted now timer)
+after_timeout es fs now timer looked on (Marked m) = Marked m
+after_timeout es fs now timer looked on (Drained d) = Drained (on d)
+after_timeout es fs now timer looked on (Left l) = Left
+    (record { soon = l.short looked now (omega arith); short = λ e n k. l.short looked n k })
+
+-- a wait marks the ports that it reports
+woken : (es : List Event) (now millis : ℕ) (ports : List ℕ) (timer : Timer) (among : Bool)
+    → is_among timer.port ports ≡ among → IsLooked es now timer
+    → IsLooked (Quiet (Woke ports) ∷ Quiet (Slept millis) ∷ es) now (marked_by ports timer)
+woken es now millis ports timer true e h = Marked (ap (λ (b : Bool). timer.marked || b) e ∙ or_right timer.marked true
+    refl)
+woken es now millis ports timer false e (Marked m) = Marked (or_left timer.marked (is_among timer.port ports) m)
+woken es now millis ports timer false e (Drained d) = Drained
+    (ap (λ (b : Bool). not b && is_drained timer.port es) e ∙ d)
+woken es now millis ports timer false e (Left l) = Left (record { soon = l.soon; short = l.short })
+
+-- each port of a transfer is marked, drained or left for a while
+abbrev pub AreLooked : {S F D : Type 0} → LoopState S F D → Type 0
+AreLooked s = All (IsLooked s.events s.now) s.timers
+
+module _ {S F D : Type 0} (meaning : StoreMeaning S D) (sources : SourceMeaning F) where
+  at_own : (now : ℕ) (old new : PortState S F D) → AtPort meaning sources now old new
+      → IsLooked old.events now old.timer → IsLooked new.events now new.timer
+  at_own now old new (A_datagram d) h = subst (IsLooked new.events now) (sym d.timer)
+      (after_datagram new.events now d.step.progress old.timer)
+  at_own now old new (A_lost_datagram d) h = subst (IsLooked new.events now) (sym d.timer) (Marked refl)
+  at_own now old new (Nothing_found d) h =
+      subst (IsLooked new.events now) (sym d.timer)
+      (Drained (subst (λ (es : List Event). is_drained old.timer.port es ≡ true) (sym d.events)
+      (own_receive old.timer.port (is_drained old.timer.port old.events))))
+  at_own now old new (A_failed_receive d) h = subst (IsLooked new.events now) (sym d.timer) (Marked refl)
+  at_own now old new (A_timeout d) h =
+      let elapsed = Elapsed old.timer.port now ∷ old.events in
+      subst (IsLooked new.events now) (sym d.timer)
+      (after_timeout old.events new.events now old.timer d.looked
+      (λ k. subst (λ (es : List Event). is_drained old.timer.port es ≡ true) (sym d.times_out.events)
+      (answered_drained old.timer.port old.timer.port _ elapsed k)) h)
+  at_own now old new (A_missed_timeout d) h =
+      subst (IsLooked new.events now) (sym d.timer)
+      (after_timeout old.events new.events now old.timer d.looked
+      (λ k. subst (λ (es : List Event). is_drained old.timer.port es ≡ true) (sym d.events) k) h)
+  at_own now old new (Work d) h = subst (IsLooked new.events now) (sym d.timer)
+      (subst (λ (es : List Event). IsLooked es now old.timer) (sym d.events) h)
+
+  with_looked : (es : List Event) (now : ℕ) (from : Endpoint) (tid : Option ℕ) (held : List (ℕ × HeldTransfer F D))
+      (timers : List Timer)
+      → All (IsLooked es now) timers → All (IsLooked es now) (with_timer now from tid held timers)
+  with_looked es now from None held timers h = h
+  with_looked es now from (Some port) held timers h =
+      let timer = started now port from (interval_at (at port held)) in
+      all_appended (IsLooked es now) timers timer h (Left (left_now now timer refl refl))
+
+  pub step_looked : (s t : LoopState S F D) → Does meaning sources s t
+      → All (λ (timer : Timer). timer.port ≢ s.requests) s.timers → AreApart s.timers → AreLooked s → AreLooked t
+  step_looked s t (Waited d) own apart looked =
+      let after = Quiet (Woke d.ports) ∷ Quiet (Slept d.millis) ∷ s.events in
+      subst AreLooked (sym d.is)
+      (λ k e h.
+      let long = length-map s.timers (marked_by d.ports) in
+      let within : k < length s.timers = omega (arith, long, h) in
+      let timer = slice_index_or s.timers k e in
+      subst (IsLooked after s.now) (sym (marked_at d.ports s.timers k e within))
+      (woken s.events s.now d.millis d.ports timer (is_among timer.port d.ports) refl (looked k e within)))
+  step_looked s t (Clock_read d) own apart looked =
+      subst AreLooked (sym d.is)
+      (λ k e h.
+      let timer = slice_index_or s.timers k e in
+      still s.events (Watched d.time ∷ s.events) d.time timer (λ was. was)
+      (later s.events s.now d.time timer d.forward (looked k e h)))
+  step_looked s t (At_port d) own apart looked =
+      subst AreLooked (sym d.is)
+      (λ k e h.
+      all_set (IsLooked d.next.events s.now) s.timers 0 d.index d.next.timer d.within
+      (λ k e l h other.
+      let timer = slice_index_or s.timers k e in
+      still s.events d.next.events s.now timer
+      (port_drained meaning sources timer.port s.now (port_state s d.timer) d.next d.does
+      (λ same. other_port s.timers d.index d.timer k e apart d.within d.is_timer h other (sym same)))
+      (looked k e h))
+      (at_own s.now (port_state s d.timer) d.next d.does
+      (subst (IsLooked s.events s.now) (sym d.is_timer) (looked d.index d.timer d.within)))
+      k e (omega arith) h)
+  step_looked s t (Request_received d) own apart looked =
+      subst AreLooked (sym d.is)
+      (λ k e h.
+      let timer = slice_index_or s.timers k e in
+      still s.events (Received s.requests d.from d.bytes ∷ s.events) s.now timer
+      (other_drained s.requests timer.port (is_drained timer.port s.events) (λ same. own k e h (sym same)))
+      (looked k e h))
+  step_looked s t (No_request_found d) own apart looked =
+      subst AreLooked (sym d.is)
+      (λ k e h.
+      let timer = slice_index_or s.timers k e in
+      still s.events (Quiet (Empty s.requests) ∷ s.events) s.now timer
+      (either_drained (s.requests == timer.port) (is_drained timer.port s.events)) (looked k e h))
+  step_looked s t (Request_not_received d) own apart looked =
+      subst AreLooked (sym d.is)
+      (λ k e h.
+      let timer = slice_index_or s.timers k e in
+      still s.events (Quiet (Failed s.requests) ∷ s.events) s.now timer
+      (other_drained s.requests timer.port (is_drained timer.port s.events) (λ same. own k e h (sym same)))
+      (looked k e h))
+  step_looked s t (Request_answered d) own apart looked =
+      let port = answering_port s.requests d.left.opened.tid in
+      subst AreLooked (sym d.is)
+      (with_looked _ s.now d.from d.left.opened.tid d.left.new.held s.timers
+      (λ k e h.
+      let timer = slice_index_or s.timers k e in
+      still s.events _ s.now timer (replied_drained timer.port port d.left.opened.to d.left.sent s.events)
+      (looked k e h)))
+  step_looked s t (Request_lost d) own apart looked = subst AreLooked (sym d.is) looked
+  step_looked s t (Store_set d) own apart looked = subst AreLooked (sym d.is) looked
+  step_looked s t (Transfer_closed d) own apart looked =
+      subst AreLooked (sym d.is)
+      (λ k e h.
+      still s.events _ s.now (slice_index_or (swap_remove s.timers d.index d.timer) k e) (λ was. was)
+      (all_removed (IsLooked s.events s.now) s.timers 0 d.index d.timer (omega arith) d.within
+      (λ k e l h other. looked k e h) k e (omega arith) h))

@@ -1,0 +1,63 @@
+-- Which ports an order has.
+use Rattle.std.proofs.Common.{arith, ◌≡◌, ◌≤◌, ◌<◌, ◌+◌, ◌-◌, ℕ, zero, suc, [], ◌∷◌, ◌++◌, Option, Some, None, ap}
+use Rattle.std.proofs.Common.{sym, subst}
+use Rattle.std.specs.Prelude.{All, IfSome, MatchOption}
+use Rattle.std.specs.List.{range_with_len}
+use Rattle.std.proofs.lemmas.List.Elements.{All-nil, All-cons, All-head, All-tail, All-same, All-append, All-push}
+use Rattle.std.proofs.lemmas.List.Sorted.{All-permutation}
+use Rattle.tftp_loop.specs.PortOrder.{AreOneOf, IsOneOf, IsOrderOf, Turns, coming, ports_of}
+use Rattle.tftp_loop.specs.declared.port_order.PortOrder.{PortOrder}
+use Rattle.tftp_loop.specs.declared.port_order.PortRange.{PortRange}
+
+all_counted : (P : ℕ → Type 0) (a n : ℕ) → ((x : ℕ) → a ≤ x → x < a + n → P x) → All P (range_with_len a n)
+all_counted P a zero f = All-nil P
+all_counted P a (suc n) f =
+    All-cons P a (range_with_len (a + 1) n) (f a (omega arith) (omega arith))
+    (all_counted P (a + 1) n (λ x h k. f x (omega (arith, h)) (omega (arith, k))))
+
+-- each port of a range is one of it
+all_within : (range : PortRange) → All (IsOneOf (Some range)) (ports_of range)
+all_within range =
+    All-append (IsOneOf (Some range)) (range_with_len range.first (range.last - range.first)) (range.last ∷ [])
+    (all_counted (IsOneOf (Some range)) range.first (range.last - range.first)
+    (λ x h k is. (h, omega (arith, k, is.1))))
+    (All-cons (IsOneOf (Some range)) range.last [] (λ is. (is.1, omega arith)) (All-nil (IsOneOf (Some range))))
+
+-- each port of an order of a range is one of it
+pub order_within : (range : PortRange) (order : PortOrder) → IsOrderOf range order → AreOneOf order
+order_within range order is =
+    subst (λ (r : PortRange). All (IsOneOf (Some r)) (coming order)) (sym is.same)
+    (All-permutation (IsOneOf (Some range)) (ports_of range) (coming order) is.all (all_within range))
+
+module _ (old new : PortOrder) (port : ℕ) (each : AreOneOf old) (turns : Turns old new port) where
+  comes : All (IsOneOf (Some old.range)) (port ∷ turns.others)
+  comes = All-same (IsOneOf (Some old.range)) (port ∷ turns.others) (coming old) (sym turns.was) each
+
+  -- so is the port that is used
+  pub used_within : IsOneOf (Some old.range) port
+  used_within = All-head (IsOneOf (Some old.range)) port turns.others comes
+
+  -- and those that come then
+  pub turned_within : AreOneOf new
+  turned_within =
+      subst (λ (r : PortRange). All (IsOneOf (Some r)) (coming new)) (sym turns.range)
+      (All-same (IsOneOf (Some old.range)) (coming new) (turns.others ++ port ∷ []) turns.is
+      (All-push (IsOneOf (Some old.range)) turns.others port
+      (All-tail (IsOneOf (Some old.range)) port turns.others comes) used_within))
+
+-- the same, whether or not a port comes
+abbrev MayTurn : PortOrder → PortOrder → Option ℕ → Type 0
+MayTurn old new made = MatchOption made ((coming old ≡ []) × (new ≡ old)) (λ port. Turns old new port)
+
+pub same_range : (old new : PortOrder) (made : Option ℕ) → MayTurn old new made → new.range ≡ old.range
+same_range old new None turns = ap (λ (o : PortOrder). o.range) turns.1
+same_range old new (Some port) turns = turns.range
+
+pub still_within : (old new : PortOrder) (made : Option ℕ) → AreOneOf old → MayTurn old new made → AreOneOf new
+still_within old new None each turns = subst (λ (o : PortOrder). AreOneOf o) (sym turns.1) each
+still_within old new (Some port) each turns = turned_within old new port each turns
+
+pub next_within : (old new : PortOrder) (made : Option ℕ) → AreOneOf old → MayTurn old new made
+    → IfSome made (IsOneOf (Some old.range))
+next_within old new None each turns = tt
+next_within old new (Some port) each turns = used_within old new port each turns

@@ -1,0 +1,233 @@
+-- What a step at a port does to the end of its transfer, and to the timer.
+use Rattle.std.proofs.Common.{arith, ◌≡◌, ◌≤◌, ◌+◌, ◌*◌, ℕ, Bool, true, false, not, List, Option, Some}
+use Rattle.std.proofs.Common.{refl, sym, ap, subst, ◌∙◌}
+use Rattle.std.specs.Prelude.{⊤}
+use Rattle.std.specs.BTreeMap.{is_at}
+use Rattle.std.specs.Ordering.{nat_cmp}
+use Rattle.std.proofs.lemmas.Option.{same_Some}
+use Rattle.tftp_file.specs.Source.{SourceMeaning}
+use Rattle.tftp_ends.specs.End.{EndState, is_progress}
+use Rattle.tftp_ends.specs.Step.{after_turn, timeout_turn}
+use Rattle.tftp_ends.specs.declared.record.Step.{Step}
+use Rattle.tftp_ends.specs.declared.role.Role.{Role}
+use Rattle.tftp_store.specs.Store.{StoreMeaning}
+use Rattle.tftp_server.specs.Draft.{drafting_sink}
+use Rattle.tftp_server.specs.State.{HeldTransfer, ServerState, at, is_closed, is_open, with_next}
+use Rattle.tftp_server.specs.Steps.{KeepsHeld, with_end}
+use Rattle.tftp_server.specs.Work.{WorksAt}
+use Rattle.tftp_host.specs.Watch.{deadline_of}
+use Rattle.tftp_loop.specs.Serves.{Timer, PortState, AtPort, marked_as, restarted, timer_after}
+use Rattle.tftp_loop.specs.Serves.AtPort.{A_datagram, A_lost_datagram, Nothing_found, A_failed_receive, A_timeout}
+use Rattle.tftp_loop.specs.Serves.AtPort.{A_missed_timeout, Work}
+use Rattle.tftp_loop.specs.Expiry.{IsIdleAt, ReceivesNoneAt}
+use Rattle.tftp_loop.proofs.EndSteps.{Moves, closed_left, datagram_left, datagram_moves, moves_limit, timeout_spends}
+use Rattle.tftp_loop.proofs.EndSteps.{timeouts_left}
+use Rattle.tftp_loop.proofs.PortLemmas.{set_found}
+
+-- an end handled a datagram, with or without progress
+pub record HandledSo (e e' : EndState) (progress : Bool) : Type 0 where
+  pub role : e'.role ≡ e.role
+  pub moves : Moves e e'.position
+  pub left : progress ≡ false → timeouts_left e' ≤ timeouts_left e
+
+-- how a step at a port changes the end and the timer of its transfer
+pub data Changes (Idle Silent : Type 0) (now : ℕ) (timer timer' : Timer) (e e' : EndState) : Type 0 where
+  By_datagram : (progress : Bool) → HandledSo e e' progress → (Idle → progress ≡ false) → (Silent → ⊥)
+      → timer' ≡ timer_after now progress timer → Changes Idle Silent now timer timer' e e'
+  By_timeout : e' ≡ after_turn e (timeout_turn e) → timer' ≡ restarted now timer
+      → Changes Idle Silent now timer timer' e e'
+  By_late_timeout : e' ≡ e → timeouts_left e ≡ 0 → timer' ≡ restarted now timer
+      → Changes Idle Silent now timer timer' e e'
+  By_nothing : e' ≡ e → timer'.deadline ≡ timer.deadline → timer'.interval ≡ timer.interval
+      → Changes Idle Silent now timer timer' e e'
+
+-- ---- timers
+pub record SameTimer (timer timer' : Timer) : Type 0 where
+  pub port : timer'.port ≡ timer.port
+  pub peer : timer'.peer ≡ timer.peer
+  pub interval : timer'.interval ≡ timer.interval
+
+same_by : (timer timer' after : Timer) → timer' ≡ after → SameTimer timer after → SameTimer timer timer'
+same_by timer timer' after e same = subst (SameTimer timer) (sym e) same
+
+after_same : (now : ℕ) (progress : Bool) (timer : Timer) → SameTimer timer (timer_after now progress timer)
+after_same now true timer = record { port = refl; peer = refl; interval = refl }
+after_same now false timer = record { port = refl; peer = refl; interval = refl }
+
+-- the deadline is an interval away at most
+abbrev pub IsNear : ℕ → Timer → Type 0
+IsNear now timer = timer.deadline ≤ now + timer.interval * 1000
+
+near_by : (now : ℕ) (timer timer' : Timer) → timer' ≡ timer → IsNear now timer → IsNear now timer'
+near_by now timer timer' e near = subst (IsNear now) (sym e) near
+
+after_near : (now : ℕ) (progress : Bool) (timer : Timer) → IsNear now timer
+    → IsNear now (timer_after now progress timer)
+after_near now true timer near = (let h : deadline_of now timer.interval ≤ now + timer.interval * 1000 =
+    omega arith in h)
+after_near now false timer near = near
+
+pub restarted_near : (now : ℕ) (timer : Timer) → IsNear now (restarted now timer)
+restarted_near now timer = (let h : deadline_of now timer.interval ≤ now + timer.interval * 1000 = omega arith in h)
+
+pub changes_near : (Idle Silent : Type 0) (now : ℕ) (timer timer' : Timer) (e e' : EndState)
+    → Changes Idle Silent now timer timer' e e' → IsNear now timer → IsNear now timer'
+changes_near Idle Silent now timer timer' e e' (By_datagram progress handled idle silent is) near =
+    near_by now (timer_after now progress timer) timer' is (after_near now progress timer near)
+changes_near Idle Silent now timer timer' e e' (By_timeout end is) near =
+    near_by now (restarted now timer) timer' is (restarted_near now timer)
+changes_near Idle Silent now timer timer' e e' (By_late_timeout end none is) near =
+    near_by now (restarted now timer) timer' is (restarted_near now timer)
+changes_near Idle Silent now timer timer' e e' (By_nothing end deadline interval) near =
+    let same : timer'.interval * 1000 ≡ timer.interval * 1000 = ap (λ (i : ℕ). i * 1000) interval in
+    omega (arith, near, deadline, same)
+
+-- ---- retries
+-- an end has this limit of retries, and no more left
+pub record HasLimit (retries : ℕ) (e : EndState) : Type 0 where
+  pub role : e.role.retries ≡ retries
+  pub left : e.position.retries_left ≤ retries
+
+limit_moves : (retries : ℕ) (e e' : EndState) → e'.role ≡ e.role → Moves e e'.position → HasLimit retries e
+    → HasLimit retries e'
+limit_moves retries e e' role moves limit =
+    let own = limit.role in
+    let less = limit.left in
+    let fewer = moves_limit e e'.position moves (omega (arith, own, less)) in
+    record { role = ap (λ (r : Role). r.retries) role ∙ own; left = omega (arith, fewer, own) }
+
+pub changes_limit : (Idle Silent : Type 0) (now : ℕ) (timer timer' : Timer) (e e' : EndState)
+    → Changes Idle Silent now timer timer' e e' → (retries : ℕ) → HasLimit retries e → HasLimit retries e'
+changes_limit Idle Silent now timer timer' e e' (By_datagram progress handled idle silent is) retries limit =
+    limit_moves retries e e' handled.role handled.moves limit
+changes_limit Idle Silent now timer timer' e e' (By_timeout end is) retries limit =
+    subst (HasLimit retries) (sym end) (limit_moves retries e (after_turn e (timeout_turn e)) refl
+    (timeout_spends e).moves limit)
+changes_limit Idle Silent now timer timer' e e' (By_late_timeout end none is) retries limit =
+    subst (HasLimit retries) (sym end) limit
+changes_limit Idle Silent now timer timer' e e' (By_nothing end deadline interval) retries limit =
+    subst (HasLimit retries) (sym end) limit
+
+closed_by : (b : Bool) → not b ≡ false → b ≡ true
+closed_by true h = refl
+closed_by false h = absurd (let e : true ≡ false = h in cc)
+
+-- ---- at the port
+module _ {S F D : Type 0} (meaning : StoreMeaning S D) (sources : SourceMeaning F) where
+  pub same_timer : (now : ℕ) (old new : PortState S F D) → AtPort meaning sources now old new
+      → SameTimer old.timer new.timer
+  same_timer now old new (A_datagram d) = same_by old.timer new.timer
+      (timer_after now d.step.progress old.timer) d.timer (after_same now d.step.progress old.timer)
+  same_timer now old new (A_lost_datagram d) = same_by old.timer new.timer (marked_as true old.timer) d.timer
+      (record { port = refl; peer = refl; interval = refl })
+  same_timer now old new (Nothing_found d) = same_by old.timer new.timer (marked_as false old.timer) d.timer
+      (record { port = refl; peer = refl; interval = refl })
+  same_timer now old new (A_failed_receive d) = same_by old.timer new.timer (marked_as true old.timer) d.timer
+      (record { port = refl; peer = refl; interval = refl })
+  same_timer now old new (A_timeout d) = same_by old.timer new.timer (restarted now old.timer) d.timer
+      (record { port = refl; peer = refl; interval = refl })
+  same_timer now old new (A_missed_timeout d) = same_by old.timer new.timer (restarted now old.timer) d.timer
+      (record { port = refl; peer = refl; interval = refl })
+  same_timer now old new (Work d) = same_by old.timer new.timer old.timer d.timer
+      (record { port = refl; peer = refl; interval = refl })
+
+  -- the configuration never changes
+  pub same_config : (now : ℕ) (old new : PortState S F D) → AtPort meaning sources now old new
+      → new.server.config ≡ old.server.config
+  same_config now old new (A_datagram d) = d.handles.config
+  same_config now old new (A_lost_datagram d) = d.loses.config
+  same_config now old new (Nothing_found d) = ap (λ (s : ServerState S F D). s.config) d.server
+  same_config now old new (A_failed_receive d) = ap (λ (s : ServerState S F D). s.config) d.server
+  same_config now old new (A_timeout d) = ap (λ (s : ServerState S F D). s.config) d.times_out.rest
+  same_config now old new (A_missed_timeout d) = ap (λ (s : ServerState S F D). s.config) d.server
+  same_config now old new (Work d) = d.works.config
+
+  -- the transfer is held still, and its end changed so
+  pub record AtTransfer (Idle Silent : Type 0) (now : ℕ) (old new : PortState S F D)
+      (transfer : HeldTransfer F D) : Type 0 where
+    pub next : HeldTransfer F D
+    pub found : at old.timer.port new.server.held ≡ Some next
+    pub changes : Changes Idle Silent now old.timer new.timer transfer.end next.end
+
+  same_transfer : (port : ℕ) (held : List (ℕ × HeldTransfer F D)) (a b : HeldTransfer F D) → at port held ≡ Some a
+      → at port held ≡ Some b → a ≡ b
+  same_transfer port held a b h k = same_Some a b (sym h ∙ k)
+
+  put_next : (port : ℕ) (old new : List (ℕ × HeldTransfer F D)) (transfer next : HeldTransfer F D)
+      → at port old ≡ Some transfer → new ≡ with_next port next old → at port new ≡ Some next
+  put_next port old new transfer next found is = ap (at port) is
+      ∙ set_found (is_at (nat_cmp port)) transfer next old found
+
+  pub at_transfer : (now : ℕ) (old new : PortState S F D) (does : AtPort meaning sources now old new)
+      (transfer : HeldTransfer F D) → at old.timer.port old.server.held ≡ Some transfer
+      → AtTransfer (IsIdleAt meaning sources does) (ReceivesNoneAt meaning sources does) now old new transfer
+  at_transfer now old new (A_datagram d) transfer found =
+      let takes = d.handles.takes in
+      let step = takes.takes in
+      let own = same_transfer old.timer.port old.server.held takes.transfer transfer takes.found found in
+      let progress : d.step.progress ≡ is_progress takes.transfer.end.position.phase step.turn.position.phase =
+      ap (λ (s : Step). s.progress) step.reports in
+      let handled : HandledSo takes.transfer.end takes.next.end d.step.progress =
+      subst (λ (e : EndState). HandledSo takes.transfer.end e d.step.progress) (sym step.carries.state) (record {
+        role = refl;
+        moves = datagram_moves sources (drafting_sink meaning) d.from d.bytes takes.transfer.end _ step.turn _
+            step.steps;
+        left = λ still. datagram_left sources (drafting_sink meaning) d.from d.bytes takes.transfer.end _ step.turn _
+            step.steps (sym progress ∙ still);
+      }) in
+      record {
+        next = takes.next;
+        found = put_next old.timer.port old.server.held new.server.held takes.transfer takes.next takes.found
+            takes.held;
+        changes = subst (λ (t : HeldTransfer F D). Changes
+            (d.step.progress ≡ false) ⊥ now old.timer new.timer t.end takes.next.end) own
+            (By_datagram d.step.progress handled (λ h. h) (λ h. h) d.timer);
+      }
+  at_transfer now old new (A_lost_datagram d) transfer found =
+      let keeps =
+      subst (λ (o : Option (HeldTransfer F D)). KeepsHeld meaning sources old.timer.port o old.server new.server)
+      found d.loses.keeps in
+      record {
+        next = keeps.0;
+        found = put_next old.timer.port old.server.held new.server.held transfer keeps.0 found keeps.2;
+        changes = By_nothing keeps.1.end (ap (λ (t : Timer). t.deadline) d.timer)
+            (ap (λ (t : Timer). t.interval) d.timer);
+      }
+  at_transfer now old new (Nothing_found d) transfer found = record {
+    next = transfer;
+    found = ap (λ (s : ServerState S F D). at old.timer.port s.held) d.server ∙ found;
+    changes = By_nothing refl (ap (λ (t : Timer). t.deadline) d.timer) (ap (λ (t : Timer). t.interval) d.timer);
+  }
+  at_transfer now old new (A_failed_receive d) transfer found = record {
+    next = transfer;
+    found = ap (λ (s : ServerState S F D). at old.timer.port s.held) d.server ∙ found;
+    changes = By_nothing refl (ap (λ (t : Timer). t.deadline) d.timer) (ap (λ (t : Timer). t.interval) d.timer);
+  }
+  at_transfer now old new (A_timeout d) transfer found =
+      let t = d.times_out.times_out in
+      let own = same_transfer old.timer.port old.server.held t.transfer transfer t.found found in
+      record {
+        next = with_end t.end t.transfer;
+        found = put_next old.timer.port old.server.held new.server.held t.transfer
+            (with_end t.end t.transfer) t.found t.held;
+        changes = subst (λ (u : HeldTransfer F D). Changes ⊤ ⊤ now old.timer new.timer u.end t.end) own
+            (By_timeout t.carries.state d.timer);
+      }
+  at_transfer now old new (A_missed_timeout d) transfer found = record {
+    next = transfer;
+    found = ap (λ (s : ServerState S F D). at old.timer.port s.held) d.server ∙ found;
+    changes = By_late_timeout refl
+        (closed_left transfer.end.position.phase transfer.end.position.retries_left
+        (closed_by (is_closed transfer) (ap (λ (o : Option (HeldTransfer F D)). is_open o) (sym found) ∙ d.closed)))
+        d.timer;
+  }
+  at_transfer now old new (Work d) transfer found =
+      let works =
+      subst (λ (o : Option (HeldTransfer F D)). WorksAt meaning sources old.timer.port o old.server new.server)
+      found d.works.works in
+      record {
+        next = works.0;
+        found = put_next old.timer.port old.server.held new.server.held transfer works.0 found works.2;
+        changes = By_nothing (ap (λ (t : HeldTransfer F D). t.end) works.1.rest)
+            (ap (λ (t : Timer). t.deadline) d.timer) (ap (λ (t : Timer). t.interval) d.timer);
+      }

@@ -1,0 +1,152 @@
+-- A server that may sleep has nothing to do.
+use Rattle.std.proofs.Common.{arith, ◌≡◌, ◌<◌, ◌≤◌, ◌-◌, ◌||◌, ◌&&◌, not, ℕ, zero, suc, Bool, true, false, List, []}
+use Rattle.std.proofs.Common.{◌∷◌, length, cond, Option, Some, None, refl, sym, ap, subst, ◌∙◌}
+use Rattle.std.specs.Prelude.{slice_index_or, is_some, All, ◌≢◌}
+use Rattle.std.specs.List.{list_any}
+use Rattle.tftp_file.specs.Source.{SourceMeaning}
+use Rattle.tftp_store.specs.Store.{StoreMeaning}
+use Rattle.tftp_server.specs.State.{ServerState}
+use Rattle.tftp_host.specs.declared.watch.TheConstants.{LONGEST_WAIT}
+use Rattle.tftp_sockets.specs.Journal.{Event}
+use Rattle.tftp_sockets.specs.Quiet.{is_among, is_drained}
+use Rattle.tftp_loop.specs.Run.{Run}
+use Rattle.tftp_loop.specs.Run.Run.{Start, Then}
+use Rattle.tftp_loop.specs.declared.serving.Ending.{Ending}
+use Rattle.tftp_loop.specs.Serves.{Timer, LoopState, Does, Waits, at_start, is_busy, port_state, until_look}
+use Rattle.tftp_loop.specs.Serves.Does.{Waited, At_port, Request_received, No_request_found, Request_not_received, Request_answered, Request_lost, Clock_read, Store_set, Transfer_closed}
+use Rattle.tftp_loop.specs.Served.{Work_by}
+use Rattle.tftp_loop.specs.Sleeps.{HasItsOwnPort, MaySleep}
+use Rattle.tftp_loop.specs.Tended.{AreKept}
+use Rattle.tftp_loop.proofs.Drained.{port_drained, replied_drained}
+use Rattle.tftp_loop.proofs.Looking.{AreLooked, looked_at_rest, step_looked}
+use Rattle.tftp_loop.proofs.LoopStays.{work_keeps}
+use Rattle.tftp_loop.proofs.PortStays.{own_receive}
+use Rattle.tftp_loop.proofs.Waits.{marked_kept}
+
+module _ {S F D : Type 0} (meaning : StoreMeaning S D) (sources : SourceMeaning F) where
+  -- ---- along a run
+  -- the request port was drained unless it is marked, and each timer is of its transfer
+  record IsQuiet (s : LoopState S F D) : Type 0 where
+    pub drained : s.marked ≡ false → is_drained s.requests s.events ≡ true
+    pub kept : AreKept s.server.held s.timers
+    pub looked : AreLooked s
+
+  not_marked : {P : Type 0} → true ≡ false → P
+  not_marked e = absurd (cc)
+
+  both_false : (a b drained : Bool) → (a || b) ≡ false → (a ≡ false → drained ≡ true) → (not b && drained) ≡ true
+  both_false true b drained e f = not_marked e
+  both_false false true drained e f = not_marked e
+  both_false false false drained e f = f refl
+
+  step_drained : (s t : LoopState S F D) → Does meaning sources s t → All (λ (timer : Timer). timer.port ≢ s.requests) s.timers
+      → (s.marked ≡ false → is_drained s.requests s.events ≡ true) → t.marked ≡ false → is_drained t.requests t.events ≡ true
+  step_drained s t (Waited d) own h = subst (λ (u : LoopState S F D). u.marked ≡ false → is_drained u.requests u.events ≡ true) (sym d.is)
+      (λ m. both_false s.marked (is_among s.requests d.ports) (is_drained s.requests s.events) m h)
+  step_drained s t (Clock_read d) own h = subst (λ (u : LoopState S F D). u.marked ≡ false → is_drained u.requests u.events ≡ true) (sym d.is) h
+  step_drained s t (At_port d) own h = subst (λ (u : LoopState S F D). u.marked ≡ false → is_drained u.requests u.events ≡ true) (sym d.is)
+      (λ m. port_drained meaning sources s.requests s.now (port_state s d.timer) d.next d.does
+      (λ e. own d.index d.timer d.within (ap (λ (u : Timer). u.port) (sym d.is_timer) ∙ e)) (h m))
+  step_drained s t (Request_received d) own h = subst (λ (u : LoopState S F D). u.marked ≡ false → is_drained u.requests u.events ≡ true) (sym d.is) (λ m. not_marked m)
+  step_drained s t (No_request_found d) own h = subst (λ (u : LoopState S F D). u.marked ≡ false → is_drained u.requests u.events ≡ true) (sym d.is)
+      (λ m. own_receive s.requests (is_drained s.requests s.events))
+  step_drained s t (Request_not_received d) own h = subst (λ (u : LoopState S F D). u.marked ≡ false → is_drained u.requests u.events ≡ true) (sym d.is) (λ m. not_marked m)
+  step_drained s t (Request_answered d) own h = subst (λ (u : LoopState S F D). u.marked ≡ false → is_drained u.requests u.events ≡ true) (sym d.is)
+      (λ m. replied_drained s.requests _ d.left.opened.to d.left.sent s.events (h m))
+  step_drained s t (Request_lost d) own h = subst (λ (u : LoopState S F D). u.marked ≡ false → is_drained u.requests u.events ≡ true) (sym d.is) h
+  step_drained s t (Store_set d) own h = subst (λ (u : LoopState S F D). u.marked ≡ false → is_drained u.requests u.events ≡ true) (sym d.is) h
+  step_drained s t (Transfer_closed d) own h = subst (λ (u : LoopState S F D). u.marked ≡ false → is_drained u.requests u.events ≡ true) (sym d.is) h
+
+  pub step_kept : (s t : LoopState S F D) → Does meaning sources s t → AreKept s.server.held s.timers → AreKept t.server.held t.timers
+  step_kept s t (Waited d) kept = subst (λ (u : LoopState S F D). AreKept u.server.held u.timers) (sym d.is) (marked_kept s.server.held d.ports s.timers kept)
+  step_kept s t (Clock_read d) kept = subst (λ (u : LoopState S F D). AreKept u.server.held u.timers) (sym d.is) kept
+  step_kept s t (At_port d) kept = (work_keeps meaning sources s t (Then Start (Work_by (At_port d) tt))).kept kept
+  step_kept s t (Request_received d) kept = (work_keeps meaning sources s t (Then Start (Work_by (Request_received d) tt))).kept kept
+  step_kept s t (No_request_found d) kept = (work_keeps meaning sources s t (Then Start (Work_by (No_request_found d) tt))).kept kept
+  step_kept s t (Request_not_received d) kept = (work_keeps meaning sources s t (Then Start (Work_by (Request_not_received d) tt))).kept kept
+  step_kept s t (Request_answered d) kept = (work_keeps meaning sources s t (Then Start (Work_by (Request_answered d) tt))).kept kept
+  step_kept s t (Request_lost d) kept = (work_keeps meaning sources s t (Then Start (Work_by (Request_lost d) tt))).kept kept
+  step_kept s t (Store_set d) kept = (work_keeps meaning sources s t (Then Start (Work_by (Store_set d) tt))).kept kept
+  step_kept s t (Transfer_closed d) kept = (work_keeps meaning sources s t (Then Start (Work_by (Transfer_closed d) tt))).kept kept
+
+  pub kept_along : (port : ℕ) (ending : Ending) (server : ServerState S F D) (before : List Event) (old : LoopState S F D) → Run (Does meaning sources) (at_start port ending server before) old
+      → AreKept old.server.held old.timers
+  kept_along port ending server before old Start = record { apart = λ j k d e hj hk h. absurd (omega (arith, hj)); each = λ k d h. absurd (omega (arith, h)) }
+  kept_along port ending server before old (Then {middle} run does) = step_kept middle old does (kept_along port ending server before middle run)
+
+  quiet_along : (port : ℕ) (ending : Ending) (server : ServerState S F D) (before : List Event) (old : LoopState S F D) → Run (Does meaning sources) (at_start port ending server before) old
+      → HasItsOwnPort meaning sources (at_start port ending server before) old → IsQuiet old
+  quiet_along port ending server before old Start own = record {
+    drained = λ m. not_marked m;
+    kept = record { apart = λ j k d e hj hk h. absurd (omega (arith, hj)); each = λ k d h. absurd (omega (arith, h)) };
+    looked = λ k d h. absurd (omega (arith, h));
+  }
+  quiet_along port ending server before old (Then {middle} run does) own =
+      let was = quiet_along port ending server before middle run (λ now begins ends. own now begins (Then ends does)) in
+      record {
+        drained = step_drained middle old does (own middle run (Then Start does)) was.drained;
+        kept = step_kept middle old does was.kept;
+        looked = step_looked meaning sources middle old does
+            (own middle run (Then Start does)) was.kept.apart was.looked;
+      }
+
+-- ---- at a wait
+idle_parts : (a p c : Bool) (n : ℕ) → 1 ≤ cond (a || (p || c)) 0 n → (a ≡ false) × (p ≡ false) × (c ≡ false)
+idle_parts true p c n h = absurd (omega (arith, h))
+idle_parts false true c n h = absurd (omega (arith, h))
+idle_parts false false true n h = absurd (omega (arith, h))
+idle_parts false false false n h = (refl, refl, refl)
+
+idle_millis : (b : Bool) (n millis : ℕ) → 1 ≤ millis → millis ≤ cond b 0 n → millis ≤ n
+idle_millis true n millis h k = absurd (omega (arith, h, k))
+idle_millis false n millis h k = k
+
+none_pending : {X : Type 0} (o : Option X) → is_some o ≡ false → o ≡ None
+none_pending None h = refl
+none_pending (Some x) h = absurd (let e : true ≡ false = h in cc)
+
+left_false : (a b : Bool) → (a || b) ≡ false → a ≡ false
+left_false true b e = e
+left_false false b e = refl
+
+right_false : (a b : Bool) → (a || b) ≡ false → b ≡ false
+right_false true b e = absurd (let f : true ≡ false = e in cc)
+right_false false b e = e
+
+none_marked : (timers : List Timer) → list_any (λ (timer : Timer). timer.marked) timers ≡ false → (k : ℕ) (d : Timer) → k < length timers → (slice_index_or timers k d).marked ≡ false
+none_marked [] e k d h = absurd (omega (arith, h))
+none_marked (timer ∷ timers) e zero d h = left_false timer.marked (list_any (λ (t : Timer). t.marked) timers) e
+none_marked (timer ∷ timers) e (suc k) d h = none_marked timers (right_false timer.marked (list_any (λ (t : Timer). t.marked) timers) e) k d (omega (arith, h))
+
+look_first : (now : ℕ) (timers : List Timer) (k : ℕ) (d : Timer) → k < length timers → until_look now timers ≤ (slice_index_or timers k d).look_at - now
+look_first now [] k d h = absurd (omega (arith, h))
+look_first now (timer ∷ timers) zero d h = omega arith
+look_first now (timer ∷ timers) (suc k) d h = let rest = look_first now timers k d (omega (arith, h)) in omega (arith, rest)
+
+look_longest : (now : ℕ) (timers : List Timer) → until_look now timers ≤ LONGEST_WAIT
+look_longest now [] = omega arith
+look_longest now (timer ∷ timers) = let rest = look_longest now timers in omega (arith, rest)
+
+module _ {S F D : Type 0} (meaning : StoreMeaning S D) (sources : SourceMeaning F) where
+  pub rests_before_it_sleeps : (port : ℕ) (ending : Ending) (server : ServerState S F D) (before : List Event) (old new : LoopState S F D) → Run (Does meaning sources) (at_start port ending server before) old
+      → HasItsOwnPort meaning sources (at_start port ending server before) old → (waits : Waits meaning sources old new) → 1 ≤ waits.millis → MaySleep meaning sources old waits.millis
+  rests_before_it_sleeps port ending server before old new run own waits some =
+      let was = quiet_along meaning sources port ending server before old run own in
+      let until = until_look old.now old.timers in
+      let longest = waits.may.longest in
+      let parts = idle_parts old.marked (is_some old.pending) (list_any (λ (timer : Timer). timer.marked) old.timers) until (omega (arith, some, longest)) in
+      let most : waits.millis ≤ until = idle_millis (is_busy old) until waits.millis some longest in
+      record {
+        requests = was.drained parts.0;
+        pending = none_pending old.pending parts.1;
+        transfers = λ k d h.
+            let first = look_first old.now old.timers k d h in
+            let unmarked = none_marked old.timers parts.2 k d h in
+            record {
+              unmarked = unmarked;
+              drained = looked_at_rest (slice_index_or old.timers k d) old.events old.now unmarked (was.looked k d h);
+              ends = omega (arith, first, most, some);
+              look = (was.kept.each k d h).look;
+            };
+        longest = let l = look_longest old.now old.timers in omega (arith, l, most);
+      }

@@ -1,0 +1,11 @@
+use Rattle.tftp_loop.proofs.PoolLemmas.{next_within, same_range, still_within}
+use Rattle.tftp_loop.proofs.port_pool.next_port.Goals as goal
+
+pub returns-clause-range : goal.returns-clause-range
+returns-clause-range c = same_range c.args.order.now c.next.new.self c.next.result c.next.ensures
+
+pub returns-clause-ports : goal.returns-clause-ports
+returns-clause-ports c = still_within c.args.order.now c.next.new.self c.next.result c.requires c.next.ensures
+
+pub returns-clause-port : goal.returns-clause-port
+returns-clause-port c = next_within c.args.order.now c.next.new.self c.next.result c.requires c.next.ensures

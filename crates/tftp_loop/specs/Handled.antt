@@ -1,0 +1,58 @@
+-- What a server has done with each datagram of its request port before it sleeps (RFC 1350,
+-- section 4).
+use Rattle.std.specs.Prelude.{ℕ, ◌≡◌, ◌≤◌, true, List}
+use Rattle.tftp_file.specs.Source.{SourceMeaning}
+use Rattle.tftp_ends.specs.declared.endpoint.Endpoint.{Endpoint}
+use Rattle.tftp_store.specs.Store.{StoreMeaning}
+use Rattle.tftp_sockets.specs.Quiet.{is_among, was_tried}
+use Rattle.tftp_loop.specs.Run.{Run}
+use Rattle.tftp_loop.specs.Serves.{LoopState, Does, Waits, ReceivesRequest, AnswersRequest}
+use Rattle.tftp_loop.specs.Serves.{LosesRequest}
+use Rattle.tftp_loop.specs.Reported.{GoesOn}
+use Rattle.tftp_loop.specs.Sleeps.{HasItsOwnPort}
+
+module _ {S F D : Type 0} (meaning : StoreMeaning S D) (sources : SourceMeaning F) where
+  -- this datagram is answered, or lost for a reason
+  pub data Resolves (from : Endpoint) (bytes : List ℕ) (old new : LoopState S F D) : Type 0 where
+    By_answer : (answers : AnswersRequest meaning sources old new) → answers.from ≡ from
+        → answers.bytes ≡ bytes → Resolves from bytes old new
+    By_loss : (loses : LosesRequest meaning sources old new) → loses.from ≡ from
+        → loses.bytes ≡ bytes → Resolves from bytes old new
+
+  -- and that is a step of the run from the one state to the other
+  pub record IsResolved (from : Endpoint) (bytes : List ℕ) (first last : LoopState S F D)
+      : Type 0 where
+    pub old : LoopState S F D
+    pub new : LoopState S F D
+    pub earlier : Run (Does meaning sources) first old
+    pub resolves : Resolves from bytes old new
+    pub later : Run (Does meaning sources) new last
+
+  -- a datagram that was received at the request port is answered or lost before a wait that takes
+  -- time
+  abbrev pub HandlesBeforeItSleeps : Type 0
+  HandlesBeforeItSleeps =
+      (old received last new : LoopState S F D)
+      → (receives : ReceivesRequest meaning sources old received)
+      → Run (Does meaning sources) received last
+      → (waits : Waits meaning sources last new) → 1 ≤ waits.millis
+      → IsResolved receives.from receives.bytes received last
+
+  -- and before the second wait after its receipt, whether that takes time or not: the first one
+  -- finds it pending, and takes none. No transfer has the request port
+  abbrev pub HandlesByTheNextWait : Type 0
+  HandlesByTheNextWait =
+      (old received waiting woken last new : LoopState S F D)
+      → (receives : ReceivesRequest meaning sources old received)
+      → Run (Does meaning sources) received waiting → Waits meaning sources waiting woken
+      → Run (GoesOn meaning sources) woken last → HasItsOwnPort meaning sources woken last
+      → Waits meaning sources last new
+      → IsResolved receives.from receives.bytes received last
+
+  -- the request port is read by the next wait after the one that reported it
+  abbrev pub ReadsTheRequestPort : Type 0
+  ReadsTheRequestPort =
+      (old woken last new : LoopState S F D)
+      → (waits : Waits meaning sources old woken) → is_among old.requests waits.ports ≡ true
+      → Run (GoesOn meaning sources) woken last → Waits meaning sources last new
+      → was_tried last.requests last.events ≡ true

@@ -1,0 +1,45 @@
+-- What a server has done before a wait that may sleep.
+use Rattle.std.specs.Prelude.{ℕ, ◌≡◌, ◌≢◌, ◌≤◌, ◌+◌, ◌⊎◌, true, false, List, None, All}
+use Rattle.tftp_file.specs.Source.{SourceMeaning}
+use Rattle.tftp_store.specs.Store.{StoreMeaning}
+use Rattle.tftp_server.specs.State.{ServerState}
+use Rattle.tftp_host.specs.declared.watch.TheConstants.{LONGEST_WAIT}
+use Rattle.tftp_sockets.specs.Journal.{Event}
+use Rattle.tftp_sockets.specs.Quiet.{is_drained}
+use Rattle.tftp_loop.specs.Run.{Run}
+use Rattle.tftp_loop.specs.declared.serving.Ending.{Ending}
+use Rattle.tftp_loop.specs.Serves.{Timer, LoopState, Does, Waits, at_start, look_after}
+
+-- a port of a transfer is not marked, and a wait of so long is over when it is read again, which is
+-- at its deadline at the latest; the newest word of the port is that a receive found nothing there,
+-- or else the port is left for a while, and read again soon
+pub record Rests (events : List Event) (now millis : ℕ) (timer : Timer) : Type 0 where
+  pub unmarked : timer.marked ≡ false
+  pub drained : (is_drained timer.port events ≡ true) ⊎ (timer.look_at ≤ now + look_after)
+  pub ends : now + millis ≤ timer.look_at
+  pub look : timer.look_at ≤ timer.deadline
+
+module _ {S F D : Type 0} (meaning : StoreMeaning S D) (sources : SourceMeaning F) where
+  -- at each time of a run no transfer has the request port
+  abbrev pub HasItsOwnPort : LoopState S F D → LoopState S F D → Type 0
+  HasItsOwnPort first last =
+      (now : LoopState S F D) → Run (Does meaning sources) first now
+      → Run (Does meaning sources) now last
+      → All (λ (timer : Timer). timer.port ≢ now.requests) now.timers
+
+  -- the server may sleep for so long
+  pub record MaySleep (old : LoopState S F D) (millis : ℕ) : Type 0 where
+    -- the newest word of the request port is that a receive found nothing there
+    pub requests : is_drained old.requests old.events ≡ true
+    pub pending : old.pending ≡ None
+    pub transfers : All (Rests old.events old.now millis) old.timers
+    pub longest : millis ≤ LONGEST_WAIT
+
+  -- at each wait of a run that takes time
+  abbrev pub RestsBeforeItSleeps : Type 0
+  RestsBeforeItSleeps =
+      (port : ℕ) (ending : Ending) (server : ServerState S F D) (before : List Event)
+      (old new : LoopState S F D)
+      → Run (Does meaning sources) (at_start port ending server before) old
+      → HasItsOwnPort (at_start port ending server before) old
+      → (waits : Waits meaning sources old new) → 1 ≤ waits.millis → MaySleep old waits.millis

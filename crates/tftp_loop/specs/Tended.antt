@@ -1,0 +1,194 @@
+-- What each part of a round leaves at the ports, so that the next wait is allowed.
+use Rattle.std.specs.Prelude.{ℕ, ◌≡◌, ◌≤◌, ◌<◌, ◌-◌, ◌||◌, ◌⊎◌, ⊤, true, List, ◌∷◌, map}
+use Rattle.std.specs.Prelude.{length, take, slice_set, slice_index_or, Some, None, is_some}
+use Rattle.std.specs.Prelude.{IsSome, All, if◌then◌else◌}
+use Rattle.std.specs.List.{list_any}
+use Rattle.tftp_file.specs.Source.{SourceMeaning}
+use Rattle.tftp_ends.specs.declared.endpoint.Endpoint.{Endpoint}
+use Rattle.tftp_store.specs.Store.{StoreMeaning}
+use Rattle.tftp_server.specs.State.{HeldTransfer, at, taken_of}
+use Rattle.tftp_host.specs.Watch.{deadline_of, wait_of}
+use Rattle.tftp_host.specs.declared.server.port.Port.{Port}
+use Rattle.tftp_sockets.specs.Journal.{Event}
+use Rattle.tftp_sockets.specs.Journal.Event.{Watched}
+use Rattle.tftp_sockets.specs.Quiet.{is_among, was_tried}
+use Rattle.tftp_loop.specs.declared.daemon.Daemon.{Daemon}
+use Rattle.tftp_loop.specs.declared.transfer_port.PortStatus.{PortStatus}
+use Rattle.tftp_loop.specs.declared.transfer_port.PortStatus.TheVariants as statuses
+use Rattle.tftp_loop.specs.declared.transfer_port.TransferSocket.{TransferSocket}
+use Rattle.tftp_loop.specs.Serves.{Timer, PortState, LoopState, AnswersRequest, Closes, LosesRequest}
+use Rattle.tftp_loop.specs.Serves.{SetsStore, next_look, marked_by}
+use Rattle.tftp_loop.specs.Served.{OnlyServesPort, loop_state, state_of, timer_of}
+
+-- ---- timers
+
+-- it holds of each element from this index on
+abbrev pub AllFrom : {X : Type 0} → (X → Type 0) → ℕ → List X → Type 0
+AllFrom {X} P from xs = (k : ℕ) (d : X) → from ≤ k → k < length xs → P (slice_index_or xs k d)
+
+-- the port is not marked, or was read since the last wait
+abbrev pub IsRead : List Event → Timer → Type 0
+IsRead events timer = timer.marked ≡ true → was_tried timer.port events ≡ true
+
+-- the timer is not due, or started at this moment
+pub record IsTimed (now : ℕ) (timer : Timer) : Type 0 where
+  pub due : (now < timer.deadline) ⊎ (timer.deadline ≡ deadline_of now timer.interval)
+  pub look : (now < timer.look_at) ⊎ ((timer.look_at ≡ timer.deadline)
+      ⊎ (timer.look_at ≡ next_look now timer.interval))
+
+-- what a status says of the timer of its port
+abbrev pub LeavesTimer : PortStatus → ℕ → Timer → Type 0
+LeavesTimer statuses.Empty now timer = timer.look_at ≡ timer.deadline
+LeavesTimer statuses.Onward now timer =
+    (timer.deadline ≡ deadline_of now timer.interval)
+    × (timer.look_at ≡ next_look now timer.interval)
+LeavesTimer statuses.Unfinished now timer = timer.look_at ≡ timer.deadline
+LeavesTimer statuses.Closed now timer = ⊤
+
+-- no two timers have one port
+abbrev pub AreApart : List Timer → Type 0
+AreApart timers =
+    (j k : ℕ) (d e : Timer) → j < length timers → k < length timers
+    → (slice_index_or timers j d).port ≡ (slice_index_or timers k e).port → j ≡ k
+
+module _ {F D : Type 0} where
+  -- a timer is of a transfer that is held, and its port is read at its deadline at the latest
+  pub record IsHeld (held : List (ℕ × HeldTransfer F D)) (timer : Timer) : Type 0 where
+    pub there : IsSome (at timer.port held)
+    pub look : timer.look_at ≤ timer.deadline
+
+  -- each transfer has one timer, which no other has
+  pub record AreKept (held : List (ℕ × HeldTransfer F D)) (timers : List Timer) : Type 0 where
+    pub apart : AreApart timers
+    pub each : All (IsHeld held) timers
+
+  -- the transfer of a timer has not closed
+  abbrev pub IsOpen : List (ℕ × HeldTransfer F D) → Timer → Type 0
+  IsOpen held timer = taken_of (at timer.port held) ≡ None
+
+  -- and none has closed
+  pub record AreSettled (held : List (ℕ × HeldTransfer F D)) (timers : List Timer) : Type 0 where
+    pub kept : AreKept held timers
+    pub none_closed : All (IsOpen held) timers
+
+-- ---- the state
+
+-- what was read stays so until the next wait
+abbrev pub KeepsTries : List Event → List Event → Type 0
+KeepsTries before after = (port : ℕ) → was_tried port before ≡ true → was_tried port after ≡ true
+
+module _ {S F D : Type 0} where
+  -- the request port was read since the last wait, if it is marked or its datagram is pending
+  abbrev pub AreTried : LoopState S F D → Type 0
+  AreTried s = (s.marked || is_some s.pending) ≡ true → was_tried s.requests s.events ≡ true
+
+  -- ---- a daemon
+
+  -- the timers of a daemon
+  abbrev pub timers_of : Daemon S F D → List Timer
+  timers_of d = map timer_of d.ports.items
+
+  -- between two calls: no transfer has closed, and each has a timer
+  abbrev pub IsSettled : Daemon S F D → Type 0
+  IsSettled d = AreSettled d.server.held (timers_of d)
+
+  -- the ports from this index on were read
+  abbrev pub AreRead : ℕ → Daemon S F D → Type 0
+  AreRead from d = AllFrom (IsRead d.journal.events) from (timers_of d)
+
+  -- the ports from this index on are not due
+  abbrev pub AreTimed : ℕ → Daemon S F D → Type 0
+  AreTimed from d = AllFrom (IsTimed d.sockets.watch.now) from (timers_of d)
+
+  -- the request port was read
+  abbrev pub HasTriedRequests : Daemon S F D → Type 0
+  HasTriedRequests d =
+      (d.sockets.is_ready || is_some d.pending) ≡ true
+      → was_tried d.sockets.requests.port d.journal.events ≡ true
+
+  -- all is done that is to be done before a wait
+  pub record IsTended (d : Daemon S F D) : Type 0 where
+    pub settled : IsSettled d
+    pub read : AreRead 0 d
+    pub timed : AreTimed 0 d
+    pub requests : HasTriedRequests d
+
+  -- the longest wait of a daemon, in milliseconds
+  abbrev pub millis_of : Daemon S F D → ℕ
+  millis_of d =
+      if (d.sockets.is_ready || (is_some d.pending
+      || list_any (λ (port : Port TransferSocket). port.is_ready) d.ports.items))
+      then 0
+      else wait_of d.sockets.watch.now (map (λ (port : Port TransferSocket). port.due) d.ports.items)
+
+-- the port after a wait that reported these
+abbrev pub marked_if : List ℕ → Port TransferSocket → Port TransferSocket
+marked_if reported port =
+    record port { is_ready = port.is_ready || is_among port.socket.udp.port reported }
+
+module _ {S F D : Type 0} where
+  -- the ports that a wait reported are marked, the wait is counted, and the clock is read
+  pub record HasWoken (ports : List ℕ) (old new : Daemon S F D) : Type 0 where
+    pub requests : new.sockets.requests.port ≡ old.sockets.requests.port
+    pub range : new.sockets.pool.range ≡ old.sockets.pool.range
+    pub server : new.server ≡ old.server
+    pub pending : new.pending ≡ old.pending
+    pub timers : timers_of new ≡ map (marked_by ports) (timers_of old)
+    pub now : old.sockets.watch.now ≤ new.sockets.watch.now
+    pub marked : new.sockets.is_ready
+        ≡ (old.sockets.is_ready || is_among old.sockets.requests.port ports)
+    pub left : new.left ≡ old.left
+    pub rounds : new.rounds ≡ old.rounds - 1
+    pub events : new.journal.events ≡ Watched new.sockets.watch.now ∷ old.journal.events
+
+  -- what a turn leaves of a port at this time: it was read, or it is not due unless it has closed
+  abbrev pub leaves_read : PortState S F D → ℕ → Type 0
+  leaves_read new now = IsRead new.events new.timer
+
+  abbrev pub leaves_timed : PortState S F D → ℕ → Type 0
+  leaves_timed new now = (taken_of (at new.timer.port new.server.held) ≡ None) → IsTimed now new.timer
+
+  module _ (meaning : StoreMeaning S D) (sources : SourceMeaning F) where
+    -- a turn at the port at this index
+    pub record TakesTurn (leaves : PortState S F D → ℕ → Type 0) (index : ℕ)
+        (old new : Daemon S F D) : Type 0 where
+      pub port : Port TransferSocket
+      pub next : Port TransferSocket
+      pub within : index < length old.ports.items
+      pub is_port : port ≡ slice_index_or old.ports.items index port
+      pub serves : OnlyServesPort meaning sources old.sockets.watch.now old.server port old.journal
+          new.server next new.journal
+      pub leaves_it : leaves
+          (record { server = new.server; timer = timer_of next; events = new.journal.events })
+          old.sockets.watch.now
+      pub items : new.ports.items ≡ slice_set old.ports.items index next
+      pub rest : new ≡ record old { server = new.server; ports = new.ports; journal = new.journal }
+
+    -- the transfer at this index is removed if it has closed
+    pub data Finishes (index : ℕ) (old new : Daemon S F D) : Type 0 where
+      Stays : new ≡ old
+          → ((d : Timer) → IsOpen old.server.held (slice_index_or (timers_of old) index d))
+          → Finishes index old new
+      Goes : ((buffer : List ℕ)
+          → (closes : Closes meaning sources (state_of buffer old) (state_of buffer new))
+          × (closes.index ≡ index)) → Finishes index old new
+
+    -- the store is set for a pending datagram, or not, and the datagram is answered or lost
+    pub record Concludes (old new : LoopState S F D) : Type 0 where
+      pub middle : LoopState S F D
+      pub set : (middle ≡ old) ⊎ SetsStore meaning sources old middle
+      pub ends : AnswersRequest meaning sources middle new
+          ⊎ LosesRequest meaning sources middle new
+
+    -- the same, from one state of a daemon with this datagram pending to one without
+    abbrev pub AnswersPending : Endpoint → List ℕ → Daemon S F D → Daemon S F D → Type 0
+    AnswersPending from bytes old new =
+        Concludes (loop_state (Some (from, bytes)) old) (loop_state None new)
+
+    -- a received datagram is answered or lost, or kept
+    pub data HandlesReceived (from : Endpoint) (count : ℕ) (buffer : List ℕ)
+        (old new : Daemon S F D) : Type 0 where
+      Concluded : AnswersPending from (take count buffer) old new → new.pending ≡ None
+          → HandlesReceived from count buffer old new
+      Kept : new ≡ record old { pending = Some (from, count) }
+          → HandlesReceived from count buffer old new

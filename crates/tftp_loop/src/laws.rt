@@ -1,0 +1,49 @@
+//! Laws of a server's runs, over the definitions alone. Its store is of any type.
+
+ghost use Rattle.tftp_loop.specs.Expiry.{ClosesWithoutProgress, TimesOutInSilence};
+ghost use Rattle.tftp_loop.specs.Handled.{HandlesBeforeItSleeps, HandlesByTheNextWait};
+ghost use Rattle.tftp_loop.specs.Handled.{ReadsTheRequestPort};
+ghost use Rattle.tftp_loop.specs.PortsInTurn.{UsesNoPortTwice};
+ghost use Rattle.tftp_loop.specs.Reported.{ReadsWhatIsReported};
+ghost use Rattle.tftp_loop.specs.Sleeps.{RestsBeforeItSleeps};
+
+use tftp_store::Store;
+
+/// A server whose wait may sleep has nothing to do: a receive found nothing at its request port, and
+/// no wait has reported the port since; no datagram is pending, and no port of a transfer is marked.
+/// The same holds of each such port, or it is left for a while after an opening or progress, and
+/// read again within half a second. The server sleeps no longer than until the next port is read,
+/// which is at a deadline at the latest, and at most a second. The system gives each socket a port
+/// of its own.
+pub fn a_server_rests_before_it_sleeps<T: Store>()
+    ensures { RestsBeforeItSleeps T.meaning T.Source.meaning }
+{}
+
+/// What a wait reported is read by the next wait: a receive is tried at each port that it reported
+/// and that had a transfer then.
+pub fn a_server_reads_what_is_reported<T: Store>()
+    ensures { ReadsWhatIsReported T.meaning T.Source.meaning }
+{}
+
+/// A request is answered before the server sleeps. What a wait reported at the request port is read
+/// by the next wait. Each datagram that is received there is answered, or lost for one of the reasons
+/// of `RequestLoss`, before a wait that takes time, and before the second wait whatever that takes
+/// (RFC 1350, section 4).
+pub fn a_server_handles_before_it_sleeps<T: Store>()
+    ensures reads { ReadsTheRequestPort T.meaning T.Source.meaning }
+    ensures handles { HandlesBeforeItSleeps T.meaning T.Source.meaning }
+    ensures soon { HandlesByTheNextWait T.meaning T.Source.meaning }
+{}
+
+/// A transfer that makes no progress is closed in time, whatever is sent to its port. At each wait
+/// later than an interval, and an interval and the longest round for each retry, its line was printed.
+/// If nothing came to the port, it was not complete, unless it was before (RFC 1350, section 2).
+pub fn a_server_closes_what_makes_no_progress<T: Store>()
+    ensures closes { ClosesWithoutProgress T.meaning T.Source.meaning }
+    ensures silent { TimesOutInSilence T.meaning T.Source.meaning }
+{}
+
+/// A server with a range of ports takes no port of it twice before it has taken each.
+pub fn a_range_gives_each_port_once()
+    ensures { UsesNoPortTwice }
+{}

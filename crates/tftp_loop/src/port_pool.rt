@@ -1,0 +1,154 @@
+//! The ports that transfers are bound to: the order in which they are used, and a spare one.
+
+ghost use Rattle.std.specs.Prelude.{◌≡◌, IfOk, IfSome, Some, option_map};
+ghost use Rattle.tftp_sockets.specs.Bound.{IsBoundTo};
+ghost use Rattle.tftp_loop.specs.PortOrder.{AreOneOf, IsOneOf, IsOrderOf};
+ghost use Rattle.tftp_loop.specs.PortPool.{IsOfPool};
+
+use crate::port_order::{PortOrder, PortRange};
+use crate::server_udp::ServerUdp;
+use std::alloc::Global;
+use std::io::{self, ErrorKind};
+use std::marker::Model;
+use tftp_ends::Endpoint;
+use tftp_sockets::ServerSocket;
+
+/// The ports of transfers. Contracts see their address and their range.
+#[derive(Drop)]
+pub(crate) struct PortPool {
+    /// The address of the ports.
+    ip: [u8; 4],
+    /// The order of the ports; `None` if the system chooses each.
+    order: Option<PortOrder>,
+    /// A bound port without a transfer.
+    spare: Option<ServerSocket>,
+}
+
+impl Model for PortPool {
+    ghost use Rattle.tftp_loop.specs.PortPool.{IsPool, PoolState, pool_state};
+
+    ghost Value = { PoolState };
+
+    ghost view = { λ pool. pool_state pool.ip pool.order };
+
+    ghost invariant = { λ pool. IsPool pool.ip pool.order pool.spare };
+}
+
+impl PortPool {
+    /// The ports at this address: those of the range in a random order, or those that the system
+    /// chooses. It fails if the system gives no random bytes, or when out of memory.
+    pub(crate) fn new<N: ServerUdp>(
+        net: &N,
+        alloc: Global,
+        ip: [u8; 4],
+        range: Option<PortRange>,
+    ) -> io::Result<PortPool>
+        ensures { IfOk result (λ pool. pool ≡ record { ip = ip; range = range }) }
+    {
+        let order = order_of(net, alloc, range)?;
+        Ok(PortPool {
+            ip,
+            order,
+            spare: None,
+        })
+    }
+
+    /// Takes the spare port, or binds one: the next of the order that is not in use, if there is an
+    /// order. `None` if that fails.
+    pub(crate) fn take_port<N: ServerUdp>(&mut self, net: &N) -> Option<ServerSocket>
+        ensures same { self.new ≡ self.old }
+        ensures port { IfSome result (IsOfPool self.old) }
+    {
+        if let Some(spare) = self.spare.take() {
+            return Some(spare);
+        }
+        let ip = self.ip;
+        match &mut self.order {
+            Some(order) => bind_next(net, ip, order),
+            None => bind_any(net, ip),
+        }
+    }
+
+    /// Keeps a port for the next transfer.
+    pub(crate) fn give_back(&mut self, spare: ServerSocket)
+        requires { IsOfPool self.old spare }
+        ensures { self.new ≡ self.old }
+    {
+        self.spare = Some(spare);
+    }
+}
+
+/// The order of the ports of transfers, if they are to come from a range.
+fn order_of<N: ServerUdp>(
+    net: &N,
+    alloc: Global,
+    range: Option<PortRange>,
+) -> io::Result<Option<PortOrder>>
+    ensures range { IfOk result (λ order. option_map (λ o. o.range) order ≡ range) }
+    ensures ports { IfOk result (λ order. IfSome order AreOneOf) }
+{
+    match range {
+        Some(range) => match ordered(net, alloc, range) {
+            Ok(order) => Ok(Some(order)),
+            Err(error) => Err(error),
+        },
+        None => Ok(None),
+    }
+}
+
+/// The ports of a range, in a random order.
+fn ordered<N: ServerUdp>(net: &N, alloc: Global, range: PortRange) -> io::Result<PortOrder>
+    ensures range { IfOk result (λ order. order.range ≡ range) }
+    ensures ports { IfOk result AreOneOf }
+{
+    net.order(alloc, range)
+}
+
+/// Binds a port of the system's choice. `None` if the system refuses.
+fn bind_any<N: ServerUdp>(net: &N, ip: [u8; 4]) -> Option<ServerSocket>
+    ensures { IfSome result (λ socket. socket.ip ≡ ip) }
+{
+    match net.bind(Endpoint { ip, port: 0 }) {
+        Ok(socket) => Some(socket),
+        Err(_) => None,
+    }
+}
+
+/// Binds the next port of the order that is not in use. `None` if all are, or if the system refuses
+/// for another reason.
+fn bind_next<N: ServerUdp>(net: &N, ip: [u8; 4], order: &mut PortOrder) -> Option<ServerSocket>
+    requires { AreOneOf order.old }
+    ensures range { order.new.range ≡ order.old.range }
+    ensures ports { AreOneOf order.new }
+    ensures bound { IfSome result (IsOfPool (record { ip = ip; range = Some order.old.range })) }
+{
+    for turn in 0..order.len() {
+        let port = next_port(order)?;
+        if let Some(socket) = bind_unused(net, ip, port).ok()? {
+            return Some(socket);
+        }
+    }
+    None
+}
+
+/// The next port of the order, which is then the last one. `None` if there are none.
+fn next_port(order: &mut PortOrder) -> Option<u16>
+    requires { AreOneOf order.old }
+    ensures range { order.new.range ≡ order.old.range }
+    ensures ports { AreOneOf order.new }
+    ensures port { IfSome result (IsOneOf (Some order.old.range)) }
+{
+    order.next()
+}
+
+/// Binds a port. `None` if it is in use.
+fn bind_unused<N: ServerUdp>(net: &N, ip: [u8; 4], port: u16) -> io::Result<Option<ServerSocket>>
+    ensures { IfOk result (λ bound. IfSome bound (λ socket.
+        IsBoundTo (record { ip = ip; port = port }) socket.ip socket.port)) }
+{
+    match net.bind(Endpoint { ip, port }) {
+        Ok(socket) => Ok(Some(socket)),
+        Err(error) if error.kind() == ErrorKind::AddrInUse => Ok(None),
+        Err(error) => Err(error),
+    }
+}

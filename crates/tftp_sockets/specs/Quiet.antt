@@ -1,0 +1,61 @@
+-- What a journal says of waits, and of the ports that were looked at between them (ours).
+use Rattle.std.specs.Prelude.{ℕ, ◌+◌, ◌==◌, ◌&&◌, ◌||◌, not, Bool, true, false, List, [], ◌∷◌}
+use Rattle.std.specs.List.{list_any}
+use Rattle.tftp_sockets.specs.Journal.{Event, QuietEvent}
+use Rattle.tftp_sockets.specs.Journal.Event.{Received, Sent, Watched, Elapsed, Printed, Quiet}
+use Rattle.tftp_sockets.specs.Journal.QuietEvent.{Empty, Failed, Slept, Woke}
+
+-- whether the port is one of these
+abbrev pub is_among : ℕ → List ℕ → Bool
+is_among port ports = list_any (λ p. p == port) ports
+
+-- whether a port is drained after this event, if it was, or was not, before
+abbrev pub drained_by : ℕ → QuietEvent → Bool → Bool
+drained_by port (Empty p) before = (p == port) || before
+drained_by port (Failed p) before = not (p == port) && before
+drained_by port (Slept millis) before = before
+drained_by port (Woke ports) before = not (is_among port ports) && before
+
+-- whether the newest word of the port is that a receive found nothing there
+abbrev pub is_drained : ℕ → List Event → Bool
+is_drained port [] = false
+is_drained port (Received p from bytes ∷ events) = not (p == port) && is_drained port events
+is_drained port (Sent p to bytes ∷ events) = is_drained port events
+is_drained port (Watched time ∷ events) = is_drained port events
+is_drained port (Elapsed p time ∷ events) = is_drained port events
+is_drained port (Printed line ∷ events) = is_drained port events
+is_drained port (Quiet event ∷ events) = drained_by port event (is_drained port events)
+
+-- whether a receive was tried at a port in this event, or since the newest wait before it
+abbrev pub tried_by : ℕ → QuietEvent → Bool → Bool
+tried_by port (Empty p) before = (p == port) || before
+tried_by port (Failed p) before = (p == port) || before
+tried_by port (Slept millis) before = false
+tried_by port (Woke ports) before = false
+
+-- whether a receive was tried at the port since the newest wait
+abbrev pub was_tried : ℕ → List Event → Bool
+was_tried port [] = false
+was_tried port (Received p from bytes ∷ events) = (p == port) || was_tried port events
+was_tried port (Sent p to bytes ∷ events) = was_tried port events
+was_tried port (Watched time ∷ events) = was_tried port events
+was_tried port (Elapsed p time ∷ events) = was_tried port events
+was_tried port (Printed line ∷ events) = was_tried port events
+was_tried port (Quiet event ∷ events) = tried_by port event (was_tried port events)
+
+-- how many waits this event is
+abbrev pub waits_in : QuietEvent → ℕ
+waits_in (Empty port) = 0
+waits_in (Failed port) = 0
+waits_in (Slept millis) = 1
+waits_in (Woke ports) = 0
+
+-- how many waits there were
+abbrev pub waits : List Event → ℕ
+waits [] = 0
+waits (Received p from bytes ∷ events) = waits events
+waits (Sent p to bytes ∷ events) = waits events
+waits (Watched time ∷ events) = waits events
+waits (Elapsed p time ∷ events) = waits events
+waits (Printed line ∷ events) = waits events
+waits (Quiet event ∷ events) = waits_in event + waits events

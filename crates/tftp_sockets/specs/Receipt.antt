@@ -1,0 +1,19 @@
+-- What a receive at a port notes (RFC 1350, section 4).
+use Rattle.std.specs.Prelude.{ℕ, ◌≤◌, ⊤, List, ◌∷◌, length, take}
+use Rattle.tftp_sockets.specs.Journal.{Event}
+use Rattle.tftp_sockets.specs.Journal.Event.{Received, Quiet}
+use Rattle.tftp_sockets.specs.Journal.QuietEvent.{Empty, Failed as Failure}
+use Rattle.tftp_sockets.specs.declared.receipt.Receipt.{Receipt}
+use Rattle.tftp_sockets.specs.declared.receipt.Receipt.TheVariants.{Datagram, Nothing, Failed}
+
+-- the event of a receive at the port into these bytes
+abbrev pub receive_event : ℕ → List ℕ → Receipt → Event
+receive_event port buffer (Datagram from count) = Received port from (take count buffer)
+receive_event port buffer Nothing = Quiet (Empty port)
+receive_event port buffer Failed = Quiet (Failure port)
+
+-- the datagram is in the buffer
+abbrev pub Fits : List ℕ → Receipt → Type 0
+Fits buffer (Datagram from count) = count ≤ length buffer
+Fits buffer Nothing = ⊤
+Fits buffer Failed = ⊤
