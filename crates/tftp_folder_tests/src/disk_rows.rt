@@ -3,9 +3,9 @@
 
 use crate::expect::{expect, expect_equal};
 use crate::scratch::{
-    has_bytes, has_file, lacks, make_folder, remove_folder, scratch_folder, write_file,
+    has_bytes, has_file, joined, lacks, make_folder, remove_folder, scratch_folder, write_file,
 };
-use crate::watched_files::{Calls, WatchedFiles};
+use crate::watched_files::{Calls, Exchange, WatchedFiles};
 use std::alloc::Global;
 use std::process::{self, Abort};
 use std::rc::Rc;
@@ -41,8 +41,8 @@ fn length_of<S: Store>(rt: &impl Abort, alloc: Global, store: &S, name: &str) ->
     opening.length
 }
 
-/// A file is read once for its length, and again once it has changed. A file that is too long is
-/// not read. A file whose text is too long is read again once a longer text is allowed.
+/// A text is read once for its length, whatever length can be sent, and again once it has changed. A
+/// file that is longer than can be sent is not read.
 #[test]
 fn a_file_is_measured_once(rt: HostRuntime) {
     let alloc = rt.alloc();
@@ -68,20 +68,13 @@ fn a_file_is_measured_once(rt: HostRuntime) {
     expect_equal(&rt, &calls.count('r'), &0, "the reads of a long file");
     write_file(&rt, folder, "c", b"\n\n");
     let length = length_of(&rt, alloc, &store, "c");
-    expect_equal(&rt, &length, &(MAX_WIRE + 1), "the length of a long text");
+    expect_equal(&rt, &length, &4, "the length of a long text");
     expect(&rt, calls.count('r') > 0, "a long text is read");
     calls.clear();
-    let length = length_of(&rt, alloc, &store, "c");
-    expect_equal(&rt, &length, &(MAX_WIRE + 1), "the same long text");
-    expect_equal(
-        &rt,
-        &calls.count('r'),
-        &0,
-        "the reads of the same long text",
-    );
     store.set_longest(4);
     let length = length_of(&rt, alloc, &store, "c");
-    expect_equal(&rt, &length, &4, "the length of a text that can be sent");
+    expect_equal(&rt, &length, &4, "the length of the same text");
+    expect_equal(&rt, &calls.count('r'), &0, "the reads of the same text");
     remove_folder(&rt, folder);
 }
 
@@ -142,20 +135,31 @@ fn two_servers_share_a_folder(rt: HostRuntime) {
     remove_folder(&rt, folder);
 }
 
-/// Twelve megabytes are synced three times before the commit, and each long block is one write.
+/// A draft is to be synced from a megabyte on, and is synced when that is let; without that, once 16
+/// megabytes are unsynced. Each long block is one write.
 #[test]
 fn a_long_put_is_synced_on_its_way(rt: HostRuntime) {
     let alloc = rt.alloc();
     let folder = scratch_folder(&rt, process::id(rt.process()), "synced");
     let folder = folder.as_str();
     let (mut store, calls) = watched(&rt, alloc, rt, folder);
+    store.set_port(4711);
     let mut draft = begun(&rt, alloc, &mut store, false);
     let block = Vec::from_elem(alloc, 7u8, 65_536).expect(&rt, "memory");
-    for _ in 0..192 {
+    expect_equal(&rt, &store.take_unsynced(), &None, "nothing to sync");
+    for _ in 0..16 {
         appends(&rt, &mut store, &mut draft, block.as_slice());
     }
-    expect_equal(&rt, &calls.count('w'), &192, "the writes");
-    expect_equal(&rt, &calls.count('d'), &3, "the syncs on the way");
+    expect_equal(&rt, &calls.count('w'), &16, "the writes");
+    expect_equal(&rt, &calls.count('d'), &0, "no sync yet");
+    expect_equal(&rt, &store.take_unsynced(), &Some(4711), "a draft to sync");
+    store.let_sync();
+    store.write_behind(&mut draft);
+    expect_equal(&rt, &calls.count('d'), &1, "the sync that was let");
+    for _ in 0..256 {
+        appends(&rt, &mut store, &mut draft, block.as_slice());
+    }
+    expect_equal(&rt, &calls.count('d'), &2, "the sync of 16 megabytes");
     let committed = commits(&rt, alloc, &mut store, &mut draft, false);
     expect_equal(&rt, &committed, &Ok(()), "the commit");
     remove_folder(&rt, folder);
@@ -247,7 +251,7 @@ const ERRORS: [(i32, StoreFault, Reason); 4] = [
     (28, StoreFault::Full, Reason::NoSpace),
     (24, StoreFault::Io, Reason::TooManyOpenFiles),
     (13, StoreFault::Io, Reason::PermissionDenied),
-    (5, StoreFault::Io, Reason::System(5)),
+    (5, StoreFault::Io, Reason::InputOutput),
 ];
 
 /// A call on the file `n` was refused with this fault, and the reason is returned once.
@@ -261,6 +265,69 @@ fn refused<R: Files + Drop, A: Abort>(
     expect_equal(rt, &fault, &Some(expected), "the fault");
     expect_equal(rt, &store.take_reason(), &Some(reason), "the reason");
     expect_equal(rt, &store.take_reason(), &None, "no second reason");
+}
+
+/// The exchange of a path in the folder for a link, at the next call on a name.
+fn exchange<R: AllocGlobal + Abort>(
+    rt: &R,
+    calls: &Calls,
+    folder: &str,
+    at: &str,
+    path: &str,
+    target: &str,
+) {
+    let alloc = rt.alloc();
+    calls.exchange(Exchange {
+        name: String::from_str(alloc, at).expect(rt, "memory"),
+        path: joined(rt, folder, path),
+        away: format!(in alloc; "{folder}/{path}-away").expect(rt, "memory"),
+        target: String::from_str(alloc, target).expect(rt, "memory"),
+    });
+}
+
+/// A folder that is exchanged for a link out, before its file is looked at, gives no file.
+#[test]
+fn a_read_stays_in_the_folder(rt: HostRuntime) {
+    let alloc = rt.alloc();
+    let scratch = scratch_folder(&rt, process::id(rt.process()), "stays");
+    let scratch = scratch.as_str();
+    write_file(&rt, scratch, "secret", b"S");
+    make_folder(&rt, scratch, "served/sub");
+    let folder = joined(&rt, scratch, "served");
+    let (store, calls) = watched(&rt, alloc, rt, folder.as_str());
+    exchange(&rt, &calls, scratch, "/secret", "served/sub", "..");
+    let opened = store
+        .open(alloc, &path(&rt, alloc, "sub/secret"), Mode::Octet)
+        .err();
+    refused(&rt, &store, opened, StoreFault::Io, Reason::FileReplaced);
+    remove_folder(&rt, scratch);
+}
+
+/// A name that is given in a folder that was exchanged for a link out is removed.
+#[test]
+fn a_wrong_name_is_removed(rt: HostRuntime) {
+    let alloc = rt.alloc();
+    let scratch = scratch_folder(&rt, process::id(rt.process()), "wrong");
+    let scratch = scratch.as_str();
+    make_folder(&rt, scratch, "out");
+    make_folder(&rt, scratch, "served/sub");
+    let folder = joined(&rt, scratch, "served");
+    let (mut store, calls) = watched(&rt, alloc, rt, folder.as_str());
+    let n = path(&rt, alloc, "sub/n");
+    let mut draft = store.begin(alloc, &n, false).expect(&rt, "a draft");
+    appends(&rt, &mut store, &mut draft, b"new");
+    exchange(&rt, &calls, scratch, "/sub/n", "served/sub", "../out");
+    let committed = store.commit(&n, &mut draft, false).err();
+    refused(
+        &rt,
+        &store,
+        committed,
+        StoreFault::Io,
+        Reason::FolderReplaced,
+    );
+    lacks(&rt, scratch, "out/n");
+    lacks(&rt, scratch, "served/sub-away/n");
+    remove_folder(&rt, scratch);
 }
 
 /// Each refused open, begin, append and commit has its reason, also if a write behind was refused.
@@ -290,5 +357,25 @@ fn reasons(rt: HostRuntime) {
         refused(&rt, &store, committed, fault, reason);
         lacks(&rt, folder, "n");
     }
+    remove_folder(&rt, folder);
+}
+
+/// A file that the server's user may not write is not replaced.
+#[test]
+fn a_protected_file_is_not_replaced(rt: HostRuntime) {
+    let alloc = rt.alloc();
+    let folder = scratch_folder(&rt, process::id(rt.process()), "protected");
+    let folder = folder.as_str();
+    write_file(&rt, folder, "n", b"old");
+    let (mut store, calls) = watched(&rt, alloc, rt, folder);
+    calls.protect();
+    let begun_with = store.begin(alloc, &path(&rt, alloc, "n"), true).err();
+    refused(
+        &rt,
+        &store,
+        begun_with,
+        StoreFault::Io,
+        Reason::PermissionDenied,
+    );
     remove_folder(&rt, folder);
 }

@@ -2,7 +2,7 @@
 
 use std::alloc::{AllocError, Allocator, Global};
 use std::cell::{Cell, RefCell};
-use std::fs::{Metadata, OpenFile, OpenOptions};
+use std::fs::{Metadata, OpenFile, OpenOptions, Permissions};
 use std::io::{self, Read, Seek, SeekFrom, Write};
 use std::path::PathBuf;
 use std::rc::Rc;
@@ -20,6 +20,23 @@ pub(crate) struct Calls {
     lacks_links: Cell<bool>,
     /// Whether the folder `elsewhere` is on another device.
     has_elsewhere: Cell<bool>,
+    /// Whether the file `n` may not be opened.
+    is_protected: Cell<bool>,
+    /// What happens once a name is linked or looked at.
+    exchange: RefCell<Option<Exchange>>,
+}
+
+/// A path that is moved away, with a link in its place, just before a call on a name.
+#[derive(Drop)]
+pub(crate) struct Exchange {
+    /// The end of the path of the call.
+    pub(crate) name: String,
+    /// The path.
+    pub(crate) path: String,
+    /// The path that it is moved to.
+    pub(crate) away: String,
+    /// The target of the link.
+    pub(crate) target: String,
 }
 
 impl Calls {
@@ -71,6 +88,29 @@ impl Calls {
         self.lacks_links.set(true);
     }
 
+    /// Sets each later opening of the file `n` to fail.
+    pub(crate) fn protect(&self) {
+        self.is_protected.set(true);
+    }
+
+    /// Sets what happens before the next call on a name.
+    pub(crate) fn exchange(&self, exchange: Exchange) {
+        if let Ok(mut next) = self.exchange.try_borrow_mut() {
+            *next = Some(exchange);
+        }
+    }
+
+    /// Takes what happens before a call on this path, if something does.
+    fn exchange_at(&self, path: &str) -> Option<Exchange> {
+        match self.exchange.try_borrow_mut() {
+            Ok(mut next) => match &*next {
+                Some(exchange) if path.ends_with(exchange.name.as_str()) => next.take(),
+                _ => None,
+            },
+            Err(_) => None,
+        }
+    }
+
     /// Puts the folder `elsewhere` on another device.
     pub(crate) fn move_elsewhere(&self) {
         self.has_elsewhere.set(true);
@@ -93,6 +133,8 @@ impl<R: Drop> WatchedFiles<R> {
             error: Cell::new(None),
             lacks_links: Cell::new(false),
             has_elsewhere: Cell::new(false),
+            is_protected: Cell::new(false),
+            exchange: RefCell::new(None),
         };
         Ok(WatchedFiles {
             rt,
@@ -150,6 +192,25 @@ impl<F: OpenFile + Drop> OpenFile for WatchedFile<F> {
         self.calls.note('d')?;
         self.file.sync_data()
     }
+
+    fn set_permissions(&self, permissions: Permissions) -> io::Result<()> {
+        self.file.set_permissions(permissions)
+    }
+}
+
+impl<R: Files + Drop> WatchedFiles<R> {
+    /// Makes the exchange that is set to happen before a call on this path.
+    fn make_exchange(&self, path: &str) -> io::Result<()> {
+        match self.calls.exchange_at(path) {
+            Some(exchange) => {
+                self.rt
+                    .rename(exchange.path.as_str(), exchange.away.as_str())?;
+                self.rt
+                    .symlink(exchange.target.as_str(), exchange.path.as_str())
+            }
+            None => Ok(()),
+        }
+    }
 }
 
 impl<R: Files + Drop> Files for WatchedFiles<R> {
@@ -159,6 +220,9 @@ impl<R: Files + Drop> Files for WatchedFiles<R> {
 
     fn open_file(&self, how: &OpenOptions, path: &str) -> io::Result<WatchedFile<R::File>> {
         self.calls.note('o')?;
+        if self.calls.is_protected.get() && path.ends_with("/n") {
+            return Err(io::Error::from_raw_os_error(13));
+        }
         let calls = self.calls.clone()?;
         match self.rt.open_file(how, path) {
             Ok(file) => Ok(WatchedFile { file, calls }),
@@ -179,6 +243,7 @@ impl<R: Files + Drop> Files for WatchedFiles<R> {
             // No file has the device of this metadata.
             return Ok(Metadata::of_dir());
         }
+        self.make_exchange(path)?;
         self.rt.symlink_metadata(path)
     }
 
@@ -216,6 +281,7 @@ impl<R: Files + Drop> Files for WatchedFiles<R> {
         if self.calls.lacks_links.get() {
             return Err(io::Error::from_raw_os_error(1));
         }
+        self.make_exchange(link)?;
         self.rt.hard_link(original, link)
     }
 }

@@ -4,8 +4,8 @@
 #![tactic(auto)]
 
 mod arguments;
-mod diagram;
 mod play;
+mod recording;
 
 pub use arguments::{play_command, play_words};
 pub use play::{play_drawn, play_run};

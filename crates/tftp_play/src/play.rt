@@ -8,11 +8,12 @@ mod datagram_line;
 mod fault;
 mod script_run;
 
-use crate::diagram::{Recording, svg_text};
+use crate::recording::Recording;
 pub(crate) use fault::PlayFault;
 use script_run::ScriptRun;
 use std::alloc::Global;
 use std::io::{self, Read, Write};
+use tftp_diagram::{Diagram, svg_text};
 use tftp_script::Script;
 
 /// Plays a script in a world of its own, and writes the effect of each event, and at the end the
@@ -74,7 +75,7 @@ where
     requires { F.IsAlwaysCallable picture }
 {
     let (is_complete, recording) = play(alloc, script, output, Some(Recording::new(alloc)))?;
-    if let Some(recording) = &recording {
+    if let Some(recording) = recording {
         let svg = picture_of(alloc, recording)?;
         match picture() {
             Ok(file) => write_picture(file, svg.as_str())?,
@@ -85,14 +86,24 @@ where
 }
 
 /// The text of a picture.
-fn picture_of(alloc: Global, recording: &Recording) -> Result<String, PlayFault>
+fn picture_of(alloc: Global, recording: Recording) -> Result<String, PlayFault>
     ensures memory { IfErr result (λ fault. fault ≡ Memory) }
-    ensures broken { OnOk result (recording.now.is_broken ≡ false) }
+    ensures broken { OnOk result (recording.is_broken ≡ false) }
 {
     if recording.is_broken {
         return Err(PlayFault::Memory);
     }
-    match svg_text(alloc, recording) {
+    match recording.into_diagram() {
+        Ok(diagram) => drawn(alloc, &diagram),
+        Err(_) => Err(PlayFault::Memory),
+    }
+}
+
+/// A diagram as the text of an SVG file.
+fn drawn(alloc: Global, diagram: &Diagram) -> Result<String, PlayFault>
+    ensures memory { IfErr result (λ fault. fault ≡ Memory) }
+{
+    match svg_text(alloc, diagram) {
         Ok(svg) => Ok(svg),
         Err(_) => Err(PlayFault::Memory),
     }

@@ -4,5 +4,6 @@
 use std::process::ExitCode;
 
 fn main(rt: HostRuntime) -> ExitCode {
+    let _streams = tftp_arguments::open_streams(&rt);
     ExitCode::from(tftp_play::play_command(&rt, rt.stderr()))
 }

@@ -4,20 +4,23 @@ use crate::expect::{expect_bytes, expect_equal};
 use tftp_play::play_words;
 use tftp_show::show_words;
 
-/// A word after the program's name, and the status: `tftp-show` accepts no argument but these two.
-const SHOW: [(&str, u8); 4] = [
-    ("--help", 0),
-    ("--version", 0),
-    ("--verbose", 2),
-    ("packets.hex", 2),
+/// Words after the program's name, and the status: `tftp-show` reads no file, and draws only what it
+/// reads with `--flow`.
+const SHOW: [(&[&str], u8); 6] = [
+    (&["tftp-show", "--help"], 0),
+    (&["tftp-show", "--version"], 0),
+    (&["tftp-show", "--verbose"], 2),
+    (&["tftp-show", "packets.hex"], 2),
+    (&["tftp-show", "--svg", "/dev/null"], 2),
+    (&["tftp-show", "--flow", "--transfer", "0"], 2),
 ];
 
 #[test]
 fn show_command_lines(rt: HostRuntime) {
-    for &(word, status) in &SHOW {
+    for &(words, status) in &SHOW {
         let mut errors = Vec::new(rt.alloc());
-        let answer = show_words(&rt, &["tftp-show", word], &mut errors);
-        expect_equal(&rt, &answer, &status, word);
+        let answer = show_words(&rt, words, &mut errors);
+        expect_equal(&rt, &(words, answer), &(words, status), "the status");
     }
 }
 

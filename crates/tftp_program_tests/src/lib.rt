@@ -9,6 +9,8 @@ mod expect;
 #[cfg(test)]
 mod faulty_streams;
 #[cfg(test)]
+mod flow_rows;
+#[cfg(test)]
 mod play_rows;
 #[cfg(test)]
 mod playing;

@@ -1,11 +1,10 @@
 //! Runs of `tftp-play` with a picture. The expected parts are derived from the scripts by hand.
 
-use crate::expect::{expect, expect_bytes, expect_equal};
+use crate::expect::{expect, expect_bytes, expect_equal, expect_lines};
 use crate::faulty_streams::Full;
 use crate::playing::draws;
 use std::alloc::Global;
 use std::io::{self, ErrorKind};
-use std::process::Abort;
 use std::test::Fail;
 use tftp_play::play_drawn;
 
@@ -15,8 +14,9 @@ const LOSSY: &str = "set retries 2\nfile boot.img 4142*300\nget boot.img octet\n
     deliver 0\ndeliver 0\ndeliver 1\ndeliver 2\ndeliver 2\ntimeout 1025\ndeliver 4\n\
     timeout 1025\ndeliver 6\ndeliver 7\ntimeout 1024\ntimeout 1024\n";
 
-/// Parts of its picture, and the number of its lines that have each.
-const LOSSY_PARTS: [(&str, usize); 17] = [
+/// Parts of its picture, and the number of its lines that have each; the legend has one of each mark.
+const LOSSY_PARTS: [(&str, usize); 19] = [
+    ("<title>tftp-play: TFTP over a lossy network</title>", 1),
     (">#0 RRQ boot.img octet<", 1),
     (">#1 DATA 1 512<", 1),
     (">#2 ACK 1<", 1),
@@ -27,11 +27,12 @@ const LOSSY_PARTS: [(&str, usize); 17] = [
     (">#7 ACK 2<", 1),
     (">#0 again<", 1),
     (">#2 again<", 1),
-    (" again<", 2),
-    ("class=\"arrow ", 8),
-    ("class=\"arrow repeat ", 2),
-    ("class=\"cross ", 2),
+    (" again<", 3),
+    ("class=\"arrow ", 10),
+    ("class=\"arrow repeat ", 3),
+    ("class=\"cross ", 3),
     (">timeout<", 4),
+    (">a timeout<", 1),
     (">closed Complete<", 2),
     (">10.0.0.1:69<", 2),
 ];
@@ -54,7 +55,24 @@ fn a_stranger(rt: HostRuntime) -> Result<(), Fail> {
     expect_lines(&rt, svg.as_str(), ">stray DATA 1 1<", 1);
     expect_lines(&rt, svg.as_str(), ">10.0.0.9:5000<", 2);
     expect_lines(&rt, svg.as_str(), ">#1 ERROR 5 (unknown transfer id)<", 1);
-    expect_lines(&rt, svg.as_str(), "class=\"cross ", 2);
+    expect_lines(&rt, svg.as_str(), "class=\"cross ", 3);
+    Ok(())
+}
+
+/// A read of one byte that loses nothing: the client waits for a repeat of the last block, so its
+/// end stays open.
+#[test]
+fn nothing_is_lost(rt: HostRuntime) -> Result<(), Fail> {
+    let script = b"file a 41\nget a octet\nsettle 0\n".as_slice();
+    let svg = draws(&rt, rt.alloc(), script)?;
+    expect_lines(
+        &rt,
+        svg.as_str(),
+        "<title>tftp-play: TFTP transfers</title>",
+        1,
+    );
+    expect_lines(&rt, svg.as_str(), ">still open<", 1);
+    expect_lines(&rt, svg.as_str(), "class=\"cross ", 0);
     Ok(())
 }
 
@@ -138,15 +156,4 @@ fn a_full_picture(rt: HostRuntime) {
         b"svg: unwritable\n".as_slice(),
         "the message",
     );
-}
-
-/// That many lines of the picture have this part.
-fn expect_lines(rt: &impl Abort, svg: &str, part: &str, count: usize) {
-    let mut found = 0usize;
-    for line in svg.lines() {
-        if line.contains(part) {
-            found = found.saturating_add(1);
-        }
-    }
-    expect_equal(rt, &found, &count, part);
 }

@@ -1,2 +1,4 @@
-pub mod ShowLemmas
+pub mod DataLemmas
 pub mod DigitsLemmas
+pub mod LinesLemmas
+pub mod ShowLemmas

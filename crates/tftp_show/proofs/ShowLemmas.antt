@@ -7,19 +7,13 @@ use Rattle.std.specs.declared.result.Result.TheVariants.{Ok, Err}
 use Rattle.std.specs.Io.BufRead.{take_through, drop_through, strip_last, DropsThrough}
 use Rattle.std.specs.Io.KnownBytes.{Appends}
 use Rattle.hex.specs.Hex.{decode_of}
-use Rattle.hex.specs.declared.error.FromHexError.{FromHexError}
-use Rattle.tftp_show.specs.Show.{onto_first, lines_of, line_shown, spells_packet, DecodesHex, are_packets, input_shown}
+use Rattle.tftp_show.specs.Show.{onto_first, lines_of, line_shown, spells_packet, are_packets, input_shown}
 
 by_test : {G : Type 0} (b : Bool) → (b ≡ true → G) → (b ≡ false → G) → G
 by_test true holds fails = holds refl
 by_test false holds fails = fails refl
 
 -- ---- a line
-
--- digits that are hexadecimal
-pub is_decoded : (d : Result (List ℕ) FromHexError) (b : Bool) (new : List ℕ) → DecodesHex d b new → b ≡ true → d ≡ Ok new
-is_decoded (Ok bytes) b new h e = ap Ok (sym h.1)
-is_decoded (Err f) b new h e = absurd (cc)
 
 -- another error instead of one
 pub kept_ok : {E D : Type 0} (r : Result Bool E) (s : Result Bool D) (Q : E → D → Type 0) (P : Bool → Type 0) → MatchResult r (λ x. s ≡ Ok x) (λ e. IsErrAnd s (Q e)) → IfOk r P → IfOk s P

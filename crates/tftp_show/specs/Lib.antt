@@ -1,1 +1,5 @@
+pub mod Data
+pub mod Digits
+pub mod Lines
 pub mod Show
+pub mod Flow

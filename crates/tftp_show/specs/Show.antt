@@ -1,5 +1,5 @@
 -- The output of `tftp-show` for an input, and its status.
-use Rattle.std.specs.Prelude.{ℕ, ◌≡◌, ◌==◌, Bool, true, false, if◌then◌else◌, List, [], ◌∷◌, ◌++◌}
+use Rattle.std.specs.Prelude.{ℕ, ◌==◌, Bool, false, if◌then◌else◌, List, [], ◌∷◌, ◌++◌}
 use Rattle.std.specs.Prelude.{codes, is_none, Result, Ok, Err}
 use Rattle.std.specs.List.{flat_map, list_all}
 use Rattle.hex.specs.Hex.{decode_of}
@@ -30,11 +30,6 @@ line_shown digits = decoded_shown (decode_of digits)
 abbrev pub spells_packet : Result (List ℕ) FromHexError → Bool
 spells_packet (Ok bytes) = is_none (first_fault bytes)
 spells_packet (Err e) = false
-
--- digits are hexadecimal if they decode, and then the bytes are the decoded ones
-abbrev pub DecodesHex : Result (List ℕ) FromHexError → Bool → List ℕ → Type 0
-DecodesHex (Ok decoded) is_hex bytes = (is_hex ≡ true) × (bytes ≡ decoded)
-DecodesHex (Err e) is_hex bytes = is_hex ≡ false
 
 -- whether all lines are packets
 abbrev pub are_packets : List ℕ → Bool

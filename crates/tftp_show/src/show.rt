@@ -1,22 +1,25 @@
 //! `tftp-show`: reads lines of hexadecimal digits, and writes a line for each datagram.
 
+mod data;
 mod digits;
 mod fault;
+mod lines;
 
-ghost use Rattle.std.specs.Prelude.{◌≡◌, ◌≤◌, ◌+◌, ◌++◌, ◌⊎◌, IfErr, IfOk, IfSome, OnOk, vec_len};
-ghost use Rattle.std.specs.Io.BufRead.{DropsThrough, strip_last, take_through};
-ghost use Rattle.std.specs.Io.KnownBytes.{Appends, IsAtEnd};
+ghost use Rattle.std.specs.Prelude.{◌≡◌, ◌≤◌, ◌++◌, ◌⊎◌, IfOk, IfSome, OnOk};
+ghost use Rattle.std.specs.Io.BufRead.{strip_last};
+ghost use Rattle.std.specs.Io.KnownBytes.{Appends};
 ghost use Rattle.std.specs.String.{string_bytes};
 ghost use Rattle.hex.specs.Hex.{decode_of};
 ghost use Rattle.tftp_show.specs.Show.{line_shown, spells_packet, are_packets, input_shown};
 ghost use Rattle.tftp_show.specs.Show.{status_of};
-ghost use Rattle.tftp_show.specs.declared.show.fault.ShowFault.TheVariants.{Memory, Unreadable};
 
-use crate::show::digits::decode_digits;
+use crate::show::data::shown_data;
+use crate::show::digits::{decode_digits, is_hex};
+use crate::show::lines::read_line;
 pub use fault::ShowFault;
 use std::alloc::{AllocError, Global};
 use std::io::{self, BufRead, BufReader, BufWriter, Read, Write};
-use tftp_wire::show_datagram;
+use tftp_wire::{show_datagram, show_ref};
 
 /// Reads lines of hexadecimal digits, each a datagram, and writes for each its packet, or
 /// `fault KIND AT`, or `not hex`.
@@ -92,21 +95,6 @@ pub fn show_lines<R: BufRead, W: Write>(
     Err(ShowFault::Unreadable)
 }
 
-/// Appends the next line with its line feed, and returns its length, which is 0 at the end.
-fn read_line<R: BufRead>(input: &mut R, line: &mut Vec<u8>) -> Result<usize, ShowFault>
-    ensures ok { IfOk result (λ n. vec_len line.new ≡ vec_len line.old + n) }
-    ensures bytes { OnOk result (IfSome (R.remaining input.old) (λ left.
-        line.new.items ≡ line.old.items ++ take_through 10 left)) }
-    ensures rest { OnOk result (DropsThrough (R.remaining input.old) (R.remaining input.new) 10) }
-    ensures end { IfOk result (λ n. n ≡ 0 → IsAtEnd (R.remaining input.old)) }
-    ensures fault { IfErr result (λ fault. (fault ≡ Memory) ⊎ (fault ≡ Unreadable)) }
-{
-    match input.read_until(b'\n', line) {
-        Ok(count) => Ok(count),
-        Err(error) => Err(ShowFault::of_reading(&error)),
-    }
-}
-
 /// The line without its line feed.
 fn without_end(line: &[u8]) -> &[u8]
     ensures { result.now ≡ strip_last 10 line.now }
@@ -124,9 +112,14 @@ fn show_line(digits: &[u8], bytes: &mut Vec<u8>, text: &mut String) -> Result<bo
     ensures appended { OnOk result
         (string_bytes text.new ≡ string_bytes text.old ++ line_shown digits.now) }
 {
-    if !decode_digits(digits, bytes)? {
+    if !is_hex(digits) {
         text.push_str("not hex")?;
         return Ok(false);
     }
+    if let Some(packet) = shown_data(digits) {
+        show_ref(&packet, text).map_err(|_| AllocError)?;
+        return Ok(true);
+    }
+    decode_digits(digits, bytes)?;
     show_datagram(bytes.as_slice(), text).map_err(|_| AllocError)
 }

@@ -5,9 +5,9 @@ ghost use Rattle.tftp_player.specs.Arriving.{IsPlayable};
 ghost use Rattle.tftp_server.specs.Config.{IsConfig};
 ghost use Rattle.tftp_store.specs.Memory.{contents, has_distinct_paths};
 
-use crate::diagram::Recording;
 use crate::play::PlayFault;
 use crate::play::datagram_line::DatagramLine;
+use crate::recording::Recording;
 use rand_core::SeedableRng;
 use rand_pcg::Pcg32;
 use std::alloc::{AllocError, Global};
@@ -114,14 +114,22 @@ impl<W: Write + Drop> ScriptRun<W> {
     /// Writes the record of each end, and returns whether every client is complete, and the
     /// recording.
     pub(crate) fn finish(mut self) -> Result<(bool, Option<Recording>), PlayFault> {
+        self.write_ends()?;
+        let is_complete = self.is_complete();
+        let mut recording = self.recording;
+        if let Some(recording) = &mut recording {
+            recording.name_sides(self.world.records());
+        }
+        Ok((is_complete, recording))
+    }
+
+    /// Writes the record of each end.
+    fn write_ends(&mut self) -> Result<(), PlayFault> {
         for (port, record) in self.world.records() {
             write_end(&mut self.output, *port, record)?;
         }
         self.output.flush()?;
-        if let Some(recording) = &mut self.recording {
-            recording.name_sides(self.world.records());
-        }
-        Ok((self.is_complete(), self.recording))
+        Ok(())
     }
 
     fn is_complete(&self) -> bool {

@@ -25,6 +25,12 @@ pub enum ShowFault {
     /// An allocation failed.
     #[error("out of memory")]
     Memory,
+    /// The picture could not be opened or written.
+    #[error("svg unwritable")]
+    Undrawn,
+    /// The capture has no transfer of this number.
+    #[error("no such transfer")]
+    NoTransfer,
 }
 
 impl ShowFault {

@@ -7,8 +7,7 @@ pub loop-i-init : goal.loop-i-init
 loop-i-init c = pairs_begin _ _ c.requires
 
 pub loop-i-preserved : goal.loop-i-preserved
-loop-i-preserved c = rw (c.max-largest.ensures, c.max.ensures)
-    (pairs_go_on _ _ _ _ _ _ (omega arith) c.loop-i.invariant c.digit_value-high.ensures c.digit_value-low.ensures)
+loop-i-preserved c = pairs_go_on _ _ _ _ (omega arith) c.loop-i.invariant c.byte_of.ensures
 
 pub returns : goal.returns
-returns c = pairs_end _ _ _ _ (omega arith) c.loop-i.invariant
+returns c = pairs_end _ _ _ (omega arith) c.loop-i.invariant

@@ -1,0 +1,136 @@
+//! The lanes: a line for each port, with its name at both ends, and bold while an end is open.
+
+use crate::diagram::{Diagram, Lane};
+use crate::ink::Ink;
+use crate::layout::columns::Columns;
+use crate::layout::{
+    Anchor, Font, Frame, Layout, Line, Point, Stroke, Text, closing_of, foot_of, sending_of,
+    width_of,
+};
+use std::alloc::{AllocError, Global};
+
+/// The upper edge of the frames, and their height.
+const BOX_TOP: u32 = 72;
+
+const BOX_HEIGHT: u32 = 40;
+
+impl Layout {
+    /// Adds all lanes.
+    pub(crate) fn add_lanes(
+        &mut self,
+        alloc: Global,
+        diagram: &Diagram,
+        columns: &Columns,
+    ) -> Result<(), AllocError> {
+        for (index, lane) in diagram.lanes.iter().enumerate() {
+            let x = columns.x_of(index);
+            self.add_lane_line(diagram, x, lane)?;
+            self.add_open_line(alloc, diagram, x, index)?;
+            self.add_frame(alloc, x, lane)?;
+            self.add_foot(diagram, x, lane)?;
+        }
+        Ok(())
+    }
+
+    fn add_lane_line(&mut self, diagram: &Diagram, x: u32, lane: &Lane) -> Result<(), AllocError> {
+        let top = BOX_TOP + BOX_HEIGHT;
+        let foot = foot_of(diagram).saturating_add(12);
+        self.lines.push(Line {
+            from: Point { x, y: top },
+            to: Point { x, y: foot },
+            ink: Ink::of_host(lane.host),
+            stroke: Stroke::Lane,
+        })?;
+        Ok(())
+    }
+
+    /// From where the end sends its first datagram to where it closes, or to the foot.
+    fn add_open_line(
+        &mut self,
+        alloc: Global,
+        diagram: &Diagram,
+        x: u32,
+        index: usize,
+    ) -> Result<(), AllocError> {
+        let Some(first) = first_sent(diagram, index) else {
+            return Ok(());
+        };
+        let foot = match closing_in(diagram, index) {
+            Some(close) => close,
+            None => {
+                let foot = foot_of(diagram);
+                let text = String::from_str(alloc, "still open")?;
+                self.add_middle(x, foot.saturating_add(44), Font::Plain, Ink::Timeout, text)?;
+                foot.saturating_add(12)
+            }
+        };
+        self.lines.push(Line {
+            from: Point { x, y: first },
+            to: Point { x, y: foot },
+            ink: Ink::of_host(diagram.host_of(index)),
+            stroke: Stroke::Open,
+        })?;
+        Ok(())
+    }
+
+    /// The frame at the head of a lane, with its endpoint and what is there.
+    fn add_frame(&mut self, alloc: Global, x: u32, lane: &Lane) -> Result<(), AllocError> {
+        let width = width_of(lane.name.as_str()).saturating_add(20);
+        let ink = Ink::of_host(lane.host);
+        self.frames.push(Frame {
+            corner: Point {
+                x: x.saturating_sub(width / 2),
+                y: BOX_TOP,
+            },
+            width,
+            height: BOX_HEIGHT,
+            edge: Some(ink),
+        })?;
+        self.add_middle(x, BOX_TOP + 17, Font::Code, ink, lane.name.clone()?)?;
+        let role = String::from_str(alloc, lane.role)?;
+        self.add_middle(x, BOX_TOP + 33, Font::Plain, ink, role)
+    }
+
+    /// The endpoint at the foot of a lane.
+    fn add_foot(&mut self, diagram: &Diagram, x: u32, lane: &Lane) -> Result<(), AllocError> {
+        let y = foot_of(diagram).saturating_add(28);
+        let name = lane.name.clone()?;
+        self.add_middle(x, y, Font::Code, Ink::of_host(lane.host), name)
+    }
+
+    fn add_middle(
+        &mut self,
+        x: u32,
+        y: u32,
+        font: Font,
+        ink: Ink,
+        text: String,
+    ) -> Result<(), AllocError> {
+        self.texts.push(Text {
+            at: Point { x, y },
+            anchor: Anchor::Middle,
+            font,
+            ink,
+            text,
+        })?;
+        Ok(())
+    }
+}
+
+/// Where the end of a lane sends its first datagram.
+fn first_sent(diagram: &Diagram, index: usize) -> Option<u32> {
+    if !diagram.lanes.get(index)?.is_end {
+        return None;
+    }
+    let first = diagram.flights.iter().find(|flight| flight.from == index)?;
+    Some(sending_of(first.sent))
+}
+
+/// Where the end of a lane closes.
+fn closing_in(diagram: &Diagram, index: usize) -> Option<u32> {
+    let close = diagram
+        .marks
+        .iter()
+        .find(|mark| mark.lane == index && mark.kind.is_close())?;
+    Some(closing_of(close.row))
+}

@@ -1,0 +1,378 @@
+//! The record of a run, to be drawn: what happens in a world, as a sequence diagram.
+
+use std::alloc::{AllocError, Global};
+use tftp_diagram::{Course, Diagram, Flight, Host, Lane, MAX_ROWS, Mark, MarkKind, Row, shortened};
+use tftp_ends::{Endpoint, Outcome, Record, Side};
+use tftp_machine::{CLIENT_IP, SERVER_IP, is_foreign};
+use tftp_player::{Event, Report, World};
+use tftp_wire::show_datagram;
+
+/// The part of a run that is drawn.
+#[derive(Drop)]
+pub(crate) struct Recording {
+    alloc: Global,
+    /// The picture, in which the roles of the lanes are missing until the run is over.
+    diagram: Diagram,
+    /// The endpoint of each lane.
+    ports: Vec<Endpoint>,
+    /// The index of each datagram of the picture in all that was sent; none for a stray.
+    indices: Vec<Option<usize>>,
+    /// An allocation failed, so the recording is incomplete.
+    pub(crate) is_broken: bool,
+}
+
+/// The cause of a row.
+#[derive(Clone, Copy)]
+pub(crate) enum Cause {
+    /// A client opened.
+    Opening,
+    /// The flight at this index arrived; none if it has no row.
+    Arrival(Option<usize>),
+    /// A timeout of the end at this port.
+    Timeout(u16),
+    /// The store of the end at this port is set to refuse.
+    Refusal(u16),
+}
+
+/// A datagram that is sent in a row.
+#[derive(Clone, Copy)]
+struct Sending<'a> {
+    row: Row,
+    /// Its index in all that was sent; none for a stray.
+    index: Option<usize>,
+    from: Endpoint,
+    to: Endpoint,
+    bytes: &'a [u8],
+    /// The destination of the request that a new end answers with this.
+    opened_at: Option<Endpoint>,
+}
+
+impl Recording {
+    /// An empty recording.
+    pub(crate) fn new(alloc: Global) -> Recording {
+        Recording {
+            alloc,
+            diagram: Diagram {
+                title: String::new(alloc),
+                summary: String::new(alloc),
+                lanes: Vec::new(alloc),
+                flights: Vec::new(alloc),
+                marks: Vec::new(alloc),
+                times: Vec::new(alloc),
+                rows: 0,
+                left_out: 0,
+            },
+            ports: Vec::new(alloc),
+            indices: Vec::new(alloc),
+            is_broken: false,
+        }
+    }
+
+    /// The cause of an event, before it happens. A stray is sent then.
+    pub(crate) fn cause_of(&mut self, event: &Event) -> Cause {
+        match event {
+            Event::Get { .. } | Event::Put { .. } => Cause::Opening,
+            Event::Deliver(index) => Cause::Arrival(self.flight_of(*index)),
+            Event::Timeout(port) => Cause::Timeout(*port),
+            Event::RefuseStore(port) => Cause::Refusal(*port),
+            Event::Stray(from, to, bytes) => {
+                Cause::Arrival(self.add_stray(*from, *to, bytes.as_slice()))
+            }
+        }
+    }
+
+    /// Records the report of an event.
+    pub(crate) fn add(&mut self, cause: Cause, report: &Report, world: &World) {
+        if self.try_add(cause, report, world).is_err() {
+            self.is_broken = true;
+        }
+    }
+
+    /// Records what is at the lanes: the ends of these records.
+    pub(crate) fn name_sides(&mut self, records: &[(u16, Record)]) {
+        for (lane, at) in self.diagram.lanes.iter_mut().zip(self.ports.iter()) {
+            let side = side_at(records, *at);
+            lane.role = role_of(side, at);
+            lane.is_end = side.is_some();
+        }
+    }
+
+    /// The picture of the run.
+    pub(crate) fn into_diagram(self) -> Result<Diagram, AllocError> {
+        let mut diagram = self.diagram;
+        diagram.title = String::from_str(self.alloc, title_of(&diagram))?;
+        diagram.summary = summary_of(self.alloc, &diagram)?;
+        Ok(diagram)
+    }
+
+    fn try_add(&mut self, cause: Cause, report: &Report, world: &World) -> Result<(), AllocError> {
+        let Some(row) = self.next_row() else {
+            self.miss(cause);
+            return Ok(());
+        };
+        let reply = report.added.and_then(|index| world.sent().get(index));
+        let reply_to = reply.map(|datagram| datagram.to);
+        let at = self.happen(cause, row, reply_to, world.records())?;
+        if let Some(datagram) = reply {
+            self.send(Sending {
+                row,
+                index: report.added,
+                from: datagram.from,
+                to: datagram.to,
+                bytes: datagram.bytes.as_slice(),
+                opened_at: at.filter(|at| *at != datagram.from),
+            })?;
+        }
+        if let Some((port, outcome)) = report.closed {
+            let closed = end_at(world.records(), port);
+            let text = format!(in self.alloc; "closed {outcome}")?;
+            self.mark(closed, row, close_of(outcome), text, reply_to)?;
+        }
+        Ok(())
+    }
+
+    /// The next row, if one is left.
+    fn next_row(&mut self) -> Option<Row> {
+        if self.diagram.rows >= MAX_ROWS {
+            return None;
+        }
+        let row = self.diagram.rows;
+        self.diagram.rows += 1;
+        Some(row)
+    }
+
+    /// Counts an event that has no row.
+    fn miss(&mut self, cause: Cause) {
+        self.diagram.left_out = self.diagram.left_out.saturating_add(1);
+        if let Cause::Arrival(Some(index)) = cause
+            && let Some(flight) = self.diagram.flights.get_mut(index)
+        {
+            flight.arrives_later = true;
+        }
+    }
+
+    /// Records a cause, and returns its endpoint.
+    fn happen(
+        &mut self,
+        cause: Cause,
+        row: Row,
+        reply_to: Option<Endpoint>,
+        records: &[(u16, Record)],
+    ) -> Result<Option<Endpoint>, AllocError> {
+        match cause {
+            Cause::Opening => Ok(None),
+            Cause::Arrival(index) => self.arrive(index, row),
+            Cause::Timeout(port) => {
+                let text = String::from_str(self.alloc, "timeout")?;
+                let at = end_at(records, port);
+                self.mark(at, row, MarkKind::Timeout, text, reply_to)
+            }
+            Cause::Refusal(port) => {
+                let text = String::from_str(self.alloc, "store refuses next")?;
+                let at = end_at(records, port);
+                self.mark(at, row, MarkKind::Refusal, text, reply_to)
+            }
+        }
+    }
+
+    /// Records that a flight arrived, and returns its destination.
+    fn arrive(&mut self, index: Option<usize>, row: Row) -> Result<Option<Endpoint>, AllocError> {
+        let Some(index) = index else {
+            return Ok(None);
+        };
+        let Some(flight) = self.diagram.flights.get_mut(index) else {
+            return Ok(None);
+        };
+        flight.arrivals.push(row)?;
+        Ok(self.ports.get(flight.to).copied())
+    }
+
+    /// Records a mark, and returns its endpoint.
+    fn mark(
+        &mut self,
+        at: Option<Endpoint>,
+        row: Row,
+        kind: MarkKind,
+        text: String,
+        reply_to: Option<Endpoint>,
+    ) -> Result<Option<Endpoint>, AllocError> {
+        if let Some(at) = at {
+            let reply_to = match reply_to {
+                Some(to) => Some(self.lane_of(to)?),
+                None => None,
+            };
+            let lane = self.lane_of(at)?;
+            self.diagram.marks.push(Mark {
+                lane,
+                row,
+                kind,
+                text,
+                reply_to,
+            })?;
+        }
+        Ok(at)
+    }
+
+    /// Records that a datagram was sent.
+    fn send(&mut self, sending: Sending<'_>) -> Result<(), AllocError> {
+        let from = self.lane_of(sending.from)?;
+        let to = self.lane_of(sending.to)?;
+        let opened_at = match sending.opened_at {
+            Some(at) => Some(self.lane_of(at)?),
+            None => None,
+        };
+        let flight = Flight {
+            from,
+            to,
+            label: label_of(self.alloc, sending.index, sending.bytes)?,
+            again: again_of(self.alloc, sending.index)?,
+            opened_at,
+            sent: sending.row,
+            course: Course::Followed,
+            arrivals: Vec::new(self.alloc),
+            arrives_later: false,
+        };
+        self.indices.push(sending.index)?;
+        self.diagram.flights.push(flight)?;
+        Ok(())
+    }
+
+    /// Records that a stray is sent, and returns its index if it has a row.
+    fn add_stray(&mut self, from: Endpoint, to: Endpoint, bytes: &[u8]) -> Option<usize> {
+        let row = self.next_row()?;
+        let index = self.diagram.flights.len();
+        let stray = Sending {
+            row,
+            index: None,
+            from,
+            to,
+            bytes,
+            opened_at: None,
+        };
+        if self.send(stray).is_err() {
+            self.is_broken = true;
+            return None;
+        }
+        Some(index)
+    }
+
+    /// The lane of an endpoint, which is added if there is none.
+    fn lane_of(&mut self, at: Endpoint) -> Result<usize, AllocError> {
+        if let Some(lane) = self.ports.iter().position(|port| *port == at) {
+            return Ok(lane);
+        }
+        let lane = self.ports.len();
+        self.diagram.lanes.push(Lane {
+            host: host_of(at),
+            name: format!(in self.alloc; "{at}")?,
+            role: "",
+            is_end: false,
+        })?;
+        self.ports.push(at)?;
+        Ok(lane)
+    }
+
+    /// The index of the flight of this datagram.
+    fn flight_of(&self, index: usize) -> Option<usize> {
+        self.indices.iter().position(|it| *it == Some(index))
+    }
+}
+
+/// The title of a picture: a network that lost nothing is not called lossy.
+fn title_of(diagram: &Diagram) -> &'static str {
+    if diagram.flights.iter().any(Flight::is_lost) {
+        "tftp-play: TFTP over a lossy network"
+    } else {
+        "tftp-play: TFTP transfers"
+    }
+}
+
+/// The result of the run.
+fn summary_of(alloc: Global, diagram: &Diagram) -> Result<String, AllocError> {
+    let flights = &diagram.flights;
+    let sent = flights.len();
+    let lost = flights.iter().filter(|flight| flight.is_lost()).count();
+    let again = flights.iter().filter(|flight| flight.is_repeated()).count();
+    let timeouts = diagram
+        .marks
+        .iter()
+        .filter(|mark| mark.kind == MarkKind::Timeout)
+        .count();
+    let mut text = format!(in alloc; "{sent} datagrams: {lost} never delivered, ")?;
+    write!(
+        text,
+        "{again} delivered more than once. {timeouts} timeouts."
+    )?;
+    Ok(text)
+}
+
+/// The label of a datagram: its number, or that it is a stray, and its line.
+fn label_of(alloc: Global, index: Option<usize>, bytes: &[u8]) -> Result<String, AllocError> {
+    let mut label = String::new(alloc);
+    match index {
+        Some(index) => write!(label, "#{index} ")?,
+        None => label.push_str("stray ")?,
+    }
+    show_datagram(bytes, &mut label).map_err(|_| AllocError)?;
+    shortened(alloc, label)
+}
+
+/// The note beside a repeat of a datagram.
+fn again_of(alloc: Global, index: Option<usize>) -> Result<String, AllocError> {
+    match index {
+        Some(index) => format!(in alloc; "#{index} again"),
+        None => String::from_str(alloc, "stray again"),
+    }
+}
+
+/// How a close is drawn.
+fn close_of(outcome: Outcome) -> MarkKind {
+    match outcome {
+        Outcome::Complete => MarkKind::Completed,
+        _ => MarkKind::Failed,
+    }
+}
+
+/// The host of an endpoint.
+fn host_of(at: Endpoint) -> Host {
+    if at.ip == CLIENT_IP {
+        Host::Client
+    } else if at.ip == SERVER_IP {
+        Host::Server
+    } else {
+        Host::Stranger
+    }
+}
+
+/// What is at a lane.
+fn role_of(side: Option<Side>, at: &Endpoint) -> &'static str {
+    match side {
+        Some(Side::ClientRead) => "client, reads",
+        Some(Side::ClientWrite) => "client, writes",
+        Some(Side::ServerRead) => "server, a read",
+        Some(Side::ServerWrite) => "server, a write",
+        None if is_foreign(at) => "stranger",
+        None if at.port == 69 => "request port",
+        None => "no end",
+    }
+}
+
+/// The endpoint of the end at this port.
+fn end_at(records: &[(u16, Record)], port: u16) -> Option<Endpoint> {
+    let (_, record) = records.iter().find(|(at, _)| *at == port)?;
+    let ip = if record.side.is_client() {
+        CLIENT_IP
+    } else {
+        SERVER_IP
+    };
+    Some(Endpoint { ip, port })
+}
+
+/// The side of the end there, if there is one.
+fn side_at(records: &[(u16, Record)], at: Endpoint) -> Option<Side> {
+    if end_at(records, at.port) != Some(at) {
+        return None;
+    }
+    let (_, record) = records.iter().find(|(port, _)| *port == at.port)?;
+    Some(record.side)
+}

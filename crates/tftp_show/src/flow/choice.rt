@@ -1,0 +1,107 @@
+//! Which datagrams of a transfer are drawn: all if each has a row, or else the first, the last and
+//! those around a repeat.
+
+use crate::flow::event::Event;
+use std::alloc::{AllocError, Global};
+
+/// The datagrams at the start of a long transfer that are drawn.
+const FIRST: usize = 40;
+
+/// The datagrams at its end that are drawn.
+const LAST: usize = 60;
+
+/// The most rows of a repeat, of what it repeats and of the answer to that: one each, and one each
+/// for what is not drawn beside it.
+const REPEAT_ROWS: usize = 6;
+
+/// The datagrams that are drawn.
+#[derive(Drop)]
+pub(crate) struct Choice {
+    /// Of each datagram, whether it is drawn.
+    drawn: Vec<bool>,
+    /// The rows of these, and one for each stretch that is not drawn.
+    rows: usize,
+}
+
+impl Choice {
+    /// The choice for so many rows. Of a long transfer each repeat is drawn with what it repeats
+    /// and the first answer to that, from the first repeat on, while there are rows for them.
+    pub(crate) fn new(alloc: Global, events: &[Event], rows: usize) -> Result<Choice, AllocError> {
+        let mut choice = Choice {
+            drawn: Vec::new(alloc),
+            rows: FIRST + LAST + 1,
+        };
+        let is_long = events.len() > rows;
+        let last = events.len().saturating_sub(LAST);
+        for index in 0..events.len() {
+            choice
+                .drawn
+                .push(!is_long || index < FIRST || index >= last)?;
+        }
+        if is_long {
+            choice.add_repeats(events, rows);
+        }
+        Ok(choice)
+    }
+
+    /// Whether a datagram is drawn.
+    pub(crate) fn has(&self, index: usize) -> bool {
+        self.drawn.get(index).copied().unwrap_or(false)
+    }
+
+    fn add_repeats(&mut self, events: &[Event], rows: usize) {
+        for (index, event) in events.iter().enumerate() {
+            if event.gap.is_some() && self.rows.saturating_add(REPEAT_ROWS) <= rows {
+                self.add_repeat(events, index, event);
+            }
+        }
+    }
+
+    fn add_repeat(&mut self, events: &[Event], index: usize, event: &Event) {
+        self.add(index);
+        let Some((before, repeated)) = repeated_by(events, index, event) else {
+            return;
+        };
+        self.add(before);
+        if repeated.gap.is_none() {
+            if let Some(answer) = answer_to(events, before, repeated) {
+                self.add(answer);
+            }
+        }
+    }
+
+    /// Draws a datagram. It needs a row, and cuts a stretch that is not drawn in two, or shortens
+    /// it, or was all of it.
+    fn add(&mut self, index: usize) {
+        if self.has(index) {
+            return;
+        }
+        let is_after = index.checked_sub(1).is_some_and(|before| self.has(before));
+        let is_before = self.has(index.saturating_add(1));
+        let rows = match (is_after, is_before) {
+            (true, true) => 0,
+            (true, false) | (false, true) => 1,
+            (false, false) => 2,
+        };
+        self.rows = self.rows.saturating_add(rows);
+        if let Some(drawn) = self.drawn.get_mut(index) {
+            *drawn = true;
+        }
+    }
+}
+
+/// The newest datagram before this one that it repeats.
+fn repeated_by<'e>(events: &'e [Event], index: usize, event: &Event) -> Option<(usize, &'e Event)> {
+    let mut earlier = events.iter().enumerate().take(index).rev();
+    earlier.find(|(_, it)| it.by == event.by && it.what == event.what)
+}
+
+/// The first datagram of the other end after this one that repeats nothing.
+fn answer_to(events: &[Event], index: usize, event: &Event) -> Option<usize> {
+    events
+        .iter()
+        .enumerate()
+        .skip(index)
+        .find(|(_, after)| after.by != event.by && after.gap.is_none())
+        .map(|(answer, _)| answer)
+}

@@ -1,0 +1,21 @@
+//! A number of things, with their name in the singular or the plural.
+
+use std::fmt;
+
+/// A number of things, as `1 block` or `2 blocks`.
+#[derive(Clone, Copy)]
+pub(crate) struct Count {
+    pub(crate) number: u64,
+    /// The name of one of them, as `block`; that of several has an `s` after it.
+    pub(crate) name: &'static str,
+}
+
+impl fmt::Display for Count {
+    fn fmt<W: fmt::Write>(&self, f: &mut fmt::Formatter<W>) -> fmt::Result {
+        let (number, name) = (self.number, self.name);
+        match number {
+            1 => write!(f, "1 {name}"),
+            _ => write!(f, "{number} {name}s"),
+        }
+    }
+}

@@ -1,0 +1,144 @@
+//! A datagram of a transfer: who sent it, what it is, and whether it repeats an earlier one.
+
+use crate::flow::moment::{Moment, Span};
+use std::fmt;
+use tftp_wire::{HEADER, PacketFaultKind, PacketRef, decode_ref, has_error_opcode};
+
+/// One of the two ends of a transfer.
+#[derive(Clone, Copy, PartialEq, Eq)]
+pub enum Party {
+    /// The end that sent the request.
+    Client,
+    /// The end that answers it.
+    Server,
+}
+
+impl Party {
+    /// The other end.
+    pub(crate) fn other(self) -> Party {
+        match self {
+            Party::Client => Party::Server,
+            Party::Server => Party::Client,
+        }
+    }
+}
+
+impl fmt::Display for Party {
+    fn fmt<W: fmt::Write>(&self, f: &mut fmt::Formatter<W>) -> fmt::Result {
+        match self {
+            Party::Client => write!(f, "client"),
+            Party::Server => write!(f, "server"),
+        }
+    }
+}
+
+/// What a datagram is, without its texts and bytes.
+#[derive(Clone, Copy, PartialEq, Eq)]
+pub enum What {
+    /// RRQ.
+    Read,
+    /// WRQ.
+    Write,
+    /// DATA, with the length of its block in bytes.
+    Data { block: u16, length: usize },
+    /// ACK.
+    Ack { block: u16 },
+    /// ERROR, which ends a transfer even where it is malformed.
+    Error { code: u16 },
+    /// OACK.
+    Options,
+    /// No packet.
+    Fault { kind: PacketFaultKind },
+}
+
+impl What {
+    /// What the payload of a datagram is.
+    pub(crate) fn of(bytes: &[u8]) -> What {
+        match decode_ref(bytes) {
+            Ok(packet) => What::of_packet(&packet),
+            Err(_) if has_error_opcode(bytes) => What::Error {
+                code: error_code(bytes),
+            },
+            // no block of RFC 1350 has the number 0, but many programs send it after 65535
+            Err(fault) if fault.kind == PacketFaultKind::BlockZero => What::Data {
+                block: 0,
+                length: bytes.len().saturating_sub(HEADER),
+            },
+            Err(fault) => What::Fault { kind: fault.kind },
+        }
+    }
+
+    /// Whether it asks for a transfer.
+    pub(crate) fn is_request(self) -> bool {
+        match self {
+            What::Read | What::Write => true,
+            _ => false,
+        }
+    }
+
+    fn of_packet(packet: &PacketRef<'_>) -> What {
+        match packet {
+            PacketRef::Read(_) => What::Read,
+            PacketRef::Write(_) => What::Write,
+            PacketRef::Data { block, bytes } => What::Data {
+                block: *block,
+                length: bytes.len(),
+            },
+            PacketRef::Ack { block } => What::Ack { block: *block },
+            PacketRef::Error { code, text: _ } => What::Error { code: *code },
+            PacketRef::Oack(_) => What::Options,
+        }
+    }
+}
+
+/// The code of a malformed ERROR; 0 where it is too short.
+fn error_code(bytes: &[u8]) -> u16 {
+    match bytes {
+        [_, _, high, low, ..] => u16::from_be_bytes([*high, *low]),
+        _ => 0,
+    }
+}
+
+impl fmt::Display for What {
+    fn fmt<W: fmt::Write>(&self, f: &mut fmt::Formatter<W>) -> fmt::Result {
+        match self {
+            What::Read => write!(f, "RRQ"),
+            What::Write => write!(f, "WRQ"),
+            What::Data { block, length } => write!(f, "DATA {block} {length}"),
+            What::Ack { block } => write!(f, "ACK {block}"),
+            What::Error { code } => write!(f, "ERROR {code}"),
+            What::Options => write!(f, "OACK"),
+            What::Fault { kind } => {
+                let name = kind.name();
+                write!(f, "fault {name}")
+            }
+        }
+    }
+}
+
+/// A datagram of a transfer.
+#[derive(Clone, Copy)]
+pub struct Event {
+    /// The line of the capture, counted from 1.
+    pub line: u64,
+    /// When it was seen.
+    pub at: Moment,
+    /// Who sent it.
+    pub by: Party,
+    /// What it is.
+    pub what: What,
+    /// If it was sent before: how long ago.
+    pub gap: Option<Span>,
+}
+
+/// A datagram that was sent again: what, by whom, and how long after the one before.
+impl fmt::Display for Event {
+    fn fmt<W: fmt::Write>(&self, f: &mut fmt::Formatter<W>) -> fmt::Result {
+        let (line, by, what) = (self.line, self.by, self.what);
+        write!(f, "line {line}: {what} of the {by}")?;
+        match self.gap {
+            Some(gap) => write!(f, " after {gap} s"),
+            None => Ok(()),
+        }
+    }
+}

@@ -1,0 +1,133 @@
+//! A line of a capture: six fields between tabs, as tshark writes them.
+
+use crate::flow::moment::Moment;
+use hex::FromHexError;
+use std::alloc::{AllocError, Global};
+use std::fmt;
+use std::net::{Ipv4Addr, SocketAddrV4};
+
+/// A datagram of a capture.
+#[derive(Drop)]
+pub(crate) struct Seen {
+    /// The line of the capture, counted from 1.
+    pub(crate) line: u64,
+    pub(crate) at: Moment,
+    pub(crate) from: SocketAddrV4,
+    pub(crate) to: SocketAddrV4,
+    pub(crate) bytes: Vec<u8>,
+}
+
+/// Why a line of a capture is not read.
+#[derive(Clone, Copy, PartialEq, Eq)]
+pub enum LineFault {
+    /// It has not six fields of text.
+    Fields,
+    /// The first field is no time in seconds.
+    Time,
+    /// An address is not an IPv4 address, or there are several.
+    Address,
+    /// A port is no number up to 65535.
+    Port,
+    /// The payload is no even count of hexadecimal digits.
+    Payload,
+}
+
+impl fmt::Display for LineFault {
+    fn fmt<W: fmt::Write>(&self, f: &mut fmt::Formatter<W>) -> fmt::Result {
+        match self {
+            LineFault::Fields => write!(
+                f,
+                "not six fields: time, address, port, address, port, payload"
+            ),
+            LineFault::Time => write!(f, "not a time in seconds"),
+            LineFault::Address => write!(f, "not one IPv4 address each"),
+            LineFault::Port => write!(f, "not one port each"),
+            LineFault::Payload => write!(f, "not a payload in hexadecimal digits"),
+        }
+    }
+}
+
+/// The six fields of a line.
+#[derive(Clone, Copy)]
+struct Fields<'a> {
+    at: &'a str,
+    from_ip: &'a str,
+    from_port: &'a str,
+    to_ip: &'a str,
+    to_port: &'a str,
+    digits: &'a str,
+}
+
+/// When a datagram was seen, and between which endpoints.
+#[derive(Clone, Copy)]
+struct Heading {
+    at: Moment,
+    from: SocketAddrV4,
+    to: SocketAddrV4,
+}
+
+/// The datagram that a line spells, or why it is not read. It fails only when out of memory.
+pub(crate) fn read_seen(
+    alloc: Global,
+    line: u64,
+    text: &[u8],
+) -> Result<Result<Seen, LineFault>, AllocError> {
+    let Some(fields) = Fields::of(text) else {
+        return Ok(Err(LineFault::Fields));
+    };
+    let Heading { at, from, to } = match heading_of(fields) {
+        Ok(heading) => heading,
+        Err(fault) => return Ok(Err(fault)),
+    };
+    match hex::decode(alloc, fields.digits) {
+        Ok(bytes) => Ok(Ok(Seen {
+            line,
+            at,
+            from,
+            to,
+            bytes,
+        })),
+        Err(FromHexError::OutOfMemory) => Err(AllocError),
+        Err(_) => Ok(Err(LineFault::Payload)),
+    }
+}
+
+impl<'a> Fields<'a> {
+    /// The fields of a line of text, if it has six.
+    fn of(text: &'a [u8]) -> Option<Fields<'a>> {
+        let mut fields = str::from_utf8(text).ok()?.split('\t');
+        let six = Fields {
+            at: fields.next()?,
+            from_ip: fields.next()?,
+            from_port: fields.next()?,
+            to_ip: fields.next()?,
+            to_port: fields.next()?,
+            digits: fields.next()?,
+        };
+        match fields.next() {
+            Some(_) => None,
+            None => Some(six),
+        }
+    }
+}
+
+fn heading_of(fields: Fields<'_>) -> Result<Heading, LineFault> {
+    let Some(at) = Moment::parse(fields.at) else {
+        return Err(LineFault::Time);
+    };
+    Ok(Heading {
+        at,
+        from: endpoint_of(fields.from_ip, fields.from_port)?,
+        to: endpoint_of(fields.to_ip, fields.to_port)?,
+    })
+}
+
+fn endpoint_of(ip: &str, port: &str) -> Result<SocketAddrV4, LineFault> {
+    let Ok(ip) = ip.parse::<Ipv4Addr>() else {
+        return Err(LineFault::Address);
+    };
+    let Ok(port) = port.parse::<u16>() else {
+        return Err(LineFault::Port);
+    };
+    Ok(SocketAddrV4::new(ip, port))
+}

@@ -1,0 +1,56 @@
+//! When a datagram was seen, and how long after another.
+
+use std::fmt;
+
+/// The digits of a fraction of a second that count.
+const DIGITS: usize = 6;
+
+/// The microseconds of a second.
+const SECOND: u64 = 1_000_000;
+
+/// A moment of a capture, in microseconds: since 1970, or since the capture began.
+#[derive(Clone, Copy, PartialEq, Eq)]
+pub struct Moment(u64);
+
+/// How long something lasted, in microseconds.
+#[derive(Clone, Copy, PartialEq, Eq)]
+pub struct Span(u64);
+
+impl Moment {
+    /// The moment that a text of seconds spells, as `1764142345.123456789`. Digits after the sixth
+    /// of the fraction are dropped.
+    pub(crate) fn parse(text: &str) -> Option<Moment> {
+        let (seconds, fraction) = text.split_once('.').unwrap_or((text, ""));
+        let seconds = seconds.parse::<u64>().ok()?;
+        let micros = micros_of(fraction.as_bytes())?;
+        seconds.checked_mul(SECOND)?.checked_add(micros).map(Moment)
+    }
+
+    /// How long after an earlier moment this is; nothing, if it is before.
+    pub(crate) fn since(self, earlier: Moment) -> Span {
+        Span(self.0.saturating_sub(earlier.0))
+    }
+}
+
+/// The microseconds that a fraction's digits spell.
+fn micros_of(digits: &[u8]) -> Option<u64> {
+    if !digits.iter().all(u8::is_ascii_digit) {
+        return None;
+    }
+    let mut micros = 0u64;
+    for place in 0..DIGITS {
+        let digit = digits.get(place).copied().unwrap_or(b'0');
+        micros = micros
+            .saturating_mul(10)
+            .saturating_add(u64::from(digit.saturating_sub(b'0')));
+    }
+    Some(micros)
+}
+
+/// In seconds, with six digits of their fraction.
+impl fmt::Display for Span {
+    fn fmt<W: fmt::Write>(&self, f: &mut fmt::Formatter<W>) -> fmt::Result {
+        let (seconds, micros) = (self.0 / SECOND, self.0 % SECOND);
+        write!(f, "{seconds}.{micros:06}")
+    }
+}

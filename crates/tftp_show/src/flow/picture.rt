@@ -1,0 +1,268 @@
+//! A transfer of a capture as a sequence diagram, with times at the left.
+
+use crate::flow::choice::Choice;
+use crate::flow::count::Count;
+use crate::flow::event::{Event, Party, What};
+use crate::flow::transfer::{Aside, Ending, Transfer};
+use std::alloc::{AllocError, Global};
+use std::net::SocketAddrV4;
+use tftp_diagram::{Course, Diagram, Flight, Host, Lane, MAX_ROWS, Mark, MarkKind, Row, shortened};
+
+/// A diagram of a transfer that is being made.
+#[derive(Drop)]
+struct Picture {
+    alloc: Global,
+    diagram: Diagram,
+    /// The endpoint of each lane.
+    ports: Vec<SocketAddrV4>,
+    /// The datagrams since the last row that are not drawn.
+    skipped: u64,
+}
+
+impl Transfer {
+    /// Its picture; `number` is its number in the report. Of a long transfer the first and the last
+    /// datagrams are drawn, and those around one that was sent again.
+    pub(crate) fn diagram(&self, number: usize) -> Result<Diagram, AllocError> {
+        let mut picture = Picture::new(self.alloc(), self.title(number)?, self.summary()?);
+        picture.add_ends(self)?;
+        let rows = usize::from(MAX_ROWS).saturating_sub(self.asides.len());
+        let choice = Choice::new(self.alloc(), self.events.as_slice(), rows)?;
+        let mut before = 0;
+        for (index, event) in self.events.iter().enumerate() {
+            picture.add_asides(self, before, event.line)?;
+            if choice.has(index) {
+                picture.add_event(self, event)?;
+            } else {
+                picture.skipped = picture.skipped.saturating_add(1);
+            }
+            before = event.line;
+        }
+        picture.add_asides(self, before, u64::MAX)?;
+        picture.close(self)?;
+        Ok(picture.diagram)
+    }
+
+    fn title(&self, number: usize) -> Result<String, AllocError> {
+        let request = self.request.as_str();
+        let title = format!(in self.alloc(); "Transfer {number}: {request}")?;
+        shortened(self.alloc(), title)
+    }
+
+    fn summary(&self) -> Result<String, AllocError> {
+        let (blocks, bytes) = (self.block_count(), self.byte_count());
+        let seen = Count {
+            number: self.events.len() as u64,
+            name: "datagram",
+        };
+        let again = self.events.iter().filter(|it| it.gap.is_some()).count();
+        if again == 0 {
+            return format!(in self.alloc(); "{seen}: {blocks}, {bytes}.");
+        }
+        format!(in self.alloc(); "{seen}, {again} of them sent again: {blocks}, {bytes}.")
+    }
+
+    /// The line of a datagram.
+    fn label_of(&self, event: &Event) -> Result<String, AllocError> {
+        let line = match event.what {
+            What::Read | What::Write => self.request.clone()?,
+            What::Options => match &self.agreed {
+                Some(agreed) => agreed.clone()?,
+                None => event.what.to_string(self.alloc())?,
+            },
+            What::Error { .. } => match &self.ending {
+                Ending::Error { by, text } if *by == event.by => text.clone()?,
+                _ => event.what.to_string(self.alloc())?,
+            },
+            what => what.to_string(self.alloc())?,
+        };
+        shortened(self.alloc(), line)
+    }
+}
+
+impl Picture {
+    fn new(alloc: Global, title: String, summary: String) -> Picture {
+        Picture {
+            alloc,
+            diagram: Diagram {
+                title,
+                summary,
+                lanes: Vec::new(alloc),
+                flights: Vec::new(alloc),
+                marks: Vec::new(alloc),
+                times: Vec::new(alloc),
+                rows: 0,
+                left_out: 0,
+            },
+            ports: Vec::new(alloc),
+            skipped: 0,
+        }
+    }
+
+    /// The lanes of the client, of the request port and of the server.
+    fn add_ends(&mut self, transfer: &Transfer) -> Result<(), AllocError> {
+        let is_read = transfer.sender() == Party::Server;
+        let (reader, writer) = ("client, reads", "client, writes");
+        let client = if is_read { reader } else { writer };
+        self.add_lane(transfer.client, Host::Client, client, true)?;
+        let server = if is_read {
+            "server, a read"
+        } else {
+            "server, a write"
+        };
+        if transfer.server == Some(transfer.asked_at) {
+            return self.add_lane(transfer.asked_at, Host::Server, server, true);
+        }
+        self.add_lane(transfer.asked_at, Host::Server, "request port", false)?;
+        match transfer.server {
+            Some(at) => self.add_lane(at, Host::Server, server, true),
+            None => Ok(()),
+        }
+    }
+
+    fn add_lane(
+        &mut self,
+        at: SocketAddrV4,
+        host: Host,
+        role: &'static str,
+        is_end: bool,
+    ) -> Result<(), AllocError> {
+        self.diagram.lanes.push(Lane {
+            host,
+            name: format!(in self.alloc; "{at}")?,
+            role,
+            is_end,
+        })?;
+        self.ports.push(at)?;
+        Ok(())
+    }
+
+    /// The lane of an endpoint; that of a stranger is added.
+    fn lane_of(&mut self, at: SocketAddrV4) -> Result<usize, AllocError> {
+        if let Some(lane) = self.ports.iter().position(|port| *port == at) {
+            return Ok(lane);
+        }
+        let lane = self.ports.len();
+        self.add_lane(at, Host::Stranger, "stranger", false)?;
+        Ok(lane)
+    }
+
+    /// The next row, if one is left. Before it there is one for what is not drawn.
+    fn next_row(&mut self, time: String) -> Result<Option<Row>, AllocError> {
+        if self.skipped > 0 && self.diagram.rows < MAX_ROWS {
+            let skipped = self.skipped;
+            let text = format!(in self.alloc; "({skipped} not drawn)")?;
+            self.diagram.times.push(text)?;
+            self.diagram.rows += 1;
+            self.skipped = 0;
+        }
+        if self.diagram.rows >= MAX_ROWS {
+            self.diagram.left_out = self.diagram.left_out.saturating_add(1);
+            return Ok(None);
+        }
+        let row = self.diagram.rows;
+        self.diagram.times.push(time)?;
+        self.diagram.rows += 1;
+        Ok(Some(row))
+    }
+
+    /// Adds a datagram of the transfer.
+    fn add_event(&mut self, transfer: &Transfer, event: &Event) -> Result<(), AllocError> {
+        let server = transfer.server.unwrap_or(transfer.asked_at);
+        let (from, to) = match event.by {
+            Party::Server => (server, transfer.client),
+            Party::Client if event.what.is_request() => (transfer.client, transfer.asked_at),
+            Party::Client => (transfer.client, server),
+        };
+        let opens = event.by == Party::Server && !self.has_answer();
+        let time = transfer.time_of(event.at).to_string(self.alloc)?;
+        let Some(sent) = self.next_row(time)? else {
+            return Ok(());
+        };
+        let (course, again) = match event.gap {
+            Some(gap) => {
+                let note = format!(in self.alloc; "again after {gap} s")?;
+                (Course::SeenAgain, note)
+            }
+            None => (Course::Seen, String::new(self.alloc)),
+        };
+        let opened_at = if opens && server != transfer.asked_at {
+            Some(self.lane_of(transfer.asked_at)?)
+        } else {
+            None
+        };
+        let flight = Flight {
+            from: self.lane_of(from)?,
+            to: self.lane_of(to)?,
+            label: transfer.label_of(event)?,
+            again,
+            opened_at,
+            sent,
+            course,
+            arrivals: Vec::new(self.alloc),
+            arrives_later: false,
+        };
+        self.diagram.flights.push(flight)?;
+        Ok(())
+    }
+
+    /// Whether a datagram of the server was drawn.
+    fn has_answer(&self) -> bool {
+        self.diagram
+            .flights
+            .iter()
+            .any(|flight| flight.opened_at.is_some())
+    }
+
+    /// Adds the datagrams that are not of the transfer, of the lines between two.
+    fn add_asides(&mut self, transfer: &Transfer, from: u64, to: u64) -> Result<(), AllocError> {
+        for aside in &transfer.asides {
+            if from < aside.line && aside.line < to {
+                self.add_aside(transfer, aside)?;
+            }
+        }
+        Ok(())
+    }
+
+    fn add_aside(&mut self, transfer: &Transfer, aside: &Aside) -> Result<(), AllocError> {
+        let time = transfer.time_of(aside.at).to_string(self.alloc)?;
+        let Some(sent) = self.next_row(time)? else {
+            return Ok(());
+        };
+        let flight = Flight {
+            from: self.lane_of(aside.from)?,
+            to: self.lane_of(aside.to)?,
+            label: shortened(self.alloc, aside.text.clone()?)?,
+            again: String::new(self.alloc),
+            opened_at: None,
+            sent,
+            course: Course::Seen,
+            arrivals: Vec::new(self.alloc),
+            arrives_later: false,
+        };
+        self.diagram.flights.push(flight)?;
+        Ok(())
+    }
+
+    /// Marks both ends as closed, if the transfer ended.
+    fn close(&mut self, transfer: &Transfer) -> Result<(), AllocError> {
+        let (kind, text) = match &transfer.ending {
+            Ending::Complete => (MarkKind::Completed, "complete"),
+            Ending::Error { .. } => (MarkKind::Failed, "ended by ERROR"),
+            Ending::Open => return Ok(()),
+        };
+        let server = transfer.server.unwrap_or(transfer.asked_at);
+        let (client, server) = (self.lane_of(transfer.client)?, self.lane_of(server)?);
+        let row = self.diagram.rows.saturating_sub(1);
+        for (lane, other) in [(client, server), (server, client)] {
+            let text = String::from_str(self.alloc, text)?;
+            self.diagram.marks.push(Mark {
+                lane,
+                row,
+                kind,
+                text,
+                reply_to: Some(other),
+            })?;
+        }
+        Ok(())
+    }
+}

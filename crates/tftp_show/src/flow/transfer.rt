@@ -1,0 +1,376 @@
+//! A transfer of a capture: its request, and the datagrams between its two transfer identifiers.
+
+ghost use Rattle.std.specs.Prelude.{◌≡◌, ◌+◌, IfOk, OnErr, OnOk};
+ghost use Rattle.tftp_show.specs.Flow.{given_to};
+
+use crate::flow::count::Count;
+use crate::flow::event::{Event, Party, What};
+use crate::flow::line::Seen;
+use crate::flow::moment::{Moment, Span};
+use std::alloc::{AllocError, Global};
+use std::fmt;
+use std::net::SocketAddrV4;
+use tftp_wire::{OptionsRef, PacketRef, decode_ref, show_datagram};
+
+/// The block size where none is agreed (RFC 1350, section 2).
+const DEFAULT_BLOCK: usize = 512;
+
+/// A datagram of a transfer's ports that is not of the transfer.
+#[derive(Drop)]
+pub struct Aside {
+    /// The line of the capture, counted from 1.
+    pub line: u64,
+    /// When it was seen.
+    pub at: Moment,
+    /// Its source.
+    pub from: SocketAddrV4,
+    /// Its destination.
+    pub to: SocketAddrV4,
+    /// Its line, as `DATA 1 512`.
+    pub text: String,
+    /// Why it is not of the transfer.
+    pub why: Why,
+}
+
+/// Why a datagram is not of the transfer whose port it has.
+#[derive(Clone, Copy, PartialEq, Eq)]
+pub enum Why {
+    /// It comes from another port of the server's host than the first answer.
+    SecondPort,
+    /// It comes from a third endpoint.
+    Stranger,
+    /// It goes to a third endpoint.
+    ToAnother,
+}
+
+impl fmt::Display for Why {
+    fn fmt<W: fmt::Write>(&self, f: &mut fmt::Formatter<W>) -> fmt::Result {
+        match self {
+            Why::SecondPort => write!(f, "an answer from a second port"),
+            Why::Stranger => write!(f, "a stranger"),
+            Why::ToAnother => write!(f, "to a stranger"),
+        }
+    }
+}
+
+/// How a datagram belongs to a transfer.
+#[derive(Clone, Copy)]
+pub(crate) enum Part {
+    /// It was sent by one end to the other.
+    Own(Party),
+    /// It is the first answer, whose source is the server's end.
+    Answer,
+    /// It has a port of the transfer, and is not of it.
+    Beside(Why),
+}
+
+/// How a transfer ended.
+#[derive(Drop)]
+pub enum Ending {
+    /// It did not end within the capture.
+    Open,
+    /// The last block was acknowledged.
+    Complete,
+    /// An ERROR, with its line, as `ERROR 1 (file not found)`.
+    Error { by: Party, text: String },
+}
+
+/// A transfer of a capture.
+#[derive(Drop)]
+pub struct Transfer {
+    alloc: Global,
+    /// The client's transfer identifier.
+    pub client: SocketAddrV4,
+    /// Where the request was sent.
+    pub asked_at: SocketAddrV4,
+    /// The server's transfer identifier: the source of its first answer.
+    pub server: Option<SocketAddrV4>,
+    /// The line of the request, as `RRQ boot.img octet blksize=1428`.
+    pub request: String,
+    request_bytes: Vec<u8>,
+    is_read: bool,
+    began: Moment,
+    /// The line of the first OACK.
+    pub agreed: Option<String>,
+    block_size: usize,
+    /// The datagrams that were sent by one end to the other, in order.
+    pub events: Vec<Event>,
+    /// The datagrams that have a port of the transfer and are not of it.
+    pub asides: Vec<Aside>,
+    newest_data: Option<u16>,
+    newest_ack: Option<u16>,
+    /// The last block, once a short one was seen.
+    last_block: Option<u16>,
+    /// The number of blocks, each counted once.
+    pub blocks: u64,
+    /// The bytes of these blocks.
+    pub bytes: u64,
+    /// How it ended.
+    pub ending: Ending,
+}
+
+impl Transfer {
+    /// The transfer that a request begins.
+    pub(crate) fn new(alloc: Global, seen: Seen, what: What) -> Result<Transfer, AllocError>
+        ensures { IfOk result (λ transfer. given_to transfer ≡ 1) }
+    {
+        let request = line_of(alloc, seen.bytes.as_slice())?;
+        let mut events = Vec::new(alloc);
+        events.push(Event {
+            line: seen.line,
+            at: seen.at,
+            by: Party::Client,
+            what,
+            gap: None,
+        })?;
+        Ok(Transfer {
+            alloc,
+            client: seen.from,
+            asked_at: seen.to,
+            server: None,
+            request,
+            request_bytes: seen.bytes,
+            is_read: what == What::Read,
+            began: seen.at,
+            agreed: None,
+            block_size: DEFAULT_BLOCK,
+            events,
+            asides: Vec::new(alloc),
+            newest_data: None,
+            newest_ack: None,
+            last_block: None,
+            blocks: 0,
+            bytes: 0,
+            ending: Ending::Open,
+        })
+    }
+
+    /// How a datagram belongs to it, if at all (RFC 1350, section 4): it is known by its two
+    /// transfer identifiers, and the first answer to the client from the host that was asked has
+    /// the server's. A request belongs to it only as a repeat of its own.
+    pub(crate) fn part_of(&self, seen: &Seen, what: What) -> Option<Part> {
+        if what.is_request() {
+            return self.part_of_request(seen);
+        }
+        match self.server {
+            Some(server) => self.part_of_bound(server, seen),
+            None => self.part_of_answer(seen),
+        }
+    }
+
+    fn part_of_request(&self, seen: &Seen) -> Option<Part> {
+        let is_same = seen.from == self.client
+            && seen.to == self.asked_at
+            && seen.bytes.as_slice() == self.request_bytes.as_slice();
+        if is_same {
+            Some(Part::Own(Party::Client))
+        } else {
+            None
+        }
+    }
+
+    fn part_of_bound(&self, server: SocketAddrV4, seen: &Seen) -> Option<Part> {
+        if seen.from == server && seen.to == self.client {
+            Some(Part::Own(Party::Server))
+        } else if seen.from == self.client && seen.to == server {
+            Some(Part::Own(Party::Client))
+        } else if seen.to == self.client && seen.from.ip() == server.ip() {
+            Some(Part::Beside(Why::SecondPort))
+        } else if seen.to == self.client || seen.to == server {
+            Some(Part::Beside(Why::Stranger))
+        } else if seen.from == self.client || seen.from == server {
+            Some(Part::Beside(Why::ToAnother))
+        } else {
+            None
+        }
+    }
+
+    fn part_of_answer(&self, seen: &Seen) -> Option<Part> {
+        if seen.to == self.client && seen.from.ip() == self.asked_at.ip() {
+            Some(Part::Answer)
+        } else if seen.to == self.client {
+            Some(Part::Beside(Why::Stranger))
+        } else if seen.from == self.client {
+            Some(Part::Beside(Why::ToAnother))
+        } else {
+            None
+        }
+    }
+
+    /// Adds a datagram that one end sent.
+    pub(crate) fn add(&mut self, seen: &Seen, what: What, by: Party) -> Result<(), AllocError>
+        ensures ok { OnOk result (given_to self.new ≡ given_to self.old + 1) }
+        ensures err { OnErr result (given_to self.new ≡ given_to self.old) }
+    {
+        let gap = self.gap_of(seen.at, what, by);
+        self.learn_text(seen.bytes.as_slice(), what, by)?;
+        self.events.push(Event {
+            line: seen.line,
+            at: seen.at,
+            by,
+            what,
+            gap,
+        })?;
+        if by == Party::Server && self.server.is_none() {
+            self.server = Some(seen.from);
+        }
+        self.learn(what, by, gap.is_some());
+        Ok(())
+    }
+
+    /// Adds a datagram that has one of its ports and is not of it.
+    pub(crate) fn add_aside(&mut self, seen: &Seen, why: Why) -> Result<(), AllocError>
+        ensures ok { OnOk result (given_to self.new ≡ given_to self.old + 1) }
+        ensures err { OnErr result (given_to self.new ≡ given_to self.old) }
+    {
+        let text = line_of(self.alloc, seen.bytes.as_slice())?;
+        self.asides.push(Aside {
+            line: seen.line,
+            at: seen.at,
+            from: seen.from,
+            to: seen.to,
+            text,
+            why,
+        })?;
+        Ok(())
+    }
+
+    /// If the same end sent the same before: how long ago. What is ahead of all that it sent is
+    /// new, since the numbers of blocks begin again after 65535.
+    fn gap_of(&self, at: Moment, what: What, by: Party) -> Option<Span> {
+        let is_new = match what {
+            What::Data { block, .. } => is_ahead(self.newest_data, block),
+            What::Ack { block } => is_ahead(self.newest_ack, block),
+            _ => false,
+        };
+        if is_new {
+            return None;
+        }
+        let before = self
+            .events
+            .iter()
+            .rev()
+            .find(|event| event.by == by && event.what == what)?;
+        Some(at.since(before.at))
+    }
+
+    /// Keeps the texts of the options that were agreed on and of the ERROR.
+    fn learn_text(&mut self, bytes: &[u8], what: What, by: Party) -> Result<(), AllocError>
+        ensures { given_to self.new ≡ given_to self.old }
+    {
+        match what {
+            What::Options if self.agreed.is_none() => {
+                self.agreed = Some(line_of(self.alloc, bytes)?);
+                self.block_size = block_size_of(bytes);
+            }
+            What::Error { .. } if self.is_open() => {
+                let text = line_of(self.alloc, bytes)?;
+                self.ending = Ending::Error { by, text };
+            }
+            _ => {}
+        }
+        Ok(())
+    }
+
+    /// Counts a new block, and ends with the acknowledgement of the last one.
+    fn learn(&mut self, what: What, by: Party, is_repeat: bool)
+        ensures { given_to self.new ≡ given_to self.old }
+    {
+        match what {
+            What::Data { block, length } if by == self.sender() && !is_repeat => {
+                self.newest_data = Some(block);
+                self.blocks = self.blocks.saturating_add(1);
+                self.bytes = self.bytes.saturating_add(length as u64);
+                if length < self.block_size {
+                    self.last_block = Some(block);
+                }
+            }
+            What::Ack { block } if by != self.sender() && !is_repeat => {
+                self.newest_ack = Some(block);
+                if self.last_block == Some(block) && self.is_open() {
+                    self.ending = Ending::Complete;
+                }
+            }
+            _ => {}
+        }
+    }
+
+    /// The end that sends the file.
+    pub(crate) fn sender(&self) -> Party {
+        if self.is_read {
+            Party::Server
+        } else {
+            Party::Client
+        }
+    }
+
+    /// The number of its blocks.
+    pub(crate) fn block_count(&self) -> Count {
+        Count {
+            number: self.blocks,
+            name: "block",
+        }
+    }
+
+    /// The number of the bytes of its blocks.
+    pub(crate) fn byte_count(&self) -> Count {
+        Count {
+            number: self.bytes,
+            name: "byte",
+        }
+    }
+
+    /// The allocator of its texts.
+    pub(crate) fn alloc(&self) -> Global {
+        self.alloc
+    }
+
+    /// The block size that was agreed on.
+    pub(crate) fn block_size(&self) -> Count {
+        Count {
+            number: self.block_size as u64,
+            name: "byte",
+        }
+    }
+
+    /// Whether it did not end.
+    pub(crate) fn is_open(&self) -> bool {
+        matches!(self.ending, Ending::Open)
+    }
+
+    /// How long after its request a moment is.
+    pub(crate) fn time_of(&self, at: Moment) -> Span {
+        at.since(self.began)
+    }
+}
+
+/// Whether a block follows the newest, by at most half of all numbers, which begin again after
+/// 65535.
+fn is_ahead(newest: Option<u16>, block: u16) -> bool {
+    match newest {
+        None => true,
+        Some(newest) => (1..=0x7fff).contains(&block.wrapping_sub(newest)),
+    }
+}
+
+/// The line of a datagram.
+pub(crate) fn line_of(alloc: Global, bytes: &[u8]) -> Result<String, AllocError> {
+    let mut line = String::new(alloc);
+    show_datagram(bytes, &mut line).map_err(|_| AllocError)?;
+    Ok(line)
+}
+
+/// The block size that an OACK agrees on (RFC 2348), or the default.
+fn block_size_of(bytes: &[u8]) -> usize {
+    match decode_ref(bytes) {
+        Ok(PacketRef::Oack(options)) => stated_block_size(&options).unwrap_or(DEFAULT_BLOCK),
+        _ => DEFAULT_BLOCK,
+    }
+}
+
+fn stated_block_size(options: &OptionsRef<'_>) -> Option<usize> {
+    let option = options
+        .iter()
+        .find(|option| option.name.eq_ignore_ascii_case(b"blksize"))?;
+    str::from_utf8(option.value).ok()?.parse::<usize>().ok()
+}
