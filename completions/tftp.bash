@@ -13,7 +13,7 @@ _tftp() {
             continue
         fi
         case $word in
-        --blksize | --timeout | --retries) wants_value=yes ;;
+        --blksize | -b | --timeout | --retries) wants_value=yes ;;
         -*) ;;
         get | put) if [[ -z $verb ]]; then verb=$word; else place=$((place + 1)); fi ;;
         *) place=$((place + 1)) ;;
@@ -22,9 +22,9 @@ _tftp() {
     if [[ $wants_value = yes ]]; then return; fi
 
     case $verb in
-    get) options='--netascii --blksize --timeout --tsize --retries --fallback --progress --verbose
-        --no-linger --help -h' ;;
-    put) options='--netascii --blksize --timeout --tsize --retries --fallback --progress --verbose
+    get) options='--netascii --blksize -b --timeout --tsize --retries --fallback --progress --verbose -v
+        --replace --no-linger --help -h' ;;
+    put) options='--netascii --blksize -b --timeout --tsize --retries --fallback --progress --verbose -v
         --help -h' ;;
     *) options='--help -h --version -V' ;;
     esac

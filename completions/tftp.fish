@@ -11,7 +11,7 @@ function __tftp_wants_local
             continue
         end
         switch $word
-            case --blksize --timeout --retries
+            case --blksize -b --timeout --retries
                 set wants_value yes
             case '-*'
             case get put
@@ -32,13 +32,14 @@ complete -c tftp -n __tftp_wants_local -F
 complete -c tftp -n __fish_use_subcommand -a get -d 'Fetch a file'
 complete -c tftp -n __fish_use_subcommand -a put -d 'Send a file'
 complete -c tftp -n '__fish_seen_subcommand_from get put' -l netascii -d 'The file is text'
-complete -c tftp -n '__fish_seen_subcommand_from get put' -l blksize -x -d 'Ask for a block size, 8 to 65464 bytes'
+complete -c tftp -n '__fish_seen_subcommand_from get put' -s b -l blksize -x -d 'Ask for a block size, 8 to 65464 bytes'
 complete -c tftp -n '__fish_seen_subcommand_from get put' -l timeout -x -d 'Ask for a timeout, 1 to 255 seconds'
 complete -c tftp -n '__fish_seen_subcommand_from get put' -l tsize -d 'Ask for the length of the file'
 complete -c tftp -n '__fish_seen_subcommand_from get put' -l retries -x -d 'Send a datagram again, 0 to 10 times'
 complete -c tftp -n '__fish_seen_subcommand_from get put' -l fallback -d 'Try again without refused options'
 complete -c tftp -n '__fish_seen_subcommand_from get put' -l progress -d 'Show how far the transfer came'
-complete -c tftp -n '__fish_seen_subcommand_from get put' -l verbose -d 'Print the reason of a failure'
+complete -c tftp -n '__fish_seen_subcommand_from get put' -s v -l verbose -d 'Print the reason of a failure'
+complete -c tftp -n '__fish_seen_subcommand_from get' -l replace -d 'Replace LOCAL once the new file is whole'
 complete -c tftp -n '__fish_seen_subcommand_from get' -l no-linger -d 'End once LOCAL has its name'
 complete -c tftp -n '__fish_seen_subcommand_from get put' -s h -l help -d 'Print help'
 complete -c tftp -n __fish_use_subcommand -s h -l help -d 'Print help'

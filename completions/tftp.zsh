@@ -4,13 +4,13 @@
 local -a transfer
 transfer=(
   '--netascii[the file is text, and travels with CR LF at its line ends]'
-  '--blksize=[ask for a block size]:bytes, 8 to 65464:'
+  '(-b --blksize)'{-b+,--blksize=}'[ask for a block size]:bytes, 8 to 65464:'
   '--timeout=[ask for a timeout]:seconds, 1 to 255:'
   '--tsize[ask for the length of the file]'
   '--retries=[how often a datagram is sent again without progress]:times, 0 to 10:'
   '--fallback[try again without options where the server refuses them]'
   '--progress[show how far the transfer came]'
-  '--verbose[print the reason of a failure]'
+  '(-v --verbose)'{-v,--verbose}'[print the reason of a failure]'
   '(-h --help)'{-h,--help}'[print help]'
 )
 
@@ -19,10 +19,11 @@ get)
   shift words
   (( CURRENT-- ))
   _arguments $transfer \
+    '--replace[replace LOCAL once the new file is whole]' \
     '--no-linger[end once LOCAL has its name]' \
     '1:ADDR\:PORT of the server:' \
     '2:name of the file at the server:' \
-    '3:local file, which must not exist:_files'
+    '3:local file:_files'
   ;;
 put)
   shift words

@@ -3,12 +3,14 @@
 
 _arguments \
   '--listen=[address and port of the requests]:ADDR\:PORT:' \
+  '--ports=[ports of transfers, each once before any again]:A\:B:' \
   '--max-block=[largest block size that is agreed]:bytes, 8 to 65464:' \
   '--max-file=[longest file that is taken]:bytes:' \
   '--retries=[how often a datagram is sent again without progress]:times, 0 to 10:' \
   '--cap=[transfers that are open at once]:transfers, 1 to 64:' \
   '(--read-only)--overwrite[a write replaces a file that is there]' \
   '(--overwrite)--read-only[refuse every write]' \
+  '--uploads=[folder of ROOT that takes all writes]:folder below ROOT:' \
   '(--forever)--transfers=[end after so many closed transfers]:transfers:' \
   '(--forever)--rounds=[end after so many waits]:waits:' \
   '(--transfers --rounds)--forever[end by no count of transfers or waits]' \

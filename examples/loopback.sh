@@ -1,6 +1,6 @@
 #!/bin/sh
 # Serves a folder to one client over the loopback address, a get and then a put: loopback.sh TFTPD TFTP
-# The server ends within a minute, and with this script, however that ends.
+# The server ends within ten minutes, and with this script, however that ends.
 set -eu
 here=$(dirname "$0")
 room=$(mktemp -d)
@@ -13,20 +13,20 @@ trap clear_up EXIT
 trap 'exit 130' HUP INT TERM
 mkdir "$room/served"
 cp "$here/packets.hex" "$room/served"
-"$1" "$room/served" --listen 127.0.0.1:0 --transfers 2 --rounds 50 > "$room/lines" &
+"$1" "$room/served" --listen 127.0.0.1:0 --transfers 2 --rounds 600 --retries 10 > "$room/lines" &
 server=$!
 waits=0
 until grep -q listening "$room/lines"; do
     waits=$((waits + 1))
-    if test "$waits" -gt 100; then
-        echo "loopback.sh: $1 does not listen ten seconds after its start" >&2
+    if test "$waits" -gt 1200; then
+        echo "loopback.sh: $1 does not listen two minutes after its start" >&2
         exit 1
     fi
     sleep 0.1
 done
 address=$(sed -n 's/^listening //p' "$room/lines")
-"$2" get "$address" packets.hex "$room/packets.hex"
-"$2" put "$address" "$room/packets.hex" copy.hex --blksize 1428 --tsize
+"$2" get "$address" packets.hex "$room/packets.hex" --retries 10
+"$2" put "$address" "$room/packets.hex" copy.hex --blksize 1428 --tsize --retries 10
 wait "$server"
 server=
 tail -n 2 "$room/lines"
