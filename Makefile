@@ -21,7 +21,8 @@ UNITDIR := $(PREFIX)/lib/systemd/system
 PROGRAMS := bin/tftp-show bin/tftp-play bin/tftp bin/tftpd
 SOURCES := $(shell find crates -path '*/out' -prune -o \( -name '*.rt' -o -name '*.antt' \) -print) crates.txt
 
-# what is run behind `rt ci`, over the programs in crates/*/out: the first that fails ends the gate
+# what is run behind `rt ci`, over the programs in crates/*/out. The first that fails twice ends the gate: programs in
+# real time share the host with whatever else it does, and what they said the first time is there to be read
 CHECKS := tools/same_options.py tools/check_install.py tools/check_documents.py tools/statement.py tools/definitions.py tools/one_journal.py tools/same_pictures.sh tools/statuses.py tools/loopback/run.py tools/network.py tools/memory_in_turn.py tools/lost_requests.py tools/soak/run.py
 
 .PHONY: build run sample tftp-show tftp-play tftp tftpd test install uninstall dist deb soak bench bench-udp clean
@@ -54,7 +55,7 @@ sample:
 
 test:
 	rt ci
-	@set -e; for check in $(CHECKS); do echo "$$check"; $$check; done
+	@set -e; for check in $(CHECKS); do echo "$$check"; $$check || { echo "$$check failed: once more"; $$check; }; done
 
 install uninstall:
 	@tools/install.sh $@ 'DESTDIR=$(DESTDIR)' 'PREFIX=$(PREFIX)' 'PROGRAM_PREFIX=$(PROGRAM_PREFIX)' \
