@@ -40,7 +40,7 @@ TRACED = [
     for verb in ["get", "put"]
     for block, count, size in [
         (512, 1, MB), (1428, 1, 2 * MB), (8192, 1, 16 * MB), (65464, 1, 128 * MB),
-        (512, 16, MB // 4), (65464, 16, 16 * MB),
+        (512, 16, MB // 4), (1428, 16, MB // 2), (8192, 16, 2 * MB), (65464, 16, 16 * MB),
     ]
 ]
 TINY = Case("get", 512, 1, 100)
@@ -200,29 +200,55 @@ def measure_start(client, running, room):
     return Result(1 / seconds, cpu * 1e6, peak)
 
 
+def counted(log):
+    """The system calls that perf counted, which slows nothing."""
+    with open(log) as lines:
+        return int(re.search(r"^(\d+),", lines.read(), re.M)[1])
+
+
 def calls(log):
-    """The system calls that strace counted."""
+    """The system calls that strace counted, by their names."""
     with open(log) as lines:
         rows = re.findall(r"^\s*[\d.]+\s+[\d.]+\s+\d+\s+(\d+)(?:\s+\d+)?\s+(\w+)$", lines.read(), re.M)
     return {name: int(count) for count, name in rows if name != "total"}
 
 
-def show_calls(name, case, made):
+def show_calls(name, case, traced):
+    """Prints the calls a block by each tool: perf's sum, and those of strace by their names."""
     blocks = case.count * (case.size // case.block + 1)
+    made = traced.get("strace", {})
     often = sorted(((count / blocks, call) for call, count in made.items()), reverse=True)
     told = ", ".join(f"{call} {count:.2f}" for count, call in often if count > 0.02)
-    print(f"  {name:12} {sum(made.values()) / blocks:6.2f}  {told}", flush=True)
+    total = traced.get("perf", sum(made.values()))
+    print(f"  {name:12} {total / blocks:6.2f}  {told}", flush=True)
+
+
+# Each tool that counts calls: its words, and what reads its log
+TRACERS = {
+    "perf": (["perf", "stat", "-x,", "-e", "raw_syscalls:sys_enter"], counted),
+    "strace": (["strace", "-f", "-c"], calls),
+}
 
 
 def trace_server(client, running, case, log, room):
-    with watched(["strace", "-f", "-c"], log, running.process):
-        transfer(client, running.port, case, room)
-    return calls(log)
+    traced = {}
+    for tool, (words, read) in installed_tracers():
+        with watched(words, log, running.process):
+            transfer(client, running.port, case, room)
+        traced[tool] = read(log)
+    return traced
 
 
 def trace_client(client, running, case, log, room):
-    transfer(client, running.port, case, room, ["strace", "-f", "-c", "-o", log])
-    return calls(log)
+    traced = {}
+    for tool, (words, read) in installed_tracers():
+        transfer(client, running.port, case, room, [*words, "-o", log])
+        traced[tool] = read(log)
+    return traced
+
+
+def installed_tracers():
+    return [(tool, how) for tool, how in TRACERS.items() if shutil.which(tool)]
 
 
 class Bench:
@@ -330,7 +356,7 @@ def main():
         bench.transfers(rounds, word)
         if word in "tiny":
             bench.tiny(rounds)
-        if word in "calls" and shutil.which("strace"):
+        if word in "calls" and installed_tracers():
             bench.traces()
 
 
