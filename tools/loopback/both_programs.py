@@ -216,7 +216,7 @@ def test_closed_streams_of_a_server(scene):
     for number in range(3):
         scene.make_folder(f"served{number}")
         # what it prints may be closed, too: it has a port that the test knows, and listens once that is bound
-        word = text_of((scene.address, free_ports(scene.address, 1)))
+        word = text_of((scene.address, free_ports(1)))
         words = [f"served{number}", "--listen", word, "--log", "--transfers", "2", *RETRIES]
         server = scene.start("tftpd", words, closed=number)
         is_bound(word)

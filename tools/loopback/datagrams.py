@@ -2,7 +2,6 @@
 import socket
 import sys
 import time
-from contextlib import ExitStack, closing, suppress
 from pathlib import Path
 
 # The longest wait for a datagram or a line, in seconds
@@ -94,14 +93,19 @@ class Port:
             return found
 
 
-def free_ports(address, count):
-    """The first of so many ports in a row that no program has at this address, and that the system chooses for none.
-    Only the address of a test is tried: for a moment each port is taken, which no other test may meet."""
+def taken_ports():
+    """The UDP ports that some program of this host has at some address."""
+    return {int(line.split()[1].split(":")[1], 16) for line in Path("/proc/net/udp").read_text().splitlines()[1:]}
+
+
+def free_ports(count):
+    """The first of so many ports in a row that no program has at any address, and that the system chooses for none.
+    None is bound to see whether it is free: what another test starts meanwhile would have it, too, until it executes
+    its program, and the port would be in use."""
     lowest = int(Path("/proc/sys/net/ipv4/ip_local_port_range").read_text().split()[0])
+    taken = taken_ports()
     for first in range(4_001, lowest - count, count):
-        with ExitStack() as stack, suppress(OSError):
-            for number in range(first, first + count):
-                stack.enter_context(closing(Port(address, number)))
+        if taken.isdisjoint(range(first, first + count)):
             return first
     raise AssertionError(f"no {count} free ports in a row")
 

@@ -137,7 +137,7 @@ def served_ports(scene, server, count):
 def test_ports_are_used_each_once_before_any_again(scene):
     """Transfers use the ports of `--ports` alone, each once before any again, and two servers in another order."""
     scene.make("a", b"ABC")
-    first = free_ports(scene.address, 12)
+    first = free_ports(12)
     last, orders = first + 11, []
     for _ in range(2):
         server = scene.serve("--ports", f"{first}:{last}", "--transfers", "36")
@@ -152,7 +152,7 @@ def test_ports_are_used_each_once_before_any_again(scene):
 def test_ports_in_use_are_passed_over(scene):
     """A port in use is passed over, also one of a transfer that is open. Where all are in use a request is lost."""
     scene.make("a", b"ABC")
-    first = free_ports(scene.address, 4)
+    first = free_ports(4)
     scene.port(first + 1)
     server = scene.serve("--ports", f"{first}:{first + 3}", "--log", "--transfers", "3")
     ends = [opened(scene, server, rrq("a", **PATIENT), oack(**PATIENT)) for _ in range(3)]
