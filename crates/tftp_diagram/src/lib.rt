@@ -4,11 +4,13 @@
 //! [`Diagram`], and [`svg_text`] draws it. Begin with these two.
 #![tactic(auto)]
 
+mod count;
 mod diagram;
 mod escape;
 mod ink;
 mod layout;
 mod svg;
 
+pub use count::Count;
 pub use diagram::{Course, Diagram, Flight, Host, Lane, MAX_ROWS, Mark, MarkKind, Row, shortened};
 pub use svg::svg_text;

@@ -1,7 +1,9 @@
 //! The record of a run, to be drawn: what happens in a world, as a sequence diagram.
 
 use std::alloc::{AllocError, Global};
-use tftp_diagram::{Course, Diagram, Flight, Host, Lane, MAX_ROWS, Mark, MarkKind, Row, shortened};
+use tftp_diagram::{
+    Count, Course, Diagram, Flight, Host, Lane, MAX_ROWS, Mark, MarkKind, Row, shortened,
+};
 use tftp_ends::{Endpoint, Outcome, Record, Side};
 use tftp_machine::{CLIENT_IP, SERVER_IP, is_foreign};
 use tftp_player::{Event, Report, World};
@@ -287,23 +289,34 @@ fn title_of(diagram: &Diagram) -> &'static str {
     }
 }
 
-/// The result of the run.
+/// The result of the run: how many datagrams were sent, and what happened otherwise than once.
 fn summary_of(alloc: Global, diagram: &Diagram) -> Result<String, AllocError> {
     let flights = &diagram.flights;
-    let sent = flights.len();
+    let mut text = String::new(alloc);
+    write!(text, "{}", count_of(flights.len(), "datagram"))?;
     let lost = flights.iter().filter(|flight| flight.is_lost()).count();
+    if lost > 0 {
+        write!(text, ", {lost} never delivered")?;
+    }
     let again = flights.iter().filter(|flight| flight.is_repeated()).count();
+    if again > 0 {
+        write!(text, ", {again} delivered more than once")?;
+    }
     let timeouts = diagram
         .marks
         .iter()
         .filter(|mark| mark.kind == MarkKind::Timeout)
         .count();
-    let mut text = format!(in alloc; "{sent} datagrams: {lost} never delivered, ")?;
-    write!(
-        text,
-        "{again} delivered more than once. {timeouts} timeouts."
-    )?;
+    if timeouts > 0 {
+        write!(text, ", {}", count_of(timeouts, "timeout"))?;
+    }
     Ok(text)
+}
+
+/// A number of things with this name.
+fn count_of(number: usize, name: &'static str) -> Count {
+    let number = number as u64;
+    Count { number, name }
 }
 
 /// The label of a datagram: its number, or that it is a stray, and its line.

@@ -5,7 +5,6 @@ ghost use Rattle.std.specs.Prelude.{OnOk, vec_len};
 ghost use Rattle.tftp_show.specs.Flow.{lines_in};
 
 mod choice;
-mod count;
 mod event;
 mod line;
 mod moment;

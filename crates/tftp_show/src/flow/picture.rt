@@ -1,12 +1,13 @@
 //! A transfer of a capture as a sequence diagram, with times at the left.
 
 use crate::flow::choice::Choice;
-use crate::flow::count::Count;
 use crate::flow::event::{Event, Party, What};
 use crate::flow::transfer::{Aside, Ending, Transfer};
 use std::alloc::{AllocError, Global};
 use std::net::SocketAddrV4;
-use tftp_diagram::{Course, Diagram, Flight, Host, Lane, MAX_ROWS, Mark, MarkKind, Row, shortened};
+use tftp_diagram::{
+    Count, Course, Diagram, Flight, Host, Lane, MAX_ROWS, Mark, MarkKind, Row, shortened,
+};
 
 /// A diagram of a transfer that is being made.
 #[derive(Drop)]

@@ -3,13 +3,13 @@
 ghost use Rattle.std.specs.Prelude.{◌≡◌, ◌+◌, IfOk, OnErr, OnOk};
 ghost use Rattle.tftp_show.specs.Flow.{given_to};
 
-use crate::flow::count::Count;
 use crate::flow::event::{Event, Party, What};
 use crate::flow::line::Seen;
 use crate::flow::moment::{Moment, Span};
 use std::alloc::{AllocError, Global};
 use std::fmt;
 use std::net::SocketAddrV4;
+use tftp_diagram::Count;
 use tftp_wire::{OptionsRef, PacketRef, decode_ref, show_datagram};
 
 /// The block size where none is agreed (RFC 1350, section 2).

@@ -4,10 +4,10 @@ use std::fmt;
 
 /// A number of things, as `1 block` or `2 blocks`.
 #[derive(Clone, Copy)]
-pub(crate) struct Count {
-    pub(crate) number: u64,
+pub struct Count {
+    pub number: u64,
     /// The name of one of them, as `block`; that of several has an `s` after it.
-    pub(crate) name: &'static str,
+    pub name: &'static str,
 }
 
 impl fmt::Display for Count {
