@@ -28,7 +28,7 @@ use Rattle.tftp_loop.specs.Run.{Run, Start, Then}
 use Rattle.tftp_loop.specs.Serves.{AtPort, Does, LoopState, PortState}
 use Rattle.tftp_loop.specs.Serves.AtPort.{A_datagram, A_lost_datagram, Nothing_found, A_failed_receive, A_timeout}
 use Rattle.tftp_loop.specs.Serves.AtPort.{A_missed_timeout, Work}
-use Rattle.tftp_loop.specs.Serves.Does.{Waited, At_port, Request_received, No_request_found, Request_not_received}
+use Rattle.tftp_loop.specs.Serves.Does.{Waited, At_port, Request_received, No_request_found, Request_not_received, No_port_found}
 use Rattle.tftp_loop.specs.Serves.Does.{Request_answered, Request_lost, Clock_read, Store_set, Transfer_closed}
 use Rattle.tftp_daemon.specs.Kept.{Leaves, PortLeaves, RunLeaves, StepLeaves}
 use Rattle.tftp_daemon.specs.Kept.Leaves.{Leaves_by}
@@ -152,13 +152,18 @@ module _ {S F D : Type 0} (Same : S → S → Type 0) (meaning : StoreMeaning S 
   leaves_so old new (Request_received d) leaves = stays (ap store_of d.is)
   leaves_so old new (No_request_found d) leaves = stays (ap store_of d.is)
   leaves_so old new (Request_not_received d) leaves = stays (ap store_of d.is)
+  leaves_so old new (No_port_found d) leaves = stays (ap store_of d.is)
   leaves_so old new (Request_answered d) leaves =
       let answered = goes_so old.server d.from d.bytes d.tid _ d.steps.came d.steps.goes in
       let left = subst (λ (l : Left S F D). Same old.server.store l.new.store) (sym d.steps.left) answered in
       subst (Same old.server.store) (sym (ap store_of d.is)) left
   leaves_so old new (Request_lost d) leaves = stays (ap store_of d.is)
   leaves_so old new (Clock_read d) leaves = stays (ap store_of d.is)
-  leaves_so old new (Store_set d) leaves = leaves
+  leaves_so old new (Store_set d) leaves =
+      subst (Same old.server.store) (sym (ap store_of d.is))
+      (keeps.joined old.server.store d.behind.between d.store
+      (keeps.behind old.server.store d.behind.between d.behind.port)
+      (keeps.behind d.behind.between d.store d.behind.longest))
   leaves_so old new (Transfer_closed d) leaves = stays (ap store_of d.is)
 
   pub run_leaves : RunLeaves Same meaning sources

@@ -5,7 +5,7 @@ use Rattle.tftp_store.specs.Store.{StoreMeaning}
 use Rattle.tftp_loop.specs.Run.{Run}
 use Rattle.tftp_loop.specs.Serves.{AtPort, Does, LoopState, PortState}
 use Rattle.tftp_loop.specs.Serves.AtPort.{A_lost_datagram}
-use Rattle.tftp_loop.specs.Serves.Does.{At_port, Store_set}
+use Rattle.tftp_loop.specs.Serves.Does.{At_port}
 use Rattle.tftp_daemon.specs.Settings.{SameSettings}
 use Rattle.tftp_daemon.specs.declared.folder.FolderStore.{FolderStore}
 
@@ -17,10 +17,9 @@ module _ {S F D : Type 0} (Same : S → S → Type 0) (meaning : StoreMeaning S 
   PortLeaves {now} {old} {new} (A_lost_datagram d) = Same old.server.store new.server.store
   PortLeaves does = ⊤
 
-  -- the same, and so does setting the store for the next transfer
+  -- the same
   abbrev pub StepLeaves : {old new : LoopState S F D} → Does meaning sources old new → Type 0
   StepLeaves (At_port d) = PortLeaves d.does
-  StepLeaves {old} {new} (Store_set d) = Same old.server.store new.server.store
   StepLeaves does = ⊤
 
   -- a step that leaves the store so where the definition of steps leaves it open
@@ -32,8 +31,7 @@ module _ {S F D : Type 0} (Same : S → S → Type 0) (meaning : StoreMeaning S 
   RunLeaves =
       (old new : LoopState S F D) → Run Leaves old new → Same old.server.store new.server.store
 
--- a run leaves the settings of its store, if setting it for the next transfer and losing a
--- datagram do
+-- a run leaves the settings of its store, if losing a datagram does
 abbrev pub RunKeepsSettings : {R G H F D : Type 0} → StoreMeaning (FolderStore R G H) D
     → SourceMeaning F → Type 0
 RunKeepsSettings meaning sources = RunLeaves SameSettings meaning sources

@@ -9,9 +9,8 @@ use tftp_file::Source;
 use tftp_server::Store;
 
 /// A run leaves the settings of its store: one that refuses writes refuses them to its end, and one
-/// that takes them below a folder alone takes them there alone. It is as long as that setting the
-/// store for the next transfer and losing a datagram leave them, of which the definition of a run
-/// says nothing.
+/// that takes them below a folder alone takes them there alone. It is as long as that losing a
+/// datagram leaves them, of which the definition of a run says nothing.
 pub fn a_run_keeps_the_settings<R: Files + Drop>()
     ensures { RunKeepsSettings ⟦<FolderStore<R> as Store>⟧.meaning
         ⟦<FolderSource<R::File> as Source>⟧.meaning }

@@ -1,8 +1,9 @@
 //! A program's own time in milliseconds, and the deadlines of transfers.
 
-ghost use Rattle.std.specs.Prelude.{◌≡◌, ◌≤◌, ◌↔◌, IsTrue};
+ghost use Rattle.std.specs.Prelude.{◌≡◌, ◌≤◌, ◌+◌, ◌↔◌, IsTrue};
 ghost use Rattle.std.specs.Duration.{as_nanos};
 ghost use Rattle.tftp_host.specs.Watch.{deadline_of, later_by, whole_millis};
+ghost use Rattle.tftp_host.specs.declared.watch.TheConstants.{LONGEST_WAIT};
 
 use std::time::Duration;
 
@@ -10,6 +11,8 @@ const MILLIS_PER_SECOND: u64 = 1_000;
 
 /// The longest single wait, in milliseconds.
 pub const LONGEST_WAIT: u64 = 1_000;
+
+const _: () = prove!(LONGEST_WAIT == 1_000);
 
 /// The time of a program in milliseconds, from readings of a clock.
 ///
@@ -37,6 +40,7 @@ impl Watch {
         ensures time { result ≡ later_by self.old reading }
         ensures kept { self.new ≡ record { now = result; reading = reading } }
         ensures forward { self.old.now ≤ result }
+        ensures soon { result ≤ self.old.now + LONGEST_WAIT }
     {
         let passed = reading.saturating_sub(self.reading).min(LONGEST_WAIT);
         self.now = self.now.saturating_add(passed);

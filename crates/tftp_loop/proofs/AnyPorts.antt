@@ -9,9 +9,9 @@ use Rattle.tftp_sockets.specs.Journal.{Event}
 use Rattle.tftp_loop.specs.PortOrder.{IsOneOf}
 use Rattle.tftp_loop.specs.Run.{Run}
 use Rattle.tftp_loop.specs.Run.Run.{Start, Then}
-use Rattle.tftp_loop.specs.Serves.{LoopState, Does, MayWait, RequestLoss, No_memory, No_port, No_identifier, ServesFrom}
-use Rattle.tftp_loop.specs.Serves.{ServesFromIn, ServesToEnd, ServesToEndIn, Serves, ServesIn}
-use Rattle.tftp_loop.specs.Serves.Does.{Waited, At_port, Request_received, No_request_found, Request_not_received}
+use Rattle.tftp_loop.specs.Serves.{LoopState, Does, MayWait, RequestLoss, No_memory, No_room, No_port, No_identifier, Same_port}
+use Rattle.tftp_loop.specs.Serves.{ServesFrom, ServesFromIn, ServesToEnd, ServesToEndIn, Serves, ServesIn}
+use Rattle.tftp_loop.specs.Serves.Does.{Waited, At_port, Request_received, No_request_found, Request_not_received, No_port_found}
 use Rattle.tftp_loop.specs.Serves.Does.{Request_answered, Request_lost, Clock_read, Store_set, Transfer_closed}
 use Rattle.tftp_loop.specs.Serves.ServesIn.{Bound, Unbound}
 use Rattle.tftp_loop.specs.declared.port_order.PortRange.{PortRange}
@@ -41,9 +41,11 @@ module _ {S F D : Type 0} (meaning : StoreMeaning S D) (sources : SourceMeaning 
 
   loss_anywhere : (s t : LoopState S F D) (from : Endpoint) (bytes : List ℕ)
       → RequestLoss meaning sources s t from bytes → RequestLoss meaning sources (anywhere s) (anywhere t) from bytes
-  loss_anywhere s t from bytes (No_memory acts) = No_memory acts
-  loss_anywhere s t from bytes (No_port ask admits asks) = No_port ask admits asks
-  loss_anywhere s t from bytes (No_identifier taken) = No_identifier taken
+  loss_anywhere s t from bytes (No_memory capacity lacks) = No_memory capacity lacks
+  loss_anywhere s t from bytes (No_room opens capacity lacks) = No_room opens capacity lacks
+  loss_anywhere s t from bytes (No_port opens port earlier is) = No_port opens port earlier is
+  loss_anywhere s t from bytes (No_identifier opens taken) = No_identifier opens taken
+  loss_anywhere s t from bytes (Same_port opens port within taken) = Same_port opens port tt taken
 
   step_anywhere : (s t : LoopState S F D) → Does meaning sources s t → Does meaning sources (anywhere s) (anywhere t)
   step_anywhere s t (Waited d) = Waited (record {
@@ -66,6 +68,15 @@ module _ {S F D : Type 0} (meaning : StoreMeaning S D) (sources : SourceMeaning 
       (record { from = d.from; bytes = d.bytes; none = d.none; is = ap anywhere d.is })
   step_anywhere s t (No_request_found d) = No_request_found (record { none = d.none; is = ap anywhere d.is })
   step_anywhere s t (Request_not_received d) = Request_not_received (record { none = d.none; is = ap anywhere d.is })
+  step_anywhere s t (No_port_found d) = No_port_found (record {
+    from = d.from;
+    bytes = d.bytes;
+    pending = d.pending;
+    opens = d.opens;
+    port = d.port;
+    within = tt;
+    is = ap anywhere d.is;
+  })
   step_anywhere s t (Request_answered d) =
       Request_answered (record {
         from = d.from;
@@ -85,8 +96,19 @@ module _ {S F D : Type 0} (meaning : StoreMeaning S D) (sources : SourceMeaning 
     why = loss_anywhere s t d.from d.bytes d.why;
     is = ap anywhere d.is;
   })
-  step_anywhere s t (Clock_read d) = Clock_read (record { time = d.time; forward = d.forward; is = ap anywhere d.is })
-  step_anywhere s t (Store_set d) = Store_set (record { store = d.store; same = d.same; is = ap anywhere d.is })
+  step_anywhere s t (Clock_read d) = Clock_read (record {
+    time = d.time;
+    woken = d.woken;
+    forward = d.forward;
+    soon = d.soon;
+    is = ap anywhere d.is;
+  })
+  step_anywhere s t (Store_set d) = Store_set (record {
+    store = d.store;
+    same = d.same;
+    behind = d.behind;
+    is = ap anywhere d.is;
+  })
   step_anywhere s t (Transfer_closed d) =
       Transfer_closed (record {
         index = d.index;

@@ -17,6 +17,7 @@ use Rattle.tftp_store.specs.Store.{StoreMeaning}
 use Rattle.tftp_server.specs.State.{HeldTransfer, at, draft_of, is_closed, taken_of, with_new}
 use Rattle.tftp_server.specs.Request.{Came, Left, Nothing, An_error, A_transfer, left_by}
 use Rattle.tftp_host.specs.Watch.{deadline_of, last_moment}
+use Rattle.tftp_host.specs.declared.watch.TheConstants.{LONGEST_WAIT}
 use Rattle.tftp_host.specs.Printed.{line_text}
 use Rattle.tftp_host.specs.declared.server.printed.Printed.TheVariants.{Closed}
 use Rattle.tftp_sockets.specs.Journal.{Event, replied}
@@ -25,12 +26,11 @@ use Rattle.tftp_loop.specs.Run.{Run}
 use Rattle.tftp_loop.specs.Serves.{Timer, PortState, LoopState, AtPort, Does, Waits, answering_port}
 use Rattle.tftp_loop.specs.Serves.{interval_at, marked_by, port_state, started, timer_after}
 use Rattle.tftp_loop.specs.Serves.{with_timer}
-use Rattle.tftp_loop.specs.Serves.Does.{Waited, At_port, Request_received, No_request_found, Request_not_received}
+use Rattle.tftp_loop.specs.Serves.Does.{Waited, At_port, Request_received, No_request_found, Request_not_received, No_port_found}
 use Rattle.tftp_loop.specs.Serves.Does.{Request_answered, Request_lost, Clock_read, Store_set, Transfer_closed}
 use Rattle.tftp_loop.specs.Reported.{IsNoWait}
-use Rattle.tftp_loop.specs.Expiry.{NoneReceived, At_first, ClosesInSilence, After_work, PrintsClose, Idles, IsIdle}
-use Rattle.tftp_loop.specs.Expiry.{IsIdleAt}
-use Rattle.tftp_loop.specs.Expiry.{ReceivesNone, ReceivesNoneAt, After_wait, closing_time}
+use Rattle.tftp_loop.specs.Expiry.{After, At_first, ClosesInSilence, Idles, IsIdle, IsIdleAt, NoneReceived}
+use Rattle.tftp_loop.specs.Expiry.{PrintsClose, ReceivesNone, ReceivesNoneAt, closing_time}
 use Rattle.tftp_loop.specs.Tended.{AreKept}
 use Rattle.tftp_loop.proofs.Adding.{Adds, adds_more, step_adds, step_forward}
 use Rattle.tftp_loop.proofs.Bounded.{some_at, sound_along}
@@ -39,6 +39,7 @@ use Rattle.tftp_loop.proofs.ListLemmas.{set_long}
 use Rattle.tftp_loop.proofs.PortEnds.{By_datagram, By_late_timeout, By_nothing, By_timeout, Changes, SameTimer}
 use Rattle.tftp_loop.proofs.PortEnds.{at_transfer, same_timer}
 use Rattle.tftp_loop.proofs.PortStays.{stays_at}
+use Rattle.tftp_loop.proofs.Rounds.{InRound, begins_round, step_round, wait_or_work}
 use Rattle.tftp_loop.proofs.Sleeping.{step_kept}
 use Rattle.tftp_loop.proofs.Tables.{any_default, appended_at, appended_long, inserted_apart, removed_apart}
 use Rattle.tftp_loop.proofs.Tables.{removed_place, set_other, set_own}
@@ -175,9 +176,12 @@ not_taken true x h = absurd (none-some x (sym h))
 not_taken false x h = refl
 
 module _ {S F D : Type 0} (meaning : StoreMeaning S D) (sources : SourceMeaning F) (first : LoopState S F D)
-    (timer : Timer) (e0 : EndState) (round : ℕ) where
+    (timer : Timer) (e0 : EndState) where
   abbrev millis : ℕ
   millis = timer.interval * 1000
+
+  abbrev round : ℕ
+  round = LONGEST_WAIT
 
   abbrev most : ℕ
   most = max 1 first.server.config.retries
@@ -366,6 +370,9 @@ module _ {S F D : Type 0} (meaning : StoreMeaning S D) (sources : SourceMeaning 
   step_lives Quiet More since s t (Request_not_received d) is idle fewer silent soon kept lasts =
       inr (same_lasts Quiet More since s t fewer (step_adds meaning sources s t (Request_not_received d))
       (ap (λ (u : LoopState S F D). u.timers) d.is) (ap (λ (u : LoopState S F D). u.server.held) d.is) lasts)
+  step_lives Quiet More since s t (No_port_found d) is idle fewer silent soon kept lasts =
+      inr (same_lasts Quiet More since s t fewer (step_adds meaning sources s t (No_port_found d))
+      (ap (λ (u : LoopState S F D). u.timers) d.is) (ap (λ (u : LoopState S F D). u.server.held) d.is) lasts)
   step_lives Quiet More since s t (Request_answered d) is idle fewer silent soon kept lasts =
       let fs = replied (answering_port s.requests d.left.opened.tid) d.left.opened.to d.left.sent s.events in
       let adds = subst (λ (u : LoopState S F D). Adds s.events u.events) d.is
@@ -453,15 +460,15 @@ module _ {S F D : Type 0} (meaning : StoreMeaning S D) (sources : SourceMeaning 
       (subst (λ (u : Timer). (s.now < u.deadline) ⊎ (u.deadline ≡ deadline_of s.now u.interval)) (lasts.is timer)
       (waits.may.transfers lasts.place timer lasts.within).due) soon
 
-  rests_lives : (Quiet : Type 0) (since : ℕ) (s t : LoopState S F D) → Waits meaning sources s t → s.now ≤ last_moment
-      → Lasts Quiet since s → Lasts Quiet s.now t
-  rests_lives Quiet since s t waits soon lasts =
+  rests_lives : (Quiet More : Type 0) (since : ℕ) (s t : LoopState S F D) → Waits meaning sources s t → (More → Quiet)
+      → s.now ≤ last_moment → Lasts Quiet since s → Lasts More s.now t
+  rests_lives Quiet More since s t waits fewer soon lasts =
       let more = length-map s.timers (marked_by waits.ports) in
       let inside = lasts.within in
       let early = rests_early Quiet since s t waits soon lasts in
       let adds = subst (λ (u : LoopState S F D). Adds s.events u.events) waits.is
       (step_adds meaning sources s t (Waited waits)) in
-      subst (Lasts Quiet s.now) (sym waits.is) (record {
+      subst (Lasts More s.now) (sym waits.is) (record {
         place = lasts.place;
         here = marked_by waits.ports lasts.here;
         within = omega (arith, more, inside);
@@ -471,50 +478,64 @@ module _ {S F D : Type 0} (meaning : StoreMeaning S D) (sources : SourceMeaning 
         found = lasts.found;
         counts = λ some. rested first.now millis round most since lasts.here.deadline s.now
             (timeouts_left lasts.transfer.end) early (lasts.counts some);
-        complete = lasts.complete;
-        closes = lasts.closes;
+        complete = λ quiet. lasts.complete (fewer quiet);
+        closes = λ quiet. lasts.closes (fewer quiet);
         adds = adds_more first.events s.events _ lasts.adds adds;
       })
 
   -- ---- along a run
-  record LivesOn (Quiet : Type 0) (since : ℕ) (s : LoopState S F D) : Type 0 where
+  record LivesOn (Quiet : Type 0) (s : LoopState S F D) : Type 0 where
+    pub since : ℕ
+    pub in_round : InRound meaning sources since s
     pub kept : AreKept s.server.held s.timers
     pub lives : Lives Quiet since s
 
-  lives_along : {since : ℕ} {s : LoopState S F D} (idles : Idles meaning sources timer.port round first since s)
-      → s.now ≤ last_moment → LivesOn (Unit {0}) first.now first
-      → LivesOn (NoneReceived meaning sources idles) since s
+  module _ (Quiet More : Type 0) (s t : LoopState S F D) (does : Does meaning sources s t)
+      (idle : IsIdle meaning sources timer.port does) (fewer : More → Quiet)
+      (silent : More → ReceivesNone meaning sources timer.port does) (was : LivesOn Quiet s) where
+    work_lives : IsNoWait meaning sources does → LivesOn More t
+    work_lives is =
+        let round = step_round meaning sources was.since s t does is was.in_round in
+        record {
+          since = was.since;
+          in_round = round;
+          kept = step_kept meaning sources s t does was.kept;
+          lives = elim was.lives [
+            | inl gone ↦ inl (gone_on Quiet More s t fewer (step_adds meaning sources s t does) gone)
+            | inr lasts ↦ step_lives Quiet More was.since s t does is idle fewer silent round.soon was.kept lasts
+          ];
+        }
+
+    wait_lives : Waits meaning sources s t → s.now ≤ last_moment → LivesOn More t
+    wait_lives waits soon = record {
+      since = s.now;
+      in_round = begins_round meaning sources s t (ap (λ (u : LoopState S F D). u.now) waits.is);
+      kept = step_kept meaning sources s t does was.kept;
+      lives = elim was.lives [
+        | inl gone ↦ inl (gone_on Quiet More s t fewer (step_adds meaning sources s t does) gone)
+        | inr lasts ↦ inr (rests_lives Quiet More was.since s t waits fewer soon lasts)
+      ];
+    }
+
+    one_lives : s.now ≤ last_moment → LivesOn More t
+    one_lives soon = elim (wait_or_work meaning sources s t does) [
+      | inl waits ↦ wait_lives waits soon
+      | inr is ↦ work_lives is
+    ]
+
+  lives_along : {s : LoopState S F D} (idles : Idles meaning sources timer.port first s)
+      → s.now ≤ last_moment → LivesOn (Unit {0}) first
+      → LivesOn (NoneReceived meaning sources idles) s
   lives_along At_first soon start = start
-  lives_along (After_work {since} {middle} {last} run does is idle within) soon start =
+  lives_along (After {middle} {last} run does idle) soon start =
       let forward = step_forward meaning sources middle last does in
-      let was = lives_along run (omega (arith, forward, soon)) start in
+      let before : middle.now ≤ last_moment = omega (arith, forward, soon) in
       let Quiet = NoneReceived meaning sources run in
       let More = Quiet × ReceivesNone meaning sources timer.port does in
-      record {
-        kept = step_kept meaning sources middle last does was.kept;
-        lives = elim was.lives [
-          | inl gone ↦ inl (gone_on Quiet More middle last (λ m. m.0)
-              (step_adds meaning sources middle last does) gone)
-          | inr lasts ↦ step_lives Quiet More since middle last does is idle (λ m. m.0)
-              (λ m. m.1) within was.kept lasts
-        ];
-      }
-  lives_along (After_wait {since} {middle} {last} run waits) soon start =
-      let forward = step_forward meaning sources middle last (Waited waits) in
-      let before : middle.now ≤ last_moment = omega (arith, forward, soon) in
-      let was = lives_along run before start in
-      let Quiet = NoneReceived meaning sources run in
-      record {
-        kept = step_kept meaning sources middle last (Waited waits) was.kept;
-        lives = elim was.lives [
-          | inl gone ↦ inl (gone_on Quiet Quiet middle last (λ m. m)
-              (step_adds meaning sources middle last (Waited waits)) gone)
-          | inr lasts ↦ inr (rests_lives Quiet since middle last waits before lasts)
-        ];
-      }
+      one_lives Quiet More middle last does idle (λ m. m.0) (λ m. m.1) (lives_along run before start) before
 
   too_late : (Quiet : Type 0) (since : ℕ) (s t : LoopState S F D) → Waits meaning sources s t → s.now ≤ last_moment
-      → closing_time first.now timer.interval first.server.config.retries round < s.now → Lasts Quiet since s → ⊥
+      → closing_time first.now timer.interval first.server.config.retries < s.now → Lasts Quiet since s → ⊥
   too_late Quiet since s t waits soon late lasts =
       let early = rests_early Quiet since s t waits soon lasts in
       let port_is : (slice_index_or s.timers lasts.place timer).port ≡ timer.port =
@@ -533,11 +554,11 @@ module _ {S F D : Type 0} (meaning : StoreMeaning S D) (sources : SourceMeaning 
 -- ---- the laws
 module _ {S F D : Type 0} (meaning : StoreMeaning S D) (sources : SourceMeaning F) where
   -- a transfer lasts at first
-  begins : (start first : LoopState S F D) (timer : Timer) (transfer : HeldTransfer F D) (round : ℕ)
+  begins : (start first : LoopState S F D) (timer : Timer) (transfer : HeldTransfer F D)
       → start.timers ≡ [] → Run (Does meaning sources) start first → Contains first.timers timer
       → at timer.port first.server.held ≡ Some transfer
-      → LivesOn meaning sources first timer transfer.end round (Unit {0}) first.now first
-  begins start first timer transfer round empty run has found =
+      → LivesOn meaning sources first timer transfer.end (Unit {0}) first
+  begins start first timer transfer empty run has found =
       let sound = sound_along meaning sources start first empty run in
       let bounded = sound.bounded has.0 timer has.1 in
       let is : (d : Timer) → slice_index_or first.timers has.0 d ≡ timer =
@@ -548,6 +569,8 @@ module _ {S F D : Type 0} (meaning : StoreMeaning S D) (sources : SourceMeaning 
       let few = most_left transfer.end.position.phase transfer.end.position.retries_left first.server.config.retries
       limit.left in
       record {
+        since = first.now;
+        in_round = begins_round meaning sources first first refl;
         kept = sound.kept;
         lives = inr (record {
           place = has.0;
@@ -557,7 +580,7 @@ module _ {S F D : Type 0} (meaning : StoreMeaning S D) (sources : SourceMeaning 
           same = record { port = refl; peer = refl; interval = refl };
           transfer = transfer;
           found = found;
-          counts = λ some. first_time first.now (timer.interval * 1000) round
+          counts = λ some. first_time first.now (timer.interval * 1000) LONGEST_WAIT
               (max 1 first.server.config.retries) timer.deadline (timeouts_left transfer.end) near few;
           complete = λ quiet. refl;
           closes = λ quiet o closed. inr (inr closed);
@@ -566,40 +589,37 @@ module _ {S F D : Type 0} (meaning : StoreMeaning S D) (sources : SourceMeaning 
       }
 
   pub times_out_in_silence : (start first last new : LoopState S F D) (timer : Timer) (transfer : HeldTransfer F D)
-      (round since : ℕ)
       → start.timers ≡ [] → Run (Does meaning sources) start first → Contains first.timers timer
       → at timer.port first.server.held ≡ Some transfer
-      → (idles : Idles meaning sources timer.port round first since last) → NoneReceived meaning sources idles
+      → (idles : Idles meaning sources timer.port first last) → NoneReceived meaning sources idles
       → Waits meaning sources last new
-      → closing_time first.now timer.interval first.server.config.retries round < last.now → last.now ≤ last_moment
+      → closing_time first.now timer.interval first.server.config.retries < last.now → last.now ≤ last_moment
       → (outcome : Outcome) × PrintsClose timer.port timer.peer.port outcome first.events last.events
       × ClosesInSilence transfer.end.position.phase outcome
-  times_out_in_silence start first last new timer transfer round since empty run has found idles
-      silent waits late soon =
-      let along = lives_along meaning sources first timer transfer.end round idles soon
-      (begins start first timer transfer round empty run has found) in
+  times_out_in_silence start first last new timer transfer empty run has found idles silent waits late soon =
+      let along = lives_along meaning sources first timer transfer.end idles soon
+      (begins start first timer transfer empty run has found) in
       elim along.lives [
         | inl gone ↦ (gone.outcome, gone.closed, gone.why silent)
-        | inr lasts ↦ absurd (too_late meaning sources first timer transfer.end round
-            (NoneReceived meaning sources idles) since last new waits soon late lasts)
+        | inr lasts ↦ absurd (too_late meaning sources first timer transfer.end
+            (NoneReceived meaning sources idles) along.since last new waits soon late lasts)
       ]
 
-  pub closes_without_progress : (start first last new : LoopState S F D) (timer : Timer) (round since : ℕ)
+  pub closes_without_progress : (start first last new : LoopState S F D) (timer : Timer)
       → start.timers ≡ [] → Run (Does meaning sources) start first → Contains first.timers timer
-      → Idles meaning sources timer.port round first since last → Waits meaning sources last new
-      → closing_time first.now timer.interval first.server.config.retries round < last.now → last.now ≤ last_moment
+      → Idles meaning sources timer.port first last → Waits meaning sources last new
+      → closing_time first.now timer.interval first.server.config.retries < last.now → last.now ≤ last_moment
       → (outcome : Outcome) × PrintsClose timer.port timer.peer.port outcome first.events last.events
-  closes_without_progress start first last new timer round since empty run has idles waits late soon
-      =
+  closes_without_progress start first last new timer empty run has idles waits late soon =
       let sound = sound_along meaning sources start first empty run in
       let there : IsSome (at timer.port first.server.held) =
       subst (λ (t : Timer). IsSome (at t.port first.server.held)) has.2
       (sound.kept.each has.0 timer has.1).there in
       let some = some_at (at timer.port first.server.held) there in
-      let along = lives_along meaning sources first timer some.0.end round idles soon
-      (begins start first timer some.0 round empty run has some.1) in
+      let along = lives_along meaning sources first timer some.0.end idles soon
+      (begins start first timer some.0 empty run has some.1) in
       elim along.lives [
         | inl gone ↦ (gone.outcome, gone.closed)
-        | inr lasts ↦ absurd (too_late meaning sources first timer some.0.end round
-            (NoneReceived meaning sources idles) since last new waits soon late lasts)
+        | inr lasts ↦ absurd (too_late meaning sources first timer some.0.end
+            (NoneReceived meaning sources idles) along.since last new waits soon late lasts)
       ]

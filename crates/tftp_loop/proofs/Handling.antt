@@ -18,7 +18,7 @@ use Rattle.tftp_loop.specs.Serves.{Timer, PortState, LoopState, AtPort, Does, Wa
 use Rattle.tftp_loop.specs.Serves.{until_look}
 use Rattle.tftp_loop.specs.Serves.AtPort.{A_datagram, A_lost_datagram, Nothing_found, A_failed_receive, A_timeout}
 use Rattle.tftp_loop.specs.Serves.AtPort.{A_missed_timeout, Work}
-use Rattle.tftp_loop.specs.Serves.Does.{Waited, At_port, Request_received, No_request_found, Request_not_received}
+use Rattle.tftp_loop.specs.Serves.Does.{Waited, At_port, Request_received, No_request_found, Request_not_received, No_port_found}
 use Rattle.tftp_loop.specs.Serves.Does.{Request_answered, Request_lost, Clock_read, Store_set, Transfer_closed}
 use Rattle.tftp_loop.specs.Reported.{GoesOn, Goes_by, IsNoWait}
 use Rattle.tftp_loop.specs.Handled.{By_answer, By_loss, IsResolved}
@@ -63,6 +63,8 @@ module _ {S F D : Type 0} (meaning : StoreMeaning S D) (sources : SourceMeaning 
       absurd (none-some (from, bytes) (sym d.none ∙ pending))
   step_pending from bytes first s t run (Request_not_received d) pending =
       absurd (none-some (from, bytes) (sym d.none ∙ pending))
+  step_pending from bytes first s t run (No_port_found d) pending =
+      inl (ap (λ (u : LoopState S F D). u.pending) d.is ∙ pending)
   step_pending from bytes first s t run (Request_answered d) pending =
       let same = same_Some (d.from, d.bytes) (from, bytes) (sym d.pending ∙ pending) in
       inr (record {
@@ -160,6 +162,7 @@ module _ {S F D : Type 0} (meaning : StoreMeaning S D) (sources : SourceMeaning 
       absurd (none-some (from, bytes) (sym d.none ∙ pending))
   step_untried from bytes s t (Request_not_received d) is own pending h =
       absurd (none-some (from, bytes) (sym d.none ∙ pending))
+  step_untried from bytes s t (No_port_found d) is own pending h = subst Untried (sym d.is) h
   step_untried from bytes s t (Request_answered d) is own pending h =
       subst Untried (sym d.is) (replied_untried s.requests _ d.left.opened.to d.left.sent s.events h)
   step_untried from bytes s t (Request_lost d) is own pending h = subst Untried (sym d.is) h
@@ -243,6 +246,7 @@ module _ {S F D : Type 0} (meaning : StoreMeaning S D) (sources : SourceMeaning 
   step_reads s t (No_request_found d) is reads = subst Reads (sym d.is)
       (inr (own_receive s.requests (was_tried s.requests s.events)))
   step_reads s t (Request_not_received d) is reads = inl (ap (λ (u : LoopState S F D). u.marked) d.is)
+  step_reads s t (No_port_found d) is reads = subst Reads (sym d.is) reads
   step_reads s t (Request_answered d) is reads =
       same_reads s t (ap (λ (u : LoopState S F D). u.marked) d.is) (ap (λ (u : LoopState S F D). u.requests) d.is)
       (λ h. kept_tries s.requests _ t.events (ap (λ (u : LoopState S F D). u.events) d.is)

@@ -23,5 +23,6 @@ pub mod EndSteps
 pub mod PortEnds
 pub mod Bounded
 pub mod Adding
+pub mod Rounds
 pub mod Expiring
 pub mod Handling

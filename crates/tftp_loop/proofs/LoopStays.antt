@@ -13,7 +13,7 @@ use Rattle.tftp_sockets.specs.Quiet.{was_tried}
 use Rattle.tftp_loop.specs.Run.{Run}
 use Rattle.tftp_loop.specs.Run.Run.{Start, Then}
 use Rattle.tftp_loop.specs.Serves.{Timer, PortState, LoopState, Does, answering_port, interval_at, port_state, started, with_timer}
-use Rattle.tftp_loop.specs.Serves.Does.{Waited, At_port, Request_received, No_request_found, Request_not_received, Request_answered, Request_lost, Clock_read, Store_set, Transfer_closed}
+use Rattle.tftp_loop.specs.Serves.Does.{Waited, At_port, Request_received, No_request_found, Request_not_received, No_port_found, Request_answered, Request_lost, Clock_read, Store_set, Transfer_closed}
 use Rattle.tftp_loop.specs.Served.{IsWork, Works, Work_by}
 use Rattle.tftp_loop.specs.Tended.{AreApart, AreKept, AreTried, IsHeld, IsRead, KeepsTries}
 use Rattle.tftp_loop.proofs.ListLemmas.{set_long}
@@ -248,6 +248,13 @@ module _ {S F D : Type 0} (meaning : StoreMeaning S D) (sources : SourceMeaning 
         kept = λ h. h;
         read = λ h k e l m. or_right (s.requests == (slice_index_or s.timers k e).port) (was_tried (slice_index_or s.timers k e).port s.events) (h k e l m);
         tried = λ h m. own_receive s.requests (was_tried s.requests s.events);
+      })
+  step_keeps s t (No_port_found d) work =
+      subst (Keeps s) (sym d.is) (record {
+        tries = λ q h. h;
+        kept = λ h. h;
+        read = λ h. h;
+        tried = λ h. h;
       })
   step_keeps s t (Request_answered d) work =
       let fs = replied (answering_port s.requests d.left.opened.tid) d.left.opened.to d.left.sent s.events in

@@ -13,7 +13,9 @@ use Rattle.tftp_store.specs.Store.{StoreMeaning}
 use Rattle.tftp_server.specs.State.{HeldTransfer, ServerState, at, draft_of, is_closed, taken_of, with_new}
 use Rattle.tftp_server.specs.Request.{Came, Left, Nothing, An_error, A_transfer, Goes, Sent, Taken, Serves, left_by}
 use Rattle.tftp_server.specs.Port.{Ask, Ignores, Refuses, Reads, Writes, Service, Silent, Refused, Sends, Takes}
-use Rattle.tftp_loop.specs.Serves.{Timer, LoopState, AnswersRequest, LosesRequest, SetsStore, interval_at, started, with_timer}
+use Rattle.tftp_loop.specs.Run.{Run}
+use Rattle.tftp_loop.specs.Run.Run.{Start, Then}
+use Rattle.tftp_loop.specs.Serves.{Timer, LoopState, AnswersRequest, FindsNoPort, LosesRequest, SetsStore, interval_at, started, with_timer}
 use Rattle.tftp_loop.specs.Tended.{AreKept, AreSettled, Concludes, IsOpen}
 use Rattle.tftp_loop.proofs.LoopStays.{all_appended, some_none, work_keeps}
 use Rattle.tftp_loop.proofs.RequestRuns.{concludes_run}
@@ -86,6 +88,12 @@ module _ {S F D : Type 0} (meaning : StoreMeaning S D) (sources : SourceMeaning 
       ∙ ap (λ (b : Bool). if b then Some (record_of transfer.end, draft_of transfer.files) else None) (opens_open ask transfer store goes))
 
 module _ {S F D : Type 0} (meaning : StoreMeaning S D) (sources : SourceMeaning F) where
+  -- trying ports changes no transfer
+  tried_settled : (s t : LoopState S F D) → Run (FindsNoPort meaning sources) s t → AreSettled s.server.held s.timers → AreSettled t.server.held t.timers
+  tried_settled s t Start settled = settled
+  tried_settled s t (Then {middle} run d) settled =
+      subst (λ (u : LoopState S F D). AreSettled u.server.held u.timers) (sym d.is) (tried_settled s middle run settled)
+
   set_open : (s t : LoopState S F D) → (t ≡ s) ⊎ SetsStore meaning sources s t → All (IsOpen s.server.held) s.timers → All (IsOpen t.server.held) t.timers
   set_open s t (inl e) unclosed = subst (λ (u : LoopState S F D). All (IsOpen u.server.held) u.timers) (sym e) unclosed
   set_open s t (inr d) unclosed = subst (λ (u : LoopState S F D). All (IsOpen u.server.held) u.timers) (sym d.is) unclosed
@@ -105,5 +113,7 @@ module _ {S F D : Type 0} (meaning : StoreMeaning S D) (sources : SourceMeaning 
   pub concludes_settled : (s t : LoopState S F D) → Concludes meaning sources s t → AreSettled s.server.held s.timers → AreSettled t.server.held t.timers
   concludes_settled s t c settled = record {
     kept = (work_keeps meaning sources s t (concludes_run meaning sources s t c)).kept settled.kept;
-    none_closed = ends_open c.middle t c.ends (set_kept s c.middle c.set settled.kept) (set_open s c.middle c.set settled.none_closed);
+    none_closed =
+        let begun = tried_settled s c.begin c.tries settled in
+        ends_open c.middle t c.ends (set_kept c.begin c.middle c.set begun.kept) (set_open c.begin c.middle c.set begun.none_closed);
   }

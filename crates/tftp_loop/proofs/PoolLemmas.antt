@@ -1,11 +1,11 @@
 -- Which ports an order has.
-use Rattle.std.proofs.Common.{arith, ◌≡◌, ◌≤◌, ◌<◌, ◌+◌, ◌-◌, ℕ, zero, suc, [], ◌∷◌, ◌++◌, Option, Some, None, ap}
-use Rattle.std.proofs.Common.{sym, subst}
-use Rattle.std.specs.Prelude.{All, IfSome, MatchOption}
+use Rattle.std.proofs.Common.{arith, ◌≡◌, ◌≤◌, ◌<◌, ◌+◌, ◌-◌, ℕ, zero, suc, List, [], ◌∷◌, ◌++◌, length, Option, Some}
+use Rattle.std.proofs.Common.{None, ap, refl, sym, subst}
+use Rattle.std.specs.Prelude.{All, IfSome, IsSome, MatchOption}
 use Rattle.std.specs.List.{range_with_len}
 use Rattle.std.proofs.lemmas.List.Elements.{All-nil, All-cons, All-head, All-tail, All-same, All-append, All-push}
-use Rattle.std.proofs.lemmas.List.Sorted.{All-permutation}
-use Rattle.tftp_loop.specs.PortOrder.{AreOneOf, IsOneOf, IsOrderOf, Turns, coming, ports_of}
+use Rattle.std.proofs.lemmas.List.Sorted.{All-permutation, length_permutation}
+use Rattle.tftp_loop.specs.PortOrder.{HasPorts, IsOneOf, IsOrderOf, Turns, coming, ports_of}
 use Rattle.tftp_loop.specs.declared.port_order.PortOrder.{PortOrder}
 use Rattle.tftp_loop.specs.declared.port_order.PortRange.{PortRange}
 
@@ -23,27 +23,40 @@ all_within range =
     (λ x h k is. (h, omega (arith, k, is.1))))
     (All-cons (IsOneOf (Some range)) range.last [] (λ is. (is.1, omega arith)) (All-nil (IsOneOf (Some range))))
 
--- each port of an order of a range is one of it
-pub order_within : (range : PortRange) (order : PortOrder) → IsOrderOf range order → AreOneOf order
-order_within range order is =
-    subst (λ (r : PortRange). All (IsOneOf (Some r)) (coming order)) (sym is.same)
-    (All-permutation (IsOneOf (Some range)) (ports_of range) (coming order) is.all (all_within range))
+pushed_some : (xs : List ℕ) (x : ℕ) → 1 ≤ length (xs ++ x ∷ [])
+pushed_some [] x = omega arith
+pushed_some (y ∷ xs) x = omega arith
 
-module _ (old new : PortOrder) (port : ℕ) (each : AreOneOf old) (turns : Turns old new port) where
+-- an order of a range has ports, and each is one of it
+pub order_within : (range : PortRange) (order : PortOrder) → IsOrderOf range order → HasPorts order
+order_within range order is =
+    let long = length_permutation (ports_of range) (coming order) is.all in
+    let some = pushed_some (range_with_len range.first (range.last - range.first)) range.last in
+    record {
+      some = omega (arith, long, some);
+      each =
+          subst (λ (r : PortRange). All (IsOneOf (Some r)) (coming order)) (sym is.same)
+          (All-permutation (IsOneOf (Some range)) (ports_of range) (coming order) is.all (all_within range));
+    }
+
+module _ (old new : PortOrder) (port : ℕ) (has : HasPorts old) (turns : Turns old new port) where
   comes : All (IsOneOf (Some old.range)) (port ∷ turns.others)
-  comes = All-same (IsOneOf (Some old.range)) (port ∷ turns.others) (coming old) (sym turns.was) each
+  comes = All-same (IsOneOf (Some old.range)) (port ∷ turns.others) (coming old) (sym turns.was) has.each
 
   -- so is the port that is used
   pub used_within : IsOneOf (Some old.range) port
   used_within = All-head (IsOneOf (Some old.range)) port turns.others comes
 
   -- and those that come then
-  pub turned_within : AreOneOf new
-  turned_within =
-      subst (λ (r : PortRange). All (IsOneOf (Some r)) (coming new)) (sym turns.range)
-      (All-same (IsOneOf (Some old.range)) (coming new) (turns.others ++ port ∷ []) turns.is
-      (All-push (IsOneOf (Some old.range)) turns.others port
-      (All-tail (IsOneOf (Some old.range)) port turns.others comes) used_within))
+  pub turned_within : HasPorts new
+  turned_within = record {
+    some = subst (λ (xs : List ℕ). 1 ≤ length xs) (sym turns.is) (pushed_some turns.others port);
+    each =
+        subst (λ (r : PortRange). All (IsOneOf (Some r)) (coming new)) (sym turns.range)
+        (All-same (IsOneOf (Some old.range)) (coming new) (turns.others ++ port ∷ []) turns.is
+        (All-push (IsOneOf (Some old.range)) turns.others port
+        (All-tail (IsOneOf (Some old.range)) port turns.others comes) used_within));
+  }
 
 -- the same, whether or not a port comes
 abbrev MayTurn : PortOrder → PortOrder → Option ℕ → Type 0
@@ -53,11 +66,19 @@ pub same_range : (old new : PortOrder) (made : Option ℕ) → MayTurn old new m
 same_range old new None turns = ap (λ (o : PortOrder). o.range) turns.1
 same_range old new (Some port) turns = turns.range
 
-pub still_within : (old new : PortOrder) (made : Option ℕ) → AreOneOf old → MayTurn old new made → AreOneOf new
-still_within old new None each turns = subst (λ (o : PortOrder). AreOneOf o) (sym turns.1) each
-still_within old new (Some port) each turns = turned_within old new port each turns
+pub still_within : (old new : PortOrder) (made : Option ℕ) → HasPorts old → MayTurn old new made → HasPorts new
+still_within old new None has turns = subst (λ (o : PortOrder). HasPorts o) (sym turns.1) has
+still_within old new (Some port) has turns = turned_within old new port has turns
 
-pub next_within : (old new : PortOrder) (made : Option ℕ) → AreOneOf old → MayTurn old new made
+pub next_within : (old new : PortOrder) (made : Option ℕ) → HasPorts old → MayTurn old new made
     → IfSome made (IsOneOf (Some old.range))
-next_within old new None each turns = tt
-next_within old new (Some port) each turns = used_within old new port each turns
+next_within old new None has turns = tt
+next_within old new (Some port) has turns = used_within old new port has turns
+
+-- a port comes
+pub next_some : (old new : PortOrder) (made : Option ℕ) → HasPorts old → MayTurn old new made → IsSome made
+next_some old new None has turns =
+    let some = has.some in
+    let none : length (coming old) ≡ 0 = ap (λ (xs : List ℕ). length xs) turns.0 in
+    absurd (omega (arith, some, none))
+next_some old new (Some port) has turns = refl

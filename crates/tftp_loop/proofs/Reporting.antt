@@ -18,7 +18,7 @@ use Rattle.tftp_loop.specs.Run.Run.{Start, Then}
 use Rattle.tftp_loop.specs.declared.serving.Ending.{Ending}
 use Rattle.tftp_loop.specs.Serves.{Timer, PortState, LoopState, AtPort, Does, Waits, answering_port, at_start, interval_at, marked_by, port_state, started, with_timer}
 use Rattle.tftp_loop.specs.Serves.AtPort.{A_datagram, A_lost_datagram, Nothing_found, A_failed_receive, A_timeout, A_missed_timeout, Work}
-use Rattle.tftp_loop.specs.Serves.Does.{Waited, At_port, Request_received, No_request_found, Request_not_received, Request_answered, Request_lost, Clock_read, Store_set, Transfer_closed}
+use Rattle.tftp_loop.specs.Serves.Does.{Waited, At_port, Request_received, No_request_found, Request_not_received, No_port_found, Request_answered, Request_lost, Clock_read, Store_set, Transfer_closed}
 use Rattle.tftp_loop.specs.Reported.{GoesOn, Goes_by, HasTimer, IsNoWait}
 use Rattle.tftp_loop.specs.Tended.{AreApart, AreKept, KeepsTries}
 use Rattle.tftp_loop.proofs.ListLemmas.{map_at, set_long}
@@ -161,6 +161,8 @@ module _ {S F D : Type 0} (meaning : StoreMeaning S D) (sources : SourceMeaning 
   step_reads port s t (No_request_found d) is kept (inr due) = subst (Reads port) (sym d.is) (inr (same_due port s _ refl refl due))
   step_reads port s t (Request_not_received d) is kept (inl tried) = subst (Reads port) (sym d.is) (inl (or_right (s.requests == port) (was_tried port s.events) tried))
   step_reads port s t (Request_not_received d) is kept (inr due) = subst (Reads port) (sym d.is) (inr (same_due port s _ refl refl due))
+  step_reads port s t (No_port_found d) is kept (inl tried) = subst (Reads port) (sym d.is) (inl tried)
+  step_reads port s t (No_port_found d) is kept (inr due) = subst (Reads port) (sym d.is) (inr (same_due port s _ refl refl due))
   step_reads port s t (Request_answered d) is kept (inl tried) = subst (Reads port) (sym d.is) (inl (replied_tries _ d.left.opened.to d.left.sent s.events port tried))
   step_reads port s t (Request_answered d) is kept (inr due) =
       let fs = replied (answering_port s.requests d.left.opened.tid) d.left.opened.to d.left.sent s.events in

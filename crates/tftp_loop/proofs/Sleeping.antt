@@ -13,7 +13,7 @@ use Rattle.tftp_loop.specs.Run.{Run}
 use Rattle.tftp_loop.specs.Run.Run.{Start, Then}
 use Rattle.tftp_loop.specs.declared.serving.Ending.{Ending}
 use Rattle.tftp_loop.specs.Serves.{Timer, LoopState, Does, Waits, at_start, is_busy, port_state, until_look}
-use Rattle.tftp_loop.specs.Serves.Does.{Waited, At_port, Request_received, No_request_found, Request_not_received, Request_answered, Request_lost, Clock_read, Store_set, Transfer_closed}
+use Rattle.tftp_loop.specs.Serves.Does.{Waited, At_port, Request_received, No_request_found, Request_not_received, No_port_found, Request_answered, Request_lost, Clock_read, Store_set, Transfer_closed}
 use Rattle.tftp_loop.specs.Served.{Work_by}
 use Rattle.tftp_loop.specs.Sleeps.{HasItsOwnPort, MaySleep}
 use Rattle.tftp_loop.specs.Tended.{AreKept}
@@ -51,6 +51,7 @@ module _ {S F D : Type 0} (meaning : StoreMeaning S D) (sources : SourceMeaning 
   step_drained s t (No_request_found d) own h = subst (λ (u : LoopState S F D). u.marked ≡ false → is_drained u.requests u.events ≡ true) (sym d.is)
       (λ m. own_receive s.requests (is_drained s.requests s.events))
   step_drained s t (Request_not_received d) own h = subst (λ (u : LoopState S F D). u.marked ≡ false → is_drained u.requests u.events ≡ true) (sym d.is) (λ m. not_marked m)
+  step_drained s t (No_port_found d) own h = subst (λ (u : LoopState S F D). u.marked ≡ false → is_drained u.requests u.events ≡ true) (sym d.is) h
   step_drained s t (Request_answered d) own h = subst (λ (u : LoopState S F D). u.marked ≡ false → is_drained u.requests u.events ≡ true) (sym d.is)
       (λ m. replied_drained s.requests _ d.left.opened.to d.left.sent s.events (h m))
   step_drained s t (Request_lost d) own h = subst (λ (u : LoopState S F D). u.marked ≡ false → is_drained u.requests u.events ≡ true) (sym d.is) h
@@ -64,6 +65,7 @@ module _ {S F D : Type 0} (meaning : StoreMeaning S D) (sources : SourceMeaning 
   step_kept s t (Request_received d) kept = (work_keeps meaning sources s t (Then Start (Work_by (Request_received d) tt))).kept kept
   step_kept s t (No_request_found d) kept = (work_keeps meaning sources s t (Then Start (Work_by (No_request_found d) tt))).kept kept
   step_kept s t (Request_not_received d) kept = (work_keeps meaning sources s t (Then Start (Work_by (Request_not_received d) tt))).kept kept
+  step_kept s t (No_port_found d) kept = (work_keeps meaning sources s t (Then Start (Work_by (No_port_found d) tt))).kept kept
   step_kept s t (Request_answered d) kept = (work_keeps meaning sources s t (Then Start (Work_by (Request_answered d) tt))).kept kept
   step_kept s t (Request_lost d) kept = (work_keeps meaning sources s t (Then Start (Work_by (Request_lost d) tt))).kept kept
   step_kept s t (Store_set d) kept = (work_keeps meaning sources s t (Then Start (Work_by (Store_set d) tt))).kept kept

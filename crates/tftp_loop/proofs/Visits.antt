@@ -17,8 +17,10 @@ use Rattle.tftp_loop.specs.declared.transfer_port.TransferSocket.{TransferSocket
 use Rattle.tftp_loop.specs.Serves.{Timer, PortState, LoopState, Closes, WorksAtPort}
 use Rattle.tftp_loop.specs.Serves.Does.{Transfer_closed}
 use Rattle.tftp_loop.specs.declared.daemon.Daemon.{Daemon}
+use Rattle.tftp_loop.specs.declared.daemon.Turn.{Turn}
+use Rattle.tftp_loop.specs.declared.daemon.Turn.TheVariants as turns
 use Rattle.tftp_loop.specs.Served.{OnlyWorks, Work_by, close_reported, state_of, timer_of}
-use Rattle.tftp_loop.specs.Tended.{AllFrom, AreKept, AreRead, AreSettled, AreTimed, Finishes, Goes, Stays, IsOpen, IsRead, IsSettled, IsTimed, KeepsTries, TakesTurn, leaves_read, leaves_timed, timers_of}
+use Rattle.tftp_loop.specs.Tended.{AllFrom, AreKept, AreRead, AreSettled, AreTimed, Finishes, Goes, HaveTurned, Stays, IsOpen, IsRead, IsSettled, IsTimed, KeepsTries, TakesTurn, leaves_by, leaves_read, leaves_timed, timers_of}
 use Rattle.tftp_loop.proofs.ListLemmas.{map_is, map_removed, map_set, map_within, set_long}
 use Rattle.tftp_loop.proofs.LoopRuns.{Runs, at_place, closes, none_taken}
 use Rattle.tftp_loop.proofs.LoopStays.{all_removed, all_set, other_held, other_port, removed_held, set_kept}
@@ -189,6 +191,11 @@ module _ {S F D : Type 0} (meaning : StoreMeaning S D) (sources : SourceMeaning 
       let now = now_after meaning sources turns finishes in
       subst (λ (n : ℕ). AllFrom (IsTimed n) index (timers_of new)) (sym now)
       (after meaning sources turns finishes (IsTimed old.sockets.watch.now) (λ k d l h. timed k d l h) (λ unclosed. turns.leaves_it unclosed))
+
+  -- the ports from this one on have had their turn
+  pub turned_after : (turn : Turn) → TakesTurn meaning sources (leaves_by turn) index old middle → Finishes meaning sources index middle new → HaveTurned turn (index + 1) old → HaveTurned turn index new
+  turned_after turns.Ready takes finishes turned = read_after takes finishes turned
+  turned_after turns.Due takes finishes turned = timed_after takes finishes turned
 
 not_taken : {X : Type 0} (b : Bool) (x : X) → (if b then Some x else None) ≡ None → b ≡ false
 not_taken true x e = absurd (none-some x (sym e))

@@ -7,6 +7,7 @@ use Rattle.tftp_ends.specs.declared.endpoint.Endpoint.{Endpoint}
 use Rattle.tftp_store.specs.Store.{StoreMeaning}
 use Rattle.tftp_server.specs.State.{HeldTransfer, ServerState}
 use Rattle.tftp_host.specs.Watch.{wait_of}
+use Rattle.tftp_host.specs.declared.watch.TheConstants.{LONGEST_WAIT}
 use Rattle.tftp_host.specs.declared.server.port.Port.{Port}
 use Rattle.tftp_sockets.specs.Journal.{Event}
 use Rattle.tftp_sockets.specs.Journal.Event.{Watched, Quiet}
@@ -19,7 +20,7 @@ use Rattle.tftp_loop.specs.Run.Run.{Start, Then}
 use Rattle.tftp_loop.specs.Serves.{Timer, LoopState, Does, MayWait, IsServed, marked_by, most_millis, until_look}
 use Rattle.tftp_loop.specs.Serves.Does.{Waited, Clock_read}
 use Rattle.tftp_loop.specs.Served.{pending_in, state_of, timer_of}
-use Rattle.tftp_loop.specs.Tended.{AreSettled, AreKept, HasWoken, IsHeld, IsOpen, IsSettled, IsTended, marked_if, millis_of, timers_of}
+use Rattle.tftp_loop.specs.Tended.{AreSettled, AreKept, HasSlept, HasWoken, IsHeld, IsOpen, IsSettled, IsTended, marked_if, millis_of, timers_of}
 use Rattle.tftp_loop.proofs.ListLemmas.{map_at}
 use Rattle.tftp_loop.proofs.LoopRuns.{same_state}
 use Rattle.tftp_loop.proofs.Tables.{any_default}
@@ -124,13 +125,10 @@ module _ {F D : Type 0} (held : List (ℕ × HeldTransfer F D)) (ports : List �
 module _ {S F D : Type 0} (meaning : StoreMeaning S D) (sources : SourceMeaning F) where
   -- a wait that was allowed, its marks, and the clock after it
   pub waits_as : (buffer : List ℕ) (old noted new : Daemon S F D) (millis : ℕ) (ports : List ℕ) → MayWait (state_of buffer old) millis ports
-      → noted.sockets.requests.port ≡ old.sockets.requests.port → noted.sockets.pool.range ≡ old.sockets.pool.range
-      → noted.server ≡ old.server → noted.pending ≡ old.pending → timers_of noted ≡ timers_of old
-      → noted.sockets.watch.now ≡ old.sockets.watch.now → noted.sockets.is_ready ≡ old.sockets.is_ready → noted.left ≡ old.left → noted.rounds ≡ old.rounds
-      → noted.journal.events ≡ Quiet (Woke ports) ∷ Quiet (Slept millis) ∷ old.journal.events → HasWoken ports noted new
-      → Run (Does meaning sources) (state_of buffer old) (state_of buffer new)
-  waits_as buffer old noted new millis ports may requests range server pending timers now marked left rounds events
-      woken =
+      → HasSlept millis ports old noted → HasWoken ports noted new → Run (Does meaning sources) (state_of buffer old) (state_of buffer new)
+  waits_as buffer old noted new millis ports may slept woken =
+      let requests = slept.requests in
+      let now = slept.now in
       let s = state_of buffer old in
       let waited : LoopState S F D = record s {
         marked = s.marked || is_among s.requests ports;
@@ -139,19 +137,29 @@ module _ {S F D : Type 0} (meaning : StoreMeaning S D) (sources : SourceMeaning 
         events = Quiet (Woke ports) ∷ Quiet (Slept millis) ∷ s.events;
       } in
       let forward : old.sockets.watch.now ≤ new.sockets.watch.now = let f = woken.now in omega (arith, now, f) in
+      let soon : new.sockets.watch.now ≤ old.sockets.watch.now + LONGEST_WAIT =
+      let f = woken.soon in omega (arith, now, f) in
       Then (Then Start (Waited (record { millis = millis; ports = ports; may = may; is = refl })))
       (Clock_read (record {
         time = new.sockets.watch.now;
+        woken = refl;
         forward = forward;
+        soon = soon;
         is =
             same_state (state_of buffer new) (record waited { now = new.sockets.watch.now; events = Watched new.sockets.watch.now ∷ waited.events })
-            (woken.requests ∙ requests) (woken.range ∙ range) (woken.server ∙ server)
-            (ap (λ (p : Option (Endpoint × ℕ)). pending_in p buffer) (woken.pending ∙ pending))
-            (woken.timers ∙ ap (map (marked_by ports)) timers) refl
-            (woken.marked ∙ (ap (λ (b : Bool). b || is_among noted.sockets.requests.port ports) marked ∙ ap (λ (p : ℕ). old.sockets.is_ready || is_among p ports) requests))
-            (woken.left ∙ left) (woken.rounds ∙ ap (λ (n : ℕ). n - 1) rounds)
-            (woken.events ∙ ap (λ (es : List Event). Watched new.sockets.watch.now ∷ es) events);
+            (woken.requests ∙ requests) (woken.range ∙ slept.range) (woken.server ∙ slept.server)
+            (ap (λ (p : Option (Endpoint × ℕ)). pending_in p buffer) (woken.pending ∙ slept.pending))
+            (woken.timers ∙ ap (map (marked_by ports)) slept.timers) refl
+            (woken.marked ∙ (ap (λ (b : Bool). b || is_among noted.sockets.requests.port ports) slept.marked ∙ ap (λ (p : ℕ). old.sockets.is_ready || is_among p ports) requests))
+            (woken.left ∙ slept.left) (woken.rounds ∙ ap (λ (n : ℕ). n - 1) slept.rounds)
+            (woken.events ∙ ap (λ (es : List Event). Watched new.sockets.watch.now ∷ es) slept.events);
       }))
+
+  -- a wait leaves what is settled
+  pub slept_settled : (old noted : Daemon S F D) (millis : ℕ) (ports : List ℕ) → HasSlept millis ports old noted → IsSettled old → IsSettled noted
+  slept_settled old noted millis ports slept settled =
+      subst (λ (ts : List Timer). AreSettled noted.server.held ts) (sym slept.timers)
+      (subst (λ (s : ServerState S F D). AreSettled s.held (timers_of old)) (sym slept.server) settled)
 
   pub woken_settled : (noted new : Daemon S F D) (ports : List ℕ) → HasWoken ports noted new → IsSettled noted → IsSettled new
   woken_settled noted new ports woken settled =

@@ -10,12 +10,12 @@ use Rattle.tftp_ends.specs.declared.phase.Phase.{Phase}
 use Rattle.tftp_store.specs.Store.{StoreMeaning}
 use Rattle.tftp_server.specs.State.{HeldTransfer, at}
 use Rattle.tftp_host.specs.Watch.{last_moment}
+use Rattle.tftp_host.specs.declared.watch.TheConstants.{LONGEST_WAIT}
 use Rattle.tftp_host.specs.Printed.{line_text}
 use Rattle.tftp_host.specs.declared.server.printed.Printed.TheVariants.{Closed}
 use Rattle.tftp_sockets.specs.Journal.{Event}
 use Rattle.tftp_sockets.specs.Journal.Event.{Printed}
 use Rattle.tftp_loop.specs.Run.{Run}
-use Rattle.tftp_loop.specs.Reported.{IsNoWait}
 use Rattle.tftp_loop.specs.Serves.{Timer, PortState, LoopState, AtPort, Does, Waits}
 use Rattle.tftp_loop.specs.Serves.AtPort.{A_datagram, A_lost_datagram}
 use Rattle.tftp_loop.specs.Serves.Does.{At_port}
@@ -26,10 +26,10 @@ in_millis seconds = seconds * 1000
 
 -- when a transfer that makes no progress from now on has closed, in milliseconds: after an interval
 -- of so many seconds, and for each retry, or for the second timeout of a dally, after another
--- interval and the longest round
-abbrev pub closing_time : (now interval retries round : ℕ) → ℕ
-closing_time now interval retries round =
-    now + in_millis interval + (in_millis interval + round) * max 1 retries
+-- interval and a round, whose one reading of the clock advances the time by a second at most
+abbrev pub closing_time : (now interval retries : ℕ) → ℕ
+closing_time now interval retries =
+    now + in_millis interval + (in_millis interval + LONGEST_WAIT) * max 1 retries
 
 -- the line of a transfer that closed was printed between two journals
 abbrev pub PrintsClose : ℕ → ℕ → Outcome → List Event → List Event → Type 0
@@ -66,33 +66,27 @@ module _ {S F D : Type 0} (meaning : StoreMeaning S D) (sources : SourceMeaning 
   ReceivesNone port (At_port d) = d.timer.port ≡ port → ReceivesNoneAt d.does
   ReceivesNone port does = ⊤
 
-  -- a run in which the transfer at the port makes no progress, and each round takes at most so many
-  -- milliseconds by the clock: until the next wait no reading is later than that after the time of
-  -- the newest wait, or of the beginning, which is the index
-  pub data Idles (port round : ℕ) (first : LoopState S F D) : ℕ → LoopState S F D → Type 0 where
-    At_first : Idles port round first first.now first
-    After_work : {since : ℕ} {middle last : LoopState S F D} → Idles port round first since middle
-        → (does : Does meaning sources middle last) → IsNoWait meaning sources does
-        → IsIdle port does → last.now ≤ since + round → Idles port round first since last
-    After_wait : {since : ℕ} {middle last : LoopState S F D} → Idles port round first since middle
-        → Waits meaning sources middle last → Idles port round first middle.now last
+  -- a run in which the transfer at the port makes no progress
+  pub data Idles (port : ℕ) (first : LoopState S F D) : LoopState S F D → Type 0 where
+    At_first : Idles port first first
+    After : {middle last : LoopState S F D} → Idles port first middle
+        → (does : Does meaning sources middle last) → IsIdle port does → Idles port first last
 
   -- nothing is received at the port
-  abbrev pub NoneReceived : {port round : ℕ} {first : LoopState S F D} {since : ℕ}
-      {last : LoopState S F D} → Idles port round first since last → Type 0
+  abbrev pub NoneReceived : {port : ℕ} {first last : LoopState S F D} → Idles port first last
+      → Type 0
   NoneReceived At_first = Unit {0}
-  NoneReceived {port} (After_work run does is idle soon) = NoneReceived run × ReceivesNone port does
-  NoneReceived (After_wait run waits) = NoneReceived run
+  NoneReceived {port} (After run does idle) = NoneReceived run × ReceivesNone port does
 
   -- in a run from a time without transfers: at each wait after that time the transfer is gone, and
   -- its line was printed
   abbrev pub ClosesWithoutProgress : Type 0
   ClosesWithoutProgress =
-      (start first last new : LoopState S F D) (timer : Timer) (round since : ℕ)
+      (start first last new : LoopState S F D) (timer : Timer)
       → start.timers ≡ [] → Run (Does meaning sources) start first
       → Contains first.timers timer
-      → Idles timer.port round first since last → Waits meaning sources last new
-      → closing_time first.now timer.interval first.server.config.retries round < last.now
+      → Idles timer.port first last → Waits meaning sources last new
+      → closing_time first.now timer.interval first.server.config.retries < last.now
       → last.now ≤ last_moment
       → (outcome : Outcome)
       × PrintsClose timer.port timer.peer.port outcome first.events last.events
@@ -101,12 +95,11 @@ module _ {S F D : Type 0} (meaning : StoreMeaning S D) (sources : SourceMeaning 
   abbrev pub TimesOutInSilence : Type 0
   TimesOutInSilence =
       (start first last new : LoopState S F D) (timer : Timer) (transfer : HeldTransfer F D)
-      (round since : ℕ)
       → start.timers ≡ [] → Run (Does meaning sources) start first
       → Contains first.timers timer → at timer.port first.server.held ≡ Some transfer
-      → (idles : Idles timer.port round first since last) → NoneReceived idles
+      → (idles : Idles timer.port first last) → NoneReceived idles
       → Waits meaning sources last new
-      → closing_time first.now timer.interval first.server.config.retries round < last.now
+      → closing_time first.now timer.interval first.server.config.retries < last.now
       → last.now ≤ last_moment
       → (outcome : Outcome)
       × PrintsClose timer.port timer.peer.port outcome first.events last.events

@@ -1,5 +1,5 @@
 -- The order in which a server uses its ports (ours).
-use Rattle.std.specs.Prelude.{ℕ, ◌≡◌, ◌≤◌, ◌-◌, ⊤, List, [], ◌∷◌, ◌++◌, take, drop}
+use Rattle.std.specs.Prelude.{ℕ, ◌≡◌, ◌≤◌, ◌-◌, ⊤, List, [], ◌∷◌, ◌++◌, length, take, drop}
 use Rattle.std.specs.Prelude.{Option, Some, None, All, IsPermutation}
 use Rattle.std.specs.List.{range_with_len}
 use Rattle.tftp_loop.specs.declared.port_order.PortOrder.{PortOrder}
@@ -31,9 +31,10 @@ pub record IsOrderOf (range : PortRange) (order : PortOrder) : Type 0 where
   pub same : order.range ≡ range
   pub all : IsPermutation (ports_of range) (coming order)
 
--- each port that comes is one of the range
-abbrev pub AreOneOf : PortOrder → Type 0
-AreOneOf order = All (IsOneOf (Some order.range)) (coming order)
+-- some port comes, and each that comes is one of the range
+pub record HasPorts (order : PortOrder) : Type 0 where
+  pub some : 1 ≤ length (coming order)
+  pub each : All (IsOneOf (Some order.range)) (coming order)
 
 -- the first port is used: it comes again only after all others
 pub record Turns (old new : PortOrder) (port : ℕ) : Type 0 where

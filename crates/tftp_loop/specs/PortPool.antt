@@ -1,8 +1,13 @@
 -- The ports that transfers are bound to (RFC 1350, section 4).
-use Rattle.std.specs.Prelude.{ℕ, ◌≡◌, List, Option, IfSome, option_map}
+use Rattle.std.specs.Prelude.{ℕ, ◌≡◌, List, ◌∷◌, Option, Some, None, IfSome, Result, Ok, Err}
+use Rattle.std.specs.Prelude.{option_map}
+use Rattle.tftp_sockets.specs.Journal.{Event}
+use Rattle.tftp_sockets.specs.Journal.Event.{Quiet}
+use Rattle.tftp_sockets.specs.Journal.QuietEvent.{No_socket}
 use Rattle.tftp_sockets.specs.declared.sockets.ServerSocket.{ServerSocket}
-use Rattle.tftp_loop.specs.PortOrder.{AreOneOf, IsOneOf}
+use Rattle.tftp_loop.specs.PortOrder.{HasPorts, IsOneOf}
 use Rattle.tftp_loop.specs.declared.port_order.PortOrder.{PortOrder}
+use Rattle.tftp_loop.specs.Run.{Run}
 use Rattle.tftp_loop.specs.declared.port_order.PortRange.{PortRange}
 
 -- the address of the ports, and their range, if there is one
@@ -19,8 +24,35 @@ pub record IsOfPool (pool : PoolState) (socket : ServerSocket) : Type 0 where
 abbrev pub pool_state : List ℕ → Option PortOrder → PoolState
 pool_state ip order = record { ip = ip; range = option_map (λ (o : PortOrder). o.range) order }
 
--- each port that comes is one of the range, and the spare socket is of the pool
+-- some port of the range comes, if there is one, and the spare socket is of the pool
 pub record IsPool (ip : List ℕ) (order : Option PortOrder)
     (spare : Option ServerSocket) : Type 0 where
-  pub ports : IfSome order AreOneOf
+  pub ports : IfSome order HasPorts
   pub socket : IfSome spare (IsOfPool (pool_state ip order))
+
+-- from one journal to the other no socket could be bound to a port, one of the range, if there is one
+pub record TriesPort (range : Option PortRange) (before after : List Event) : Type 0 where
+  pub port : ℕ
+  pub within : IsOneOf range port
+  pub is : after ≡ Quiet (No_socket port) ∷ before
+
+-- the same of zero or more ports
+abbrev pub TriesPorts : Option PortRange → List Event → List Event → Type 0
+TriesPorts range = Run (TriesPort range)
+
+-- and of one at least
+pub record TriesInVain (range : Option PortRange) (before after : List Event) : Type 0 where
+  pub between : List Event
+  pub earlier : TriesPorts range before between
+  pub last : TriesPort range between after
+
+-- what the journal says of the taking of a port
+abbrev pub Tries : Option PortRange → List Event → List Event → Option ServerSocket → Type 0
+Tries range before after None = TriesInVain range before after
+Tries range before after (Some socket) = TriesPorts range before after
+
+-- the journal after a bind to the port, which may be in use
+abbrev pub after_bind : {E : Type 0} → ℕ → Result (Option ServerSocket) E → List Event → List Event
+after_bind port (Ok (Some socket)) events = events
+after_bind port (Ok None) events = Quiet (No_socket port) ∷ events
+after_bind port (Err error) events = Quiet (No_socket port) ∷ events

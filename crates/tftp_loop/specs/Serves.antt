@@ -13,13 +13,15 @@ use Rattle.tftp_ends.specs.declared.record.Record.{Record}
 use Rattle.tftp_ends.specs.declared.record.Step.{Step}
 use Rattle.tftp_ends.specs.declared.record.TheConstants.{DEFAULT_INTERVAL}
 use Rattle.tftp_ends.specs.End.{interval_of, terms_of}
+use Rattle.tftp_ends.specs.Shortage.{HasNoRoom}
 use Rattle.tftp_ends.specs.Step.{timeout_turn}
 use Rattle.tftp_store.specs.Store.{StoreMeaning}
 use Rattle.tftp_server.specs.State.{HeldTransfer, ServerState, at, is_open, taken_of, without}
 use Rattle.tftp_server.specs.Steps.{TakesDatagramLent, TimesOutLent, DatagramFaultLent, KeepsHeld}
 use Rattle.tftp_server.specs.declared.fault.ServerFault.{ServerFault}
 use Rattle.tftp_server.specs.Port.{Ask, asks_store}
-use Rattle.tftp_server.specs.Request.{Acts, Admits, RequestStep, Left}
+use Rattle.tftp_server.specs.Request.{Admits, RequestStep, Left}
+use Rattle.tftp_server.specs.Shortage.{RequestLacksMemory}
 use Rattle.tftp_server.specs.Work.{WorksAt}
 use Rattle.tftp_host.specs.Watch.{deadline_of, last_moment}
 use Rattle.tftp_host.specs.declared.watch.TheConstants.{LONGEST_WAIT}
@@ -28,8 +30,8 @@ use Rattle.tftp_host.specs.declared.server.printed.Printed.TheVariants.{Closed, 
 use Rattle.tftp_sockets.specs.Bound.{IsBoundTo}
 use Rattle.tftp_sockets.specs.Journal.{Event, replied, answered}
 use Rattle.tftp_sockets.specs.Journal.Event.{Received, Watched, Elapsed, Printed, Quiet}
-use Rattle.tftp_sockets.specs.Journal.QuietEvent.{Empty, Failed, Slept, Woke}
-use Rattle.tftp_sockets.specs.Quiet.{is_among, was_tried}
+use Rattle.tftp_sockets.specs.Journal.QuietEvent.{Empty, Failed, No_socket, Slept, Woke}
+use Rattle.tftp_sockets.specs.Quiet.{has_woken, is_among, was_tried}
 use Rattle.tftp_loop.specs.PortOrder.{IsOneOf}
 use Rattle.tftp_loop.specs.Run.{Run}
 use Rattle.tftp_loop.specs.declared.port_order.PortRange.{PortRange}
@@ -265,6 +267,26 @@ module _ {S F D : Type 0} where
             old.events;
       }
 
+module _ {S F D : Type 0} (server : ServerState S F D) (from : Endpoint) (bytes : List ℕ) where
+  -- a datagram to the request port may open a transfer: the store is asked
+  pub record MayOpen : Type 0 where
+    pub ask : Ask
+    pub admits : Admits server from bytes ask
+    pub asks : asks_store ask ≡ true
+
+  -- or it opens none
+  pub record OpensNone : Type 0 where
+    pub ask : Ask
+    pub admits : Admits server from bytes ask
+    pub asks : asks_store ask ≡ false
+
+-- a store is set for the next transfer, its port and then its longest length: each call leaves of
+-- it what writing a draft back leaves
+pub record IsSet {S D : Type 0} (meaning : StoreMeaning S D) (old new : S) : Type 0 where
+  pub between : S
+  pub port : meaning.after_write_behind old between
+  pub longest : meaning.after_write_behind between new
+
 -- ---- waits
 
 -- until the nearest time at which a port is read, at most a second, in milliseconds
@@ -375,13 +397,36 @@ module _ {S F D : Type 0} (meaning : StoreMeaning S D) (sources : SourceMeaning 
     pub steps : RequestStep meaning sources old.server from bytes tid left
     pub is : new ≡ after_request old from left
 
-  -- why the pending datagram is lost: there is no memory for what it asks, it may open a transfer and
-  -- no port could be bound, or a transfer has the identifier 0, which stands for no transfer
+  -- no socket can be bound to a port, one of the range, if there is one, for the pending datagram,
+  -- which may open a transfer
+  pub record FindsNoPort : Type 0 where
+    pub from : Endpoint
+    pub bytes : List ℕ
+    pub pending : old.pending ≡ Some (from, bytes)
+    pub opens : MayOpen old.server from bytes
+    pub port : ℕ
+    pub within : IsOneOf old.range port
+    pub is : new ≡ record old { events = Quiet (No_socket port) ∷ old.events }
+
+  -- why the pending datagram is lost
   pub data RequestLoss (from : Endpoint) (bytes : List ℕ) : Type 0 where
-    No_memory : Acts old.server from bytes → RequestLoss from bytes
-    No_port : (ask : Ask) → Admits old.server from bytes ask → asks_store ask ≡ true
+    -- a growth was refused, where an empty buffer of this capacity takes the answer, or the store
+    -- answered `Memory`
+    No_memory : (capacity : ℕ)
+        → RequestLacksMemory capacity 0 meaning sources old.server from bytes
         → RequestLoss from bytes
-    No_identifier : IsSome (at 0 old.server.held) → RequestLoss from bytes
+    -- it may open a transfer, and the list of ports, of this capacity, could not grow by one
+    No_room : MayOpen old.server from bytes → (capacity : ℕ)
+        → HasNoRoom capacity (length old.timers) 1 → RequestLoss from bytes
+    -- it may open a transfer, and the last event is that no socket could be bound to a port
+    No_port : MayOpen old.server from bytes → (port : ℕ) (earlier : List Event)
+        → old.events ≡ Quiet (No_socket port) ∷ earlier → RequestLoss from bytes
+    -- it opens none, and a transfer has the identifier 0, which stands for none
+    No_identifier : OpensNone old.server from bytes → IsSome (at 0 old.server.held)
+        → RequestLoss from bytes
+    -- it may open a transfer, and the system bound its socket to the port of another
+    Same_port : MayOpen old.server from bytes → (port : ℕ) → IsOneOf old.range port
+        → IsSome (at port old.server.held) → RequestLoss from bytes
 
   -- the pending datagram is lost
   pub record LosesRequest : Type 0 where
@@ -391,16 +436,20 @@ module _ {S F D : Type 0} (meaning : StoreMeaning S D) (sources : SourceMeaning 
     pub why : RequestLoss from bytes
     pub is : new ≡ record old { pending = None }
 
-  -- the clock is read, which never goes back
+  -- the clock is read, directly after a wait: it never goes back, and the time advances by a second
+  -- at most
   pub record ReadsClock : Type 0 where
     pub time : ℕ
+    pub woken : has_woken old.events ≡ true
     pub forward : old.now ≤ time
+    pub soon : time ≤ old.now + LONGEST_WAIT
     pub is : new ≡ record old { now = time; events = Watched time ∷ old.events }
 
   -- the store is set for the next transfer; its stored files do not change
   pub record SetsStore : Type 0 where
     pub store : S
     pub same : meaning.stored store ≡ meaning.stored old.server.store
+    pub behind : IsSet meaning old.server.store store
     pub is : new ≡ record old { server = record old.server { store = store } }
 
   -- a closed transfer is removed with its timer, and its line is printed at once, with its port,
@@ -429,6 +478,7 @@ module _ {S F D : Type 0} (meaning : StoreMeaning S D) (sources : SourceMeaning 
     Request_received : ReceivesRequest → Does
     No_request_found : FindsNoRequest → Does
     Request_not_received : FailsToReceiveRequest → Does
+    No_port_found : FindsNoPort → Does
     Request_answered : AnswersRequest → Does
     Request_lost : LosesRequest → Does
     Clock_read : ReadsClock → Does

@@ -1,24 +1,30 @@
 -- What each part of a round leaves at the ports, so that the next wait is allowed.
-use Rattle.std.specs.Prelude.{ℕ, ◌≡◌, ◌≤◌, ◌<◌, ◌-◌, ◌||◌, ◌⊎◌, ⊤, true, List, ◌∷◌, map}
+use Rattle.std.specs.Prelude.{ℕ, ◌≡◌, ◌≤◌, ◌<◌, ◌+◌, ◌-◌, ◌||◌, ◌⊎◌, ⊤, true, List, ◌∷◌, map}
 use Rattle.std.specs.Prelude.{length, take, slice_set, slice_index_or, Some, None, is_some}
 use Rattle.std.specs.Prelude.{IsSome, All, if◌then◌else◌}
-use Rattle.std.specs.List.{list_any}
+use Rattle.std.specs.List.{list_any, swap_remove}
 use Rattle.tftp_file.specs.Source.{SourceMeaning}
 use Rattle.tftp_ends.specs.declared.endpoint.Endpoint.{Endpoint}
+use Rattle.tftp_ends.specs.declared.record.Record.{Record}
 use Rattle.tftp_store.specs.Store.{StoreMeaning}
 use Rattle.tftp_server.specs.State.{HeldTransfer, at, taken_of}
 use Rattle.tftp_host.specs.Watch.{deadline_of, wait_of}
+use Rattle.tftp_host.specs.declared.watch.TheConstants.{LONGEST_WAIT}
 use Rattle.tftp_host.specs.declared.server.port.Port.{Port}
 use Rattle.tftp_sockets.specs.Journal.{Event}
-use Rattle.tftp_sockets.specs.Journal.Event.{Watched}
+use Rattle.tftp_sockets.specs.Journal.Event.{Quiet, Watched}
+use Rattle.tftp_sockets.specs.Journal.QuietEvent.{Slept, Woke}
 use Rattle.tftp_sockets.specs.Quiet.{is_among, was_tried}
 use Rattle.tftp_loop.specs.declared.daemon.Daemon.{Daemon}
+use Rattle.tftp_loop.specs.declared.daemon.Turn.{Turn}
+use Rattle.tftp_loop.specs.declared.daemon.Turn.TheVariants as turns
 use Rattle.tftp_loop.specs.declared.transfer_port.PortStatus.{PortStatus}
 use Rattle.tftp_loop.specs.declared.transfer_port.PortStatus.TheVariants as statuses
 use Rattle.tftp_loop.specs.declared.transfer_port.TransferSocket.{TransferSocket}
+use Rattle.tftp_loop.specs.Run.{Run}
 use Rattle.tftp_loop.specs.Serves.{Timer, PortState, LoopState, AnswersRequest, Closes, LosesRequest}
-use Rattle.tftp_loop.specs.Serves.{SetsStore, next_look, marked_by}
-use Rattle.tftp_loop.specs.Served.{OnlyServesPort, loop_state, state_of, timer_of}
+use Rattle.tftp_loop.specs.Serves.{FindsNoPort, SetsStore, next_look, marked_by}
+use Rattle.tftp_loop.specs.Served.{OnlyServesPort, close_reported, loop_state, state_of, timer_of}
 
 -- ---- timers
 
@@ -100,6 +106,15 @@ module _ {S F D : Type 0} where
   abbrev pub AreTimed : ℕ → Daemon S F D → Type 0
   AreTimed from d = AllFrom (IsTimed d.sockets.watch.now) from (timers_of d)
 
+  -- the port of a timer has had its turn
+  abbrev pub HasTurned : Turn → Daemon S F D → Timer → Type 0
+  HasTurned turns.Ready d = IsRead d.journal.events
+  HasTurned turns.Due d = IsTimed d.sockets.watch.now
+
+  -- the ports from this index on have had their turn
+  abbrev pub HaveTurned : Turn → ℕ → Daemon S F D → Type 0
+  HaveTurned turn from d = AllFrom (HasTurned turn d) from (timers_of d)
+
   -- the request port was read
   abbrev pub HasTriedRequests : Daemon S F D → Type 0
   HasTriedRequests d =
@@ -127,6 +142,20 @@ marked_if reported port =
     record port { is_ready = port.is_ready || is_among port.socket.udp.port reported }
 
 module _ {S F D : Type 0} where
+  -- a wait of so long was noted, which reported these ports
+  pub record HasSlept (millis : ℕ) (ports : List ℕ) (old new : Daemon S F D) : Type 0 where
+    pub requests : new.sockets.requests.port ≡ old.sockets.requests.port
+    pub range : new.sockets.pool.range ≡ old.sockets.pool.range
+    pub server : new.server ≡ old.server
+    pub pending : new.pending ≡ old.pending
+    pub timers : timers_of new ≡ timers_of old
+    pub now : new.sockets.watch.now ≡ old.sockets.watch.now
+    pub marked : new.sockets.is_ready ≡ old.sockets.is_ready
+    pub left : new.left ≡ old.left
+    pub rounds : new.rounds ≡ old.rounds
+    pub events : new.journal.events
+        ≡ Quiet (Woke ports) ∷ Quiet (Slept millis) ∷ old.journal.events
+
   -- the ports that a wait reported are marked, the wait is counted, and the clock is read
   pub record HasWoken (ports : List ℕ) (old new : Daemon S F D) : Type 0 where
     pub requests : new.sockets.requests.port ≡ old.sockets.requests.port
@@ -135,6 +164,7 @@ module _ {S F D : Type 0} where
     pub pending : new.pending ≡ old.pending
     pub timers : timers_of new ≡ map (marked_by ports) (timers_of old)
     pub now : old.sockets.watch.now ≤ new.sockets.watch.now
+    pub soon : new.sockets.watch.now ≤ old.sockets.watch.now + LONGEST_WAIT
     pub marked : new.sockets.is_ready
         ≡ (old.sockets.is_ready || is_among old.sockets.requests.port ports)
     pub left : new.left ≡ old.left
@@ -147,6 +177,21 @@ module _ {S F D : Type 0} where
 
   abbrev pub leaves_timed : PortState S F D → ℕ → Type 0
   leaves_timed new now = (taken_of (at new.timer.port new.server.held) ≡ None) → IsTimed now new.timer
+
+  abbrev pub leaves_by : Turn → PortState S F D → ℕ → Type 0
+  leaves_by turns.Ready = leaves_read
+  leaves_by turns.Due = leaves_timed
+
+  -- the port at this index is removed, and the outcome of its transfer is printed
+  pub record ClosesPort (index : ℕ) (closed : Option Record) (old new : Daemon S F D)
+      : Type 0 where
+    pub port : Port TransferSocket
+    pub is_port : port ≡ slice_index_or old.ports.items index port
+    pub items : new.ports.items ≡ swap_remove old.ports.items index port
+    pub events : new.journal.events
+        ≡ close_reported port.socket.udp.port port.socket.peer closed old.journal.events
+    pub rest : new
+        ≡ record old { ports = new.ports; journal = new.journal; left = old.left - 1 }
 
   module _ (meaning : StoreMeaning S D) (sources : SourceMeaning F) where
     -- a turn at the port at this index
@@ -173,10 +218,19 @@ module _ {S F D : Type 0} where
           → (closes : Closes meaning sources (state_of buffer old) (state_of buffer new))
           × (closes.index ≡ index)) → Finishes index old new
 
-    -- the store is set for a pending datagram, or not, and the datagram is answered or lost
+    -- a turn at the port at this index, and then its transfer is removed if it has closed
+    pub record Visits (turn : Turn) (index : ℕ) (old new : Daemon S F D) : Type 0 where
+      pub middle : Daemon S F D
+      pub takes : TakesTurn (leaves_by turn) index old middle
+      pub finishes : Finishes index middle new
+
+    -- ports are tried for a pending datagram, or none, the store is set for it, or not, and it is
+    -- answered or lost
     pub record Concludes (old new : LoopState S F D) : Type 0 where
+      pub begin : LoopState S F D
+      pub tries : Run (FindsNoPort meaning sources) old begin
       pub middle : LoopState S F D
-      pub set : (middle ≡ old) ⊎ SetsStore meaning sources old middle
+      pub set : (middle ≡ begin) ⊎ SetsStore meaning sources begin middle
       pub ends : AnswersRequest meaning sources middle new
           ⊎ LosesRequest meaning sources middle new
 

@@ -1,13 +1,15 @@
 //! The loop over the ports of a server, in one thread.
 
 ghost use Rattle.std.specs.Prelude.{◌≡◌, ◌≤◌, ◌<◌, ◌+◌, ◌⊎◌, ◌||◌, IfErr, OnOk, None, is_some, []};
-ghost use Rattle.std.specs.Prelude.{length, if◌then◌else◌};
+ghost use Rattle.std.specs.Prelude.{length, map, if◌then◌else◌};
 ghost use Rattle.std.specs.List.{list_any};
+ghost use Rattle.tftp_sockets.specs.Quiet.{is_among};
+ghost use Rattle.tftp_loop.specs.Serves.{marked_by};
 ghost use Rattle.tftp_loop.specs.Served.{FailsToPrint, OnlyWorks, OnlyServes, ServesRounds};
 ghost use Rattle.tftp_loop.specs.Served.{WorksRound};
-ghost use Rattle.tftp_loop.specs.Tended.{AreRead, AreTimed, Finishes, HasWoken, IsSettled, IsTended};
-ghost use Rattle.tftp_loop.specs.Tended.{TakesTurn, millis_of};
-ghost use Rattle.tftp_loop.specs.Tended.{leaves_read, leaves_timed};
+ghost use Rattle.tftp_loop.specs.Tended.{ClosesPort, Finishes, HasSlept, HasWoken, HaveTurned};
+ghost use Rattle.tftp_loop.specs.Tended.{IsSettled, IsTended, TakesTurn, Visits, leaves_by};
+ghost use Rattle.tftp_loop.specs.Tended.{leaves_read, leaves_timed, millis_of, timers_of};
 
 use crate::report::{log_unsent, record_of_closed, report_close};
 use crate::server_udp::ServerUdp;
@@ -17,7 +19,7 @@ use crate::store::ServedStore;
 use crate::transfer_port::{TransferPort, count_active, mark_all, take_due, take_ready, work_at};
 use std::alloc::{AllocError, Global};
 use std::time::Clock;
-use tftp_ends::Endpoint;
+use tftp_ends::{Endpoint, Record};
 use tftp_host::{DATAGRAM_BUFFER, index_of, wait_for};
 use tftp_server::{Server, Store};
 use tftp_sockets::{Journal, Reports, look, read_watch, wait};
@@ -50,6 +52,15 @@ pub(crate) struct Daemon<S: Store + Drop> {
     pub(crate) rounds: u64,
     pub(crate) logs: bool,
     pub(crate) alloc: Global,
+}
+
+/// What is done at the port of each transfer.
+#[derive(Clone, Copy)]
+pub(crate) enum Turn {
+    /// If the port is marked, its datagrams are handled.
+    Ready,
+    /// If the port is due, its datagrams are handled, or else its timeout.
+    Due,
 }
 
 /// The ports that a wait reports, and buffers for a datagram of the request port and one of a
@@ -145,12 +156,12 @@ impl<S: ServedStore + Drop> Daemon<S> {
         ensures rounds { self.new.rounds ≡ self.old.rounds }
         ensures fault { IfErr result (λ fault. FailsToPrint fault self.new.journal.events) }
     {
-        self.take_transfers(rt, datagram)?;
+        self.take_turns(rt, Turn::Ready, datagram)?;
         if self.left == 0 {
             return Ok(());
         }
         self.take_request(rt, request);
-        self.take_timeouts(rt, datagram)
+        self.take_turns(rt, Turn::Due, datagram)
     }
 
     /// Waits once, until a datagram has arrived or a port is to be read, for at most a second. A
@@ -217,8 +228,16 @@ impl<S: ServedStore + Drop> Daemon<S> {
         ensures settled { IsSettled self.new }
         ensures rounds { self.new.rounds + 1 ≡ self.old.rounds }
     {
-        let millis = self.millis_to_wait();
         self.active = count_active(self.sockets.watch.now, self.ports.as_slice());
+        self.wait_for_ports(reports);
+        self.wake(clock, reports);
+    }
+
+    /// Waits until a datagram has arrived, as long as is allowed.
+    fn wait_for_ports(&mut self, reports: &mut Reports)
+        ensures { HasSlept (millis_of self.old) reports.new.ports.items self.old self.new }
+    {
+        let millis = self.millis_to_wait();
         let polls = polls_before(millis, self.active);
         wait(
             &mut self.sockets.poll,
@@ -227,18 +246,30 @@ impl<S: ServedStore + Drop> Daemon<S> {
             millis,
             polls,
         );
-        self.wake(clock, reports);
     }
 
     /// Marks the ports that a wait reported, counts the wait, and reads the clock.
     fn wake<C: Clock>(&mut self, clock: &C, reports: &Reports)
         ensures { HasWoken reports.now.ports.items self.old self.new }
     {
-        let ports = reports.ports();
-        mark_all(self.ports.as_mut_slice(), ports);
-        self.sockets.mark(ports);
+        self.mark(reports.ports());
         self.rounds = self.rounds.saturating_sub(1);
         read_watch(clock, &mut self.journal, &mut self.sockets.watch);
+    }
+
+    /// Marks the ports that a wait reported.
+    fn mark(&mut self, reported: &[u16])
+        ensures requests { self.new.sockets ≡ record self.old.sockets {
+          is_ready = self.old.sockets.is_ready
+              || is_among self.old.sockets.requests.port reported.now;
+        } }
+        ensures transfers { timers_of self.new ≡ map (marked_by reported.now)
+            (timers_of self.old) }
+        ensures rest { self.new
+            ≡ record self.old { sockets = self.new.sockets; ports = self.new.ports } }
+    {
+        mark_all(self.ports.as_mut_slice(), reported);
+        self.sockets.mark(reported);
     }
 
     /// The longest wait, in milliseconds: none if a port is marked or a datagram is pending, and
@@ -266,16 +297,17 @@ impl<S: ServedStore + Drop> Daemon<S> {
         is_any_ready(self.ports.as_slice())
     }
 
-    /// Handles the datagrams at the marked ports of transfers.
-    pub(crate) fn take_transfers<P: Print + Eprint>(
+    /// Takes a turn at the port of each transfer.
+    fn take_turns<P: Print + Eprint>(
         &mut self,
         rt: &P,
+        turn: Turn,
         buffer: &mut [u8],
     ) -> Result<(), LoopFault>
         requires { IsSettled self.old }
         ensures works { OnlyWorks S.meaning S.Source.meaning self.old self.new }
         ensures settled { IsSettled self.new }
-        ensures read { OnOk result (1 ≤ self.new.left → AreRead 0 self.new) }
+        ensures turned { OnOk result (1 ≤ self.new.left → HaveTurned turn 0 self.new) }
         ensures rounds { self.new.rounds ≡ self.old.rounds }
         ensures fault { IfErr result (λ fault. FailsToPrint fault self.new.journal.events) }
     {
@@ -286,16 +318,17 @@ impl<S: ServedStore + Drop> Daemon<S> {
                 return Ok(());
             }
             index -= 1;
-            self.visit_ready(rt, index, buffer)?;
+            self.visit(rt, turn, index, buffer)?;
         }
         Ok(())
     }
 
-    /// Handles the datagrams at the port of a transfer, if it is marked, and removes the transfer if
-    /// it closes.
-    fn visit_ready<P: Print + Eprint>(
+    /// Takes a turn at the port at this index, if there is one, and removes its transfer if that
+    /// closes.
+    fn visit<P: Print + Eprint>(
         &mut self,
         rt: &P,
+        turn: Turn,
         index: usize,
         buffer: &mut [u8],
     ) -> Result<(), LoopFault>
@@ -303,15 +336,45 @@ impl<S: ServedStore + Drop> Daemon<S> {
         requires settled { IsSettled self.old }
         ensures works { OnlyWorks S.meaning S.Source.meaning self.old self.new }
         ensures settled { IsSettled self.new }
-        ensures read { AreRead (index + 1) self.old → AreRead index self.new }
+        ensures turned { HaveTurned turn (index + 1) self.old → HaveTurned turn index self.new }
         ensures rounds { self.new.rounds ≡ self.old.rounds }
         ensures fault { IfErr result (λ fault. FailsToPrint fault self.new.journal.events) }
     {
         if index >= self.ports.len() {
             return Ok(());
         }
-        self.turn_ready(index, buffer);
+        self.serve_port(rt, turn, index, buffer)
+    }
+
+    /// Takes a turn at the port at this index, and removes its transfer if that closes.
+    fn serve_port<P: Print + Eprint>(
+        &mut self,
+        rt: &P,
+        turn: Turn,
+        index: usize,
+        buffer: &mut [u8],
+    ) -> Result<(), LoopFault>
+        requires left { 1 ≤ self.old.left }
+        requires within { index < length self.old.ports.items }
+        requires settled { IsSettled self.old }
+        ensures visits { Visits S.meaning S.Source.meaning turn index self.old self.new }
+        ensures rounds { self.new.rounds ≡ self.old.rounds }
+        ensures fault { IfErr result (λ fault. FailsToPrint fault self.new.journal.events) }
+    {
+        self.take_turn(turn, index, buffer);
         self.finish(rt, index)
+    }
+
+    /// Takes a turn at the port at this index.
+    fn take_turn(&mut self, turn: Turn, index: usize, buffer: &mut [u8])
+        requires within { index < length self.old.ports.items }
+        requires settled { IsSettled self.old }
+        ensures { TakesTurn S.meaning S.Source.meaning (leaves_by turn) index self.old self.new }
+    {
+        match turn {
+            Turn::Ready => self.turn_ready(index, buffer),
+            Turn::Due => self.turn_due(index, buffer),
+        }
     }
 
     /// Handles the datagrams at the port of a transfer, if it is marked.
@@ -330,53 +393,6 @@ impl<S: ServedStore + Drop> Daemon<S> {
             active,
             buffer,
         );
-    }
-
-    /// Serves the due ports: datagrams first, then the timeout.
-    fn take_timeouts<P: Print + Eprint>(
-        &mut self,
-        rt: &P,
-        buffer: &mut [u8],
-    ) -> Result<(), LoopFault>
-        requires { IsSettled self.old }
-        ensures works { OnlyWorks S.meaning S.Source.meaning self.old self.new }
-        ensures settled { IsSettled self.new }
-        ensures timed { OnOk result (1 ≤ self.new.left → AreTimed 0 self.new) }
-        ensures rounds { self.new.rounds ≡ self.old.rounds }
-        ensures fault { IfErr result (λ fault. FailsToPrint fault self.new.journal.events) }
-    {
-        let mut index = self.ports.len();
-        while index > 0 {
-            if self.left == 0 {
-                return Ok(());
-            }
-            index -= 1;
-            self.visit_due(rt, index, buffer)?;
-        }
-        Ok(())
-    }
-
-    /// Handles the datagrams at a port, or else its timeout, if it is due, and removes the transfer
-    /// if it closes.
-    fn visit_due<P: Print + Eprint>(
-        &mut self,
-        rt: &P,
-        index: usize,
-        buffer: &mut [u8],
-    ) -> Result<(), LoopFault>
-        requires left { 1 ≤ self.old.left }
-        requires settled { IsSettled self.old }
-        ensures works { OnlyWorks S.meaning S.Source.meaning self.old self.new }
-        ensures settled { IsSettled self.new }
-        ensures timed { AreTimed (index + 1) self.old → AreTimed index self.new }
-        ensures rounds { self.new.rounds ≡ self.old.rounds }
-        ensures fault { IfErr result (λ fault. FailsToPrint fault self.new.journal.events) }
-    {
-        if index >= self.ports.len() {
-            return Ok(());
-        }
-        self.turn_due(index, buffer);
-        self.finish(rt, index)
     }
 
     /// Handles the datagrams at a port, or else its timeout, if it is due.
@@ -413,6 +429,22 @@ impl<S: ServedStore + Drop> Daemon<S> {
         if closed.is_none() {
             return Ok(());
         }
+        self.close_port(rt, index, closed)
+    }
+
+    /// Removes the port at this index, and prints the outcome of its transfer: it is one less to
+    /// close.
+    fn close_port<P: Print + Eprint>(
+        &mut self,
+        rt: &P,
+        index: usize,
+        closed: Option<Record>,
+    ) -> Result<(), LoopFault>
+        requires left { 1 ≤ self.old.left }
+        requires within { index < length self.old.ports.items }
+        ensures closes { ClosesPort index closed self.old self.new }
+        ensures fault { IfErr result (λ fault. FailsToPrint fault self.new.journal.events) }
+    {
         self.left -= 1;
         let port = self.ports.swap_remove(index);
         let reason = self.server.store().take_reason();

@@ -1,9 +1,9 @@
 //! The ports that transfers are bound to: the order in which they are used, and a spare one.
 
-ghost use Rattle.std.specs.Prelude.{◌≡◌, IfOk, IfSome, Some, option_map};
+ghost use Rattle.std.specs.Prelude.{◌≡◌, IfOk, IfSome, IsSome, None, Some, option_map};
 ghost use Rattle.tftp_sockets.specs.Bound.{IsBoundTo};
-ghost use Rattle.tftp_loop.specs.PortOrder.{AreOneOf, IsOneOf, IsOrderOf};
-ghost use Rattle.tftp_loop.specs.PortPool.{IsOfPool};
+ghost use Rattle.tftp_loop.specs.PortOrder.{HasPorts, IsOneOf, IsOrderOf};
+ghost use Rattle.tftp_loop.specs.PortPool.{IsOfPool, Tries, after_bind};
 
 use crate::port_order::{PortOrder, PortRange};
 use crate::server_udp::ServerUdp;
@@ -11,7 +11,7 @@ use std::alloc::Global;
 use std::io::{self, ErrorKind};
 use std::marker::Model;
 use tftp_ends::Endpoint;
-use tftp_sockets::ServerSocket;
+use tftp_sockets::{Journal, ServerSocket};
 
 /// The ports of transfers. Contracts see their address and their range.
 #[derive(Drop)]
@@ -54,18 +54,23 @@ impl PortPool {
     }
 
     /// Takes the spare port, or binds one: the next of the order that is not in use, if there is an
-    /// order. `None` if that fails.
-    pub(crate) fn take_port<N: ServerUdp>(&mut self, net: &N) -> Option<ServerSocket>
+    /// order. `None` if that fails: at least one port was tried, and each failure is noted.
+    pub(crate) fn take_port<N: ServerUdp>(
+        &mut self,
+        net: &N,
+        journal: &mut Journal,
+    ) -> Option<ServerSocket>
         ensures same { self.new ≡ self.old }
         ensures port { IfSome result (IsOfPool self.old) }
+        ensures tries { Tries self.old.range journal.old.events journal.new.events result }
     {
         if let Some(spare) = self.spare.take() {
             return Some(spare);
         }
         let ip = self.ip;
         match &mut self.order {
-            Some(order) => bind_next(net, ip, order),
-            None => bind_any(net, ip),
+            Some(order) => bind_next(net, journal, ip, order),
+            None => bind_any(net, journal, ip),
         }
     }
 
@@ -85,7 +90,7 @@ fn order_of<N: ServerUdp>(
     range: Option<PortRange>,
 ) -> io::Result<Option<PortOrder>>
     ensures range { IfOk result (λ order. option_map (λ o. o.range) order ≡ range) }
-    ensures ports { IfOk result (λ order. IfSome order AreOneOf) }
+    ensures ports { IfOk result (λ order. IfSome order HasPorts) }
 {
     match range {
         Some(range) => match ordered(net, alloc, range) {
@@ -99,16 +104,17 @@ fn order_of<N: ServerUdp>(
 /// The ports of a range, in a random order.
 fn ordered<N: ServerUdp>(net: &N, alloc: Global, range: PortRange) -> io::Result<PortOrder>
     ensures range { IfOk result (λ order. order.range ≡ range) }
-    ensures ports { IfOk result AreOneOf }
+    ensures ports { IfOk result HasPorts }
 {
     net.order(alloc, range)
 }
 
 /// Binds a port of the system's choice. `None` if the system refuses.
-fn bind_any<N: ServerUdp>(net: &N, ip: [u8; 4]) -> Option<ServerSocket>
-    ensures { IfSome result (λ socket. socket.ip ≡ ip) }
+fn bind_any<N: ServerUdp>(net: &N, journal: &mut Journal, ip: [u8; 4]) -> Option<ServerSocket>
+    ensures ip { IfSome result (λ socket. socket.ip ≡ ip) }
+    ensures tries { Tries None journal.old.events journal.new.events result }
 {
-    match net.bind(Endpoint { ip, port: 0 }) {
+    match net.bind_noted(journal, Endpoint { ip, port: 0 }) {
         Ok(socket) => Some(socket),
         Err(_) => None,
     }
@@ -116,37 +122,57 @@ fn bind_any<N: ServerUdp>(net: &N, ip: [u8; 4]) -> Option<ServerSocket>
 
 /// Binds the next port of the order that is not in use. `None` if all are, or if the system refuses
 /// for another reason.
-fn bind_next<N: ServerUdp>(net: &N, ip: [u8; 4], order: &mut PortOrder) -> Option<ServerSocket>
-    requires { AreOneOf order.old }
+fn bind_next<N: ServerUdp>(
+    net: &N,
+    journal: &mut Journal,
+    ip: [u8; 4],
+    order: &mut PortOrder,
+) -> Option<ServerSocket>
+    requires { HasPorts order.old }
     ensures range { order.new.range ≡ order.old.range }
-    ensures ports { AreOneOf order.new }
+    ensures ports { HasPorts order.new }
     ensures bound { IfSome result (IsOfPool (record { ip = ip; range = Some order.old.range })) }
+    ensures tries { Tries (Some order.old.range) journal.old.events journal.new.events result }
 {
-    for turn in 0..order.len() {
+    let mut left = order.len();
+    loop {
         let port = next_port(order)?;
-        if let Some(socket) = bind_unused(net, ip, port).ok()? {
+        let Ok(bound) = bind_unused(net, journal, ip, port) else {
+            return None;
+        };
+        if let Some(socket) = bound {
             return Some(socket);
         }
+        if left <= 1 {
+            return None;
+        }
+        left -= 1;
     }
-    None
 }
 
 /// The next port of the order, which is then the last one. `None` if there are none.
 fn next_port(order: &mut PortOrder) -> Option<u16>
-    requires { AreOneOf order.old }
+    requires { HasPorts order.old }
     ensures range { order.new.range ≡ order.old.range }
-    ensures ports { AreOneOf order.new }
+    ensures ports { HasPorts order.new }
     ensures port { IfSome result (IsOneOf (Some order.old.range)) }
+    ensures some { IsSome result }
 {
     order.next()
 }
 
 /// Binds a port. `None` if it is in use.
-fn bind_unused<N: ServerUdp>(net: &N, ip: [u8; 4], port: u16) -> io::Result<Option<ServerSocket>>
-    ensures { IfOk result (λ bound. IfSome bound (λ socket.
+fn bind_unused<N: ServerUdp>(
+    net: &N,
+    journal: &mut Journal,
+    ip: [u8; 4],
+    port: u16,
+) -> io::Result<Option<ServerSocket>>
+    ensures bound { IfOk result (λ bound. IfSome bound (λ socket.
         IsBoundTo (record { ip = ip; port = port }) socket.ip socket.port)) }
+    ensures noted { journal.new.events ≡ after_bind port result journal.old.events }
 {
-    match net.bind(Endpoint { ip, port }) {
+    match net.bind_noted(journal, Endpoint { ip, port }) {
         Ok(socket) => Ok(Some(socket)),
         Err(error) if error.kind() == ErrorKind::AddrInUse => Ok(None),
         Err(error) => Err(error),

@@ -8,7 +8,7 @@ ghost use Rattle.tftp_server.specs.Request.{Admits};
 ghost use Rattle.tftp_server.specs.State.{at};
 ghost use Rattle.tftp_loop.specs.PortOrder.{IsOneOf};
 ghost use Rattle.tftp_loop.specs.PortPool.{IsOfPool};
-ghost use Rattle.tftp_loop.specs.Serves.{answering_port, interval_at, started, with_timer};
+ghost use Rattle.tftp_loop.specs.Serves.{IsSet, answering_port, interval_at, started, with_timer};
 ghost use Rattle.tftp_loop.specs.Served.{HasAnswered, IsAdmission, WorksRound, timer_of};
 ghost use Rattle.tftp_loop.specs.Tended.{AnswersPending, HandlesReceived, HasTriedRequests};
 ghost use Rattle.tftp_loop.specs.Tended.{IsSettled};
@@ -143,11 +143,11 @@ impl<S: ServedStore + Drop> Daemon<S> {
             self.new }
         ensures rounds { self.new.rounds ≡ self.old.rounds }
     {
-        if self.ports.try_reserve(1).is_err() {
+        let Ok(()) = self.ports.try_reserve(1) else {
             self.lose(rt, from, bytes, Lost::Memory);
             return;
-        }
-        let Some(spare) = self.sockets.port_for(rt, &admission) else {
+        };
+        let Some(spare) = self.sockets.port_for(rt, &mut self.journal, &admission) else {
             self.lose(rt, from, bytes, Lost::Port);
             return;
         };
@@ -347,6 +347,7 @@ impl<S: ServedStore + Drop> Daemon<S> {
 fn set_store<S: ServedStore + Drop>(server: &mut Server<S>, admission: &Admission<'_>, tid: u16)
     ensures rest { server.new ≡ record server.old { store = server.new.store } }
     ensures same { S.meaning.stored server.new.store ≡ S.meaning.stored server.old.store }
+    ensures behind { IsSet S.meaning server.old.store server.new.store }
 {
     let longest = server.block_size(admission).map_or(0, longest_text);
     let store = server.store_mut();

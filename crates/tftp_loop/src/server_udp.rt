@@ -1,7 +1,9 @@
 //! Opens the UDP sockets of a server, and orders their ports.
 
-ghost use Rattle.std.specs.Prelude.{IfOk};
+ghost use Rattle.std.specs.Prelude.{◌≡◌, ◌∷◌, IfOk, OnErr, OnOk};
 ghost use Rattle.tftp_sockets.specs.Bound.{IsBoundTo};
+ghost use Rattle.tftp_sockets.specs.Journal.Event.{Quiet};
+ghost use Rattle.tftp_sockets.specs.Journal.QuietEvent.{No_socket};
 ghost use Rattle.tftp_loop.specs.PortOrder.{IsOrderOf};
 
 use crate::port_order::{PortOrder, PortRange};
@@ -11,7 +13,7 @@ use std::io;
 use std::net::Net;
 use std::random::RandomSource;
 use tftp_ends::Endpoint;
-use tftp_sockets::ServerSocket;
+use tftp_sockets::{Journal, ServerSocket};
 
 /// Opens UDP sockets, a [`Net`] without its streams and listeners, and orders their ports by random
 /// bytes of the system.
@@ -19,6 +21,13 @@ pub trait ServerUdp {
     /// Binds a non-blocking socket to the endpoint; the system chooses a port for 0.
     fn bind(&self, at: Endpoint) -> io::Result<ServerSocket>
         ensures { IfOk result (λ socket. IsBoundTo at socket.ip socket.port) };
+
+    /// Binds a socket as `bind` does. That it fails is noted, with the port of the endpoint.
+    fn bind_noted(&self, journal: &mut Journal, at: Endpoint) -> io::Result<ServerSocket>
+        ensures bound { IfOk result (λ socket. IsBoundTo at socket.ip socket.port) }
+        ensures ok { OnOk result (journal.new.events ≡ journal.old.events) }
+        ensures err { OnErr result (journal.new.events ≡ Quiet (No_socket at.port)
+            ∷ journal.old.events) };
 
     /// Creates the poll of non-blocking sockets.
     fn poll(&self) -> io::Result<Poll>;
@@ -32,6 +41,10 @@ pub trait ServerUdp {
 impl<N: Net + RandomSource> ServerUdp for N {
     fn bind(&self, at: Endpoint) -> io::Result<ServerSocket> {
         ServerSocket::bind(self, at)
+    }
+
+    fn bind_noted(&self, journal: &mut Journal, at: Endpoint) -> io::Result<ServerSocket> {
+        ServerSocket::bind_noted(self, journal, at)
     }
 
     fn poll(&self) -> io::Result<Poll> {

@@ -4,7 +4,7 @@ ghost use Rattle.std.specs.Prelude.{◌≡◌, ◌||◌, true, IfOk, IfSome};
 ghost use Rattle.tftp_server.specs.Port.{asks_store};
 ghost use Rattle.tftp_sockets.specs.Bound.{IsBoundTo};
 ghost use Rattle.tftp_sockets.specs.Quiet.{is_among};
-ghost use Rattle.tftp_loop.specs.PortPool.{IsOfPool};
+ghost use Rattle.tftp_loop.specs.PortPool.{IsOfPool, Tries};
 
 use crate::port_pool::PortPool;
 use crate::server_udp::ServerUdp;
@@ -16,7 +16,7 @@ use std::time::Clock;
 use tftp_ends::Endpoint;
 use tftp_host::{Watch, read_clock};
 use tftp_server::Admission;
-use tftp_sockets::ServerSocket;
+use tftp_sockets::{Journal, ServerSocket};
 
 /// The request port, the poll of all ports, and the time.
 #[derive(Drop)]
@@ -78,17 +78,20 @@ impl Sockets {
     }
 
     /// Takes the spare port for a transfer that may open, or binds one: the next of the order that
-    /// is not in use, if there is an order. `None` if that fails.
+    /// is not in use, if there is an order. `None` if that fails: at least one port was tried, and
+    /// each failure is noted.
     pub(crate) fn port_for<N: ServerUdp>(
         &mut self,
         net: &N,
+        journal: &mut Journal,
         _admission: &Admission<'_>,
     ) -> Option<ServerSocket>
         requires { asks_store _admission.now.ask ≡ true }
         ensures same { self.new ≡ self.old }
         ensures port { IfSome result (IsOfPool self.old.pool) }
+        ensures tries { Tries self.old.pool.range journal.old.events journal.new.events result }
     {
-        self.pool.take_port(net)
+        self.pool.take_port(net, journal)
     }
 
     /// Keeps a port for the next transfer.

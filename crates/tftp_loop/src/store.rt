@@ -9,14 +9,17 @@ use tftp_store::MemStore;
 /// A store that is set before each request is carried out, that keeps the reasons for what it
 /// refuses, and that syncs drafts when its loop lets it.
 pub trait ServedStore: Store {
-    /// Sets the port of the next transfer, which names its draft.
+    /// Sets the port of the next transfer, which names its draft. It leaves of the store what
+    /// `write_behind` leaves.
     fn set_port(&mut self, port: u16)
-        ensures { Self.meaning.stored self.new ≡ Self.meaning.stored self.old };
+        ensures same { Self.meaning.stored self.new ≡ Self.meaning.stored self.old }
+        ensures behind { Self.meaning.after_write_behind self.old self.new };
 
     /// Sets the longest length on the wire that can be sent, in bytes. A file with more bytes is not
-    /// read to measure it.
+    /// read to measure it. It leaves of the store what `write_behind` leaves.
     fn set_longest(&mut self, bytes: u64)
-        ensures { Self.meaning.stored self.new ≡ Self.meaning.stored self.old };
+        ensures same { Self.meaning.stored self.new ≡ Self.meaning.stored self.old }
+        ensures behind { Self.meaning.after_write_behind self.old self.new };
 
     /// Takes the reason for refusing the last open, begin, append or commit, or the last fill of a
     /// source.

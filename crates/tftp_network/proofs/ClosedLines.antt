@@ -10,7 +10,7 @@ use Rattle.tftp_loop.specs.Run.{Run}
 use Rattle.tftp_loop.specs.Run.Run.{Start, Then}
 use Rattle.tftp_loop.specs.Serves.{PortState, LoopState, AtPort, Does, at_start, answering_port}
 use Rattle.tftp_loop.specs.Serves.AtPort.{A_datagram, A_lost_datagram, Nothing_found, A_failed_receive, A_timeout, A_missed_timeout, Work}
-use Rattle.tftp_loop.specs.Serves.Does.{Waited, At_port, Request_received, No_request_found, Request_not_received, Request_answered, Request_lost, Clock_read, Store_set, Transfer_closed}
+use Rattle.tftp_loop.specs.Serves.Does.{Waited, At_port, Request_received, No_request_found, Request_not_received, No_port_found, Request_answered, Request_lost, Clock_read, Store_set, Transfer_closed}
 use Rattle.tftp_loop.specs.declared.serving.Ending.{Ending}
 use Rattle.tftp_network.specs.Lines.{lines_of, close_lines, closed_lines}
 
@@ -41,6 +41,7 @@ module _ {S F D : Type 0} {stores : StoreMeaning S D} {sources : SourceMeaning F
   step_lines old new (Request_received d) = ap (λ (s : LoopState S F D). lines_of s.events) d.is
   step_lines old new (No_request_found d) = ap (λ (s : LoopState S F D). lines_of s.events) d.is
   step_lines old new (Request_not_received d) = ap (λ (s : LoopState S F D). lines_of s.events) d.is
+  step_lines old new (No_port_found d) = ap (λ (s : LoopState S F D). lines_of s.events) d.is
   step_lines old new (Request_answered d) =
       ap (λ (s : LoopState S F D). lines_of s.events) d.is
       ∙ no_line_replied (answering_port old.requests d.left.opened.tid) d.left.opened.to d.left.sent old.events

@@ -502,7 +502,7 @@ pub waits : Step s8 s9
 waits = Waited (record { millis = 500; ports = []; may = may_wait; is = refl })
 
 pub reads_clock : Step s9 s10
-reads_clock = Clock_read (record { time = 1000; forward = omega arith; is = refl })
+reads_clock = Clock_read (record { time = 1000; woken = refl; forward = omega arith; soon = omega arith; is = refl })
 
 pub finds_nothing : Step s10 s11
 finds_nothing = At_port (record {

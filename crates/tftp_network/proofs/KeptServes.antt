@@ -10,9 +10,9 @@ use Rattle.tftp_store.specs.Store.{StoreMeaning, files_of as stored_files}
 use Rattle.tftp_server.specs.State.{HeldTransfer, ServerState}
 use Rattle.tftp_sockets.specs.Journal.{Event}
 use Rattle.tftp_sockets.specs.Journal.Event.{Received, Watched, Elapsed, Printed, Quiet}
-use Rattle.tftp_sockets.specs.Journal.QuietEvent.{Empty, Failed, Slept, Woke}
-use Rattle.tftp_loop.specs.Serves.{LoopState, Does, port_state, Waited, At_port, Request_received, No_request_found, Request_not_received, Request_answered, Request_lost, Clock_read, Store_set, Transfer_closed}
-use Rattle.tftp_loop.specs.Serves.{Waits, ServesPort, ReceivesRequest, FindsNoRequest, FailsToReceiveRequest, AnswersRequest, LosesRequest, ReadsClock, SetsStore, AtPort, A_datagram, A_lost_datagram, Nothing_found, A_failed_receive, A_timeout, A_missed_timeout, Work}
+use Rattle.tftp_sockets.specs.Journal.QuietEvent.{Empty, Failed, No_socket, Slept, Woke}
+use Rattle.tftp_loop.specs.Serves.{LoopState, Does, port_state, Waited, At_port, Request_received, No_request_found, Request_not_received, No_port_found, Request_answered, Request_lost, Clock_read, Store_set, Transfer_closed}
+use Rattle.tftp_loop.specs.Serves.{Waits, ServesPort, ReceivesRequest, FindsNoRequest, FailsToReceiveRequest, FindsNoPort, AnswersRequest, LosesRequest, ReadsClock, SetsStore, AtPort, A_datagram, A_lost_datagram, Nothing_found, A_failed_receive, A_timeout, A_missed_timeout, Work}
 use Rattle.tftp_machine.specs.Machine.{Endpoint}
 use Rattle.tftp_network.specs.Joint.{CanTake, WasSentBefore}
 use Rattle.tftp_network.specs.Moved.{Moved, port_moves}
@@ -118,6 +118,12 @@ module _ {S F D G K : Type 0} {stores : StoreMeaning S D} {sources : SourceMeani
         same_keeps (Request_not_received h) refl (λ port transfer r. r) (λ port. record { opens = refl; moves = λ moved. refl }) (ap (λ (s : LoopState S F D). s.requests) h.is) (ap (λ (s : LoopState S F D). s.server) h.is)
         (same_pending (ap (λ (s : LoopState S F D). s.pending) h.is)) (Quiet (Failed old.state.requests) ∷ []) (ap (λ (s : LoopState S F D). s.events) h.is) (tt, tt)
 
+    -- ---- no port is found
+    untaken_keeps : (h : FindsNoPort stores sources old.state new) → IsKept programs how (server_did programs old (No_port_found h) added)
+    untaken_keeps h =
+        same_keeps (No_port_found h) refl (λ port transfer r. r) (λ port. record { opens = refl; moves = λ moved. refl }) (ap (λ (s : LoopState S F D). s.requests) h.is) (ap (λ (s : LoopState S F D). s.server) h.is)
+        (same_pending (ap (λ (s : LoopState S F D). s.pending) h.is)) (Quiet (No_socket h.port) ∷ []) (ap (λ (s : LoopState S F D). s.events) h.is) (tt, tt)
+
     -- ---- a request is lost
     losing_keeps : (h : LosesRequest stores sources old.state new) → IsKept programs how (server_did programs old (Request_lost h) added)
     losing_keeps h =
@@ -177,6 +183,7 @@ module _ {S F D G K : Type 0} {stores : StoreMeaning S D} {sources : SourceMeani
       receiving_keeps old new a.now added events take h a.come
   serves_keep answers_keep old new (No_request_found h) added kept fresh events take = finding_keeps old new kept added events take h
   serves_keep answers_keep old new (Request_not_received h) added kept fresh events take = failing_keeps old new kept added events take h
+  serves_keep answers_keep old new (No_port_found h) added kept fresh events take = untaken_keeps old new kept added events take h
   serves_keep answers_keep old new (Request_answered h) added kept fresh events take = answers_keep old new h added kept fresh events take
   serves_keep answers_keep old new (Request_lost h) added kept fresh events take = losing_keeps old new kept added events take h
   serves_keep answers_keep old new (Clock_read h) added kept fresh events take = clock_keeps old new kept added events take h

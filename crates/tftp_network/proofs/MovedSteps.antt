@@ -16,7 +16,7 @@ use Rattle.tftp_ends.specs.Step.{Turn, Acts}
 use Rattle.tftp_store.specs.Store.{StoreMeaning}
 use Rattle.tftp_server.specs.Request.{Came, Nothing, An_error, A_transfer, left_by}
 use Rattle.tftp_server.specs.State.{HeldTransfer}
-use Rattle.tftp_loop.specs.Serves.{LoopState, Does, Waited, At_port, Request_received, No_request_found, Request_not_received, Request_answered, Request_lost, Clock_read, Store_set, Transfer_closed}
+use Rattle.tftp_loop.specs.Serves.{LoopState, Does, Waited, At_port, Request_received, No_request_found, Request_not_received, No_port_found, Request_answered, Request_lost, Clock_read, Store_set, Transfer_closed}
 use Rattle.tftp_loop.specs.Serves.{ServesPort, AnswersRequest, AtPort, A_datagram, A_lost_datagram, Nothing_found, A_failed_receive, A_timeout, A_missed_timeout, Work, PortState}
 use Rattle.tftp_client.specs.Converses.{State, HandlesReceived}
 use Rattle.tftp_client.specs.Converses.HandlesReceived.{Answers, Loses}
@@ -87,6 +87,7 @@ module _ {S F D : Type 0} {stores : StoreMeaning S D} {sources : SourceMeaning F
   server_more port (Request_received h) moved none = begins_itself moved.bytes
   server_more port (No_request_found h) moved none = begins_itself moved.bytes
   server_more port (Request_not_received h) moved none = begins_itself moved.bytes
+  server_more port (No_port_found h) moved none = begins_itself moved.bytes
   server_more port (Request_answered answers) moved none = opening_more (came_at port answers.tid answers.steps.came) moved none
   server_more port (Request_lost h) moved none = begins_itself moved.bytes
   server_more port (Clock_read h) moved none = begins_itself moved.bytes
@@ -109,6 +110,7 @@ module _ {S F D : Type 0} {stores : StoreMeaning S D} {sources : SourceMeaning F
   opens_none (Request_received h) port n = refl
   opens_none (No_request_found h) port n = refl
   opens_none (Request_not_received h) port n = refl
+  opens_none (No_port_found h) port n = refl
   opens_none (Request_answered answers) port n = answer_opens_none answers port n
   opens_none (Request_lost h) port n = refl
   opens_none (Clock_read h) port n = refl

@@ -18,7 +18,7 @@ use Rattle.tftp_loop.specs.Run.{Run}
 use Rattle.tftp_loop.specs.Run.Run.{Start, Then}
 use Rattle.tftp_loop.specs.Serves.{Timer, PortState, LoopState, AtPort, Does, at_start, marked_by, timer_after, with_timer, interval_at, started}
 use Rattle.tftp_loop.specs.Serves.AtPort.{A_datagram, A_lost_datagram, Nothing_found, A_failed_receive, A_timeout, A_missed_timeout, Work}
-use Rattle.tftp_loop.specs.Serves.Does.{Waited, At_port, Request_received, No_request_found, Request_not_received, Request_answered, Request_lost, Clock_read, Store_set, Transfer_closed}
+use Rattle.tftp_loop.specs.Serves.Does.{Waited, At_port, Request_received, No_request_found, Request_not_received, No_port_found, Request_answered, Request_lost, Clock_read, Store_set, Transfer_closed}
 use Rattle.tftp_loop.specs.declared.serving.Ending.{Ending}
 use Rattle.tftp_network.specs.Timers.{HasOneTimerEach, timer_ports}
 use Rattle.tftp_network.proofs.PortCounts.{hit, hit_same, hit_other, hits, hits_push, hits_map, hits_swap_removed, hits_set, hits_apart, hits_contained, contains_hit, keyed, keyed_absent, keyed_present, keyed_found, keyed_inserted, keyed_set, keyed_removed}
@@ -157,6 +157,7 @@ module _ {S F D : Type 0} (stores : StoreMeaning S D) (sources : SourceMeaning F
   step_matched old new (Request_received d) matched = subst IsMatched (sym d.is) matched
   step_matched old new (No_request_found d) matched = subst IsMatched (sym d.is) matched
   step_matched old new (Request_not_received d) matched = subst IsMatched (sym d.is) matched
+  step_matched old new (No_port_found d) matched = subst IsMatched (sym d.is) matched
   step_matched old new (Request_answered d) matched =
       subst IsMatched (sym d.is)
       (subst (λ (left : Left S F D). AreMatched (with_timer old.now d.from left.opened.tid left.new.held old.timers) left.new.held) (sym d.steps.left)

@@ -17,7 +17,7 @@ use Rattle.tftp_store.specs.Store.{StoreMeaning}
 use Rattle.tftp_server.specs.State.{AnyRepeats, HeldTransfer, IsRepeated, Repeats, at, draft_of, is_closed, taken_of}
 use Rattle.tftp_loop.specs.Run.{Run}
 use Rattle.tftp_loop.specs.Run.Run.{Start, Then}
-use Rattle.tftp_loop.specs.Serves.{Does, LoopState, Waited, At_port, Request_received, No_request_found, Request_not_received, Request_answered, Request_lost, Clock_read, Store_set, Transfer_closed}
+use Rattle.tftp_loop.specs.Serves.{Does, LoopState, Waited, At_port, Request_received, No_request_found, Request_not_received, No_port_found, Request_answered, Request_lost, Clock_read, Store_set, Transfer_closed}
 use Rattle.tftp_machine.specs.Machine.{Endpoint}
 use Rattle.tftp_machine.specs.OpenEnds.{OpenEnd, has_failed, open_view, peer_of}
 use Rattle.tftp_machine.specs.Shows.{EndView, IsAnswering, IsInService, NoneAnswers}
@@ -65,6 +65,7 @@ module _ {S F D : Type 0} {stores : StoreMeaning S D} {sources : SourceMeaning F
   removed_closed (Request_received x) port t removes = absurd removes
   removed_closed (No_request_found x) port t removes = absurd removes
   removed_closed (Request_not_received x) port t removes = absurd removes
+  removed_closed (No_port_found x) port t removes = absurd removes
   removed_closed (Request_answered x) port t removes = absurd removes
   removed_closed (Request_lost x) port t removes = absurd removes
   removed_closed (Clock_read x) port t removes = absurd removes

@@ -13,6 +13,8 @@ pub data QuietEvent : Type 0 where
   Slept : (millis : ℕ) → QuietEvent
   -- the wait ended, and reported that datagrams may be at these ports
   Woke : (ports : List ℕ) → QuietEvent
+  -- no socket could be bound to the port, or to any port for 0
+  No_socket : (port : ℕ) → QuietEvent
 
 pub data Event : Type 0 where
   -- a datagram was received at the port, from this endpoint, with these bytes (RFC 1350, section 4)
@@ -26,7 +28,7 @@ pub data Event : Type 0 where
   Elapsed : (port : ℕ) (time : ℕ) → Event
   -- a line was printed on standard output, without its end
   Printed : (line : List ℕ) → Event
-  -- nothing was received, or the program waited
+  -- nothing was received, no socket was bound, or the program waited
   Quiet : QuietEvent → Event
 
 -- the journal after these bytes were sent from the port, if they go somewhere

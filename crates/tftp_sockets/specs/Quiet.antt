@@ -3,7 +3,7 @@ use Rattle.std.specs.Prelude.{ℕ, ◌+◌, ◌==◌, ◌&&◌, ◌||◌, not, B
 use Rattle.std.specs.List.{list_any}
 use Rattle.tftp_sockets.specs.Journal.{Event, QuietEvent}
 use Rattle.tftp_sockets.specs.Journal.Event.{Received, Sent, Watched, Elapsed, Printed, Quiet}
-use Rattle.tftp_sockets.specs.Journal.QuietEvent.{Empty, Failed, Slept, Woke}
+use Rattle.tftp_sockets.specs.Journal.QuietEvent.{Empty, Failed, No_socket, Slept, Woke}
 
 -- whether the port is one of these
 abbrev pub is_among : ℕ → List ℕ → Bool
@@ -15,6 +15,7 @@ drained_by port (Empty p) before = (p == port) || before
 drained_by port (Failed p) before = not (p == port) && before
 drained_by port (Slept millis) before = before
 drained_by port (Woke ports) before = not (is_among port ports) && before
+drained_by port (No_socket p) before = before
 
 -- whether the newest word of the port is that a receive found nothing there
 abbrev pub is_drained : ℕ → List Event → Bool
@@ -32,6 +33,7 @@ tried_by port (Empty p) before = (p == port) || before
 tried_by port (Failed p) before = (p == port) || before
 tried_by port (Slept millis) before = false
 tried_by port (Woke ports) before = false
+tried_by port (No_socket p) before = before
 
 -- whether a receive was tried at the port since the newest wait
 abbrev pub was_tried : ℕ → List Event → Bool
@@ -49,6 +51,7 @@ waits_in (Empty port) = 0
 waits_in (Failed port) = 0
 waits_in (Slept millis) = 1
 waits_in (Woke ports) = 0
+waits_in (No_socket port) = 0
 
 -- how many waits there were
 abbrev pub waits : List Event → ℕ
@@ -59,3 +62,21 @@ waits (Watched time ∷ events) = waits events
 waits (Elapsed p time ∷ events) = waits events
 waits (Printed line ∷ events) = waits events
 waits (Quiet event ∷ events) = waits_in event + waits events
+
+-- whether this event is the end of a wait
+abbrev pub ends_wait : QuietEvent → Bool
+ends_wait (Empty port) = false
+ends_wait (Failed port) = false
+ends_wait (Slept millis) = false
+ends_wait (Woke ports) = true
+ends_wait (No_socket port) = false
+
+-- whether the newest event is the end of a wait
+abbrev pub has_woken : List Event → Bool
+has_woken [] = false
+has_woken (Received p from bytes ∷ events) = false
+has_woken (Sent p to bytes ∷ events) = false
+has_woken (Watched time ∷ events) = false
+has_woken (Elapsed p time ∷ events) = false
+has_woken (Printed line ∷ events) = false
+has_woken (Quiet event ∷ events) = ends_wait event

@@ -7,7 +7,7 @@ ghost use Rattle.tftp_host.specs.Printed.{line_text};
 ghost use Rattle.tftp_sockets.specs.Journal.{Event};
 ghost use Rattle.tftp_sockets.specs.Journal.Event.{Received, Sent, Watched};
 ghost use Rattle.tftp_sockets.specs.Journal.Event.{Elapsed, Printed as Line, Quiet};
-ghost use Rattle.tftp_sockets.specs.Journal.QuietEvent.{Empty, Failed, Slept, Woke};
+ghost use Rattle.tftp_sockets.specs.Journal.QuietEvent.{Empty, Failed, No_socket, Slept, Woke};
 
 use std::marker::{Model, PhantomData};
 use tftp_ends::Endpoint;
@@ -54,6 +54,11 @@ impl Journal {
     /// Notes a receive that failed.
     pub(crate) fn failed(&mut self, port: u16)
         ensures { self.new.events ≡ Quiet (Failed port) ∷ self.old.events }
+    {}
+
+    /// Notes that no socket could be bound to the port.
+    pub(crate) fn no_socket(&mut self, port: u16)
+        ensures { self.new.events ≡ Quiet (No_socket port) ∷ self.old.events }
     {}
 
     /// Notes the begin of a wait of at most so many milliseconds.

@@ -1,22 +1,23 @@
 //! **Trusted by reading**: UDP sockets, waits, the clock and the printer, with notes in a [`Journal`].
 //!
 //! Review alone shows that a note is true: the sockets, the clock and the printer of std and `mio`
-//! have no model. Each datagram, wait, receive without a datagram, reading of the clock and printed
-//! line has one note: what was passed to the system or returned by it, and for a receive or a
-//! datagram the port that the socket is bound to. That a port stays empty, once a receive found
-//! nothing there, until a wait reports it, is trusted too. Once they have their command line, `tftp`
-//! and `tftpd` call no socket and print no line of standard output elsewhere, and read the clock
-//! elsewhere only to start their watch. Help and versions are printed before that.
+//! have no model. Each datagram, wait, receive without a datagram, failed bind of a transfer's port,
+//! reading of the clock and printed line has one note: what was passed to the system or returned by
+//! it, and for a receive or a datagram the port that the socket is bound to. That a port stays empty,
+//! once a receive found nothing there, until a wait reports it, is trusted too. Once they have their
+//! command line, `tftp` and `tftpd` call no socket and print no line of standard output elsewhere, and
+//! read the clock elsewhere only to start their watch. Help and versions are printed before that.
 //!
 //! A failed send counts as a lost datagram; the server's says why. A look that takes no time and
 //! finds no port is no event.
 
-ghost use Rattle.std.specs.Prelude.{◌≡◌, ◌≢◌, ◌≤◌, ◌∷◌, [], true, length, max};
-ghost use Rattle.std.specs.Prelude.{IfOk, if◌then◌else◌};
+ghost use Rattle.std.specs.Prelude.{◌≡◌, ◌≢◌, ◌≤◌, ◌+◌, ◌∷◌, [], true, length, max};
+ghost use Rattle.std.specs.Prelude.{IfOk, OnErr, OnOk, if◌then◌else◌};
 ghost use Rattle.tftp_host.specs.ClientOutcome.{end_text};
 ghost use Rattle.tftp_host.specs.Printed.{line_text};
+ghost use Rattle.tftp_host.specs.declared.watch.TheConstants.{LONGEST_WAIT};
 ghost use Rattle.tftp_sockets.specs.Journal.Event.{Sent, Watched, Printed as Line, Quiet};
-ghost use Rattle.tftp_sockets.specs.Journal.QuietEvent.{Slept, Woke};
+ghost use Rattle.tftp_sockets.specs.Journal.QuietEvent.{No_socket, Slept, Woke};
 ghost use Rattle.tftp_sockets.specs.Bound.{IsBoundTo};
 ghost use Rattle.tftp_sockets.specs.Receipt.{Fits, receive_event};
 
@@ -60,6 +61,27 @@ impl ServerSocket {
             port,
             udp,
         })
+    }
+
+    /// Binds a socket as [`ServerSocket::bind`] does. That it fails is noted, with the port of the
+    /// endpoint.
+    pub fn bind_noted<N: Net>(
+        net: &N,
+        journal: &mut Journal,
+        at: Endpoint,
+    ) -> io::Result<ServerSocket>
+        ensures bound { IfOk result (λ socket. IsBoundTo at socket.ip socket.port) }
+        ensures ok { OnOk result (journal.new.events ≡ journal.old.events) }
+        ensures err { OnErr result (journal.new.events ≡ Quiet (No_socket at.port)
+            ∷ journal.old.events) }
+    {
+        match ServerSocket::bind(net, at) {
+            Ok(socket) => Ok(socket),
+            Err(error) => {
+                journal.no_socket(at.port);
+                Err(error)
+            }
+        }
     }
 
     /// The endpoint that the socket is bound to.
@@ -314,6 +336,7 @@ pub fn read_watch<C: Clock>(clock: &C, journal: &mut Journal, watch: &mut Watch)
     ensures noted { journal.new.events ≡ Watched result ∷ journal.old.events }
     ensures time { watch.new.now ≡ result }
     ensures forward { watch.old.now ≤ result }
+    ensures soon { result ≤ watch.old.now + LONGEST_WAIT }
 {
     let reading = read_clock(clock, watch.reading);
     let time = watch.advance(reading);

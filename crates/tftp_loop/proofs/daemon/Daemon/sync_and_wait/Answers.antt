@@ -16,7 +16,18 @@ returns-then-look-clause-serves g c =
     λ buffer.
     waits_as g.S.Store.meaning g.S.Source.Source.meaning buffer c.args.self.now _ c.wake.new.self 0 ports
     (may_wait buffer c.args.self.now 0 ports c.requires.tended c.requires.left c.requires.rounds (omega arith) (λ h. inr (c.look.ensures.some found)))
-    refl refl refl refl refl refl refl refl refl noted c.wake.ensures
+    (record {
+      requests = refl;
+      range = refl;
+      server = refl;
+      pending = refl;
+      timers = refl;
+      now = refl;
+      marked = refl;
+      left = refl;
+      rounds = refl;
+      events = noted;
+    }) c.wake.ensures
 
 pub returns-then-look-clause-settled : goal.returns-then-look-clause-settled
 returns-then-look-clause-settled g c = woken_settled g.S.Store.meaning g.S.Source.Source.meaning _ c.wake.new.self c.look.new.reports.ports.items c.wake.ensures c.requires.tended.settled

@@ -1,7 +1,7 @@
 use Rattle.std.proofs.Common.{◌≡◌}
 use Rattle.tftp_loop.specs.Served.{OnlyWorks}
-use Rattle.tftp_loop.specs.Tended.{AreTimed, IsSettled}
-use Rattle.tftp_loop.proofs.daemon.Daemon.take_timeouts.Given as goal
+use Rattle.tftp_loop.specs.Tended.{HaveTurned, IsSettled}
+use Rattle.tftp_loop.proofs.daemon.Daemon.take_turns.Given as goal
 
 -- the ports from the index on had their turn
 abbrev pub invariant-loop-index : goal.invariant-loop-index
@@ -9,7 +9,7 @@ invariant-loop-index g l =
     record {
       works : OnlyWorks g.S.Store.meaning g.S.Source.Source.meaning l.initial.self l.self;
       settled : IsSettled l.self;
-      turns : AreTimed l.index l.self;
+      turns : HaveTurned l.fn.turn l.index l.self;
       rounds : l.self.rounds ≡ l.initial.self.rounds;
     }
 

@@ -3,7 +3,7 @@ use Rattle.std.proofs.lemmas.List.{length-map}
 use Rattle.tftp_loop.specs.Run.Run.{Start}
 use Rattle.tftp_loop.specs.Served.{timer_of}
 use Rattle.tftp_loop.proofs.RunLemmas.{onward}
-use Rattle.tftp_loop.proofs.daemon.Daemon.take_transfers.Goals as goal
+use Rattle.tftp_loop.proofs.daemon.Daemon.take_turns.Goals as goal
 
 pub loop-index-init : goal.loop-index-init
 loop-index-init g c =
@@ -21,19 +21,19 @@ loop-index-preserved g c =
     let i = c.loop-index.invariant in
     let test = c.loop-index-test.true in
     record {
-      works = λ buffer. onward (i.works buffer) (c.visit_ready.ensures.works buffer);
-      settled = c.visit_ready.ensures.settled;
-      turns = c.visit_ready.ensures.read (λ k d l h. i.turns k d (omega (arith, test, l)) h);
-      rounds = c.visit_ready.ensures.rounds ∙ i.rounds;
+      works = λ buffer. onward (i.works buffer) (c.visit.ensures.works buffer);
+      settled = c.visit.ensures.settled;
+      turns = c.visit.ensures.turned (λ k d l h. i.turns k d (omega (arith, test, l)) h);
+      rounds = c.visit.ensures.rounds ∙ i.rounds;
     }
 
 pub returns-then-self-eq0-clause-works : goal.returns-then-self-eq0-clause-works
 returns-then-self-eq0-clause-works g c = c.loop-index.invariant.works
 
-pub returns-in_err-visit_ready-clause-works : goal.returns-in_err-visit_ready-clause-works
-returns-in_err-visit_ready-clause-works g c = λ buffer. onward (c.loop-index.invariant.works buffer) (c.visit_ready.ensures.works buffer)
+pub returns-in_err-visit-clause-works : goal.returns-in_err-visit-clause-works
+returns-in_err-visit-clause-works g c = λ buffer. onward (c.loop-index.invariant.works buffer) (c.visit.ensures.works buffer)
 
-pub returns-clause-read : goal.returns-clause-read
-returns-clause-read g c =
+pub returns-clause-turned : goal.returns-clause-turned
+returns-clause-turned g c =
     let test = c.loop-index-test.false in
     λ some k d l h. c.loop-index.invariant.turns k d (omega (arith, test)) h
