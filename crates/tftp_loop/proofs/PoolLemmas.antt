@@ -5,7 +5,12 @@ use Rattle.std.specs.Prelude.{All, IfSome, IsSome, MatchOption}
 use Rattle.std.specs.List.{range_with_len}
 use Rattle.std.proofs.lemmas.List.Elements.{All-nil, All-cons, All-head, All-tail, All-same, All-append, All-push}
 use Rattle.std.proofs.lemmas.List.Sorted.{All-permutation, length_permutation}
+use Rattle.tftp_sockets.specs.Journal.{Event}
+use Rattle.tftp_sockets.specs.Journal.Event.{Quiet}
+use Rattle.tftp_sockets.specs.Journal.QuietEvent.{No_socket}
+use Rattle.tftp_loop.specs.Run.Run.{Start, Then}
 use Rattle.tftp_loop.specs.PortOrder.{HasPorts, IsOneOf, IsOrderOf, Turns, coming, ports_of}
+use Rattle.tftp_loop.specs.PortPool.{TriesInVain, TriesPorts}
 use Rattle.tftp_loop.specs.declared.port_order.PortOrder.{PortOrder}
 use Rattle.tftp_loop.specs.declared.port_order.PortRange.{PortRange}
 
@@ -82,3 +87,16 @@ next_some old new None has turns =
     let none : length (coming old) ≡ 0 = ap (λ (xs : List ℕ). length xs) turns.0 in
     absurd (omega (arith, some, none))
 next_some old new (Some port) has turns = refl
+
+-- ---- what the journal says of ports that were tried
+pub untried : {range : Option PortRange} (es fs : List Event) → fs ≡ es → TriesPorts range es fs
+untried {range = range} es fs same = subst (λ (xs : List Event). TriesPorts range es xs) (sym same) Start
+
+pub tried_more : {range : Option PortRange} (port : ℕ) (es fs gs : List Event) → IsOneOf range port
+    → gs ≡ Quiet (No_socket port) ∷ fs → TriesPorts range es fs → TriesPorts range es gs
+tried_more port es fs gs within is tries = Then tries (record { port = port; within = within; is = is })
+
+pub in_vain : {range : Option PortRange} (port : ℕ) (es fs gs : List Event) → IsOneOf range port
+    → gs ≡ Quiet (No_socket port) ∷ fs → TriesPorts range es fs → TriesInVain range es gs
+in_vain port es fs gs within is tries =
+    record { between = fs; earlier = tries; last = record { port = port; within = within; is = is } }

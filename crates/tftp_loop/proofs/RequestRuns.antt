@@ -1,6 +1,6 @@
 -- What happens at the request port.
 use Rattle.std.proofs.Common.{◌≡◌, ◌⊎◌, ℕ, true, false, List, [], ◌∷◌, ◌++◌, Option, Some, None, IsSome, refl, sym, ap, subst, ◌∙◌, inl, inr}
-use Rattle.std.specs.Prelude.{Ok, Err, is_ok, IfSome, vec_capacity, vec_len}
+use Rattle.std.specs.Prelude.{Ok, Err, is_ok, IfSome}
 use Rattle.std.proofs.lemmas.Bool.{true≢false}
 use Rattle.tftp_file.specs.Source.{SourceMeaning}
 use Rattle.tftp_ends.specs.declared.endpoint.Endpoint.{Endpoint}
@@ -77,15 +77,15 @@ module _ {S F D : Type 0} (meaning : StoreMeaning S D) (sources : SourceMeaning 
       record { ask = admission.ask; admits = admits_set before server from bytes admission.ask rest admitted.admits; asks = asks }
 
   -- what it decides was not carried out, and an empty buffer was to take the answer
-  pub not_carried_out : (s t : LoopState S F D) (from : Endpoint) (bytes : List ℕ) (before : ServerState S F D) (admission : AdmissionState) (out : Vec ℕ) → s.server ≡ record before { store = s.server.store }
-      → IsAdmission before from bytes admission → vec_len out ≡ 0
-      → AskLacksMemory (vec_capacity out) (vec_len out) meaning sources s.server admission.ask
+  pub not_carried_out : (s t : LoopState S F D) (from : Endpoint) (bytes : List ℕ) (before : ServerState S F D) (admission : AdmissionState) (capacity used : ℕ) → s.server ≡ record before { store = s.server.store }
+      → IsAdmission before from bytes admission → used ≡ 0
+      → AskLacksMemory capacity used meaning sources s.server admission.ask
       → RequestLoss meaning sources s t from bytes
-  not_carried_out s t from bytes before admission out rest admitted empty lacks =
-      No_memory (vec_capacity out) (inr (
+  not_carried_out s t from bytes before admission capacity used rest admitted empty lacks =
+      No_memory capacity (inr (
         admission.ask,
         admits_set before s.server from bytes admission.ask rest admitted.admits,
-        subst (λ (used : ℕ). AskLacksMemory (vec_capacity out) used meaning sources s.server admission.ask) empty lacks,
+        subst (λ (n : ℕ). AskLacksMemory capacity n meaning sources s.server admission.ask) empty lacks,
       ))
 
   -- ---- ports were tried for the datagram

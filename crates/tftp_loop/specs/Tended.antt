@@ -1,6 +1,6 @@
 -- What each part of a round leaves at the ports, so that the next wait is allowed.
 use Rattle.std.specs.Prelude.{ℕ, ◌≡◌, ◌≤◌, ◌<◌, ◌+◌, ◌-◌, ◌||◌, ◌⊎◌, ⊤, true, List, ◌∷◌, map}
-use Rattle.std.specs.Prelude.{length, take, slice_set, slice_index_or, Some, None, is_some}
+use Rattle.std.specs.Prelude.{length, take, slice_set, slice_index_or, Option, Some, None, is_some}
 use Rattle.std.specs.Prelude.{IsSome, All, if◌then◌else◌}
 use Rattle.std.specs.List.{list_any, swap_remove}
 use Rattle.tftp_file.specs.Source.{SourceMeaning}

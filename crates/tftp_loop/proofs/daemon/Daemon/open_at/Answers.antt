@@ -33,7 +33,7 @@ returns-in-Err-clause-answers g c =
       | inl e ↦ Same_port (may_open g.S.Store.meaning g.S.Source.Source.meaning c.args.self.now.server c.set_store.new.server c.args.from c.args.bytes.now c.args.admission c.set_store.ensures.rest c.requires.admitted c.requires.may_open)
           c.port-tid.result (subst (λ (port : ℕ). IsOneOf s.range port) (sym c.port-tid.ensures) c.requires.port.port) (why.in_use.0 (ap Err e))
       | inr e ↦ not_carried_out g.S.Store.meaning g.S.Source.Source.meaning (record s { server = c.set_store.new.server }) _ c.args.from c.args.bytes.now c.args.self.now.server c.args.admission
-          c.clear.new.self c.set_store.ensures.rest c.requires.admitted c.clear.ensures.len (why.why (ap Err e))
+          _ _ c.set_store.ensures.rest c.requires.admitted c.clear.ensures.len (why.why (ap Err e))
     ])
     (same_state _ _ (ap (λ (s : Sockets). s.requests.port) back)
     (ap (λ (s : Sockets). s.pool.range) back) why.err.0 refl refl

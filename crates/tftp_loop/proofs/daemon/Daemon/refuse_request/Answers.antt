@@ -35,6 +35,6 @@ returns-in-Err-clause-answers g c =
     (elim why.fault [
       | inl e ↦ No_identifier (no_opening g.S.Store.meaning g.S.Source.Source.meaning c.args.self.now.server c.set_store.new.server c.args.from c.args.bytes.now c.args.admission c.set_store.ensures.rest c.requires.admitted c.requires.opens_none) (why.in_use.0 (ap Err e))
       | inr e ↦ not_carried_out g.S.Store.meaning g.S.Source.Source.meaning (record s { server = c.set_store.new.server }) _ c.args.from c.args.bytes.now c.args.self.now.server c.args.admission
-          c.clear.new.self c.set_store.ensures.rest c.requires.admitted c.clear.ensures.len (why.why (ap Err e))
+          _ _ c.set_store.ensures.rest c.requires.admitted c.clear.ensures.len (why.why (ap Err e))
     ])
     (same_state _ _ refl refl why.err.0 refl refl refl refl refl refl refl)
