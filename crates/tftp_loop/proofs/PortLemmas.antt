@@ -11,11 +11,14 @@ use Rattle.tftp_ends.specs.declared.outgoing.Outgoing.{Outgoing}
 use Rattle.tftp_ends.specs.declared.record.Record.{Record}
 use Rattle.tftp_ends.specs.declared.record.Step.{Step}
 use Rattle.tftp_ends.specs.End.{EndState, outcome_of, record_of}
+use Rattle.tftp_ends.specs.Shortage.{AppendsNothing}
 use Rattle.tftp_ends.specs.Step.{Reply, lent, reply_bytes, timeout_turn}
 use Rattle.tftp_store.specs.Store.{StoreMeaning}
 use Rattle.tftp_server.specs.State.{HeldTransfer, ServerState, at, draft_of, taken_of}
 use Rattle.tftp_server.specs.Steps.{TakesDatagramLent, TimesOutLent, DatagramFaultLent, KeepsHeld, with_end}
+use Rattle.tftp_server.specs.Shortage.{LacksMemoryAt}
 use Rattle.tftp_server.specs.declared.fault.ServerFault.{ServerFault}
+use Rattle.tftp_server.specs.declared.fault.ServerFault.TheVariants.{Memory}
 use Rattle.tftp_sockets.specs.Journal.{Event, replied, answered}
 use Rattle.tftp_loop.specs.Serves.{AnswersDatagram, LosesDatagram, AnswersTimeout}
 
@@ -86,11 +89,11 @@ module _ {S F D : Type 0} (meaning : StoreMeaning S D) (sources : SourceMeaning 
 
 -- a datagram was not handled
 pub lost : {S F D : Type 0} (meaning : StoreMeaning S D) (sources : SourceMeaning F) (tid port : ℕ) (from : Endpoint) (bytes : List ℕ) (old new : ServerState S F D) (fault : ServerFault)
-    → tid ≡ port → DatagramFaultLent from bytes (at tid old.held) fault → KeepsHeld meaning sources tid (at tid old.held) old new
+    → tid ≡ port → DatagramFaultLent from bytes (at tid old.held) fault → (fault ≡ Memory → LacksMemoryAt meaning sources AppendsNothing tid from bytes old new) → KeepsHeld meaning sources tid (at tid old.held) old new
     → new ≡ record old { store = new.store; held = new.held } → LosesDatagram meaning sources port from bytes old new
-lost {S = S} {F = F} {D = D} meaning sources tid port from bytes old new fault same why keeps rest =
+lost {S = S} {F = F} {D = D} meaning sources tid port from bytes old new fault same why lacks keeps rest =
     let At : ℕ → Type 0 = λ p. LosesDatagram meaning sources p from bytes old new in
-    subst At same (record { fault = fault; why = why; keeps = keeps; config = ap (λ (s : ServerState S F D). s.config) rest })
+    subst At same (record { fault = fault; why = why; lacks = lacks; keeps = keeps; config = ap (λ (s : ServerState S F D). s.config) rest })
 
 module _ {S F D : Type 0} (tid : ℕ) (old new : ServerState S F D) (step : Step) (outgoing : Outgoing) where
   -- the transfer that timed out is found

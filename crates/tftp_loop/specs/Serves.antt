@@ -13,15 +13,16 @@ use Rattle.tftp_ends.specs.declared.record.Record.{Record}
 use Rattle.tftp_ends.specs.declared.record.Step.{Step}
 use Rattle.tftp_ends.specs.declared.record.TheConstants.{DEFAULT_INTERVAL}
 use Rattle.tftp_ends.specs.End.{interval_of, terms_of}
-use Rattle.tftp_ends.specs.Shortage.{HasNoRoom}
+use Rattle.tftp_ends.specs.Shortage.{AppendsNothing, HasNoRoom}
 use Rattle.tftp_ends.specs.Step.{timeout_turn}
 use Rattle.tftp_store.specs.Store.{StoreMeaning}
 use Rattle.tftp_server.specs.State.{HeldTransfer, ServerState, at, is_open, taken_of, without}
 use Rattle.tftp_server.specs.Steps.{TakesDatagramLent, TimesOutLent, DatagramFaultLent, KeepsHeld}
 use Rattle.tftp_server.specs.declared.fault.ServerFault.{ServerFault}
+use Rattle.tftp_server.specs.declared.fault.ServerFault.TheVariants.{Memory}
 use Rattle.tftp_server.specs.Port.{Ask, asks_store}
 use Rattle.tftp_server.specs.Request.{Admits, RequestStep, Left}
-use Rattle.tftp_server.specs.Shortage.{RequestLacksMemory}
+use Rattle.tftp_server.specs.Shortage.{LacksMemoryAt, RequestLacksMemory}
 use Rattle.tftp_server.specs.Work.{WorksAt}
 use Rattle.tftp_host.specs.Watch.{deadline_of, last_moment}
 use Rattle.tftp_host.specs.declared.watch.TheConstants.{LONGEST_WAIT}
@@ -150,12 +151,15 @@ module _ {S F D : Type 0} (meaning : StoreMeaning S D) (sources : SourceMeaning 
     pub config : new.config ≡ old.config
     pub events : after ≡ answered port takes.takes.turn.reply before
 
-  -- the datagram is lost, only if no transfer is open, or if a block is read or stored and there is
-  -- no memory for it
+  -- the datagram is lost, only if no transfer is open, or if a block is read or stored and memory
+  -- was refused or the file answered `Memory`
   pub record LosesDatagram (port : ℕ) (from : Endpoint) (bytes : List ℕ)
       (old new : ServerState S F D) : Type 0 where
     pub fault : ServerFault
     pub why : DatagramFaultLent from bytes (at port old.held) fault
+    -- what lacks memory
+    pub lacks : fault ≡ Memory
+        → LacksMemoryAt meaning sources AppendsNothing port from bytes old new
     pub keeps : KeepsHeld meaning sources port (at port old.held) old new
     pub config : new.config ≡ old.config
 

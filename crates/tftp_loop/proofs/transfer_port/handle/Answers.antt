@@ -1,11 +1,11 @@
 use Rattle.std.proofs.Common.{refl, ap}
 use Rattle.tftp_loop.proofs.PortLemmas.{handled, closed_by, bytes_lent, found_next, lost}
-use Rattle.std.specs.Prelude.{option_map}
+use Rattle.std.specs.Prelude.{option_map, Err}
 use Rattle.tftp_ends.specs.Step.{lent}
 use Rattle.tftp_loop.proofs.transfer_port.handle.Goals as goal
 
 pub returns-in_default-clause-handled : goal.returns-in_default-clause-handled
-returns-in_default-clause-handled g c = (lost g.S.Store.meaning g.S.Source.Source.meaning c.args.tid c.args.udp.now.port c.args.from c.args.bytes.now c.args.server.now c.handle_datagram.new.self c.in_default.field-0 c.requires c.in_default.ensures.fault c.in_default.ensures.err c.in_default.ensures.rest, refl)
+returns-in_default-clause-handled g c = (lost g.S.Store.meaning g.S.Source.Source.meaning c.args.tid c.args.udp.now.port c.args.from c.args.bytes.now c.args.server.now c.handle_datagram.new.self c.in_default.field-0 c.requires c.in_default.ensures.fault (λ e. c.in_default.ensures.why (ap Err e)) c.in_default.ensures.err c.in_default.ensures.rest, refl)
 
 pub returns-clause-handled : goal.returns-clause-handled
 returns-clause-handled g c =
