@@ -24,6 +24,9 @@ use Rattle.tftp_ends.specs.declared.error_reply.ErrorReply.TheVariants.{FileNotF
 use Rattle.tftp_ends.specs.declared.error_reply.ErrorReply.TheVariants.{AccessViolation, DiskFull}
 use Rattle.tftp_ends.specs.declared.error_reply.ErrorReply.TheVariants.{IllegalOperation}
 use Rattle.tftp_ends.specs.declared.error_reply.ErrorReply.TheVariants.{FileExists, OptionRefused}
+use Rattle.tftp_ends.specs.declared.error_reply.ErrorReply.TheVariants.{FileChanged}
+use Rattle.tftp_ends.specs.declared.fault.OpenFault.{OpenFault}
+use Rattle.tftp_ends.specs.declared.fault.OpenFault.TheVariants.{TooLarge}
 use Rattle.tftp_wire.specs.Reading.{has_error_opcode}
 
 -- what the request port does before it asks its store
@@ -52,6 +55,11 @@ pub data Service : Type 0 where
 abbrev pub open_reply : StoreFault → ErrorReply
 open_reply Missing = FileNotFound
 open_reply _ = AccessViolation
+
+-- the ERROR when an opened file is not served: it has too many blocks, or its first cannot be read
+abbrev pub serve_reply : OpenFault → ErrorReply
+serve_reply TooLarge = FileTooLarge
+serve_reply _ = FileChanged
 
 -- the ERROR when no draft is begun
 abbrev pub begin_reply : StoreFault → ErrorReply

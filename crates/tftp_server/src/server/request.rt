@@ -14,8 +14,8 @@ ghost use Rattle.tftp_ends.specs.End.{is_sender};
 ghost use Rattle.tftp_ends.specs.Opening.{ServesRead, CannotStart, serving_write};
 ghost use Rattle.tftp_server.specs.State.{IsRepeated, source_of};
 ghost use Rattle.tftp_server.specs.Port.{accept_reply, agreed_size, asks, begin_reply, by_file};
-ghost use Rattle.tftp_server.specs.Port.{by_kind};
-ghost use Rattle.tftp_server.specs.Port.{by_name, by_options, by_room, by_length};
+ghost use Rattle.tftp_server.specs.Port.{by_kind, by_name, by_options, by_room, by_length};
+ghost use Rattle.tftp_server.specs.Port.{open_reply, serve_reply};
 ghost use Rattle.tftp_server.specs.Request.{Acts, Admits, AsksToRead, AsksToWrite, IsRequest};
 ghost use Rattle.tftp_server.specs.Request.{Sent, ask_of};
 ghost use Rattle.tftp_server.specs.Shortage.{NamesAPath, ReadLacksMemory, ServiceLacksMemory};
@@ -208,11 +208,7 @@ impl<S: Store> Server<S> {
     {
         match self.store.open(self.alloc, &path, request.mode) {
             Ok(file) => self.send(from, path, bytes, request, file, out),
-            Err(StoreFault::Missing) => Ok(Decision::Refuse(ErrorReply::FileNotFound)),
-            Err(StoreFault::Memory) => Err(ServerFault::Memory),
-            Err(StoreFault::Exists | StoreFault::Full | StoreFault::Io) => {
-                Ok(Decision::Refuse(ErrorReply::AccessViolation))
-            }
+            Err(fault) => open_refused(fault),
         }
     }
 
@@ -282,11 +278,40 @@ impl<S: Store> Server<S> {
                 let transfer = Transfer::new(end, Files::Source(source), path, request);
                 Ok(Decision::Open(transfer))
             }
-            Err(OpenFault::TooLarge) => Ok(Decision::Refuse(ErrorReply::FileTooLarge)),
-            Err(OpenFault::SourceFault) => Ok(Decision::Refuse(ErrorReply::FileChanged)),
-            Err(OpenFault::Memory) => Err(ServerFault::Memory),
-            Err(OpenFault::BadRequest) => unreachable!(),
+            Err(fault) => serve_refused(fault),
         }
+    }
+}
+
+/// The ERROR for a file that could not be opened; `Memory` when out of memory.
+fn open_refused<F, D>(fault: StoreFault) -> Result<Decision<F, D>, ServerFault>
+    ensures refused { IfOk result (λ decision. (decision ≡ Decision.Refuse (open_reply fault))
+        × (fault ≢ StoreFault.Memory)) }
+    ensures memory { IfErr result (λ fault. fault ≡ ServerFault.Memory) }
+    ensures why { OnErr result (fault ≡ StoreFault.Memory) }
+{
+    match fault {
+        StoreFault::Missing => Ok(Decision::Refuse(ErrorReply::FileNotFound)),
+        StoreFault::Exists => Ok(Decision::Refuse(ErrorReply::AccessViolation)),
+        StoreFault::Full => Ok(Decision::Refuse(ErrorReply::AccessViolation)),
+        StoreFault::Io => Ok(Decision::Refuse(ErrorReply::AccessViolation)),
+        StoreFault::Memory => Err(ServerFault::Memory),
+    }
+}
+
+/// The ERROR for a file that was opened but is not served; `Memory` when out of memory.
+fn serve_refused<F, D>(fault: OpenFault) -> Result<Decision<F, D>, ServerFault>
+    requires { fault ≢ OpenFault.BadRequest }
+    ensures refused { IfOk result (λ decision. (decision ≡ Decision.Refuse (serve_reply fault))
+        × (fault ≢ OpenFault.Memory)) }
+    ensures memory { IfErr result (λ fault. fault ≡ ServerFault.Memory) }
+    ensures why { OnErr result (fault ≡ OpenFault.Memory) }
+{
+    match fault {
+        OpenFault::TooLarge => Ok(Decision::Refuse(ErrorReply::FileTooLarge)),
+        OpenFault::SourceFault => Ok(Decision::Refuse(ErrorReply::FileChanged)),
+        OpenFault::Memory => Err(ServerFault::Memory),
+        OpenFault::BadRequest => unreachable!(),
     }
 }
 
