@@ -1,5 +1,5 @@
 -- An end that borrows its file lacks memory as one that owns it, and a transfer as its end.
-use Rattle.std.proofs.Common.{◌≡◌, ℕ, Bool, List, [], ◌∷◌, Option, Some, Result, Err, inl, inr, refl, sym, ap, subst, ◌∙◌}
+use Rattle.std.proofs.Common.{◌≡◌, ℕ, Bool, List, [], ◌∷◌, Option, Some, Result, Ok, Err, OnErr, inl, inr, refl, sym, ap, subst, ◌∙◌}
 use Rattle.std.specs.Prelude.{IsErrOf, ◌⊎◌}
 use Rattle.std.specs.Borrow.{MutBor}
 use Rattle.tftp_wire.specs.declared.mode.Mode.{Mode}
@@ -16,6 +16,7 @@ use Rattle.tftp_ends.specs.declared.fault.EndFault.{EndFault}
 use Rattle.tftp_ends.specs.declared.fault.EndFault.TheVariants as ends
 use Rattle.tftp_ends.specs.Action.{datagram_action}
 use Rattle.tftp_ends.specs.End.{EndState}
+use Rattle.tftp_ends.specs.Files.{KeepsSink}
 use Rattle.tftp_ends.specs.Shortage.{ActLacksMemory, AppendLacksMemory, LacksMemory, SendLacksMemory, StoreLacksMemory}
 use Rattle.tftp_ends.specs.Step.{Appended}
 use Rattle.tftp_server.specs.declared.draft_sink.DraftSink.{DraftSink}
@@ -25,6 +26,7 @@ use Rattle.tftp_server.specs.Draft.{Drafting, drafting_sink}
 use Rattle.tftp_server.specs.Fault.{of_end}
 use Rattle.tftp_server.specs.Shortage.{TransferLacksMemory, LacksMemoryAt, TimeoutLacksMemory}
 use Rattle.tftp_server.specs.State.{HeldTransfer, ServerState, at, with_next}
+use Rattle.tftp_server.specs.Steps.{StaysAs}
 use Rattle.tftp_store.specs.Store.{StoreMeaning}
 use Rattle.tftp_server.proofs.StepsLemmas.{drafting_of, found_now}
 
@@ -134,6 +136,71 @@ module _ {S F D : Type 0} (meaning : StoreMeaning S D) (sources : SourceMeaning 
       let last = subst (λ (d : Drafting S D). LacksMemory sources (drafting_sink meaning) too_full from bytes e (Sink (drafting_of k)) (Sink d)) now lacks in
       let both = subst (λ (d : Drafting S D). LacksMemory sources (drafting_sink meaning) too_full from bytes e (Sink d) (Sink (record { store = store'; draft = draft'; path = path; replace = replace }))) was last in
       subst (λ (f : Files F D). TransferLacksMemory meaning sources too_full replace from bytes store store' (record { end = e; files = f; path = path; request = request }) (record { end = e'; files = Sink draft'; path = path; request = request })) (sym is) both
+
+-- ---- a draft stays
+abbrev sink_or : {S K : Type 0} → K → Files S K → K
+sink_or sink (Source source) = sink
+sink_or sink (Sink k) = k
+
+-- the drafts of a store, as sinks
+abbrev draft_sinks : {S F D : Type 0} → StoreMeaning S D → SinkMeaning (DraftSink S F D)
+draft_sinks meaning = sink_through (drafting_sink meaning) drafting_of
+
+module _ {S D : Type 0} (meaning : StoreMeaning S D) where
+  append_stays : (bytes : List ℕ) (d d' : Drafting S D) → Appended (drafting_sink meaning) bytes d d' (Err Memory) → d' ≡ d
+  append_stays [] d d' h = h.1
+  append_stays (b ∷ bytes) d d' h = h.3.1 refl
+
+  store_stays : (mode : Mode) (text piece : List ℕ) (d d' : Drafting S D) → StoreLacksMemory (drafting_sink meaning) mode text piece d d' → d' ≡ d
+  store_stays Octet text piece d d' h = append_stays h.bytes d d' h.appended
+  store_stays Netascii text piece d d' (inl h) = h
+  store_stays Netascii text piece d d' (inr h) = append_stays h.bytes d d' h.appended
+
+module _ {S F D : Type 0} (meaning : StoreMeaning S D) (sources : SourceMeaning F) where
+  act_stays : (action : Action) (bytes : List ℕ) (e : EndState) (d d' : Drafting S D) → ActLacksMemory sources (drafting_sink meaning) action bytes e (Sink d) (Sink d') → d' ≡ d
+  act_stays (Respond response) bytes e d d' h = absurd h
+  act_stays (Send terms number) bytes e d d' h = absurd h
+  act_stays (Store terms number) bytes e d d' h = store_stays meaning e.role.mode e.position.held _ d d' h
+
+  lacks_stays : (too_full : ℕ → Type 0) (from : Endpoint) (bytes : List ℕ) (e : EndState) (d d' : Drafting S D) → LacksMemory sources (drafting_sink meaning) too_full from bytes e (Sink d) (Sink d') → d' ≡ d
+  lacks_stays too_full from bytes e d d' h =
+      elim h.lacks [
+        | inl full ↦ ap (sink_or d) full.1
+        | inr act ↦ act_stays (datagram_action e from bytes h.decoded) bytes e d d' act
+      ]
+
+  -- a fault of an end over a draft changes neither the draft nor the store
+  fault_stays : {R : Type 0} (too_full : ℕ → Type 0) (from : Endpoint) (bytes : List ℕ) (e : EndState) (k k' : DraftSink S F D) (fault : EndFault) →
+      (IsErrOf {T = R} (Err fault) ends.Closed → k' ≡ k) →
+      (IsErrOf {T = R} (Err fault) ends.Memory → LacksMemory sources (draft_sinks meaning) too_full from bytes e (Sink k) (Sink k')) → drafting_of k' ≡ drafting_of k
+  fault_stays too_full from bytes e k k' ends.Closed unmoved why = ap drafting_of (unmoved refl)
+  fault_stays too_full from bytes e k k' ends.Memory unmoved why =
+      lacks_stays too_full from bytes e (drafting_of k) (drafting_of k') (lacks_as sources (drafting_sink meaning) (λ (s : F). s) drafting_of too_full from bytes e (Sink k) (Sink k') (why refl))
+
+  -- after a fault a transfer over a draft, the draft and the store stay
+  pub draft_stays : {R : Type 0} (too_full : ℕ → Type 0) (A B : Type 0) (replace : Bool) (from : Endpoint) (bytes : List ℕ) (store store' : S) (e e' : EndState) (files : Files F D) (k k' : DraftSink S F D) (draft draft' : D) (path request : List ℕ) (result : Result R EndFault) → files ≡ Sink draft →
+      drafting_of k ≡ record { store = store; draft = draft; path = path; replace = replace } → drafting_of k' ≡ record { store = store'; draft = draft'; path = path; replace = replace } →
+      (IsErrOf result ends.Closed → k' ≡ k) →
+      (IsErrOf result ends.Memory → LacksMemory sources (draft_sinks meaning) too_full from bytes e (Sink k) (Sink k')) →
+      (A → (e' ≡ e) × KeepsSink (draft_sinks meaning) k k') →
+      (A → StaysAs meaning sources replace store store' (record { end = e; files = files; path = path; request = request }) (record { end = e'; files = Sink draft'; path = path; request = request }) → B) → OnErr result A → OnErr result B
+  draft_stays too_full A B replace from bytes store store' e e' files k k' draft draft' path request (Ok r) is was now unmoved why keeps then h = tt
+  draft_stays {R = R} too_full A B replace from bytes store store' e e' files k k' draft draft' path request (Err fault) is was now unmoved why keeps then h =
+      let first : Drafting S D = record { store = store; draft = draft; path = path; replace = replace } in
+      let last : Drafting S D = record { store = store'; draft = draft'; path = path; replace = replace } in
+      let back : last ≡ first = sym now ∙ (fault_stays {R = R} too_full from bytes e k k' fault unmoved why ∙ was) in
+      let kept : KeepsSink (drafting_sink meaning) (drafting_of k) (drafting_of k') = record { holding = (keeps h).1.holding; leaves = (keeps h).1.leaves } in
+      let both = subst (λ (d : Drafting S D). KeepsSink (drafting_sink meaning) d last) was (subst (λ (d : Drafting S D). KeepsSink (drafting_sink meaning) (drafting_of k) d) now kept) in
+      then h
+      (subst (λ (f : Files F D). StaysAs meaning sources replace store store' (record { end = e; files = f; path = path; request = request }) (record { end = e'; files = Sink draft'; path = path; request = request })) (sym is)
+      (record {
+        end = (keeps h).0;
+        path = refl;
+        request = refl;
+        stays = tt;
+        draft = (ap (λ (d : Drafting S D). d.store) back, ap (λ (d : Drafting S D). Sink d.draft) back);
+        files = both;
+      }))
 
 -- ---- the transfer at an identifier
 of_memory : (fault : EndFault) → of_end fault ≡ faults.Memory → fault ≡ ends.Memory

@@ -1,7 +1,8 @@
 -- A store with one of its drafts, as the sink of a transfer.
-use Rattle.std.specs.Prelude.{ℕ, ◌≡◌, Bool, true, false, List, Option, Ok}
+use Rattle.std.specs.Prelude.{ℕ, ◌≡◌, Bool, true, false, List, Option, Some, Ok}
 use Rattle.tftp_file.specs.Sink.{Holding, SinkMeaning}
 use Rattle.tftp_file.specs.declared.fault.StoreFault.{StoreFault}
+use Rattle.tftp_file.specs.declared.fault.StoreFault.TheVariants.{Memory}
 use Rattle.tftp_file.specs.declared.files.Files.{Files}
 use Rattle.tftp_file.specs.declared.files.Files.TheVariants.{Source, Sink}
 use Rattle.tftp_ends.specs.Step.{Done}
@@ -48,9 +49,11 @@ module _ {S D : Type 0} (meaning : StoreMeaning S D) where
     pub files : FilesBy committed (meaning.stored before.store) (meaning.stored after.store)
         (meaning.drafted before.draft) before.path before.replace
 
-  -- what an append, or a commit, leaves of the store
+  -- what an append, or a commit, leaves of the store; out of memory, an append changes nothing
   abbrev pub AfterAppend : Drafting S D → List ℕ → Drafting S D → Option StoreFault → Type 0
-  AfterAppend before bytes after fault = meaning.after_append before.store after.store fault
+  AfterAppend before bytes after fault =
+      meaning.after_append before.store after.store fault
+      × (fault ≡ Some Memory → after ≡ before)
 
   abbrev pub AfterCommit : Drafting S D → Drafting S D → Option StoreFault → Type 0
   AfterCommit before after fault = meaning.after_commit before.store after.store fault
@@ -71,3 +74,8 @@ module _ {S D : Type 0} (meaning : StoreMeaning S D) where
 abbrev pub KeepsStore : {S F D : Type 0} → Files F D → S → S → Type 0
 KeepsStore (Source source) before after = after ≡ before
 KeepsStore (Sink draft) before after = Unit {0}
+
+-- a write transfer changes neither the store nor its draft
+abbrev pub KeepsDraft : {S F D : Type 0} → Files F D → Files F D → S → S → Type 0
+KeepsDraft (Source source) files before after = Unit {0}
+KeepsDraft (Sink draft) files before after = (after ≡ before) × (files ≡ Sink draft)

@@ -15,7 +15,7 @@ use Rattle.tftp_ends.specs.declared.action.Action.{Action}
 use Rattle.tftp_ends.specs.declared.outgoing.Outgoing.{Outgoing}
 use Rattle.tftp_server.specs.declared.fault.ServerFault.{ServerFault}
 use Rattle.tftp_server.specs.declared.fault.ServerFault.TheVariants.{NoSuchTid, Memory}
-use Rattle.tftp_server.specs.Draft.{Drafting, files_in, drafting_sink, KeepsStore}
+use Rattle.tftp_server.specs.Draft.{Drafting, files_in, drafting_sink, KeepsDraft, KeepsStore}
 use Rattle.tftp_server.specs.State.{HeldTransfer, ServerState, at, is_open, is_closed, with_next}
 use Rattle.tftp_store.specs.Store.{StoreMeaning}
 
@@ -136,18 +136,19 @@ module _ {S F D : Type 0} (meaning : StoreMeaning S D) (sources : SourceMeaning 
   TakesDatagramLent tid from bytes old new step outgoing =
       TakesDatagramBy (lends outgoing) tid from bytes old new step
 
-  -- the transfer stays; what its file and the store hold is the same
+  -- the transfer and the store stay, but for a source, which holds the same
   pub record StaysAs (replace : Bool) (store store' : S)
       (transfer next : HeldTransfer F D) : Type 0 where
     pub end : next.end ≡ transfer.end
     pub path : next.path ≡ transfer.path
     pub request : next.request ≡ transfer.request
     pub stays : KeepsStore transfer.files store store'
+    pub draft : KeepsDraft transfer.files next.files store store'
     pub files : KeepsFiles sources (drafting_sink meaning)
         (files_in store transfer.path replace transfer.files)
         (files_in store' next.path replace next.files)
 
-  -- nothing changes; what the file of the transfer at the identifier and the store hold is the same
+  -- nothing changes but the source of the transfer at the identifier, which holds the same
   abbrev pub KeepsHeld : ℕ → Option (HeldTransfer F D) → ServerState S F D → ServerState S F D
       → Type 0
   KeepsHeld tid None old new = new ≡ old

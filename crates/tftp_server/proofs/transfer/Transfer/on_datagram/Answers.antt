@@ -9,7 +9,7 @@ use Rattle.tftp_ends.specs.declared.record.Step.{Step}
 use Rattle.tftp_server.specs.Steps.{appends}
 use Rattle.tftp_file.specs.Memory.{memory_sink}
 use Rattle.tftp_ends.specs.Shortage.{HasNoRoom}
-use Rattle.tftp_server.proofs.ShortageLemmas.{source_lacked, draft_lacked}
+use Rattle.tftp_server.proofs.ShortageLemmas.{source_lacked, draft_lacked, draft_stays}
 use Rattle.tftp_server.proofs.StepsLemmas.{source_taken, draft_taken, drafting_now}
 use Rattle.tftp_server.proofs.transfer.Transfer.on_datagram.Goals as goal
 
@@ -62,3 +62,14 @@ returns-in-Source-clause-memory g c = λ memory.
 pub returns-in-Sink-clause-memory : goal.returns-in-Sink-clause-memory
 returns-in-Sink-clause-memory g c = λ memory.
     subst (λ (held : HeldTransfer g.row.F.Denot g.row.D.Denot). (decoded : Option Packet) × Decodes c.args.bytes.now decoded × IsAnswered (datagram_action held.end c.args.from c.args.bytes.now decoded)) c.self.view_is (c.on_datagram_of_sink.ensures.memory memory)
+
+pub returns-in-Sink-clause-err : goal.returns-in-Sink-clause-err
+returns-in-Sink-clause-err g c =
+    let same = c.on_datagram_of_sink.ensures.same in
+    let last = drafting_now c.on_datagram_of_sink.new.sink _ c.self.inside.path c.args.replace (c.store-1.given.1 (sym same.0)) same.2 same.3 in
+    rw (← c.self.view_is)
+    (draft_stays
+    g.S.Store.meaning g.F.Source.meaning (HasNoRoom (vec_capacity c.args.out.now) (vec_len c.args.out.now)) _ _
+    c.args.replace c.args.from c.args.bytes.now c.args.store.now _ c.self.inside.end c.on_datagram_of_sink.new.end c.self.inside.files
+    _ c.on_datagram_of_sink.new.sink c.in-Sink.draft _ c.self.inside.path c.self.inside.request.items c.on_datagram_of_sink.result
+    c.in-Sink.is refl last c.on_datagram_of_sink.ensures.unmoved c.on_datagram_of_sink.ensures.why (λ h. (h.0, h.2)) (λ h stays. (stays, h.1)) c.on_datagram_of_sink.ensures.err)
