@@ -18,20 +18,19 @@ use Rattle.tftp_ends.specs.declared.endpoint.Endpoint.{Endpoint}
 use Rattle.tftp_ends.specs.declared.phase.Terms.{Terms}
 use Rattle.tftp_store.specs.Store.{StoreMeaning}
 use Rattle.tftp_store.specs.declared.store.Opening.{Opening}
-use Rattle.tftp_server.specs.Draft.{Drafting, KeepsStore, drafting_sink, files_in}
+use Rattle.tftp_server.specs.Draft.{Drafting, KeepsDraft, KeepsStore, drafting_sink, files_in}
 use Rattle.tftp_server.specs.Port.{Ask, Ignores, Refuses, Reads, Writes, Service, Silent, Refused, Sends, Takes}
 use Rattle.tftp_server.specs.Request.{A_transfer, An_error, Came, Goes, Left, Nothing, Sent, Taken, left_by}
 use Rattle.tftp_server.specs.State.{HeldTransfer, ServerState}
-use Rattle.tftp_server.specs.Steps.{StepIn}
+use Rattle.tftp_server.specs.Steps.{KeepsHeld, StepIn}
 use Rattle.tftp_server.specs.Work.{FilesWork, WorksAt}
 use Rattle.tftp_loop.specs.Run.{Run, Start, Then}
 use Rattle.tftp_loop.specs.Serves.{AtPort, Does, LoopState, PortState}
 use Rattle.tftp_loop.specs.Serves.AtPort.{A_datagram, A_lost_datagram, Nothing_found, A_failed_receive, A_timeout}
 use Rattle.tftp_loop.specs.Serves.AtPort.{A_missed_timeout, Work}
-use Rattle.tftp_loop.specs.Serves.Does.{Waited, At_port, Request_received, No_request_found, Request_not_received, No_port_found}
-use Rattle.tftp_loop.specs.Serves.Does.{Request_answered, Request_lost, Clock_read, Store_set, Transfer_closed}
-use Rattle.tftp_daemon.specs.Kept.{Leaves, PortLeaves, RunLeaves, StepLeaves}
-use Rattle.tftp_daemon.specs.Kept.Leaves.{Leaves_by}
+use Rattle.tftp_loop.specs.Serves.Does.{Waited, At_port, Request_received, No_request_found, Request_not_received}
+use Rattle.tftp_loop.specs.Serves.Does.{No_port_found, Request_answered, Request_lost, Clock_read, Store_set, Transfer_closed}
+use Rattle.tftp_daemon.specs.Kept.{RunLeaves}
 
 -- a relation that each call of a store keeps
 pub record AreKept {S D : Type 0} (Same : S → S → Type 0) (meaning : StoreMeaning S D) : Type 0 where
@@ -56,7 +55,7 @@ module _ {S F D : Type 0} (Same : S → S → Type 0) (meaning : StoreMeaning S 
   appended_so : (bytes : List ℕ) (k m : Drafting S D) (answer : Result Done StoreFault)
       → Appended (drafting_sink meaning) bytes k m answer → Same k.store m.store
   appended_so [] k m answer h = stays (ap (λ (d : Drafting S D). d.store) h.1)
-  appended_so (b ∷ bytes) k m answer h = keeps.appended k.store m.store _ h.3
+  appended_so (b ∷ bytes) k m answer h = keeps.appended k.store m.store _ h.3.0
 
   goes_on_so : (terms : Terms) (number : ℕ) (from : Endpoint) (e : EndState) (last : Bool) (after : List ℕ)
       (m : Drafting S D) (answer : Result Done StoreFault) (turn : Turn) (k : Drafting S D)
@@ -97,18 +96,27 @@ module _ {S F D : Type 0} (Same : S → S → Type 0) (meaning : StoreMeaning S 
   works_so tid None old new h = stays (ap (λ (s : ServerState S F D). s.store) h)
   works_so tid (Some transfer) old new h = work_so old.store new.store transfer.files h.0.files h.1.files
 
-  port_so : (now : ℕ) (old new : PortState S F D) (does : AtPort meaning sources now old new)
-      → PortLeaves Same meaning sources does → Same old.server.store new.server.store
-  port_so now old new (A_datagram d) leaves =
+  kept_so : (a b : S) (files files' : Files F D) → KeepsStore files a b → KeepsDraft files files' a b → Same a b
+  kept_so a b (Source source) files' same kept = stays same
+  kept_so a b (Sink draft) files' same kept = stays kept.0
+
+  held_so : (tid : ℕ) (transfer : Option (HeldTransfer F D)) (old new : ServerState S F D)
+      → KeepsHeld meaning sources tid transfer old new → Same old.store new.store
+  held_so tid None old new h = stays (ap (λ (s : ServerState S F D). s.store) h)
+  held_so tid (Some transfer) old new h = kept_so old.store new.store transfer.files h.0.files h.1.stays h.1.draft
+
+  port_so : (now : ℕ) (old new : PortState S F D) → AtPort meaning sources now old new
+      → Same old.server.store new.server.store
+  port_so now old new (A_datagram d) =
       let t = d.handles.takes in
       step_so d.from d.bytes t.transfer.end t.takes.turn old.server.store new.server.store t.transfer.path
       t.next.path old.server.config.overwrite t.transfer.files t.next.files t.takes.steps t.takes.stays t.takes.kind
-  port_so now old new (A_lost_datagram d) leaves = leaves
-  port_so now old new (Nothing_found d) leaves = stays (ap (λ (s : ServerState S F D). s.store) d.server)
-  port_so now old new (A_failed_receive d) leaves = stays (ap (λ (s : ServerState S F D). s.store) d.server)
-  port_so now old new (A_timeout d) leaves = stays (ap (λ (s : ServerState S F D). s.store) d.times_out.rest)
-  port_so now old new (A_missed_timeout d) leaves = stays (ap (λ (s : ServerState S F D). s.store) d.server)
-  port_so now old new (Work d) leaves = works_so old.timer.port _ old.server new.server d.works.works
+  port_so now old new (A_lost_datagram d) = held_so old.timer.port _ old.server new.server d.loses.keeps
+  port_so now old new (Nothing_found d) = stays (ap (λ (s : ServerState S F D). s.store) d.server)
+  port_so now old new (A_failed_receive d) = stays (ap (λ (s : ServerState S F D). s.store) d.server)
+  port_so now old new (A_timeout d) = stays (ap (λ (s : ServerState S F D). s.store) d.times_out.rest)
+  port_so now old new (A_missed_timeout d) = stays (ap (λ (s : ServerState S F D). s.store) d.server)
+  port_so now old new (Work d) = works_so old.timer.port _ old.server new.server d.works.works
 
   -- ---- at the request port
   module _ (old : ServerState S F D) (from : Endpoint) (bytes : List ℕ) (tid : ℕ) where
@@ -144,30 +152,29 @@ module _ {S F D : Type 0} (Same : S → S → Type 0) (meaning : StoreMeaning S 
   abbrev store_of : LoopState S F D → S
   store_of s = s.server.store
 
-  leaves_so : (old new : LoopState S F D) (does : Does meaning sources old new)
-      → StepLeaves Same meaning sources does → Same old.server.store new.server.store
-  leaves_so old new (Waited d) leaves = stays (ap store_of d.is)
-  leaves_so old new (At_port d) leaves = subst (Same old.server.store) (sym (ap store_of d.is))
-      (port_so old.now _ d.next d.does leaves)
-  leaves_so old new (Request_received d) leaves = stays (ap store_of d.is)
-  leaves_so old new (No_request_found d) leaves = stays (ap store_of d.is)
-  leaves_so old new (Request_not_received d) leaves = stays (ap store_of d.is)
-  leaves_so old new (No_port_found d) leaves = stays (ap store_of d.is)
-  leaves_so old new (Request_answered d) leaves =
+  leaves_so : (old new : LoopState S F D) → Does meaning sources old new → Same old.server.store new.server.store
+  leaves_so old new (Waited d) = stays (ap store_of d.is)
+  leaves_so old new (At_port d) =
+      subst (Same old.server.store) (sym (ap store_of d.is)) (port_so old.now _ d.next d.does)
+  leaves_so old new (Request_received d) = stays (ap store_of d.is)
+  leaves_so old new (No_request_found d) = stays (ap store_of d.is)
+  leaves_so old new (Request_not_received d) = stays (ap store_of d.is)
+  leaves_so old new (No_port_found d) = stays (ap store_of d.is)
+  leaves_so old new (Request_answered d) =
       let answered = goes_so old.server d.from d.bytes d.tid _ d.steps.came d.steps.goes in
       let left = subst (λ (l : Left S F D). Same old.server.store l.new.store) (sym d.steps.left) answered in
       subst (Same old.server.store) (sym (ap store_of d.is)) left
-  leaves_so old new (Request_lost d) leaves = stays (ap store_of d.is)
-  leaves_so old new (Clock_read d) leaves = stays (ap store_of d.is)
-  leaves_so old new (Store_set d) leaves =
+  leaves_so old new (Request_lost d) = stays (ap store_of d.is)
+  leaves_so old new (Clock_read d) = stays (ap store_of d.is)
+  leaves_so old new (Store_set d) =
       subst (Same old.server.store) (sym (ap store_of d.is))
       (keeps.joined old.server.store d.behind.between d.store
       (keeps.behind old.server.store d.behind.between d.behind.port)
       (keeps.behind d.behind.between d.store d.behind.longest))
-  leaves_so old new (Transfer_closed d) leaves = stays (ap store_of d.is)
+  leaves_so old new (Transfer_closed d) = stays (ap store_of d.is)
 
   pub run_leaves : RunLeaves Same meaning sources
   run_leaves old new Start = keeps.itself old.server.store
-  run_leaves old new (Then {middle} run (Leaves_by does leaves)) =
+  run_leaves old new (Then {middle} run does) =
       keeps.joined old.server.store middle.server.store new.server.store (run_leaves old middle run)
-      (leaves_so middle new does leaves)
+      (leaves_so middle new does)

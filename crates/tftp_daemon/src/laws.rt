@@ -9,8 +9,7 @@ use tftp_file::Source;
 use tftp_server::Store;
 
 /// A run leaves the settings of its store: one that refuses writes refuses them to its end, and one
-/// that takes them below a folder alone takes them there alone. It is as long as that losing a
-/// datagram leaves them, of which the definition of a run says nothing.
+/// that takes them below a folder alone takes them there alone.
 pub fn a_run_keeps_the_settings<R: Files + Drop>()
     ensures { RunKeepsSettings ⟦<FolderStore<R> as Store>⟧.meaning
         ⟦<FolderSource<R::File> as Source>⟧.meaning }
