@@ -1,2 +1,4 @@
 pub mod Read
 pub mod Rules
+pub mod Commands
+pub mod Streams

@@ -2,12 +2,26 @@
 use Rattle.std.specs.Prelude.{ℕ, ◌≡◌, ◌<◌, ◌^◌, Bool, true, false, if◌then◌else◌}
 use Rattle.std.specs.Prelude.{List, codes, Option, Some, None}
 use Rattle.std.specs.Str.Parse.{IsNumeral, digits_value, without_leading_plus}
-use Rattle.clap.specs.Matches.{found_of, one_text}
+use Rattle.clap.specs.Matches.{first_value, found_of, one_text}
+use Rattle.clap.specs.Walk.{Row, first_of, one_of}
 use Rattle.clap.specs.declared.parser.matches.ArgMatches.{ArgMatches}
 
 -- what was read of an option
 abbrev pub text_of : ArgMatches → List ℕ → Option (List ℕ)
 text_of matches id = one_text (found_of matches) id
+
+-- what was read of each argument: its word, and the text of its flag or number
+pub record Reads : Type 0 where
+  pub word : List ℕ → Option (List ℕ)
+  pub text : List ℕ → Option (List ℕ)
+
+-- what was read of the matches
+abbrev pub read_of : ArgMatches → Reads
+read_of matches = record { word = first_value (found_of matches); text = text_of matches }
+
+-- what was read of the rows of a parse
+abbrev pub read_in : List Row → Reads
+read_in rows = record { word = λ id. first_of id rows; text = λ id. one_of id rows }
 
 -- a flag that is read so: it is not set without the option
 pub record IsFlag (text : Option (List ℕ)) (is_set : Bool) : Type 0 where

@@ -1,12 +1,13 @@
 -- The arguments of a command line, as `clap` parses them (own).
-use Rattle.std.specs.Prelude.{ℕ, ◌≡◌, true, false, List, Some}
-use Rattle.clap.specs.Simple.{App, app_of, new_rule, with_rule}
+use Rattle.std.specs.Prelude.{ℕ, ◌≡◌, true, false, List, [], ◌∷◌, Some, pos}
+use Rattle.clap.specs.Simple.{App, app_of, new_rule}
 use Rattle.clap.specs.Walk.{Rule, rule_of}
 use Rattle.clap.specs.declared.builder.action.ArgAction.TheVariants.{SetTrue}
 use Rattle.clap.specs.declared.builder.arg.Arg.{Arg}
 use Rattle.clap.specs.declared.builder.command.Command.{Command}
 use Rattle.clap.specs.declared.builder.command.Command.TheViews.{out-Command as fields_of}
 use Rattle.clap.specs.declared.builder.value_parser.ValueParser.{ValueParser}
+use Rattle.clap.specs.declared.builder.value_parser.ValueParser.TheVariants as parsers
 
 -- a required positional word
 abbrev pub word_rule : List ℕ → Rule
@@ -16,6 +17,14 @@ word_rule id = record (new_rule id) { required = true }
 abbrev pub number_rule : List ℕ → ValueParser → Rule
 number_rule id parser =
     record (new_rule id) { long = Some id; value_names = 1; parser = Some parser }
+
+-- an option with a number from the least to the most
+abbrev pub within : List ℕ → ℕ → ℕ → Rule
+within id least most = number_rule id (parsers.Signed (pos least) (pos most))
+
+-- an option that has this text where it is not used
+abbrev pub by_default : List ℕ → Rule → Rule
+by_default text rule = record rule { defaults = text ∷ [] }
 
 -- an option without a value
 abbrev pub flag_rule : List ℕ → Rule

@@ -1,11 +1,12 @@
 //! The words of a command line, and the messages for faulty ones.
 
 ghost use Rattle.std.specs.Prelude.{◌≡◌, ◌≤◌};
+ghost use Rattle.tftp_arguments.specs.Read.{IsFlag, text_of};
 ghost use Rattle.tftp_arguments.specs.Rules.{HasRule, flag_rule, number_rule, word_rule};
 
 use anyhow::Result;
 use clap::builder::ValueParser;
-use clap::{Arg, ArgAction};
+use clap::{Arg, ArgAction, ArgMatches};
 use std::alloc::Global;
 use std::env;
 use std::rt::Runtime;
@@ -75,4 +76,11 @@ pub fn flag<'a>(alloc: Global, name: &'a str, help: &'a str) -> Arg<'a>
         .long(name)
         .action(ArgAction::SetTrue)
         .help(help)
+}
+
+/// Whether an option without a value is set.
+pub fn is_set(matches: &ArgMatches<'_>, name: &str) -> bool
+    ensures { IsFlag (text_of matches.now name.now) result }
+{
+    matches.get_flag(name)
 }

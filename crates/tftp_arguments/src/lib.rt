@@ -5,7 +5,8 @@
 #![tactic(auto)]
 
 mod arguments;
+pub mod laws;
 mod standard_streams;
 
-pub use arguments::{VERSION, flag, number, own_words, print_no_memory, print_usage, word};
+pub use arguments::{VERSION, flag, is_set, number, own_words, print_no_memory, print_usage, word};
 pub use standard_streams::{StandardStreams, open_streams};

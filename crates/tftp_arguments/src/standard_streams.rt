@@ -3,7 +3,7 @@
 //! A program that starts with one of them closed would get its number for the next file or socket
 //! that it opens, and print into that.
 
-ghost use Rattle.std.specs.Prelude.{pos, ◌≤ℤ◌, IfSome};
+ghost use Rattle.tftp_arguments.specs.Streams.{IsStandard};
 
 use std::fs::{OpenFile, OpenOptions};
 use std::os::fd::AsRawFd;
@@ -25,7 +25,11 @@ pub struct StandardStreams<F: Drop> {
 /// lowest number that is free, so three openings are enough.
 pub fn open_streams<R: Files<File = F>, F: OpenFile + AsRawFd + Drop>(
     files: &R,
-) -> StandardStreams<F> {
+) -> StandardStreams<F>
+    ensures first { IsStandard F.raw_fd result.first }
+    ensures second { IsStandard F.raw_fd result.second }
+    ensures third { IsStandard F.raw_fd result.third }
+{
     StandardStreams {
         first: open_stream(files),
         second: open_stream(files),
@@ -35,7 +39,7 @@ pub fn open_streams<R: Files<File = F>, F: OpenFile + AsRawFd + Drop>(
 
 /// A null device, if it is a standard stream; any other is closed again.
 fn open_stream<R: Files<File = F>, F: OpenFile + AsRawFd + Drop>(files: &R) -> Option<F>
-    ensures { IfSome result (λ file. IfSome (F.raw_fd file) (λ number. number ≤ℤ pos 2)) }
+    ensures { IsStandard F.raw_fd result }
 {
     let file = OpenOptions::new()
         .read(true)

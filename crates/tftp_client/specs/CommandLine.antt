@@ -1,13 +1,11 @@
 -- The job that the words of a command line name, as they were read (own).
 use Rattle.std.specs.Prelude.{ℕ, ◌≡◌, if◌then◌else◌, List, codes, Some, None}
 use Rattle.std.specs.Str.{bytes_eq}
-use Rattle.clap.specs.Matches.{first_value, found_of}
-use Rattle.clap.specs.declared.parser.matches.ArgMatches.{ArgMatches}
 use Rattle.tftp_wire.specs.declared.mode.Mode.TheVariants.{Octet, Netascii}
 use Rattle.tftp_negotiate.specs.declared.asked.Asked.{Asked}
 use Rattle.tftp_negotiate.specs.declared.known.Kind.{Kind}
 use Rattle.tftp_negotiate.specs.declared.known.Kind.TheVariants.{Read, Write}
-use Rattle.tftp_arguments.specs.Read.{IsChosen, IsFlag, IsNumber, text_of}
+use Rattle.tftp_arguments.specs.Read.{IsChosen, IsFlag, IsNumber, Reads}
 use Rattle.tftp_host.specs.Address.{Names}
 use Rattle.tftp_client.specs.declared.local.Existing.TheVariants.{Refused, Replaced}
 use Rattle.tftp_client.specs.declared.transfer.Job.{Job}
@@ -18,21 +16,20 @@ kind_named word = if bytes_eq word (codes "put") then Write else Read
 
 -- the options that were requested; the length of a file by 0
 -- (RFC 2349, "Transfer Size Option Specification")
-pub record AsksAs (matches : ArgMatches) (asked : Asked) : Type 0 where
-  pub blksize : IsNumber 16 (text_of matches (codes "blksize")) asked.blksize
-  pub timeout : IsNumber 8 (text_of matches (codes "timeout")) asked.timeout
-  pub tsize : IsChosen (text_of matches (codes "tsize")) (Some 0) None asked.tsize
+pub record AsksAs (read : Reads) (asked : Asked) : Type 0 where
+  pub blksize : IsNumber 16 (read.text (codes "blksize")) asked.blksize
+  pub timeout : IsNumber 8 (read.text (codes "timeout")) asked.timeout
+  pub tsize : IsChosen (read.text (codes "tsize")) (Some 0) None asked.tsize
 
 -- the job has this direction, and the names, the endpoint, the mode and the options that were read
-pub record NamesJob (kind : Kind) (matches : ArgMatches) (job : Job) : Type 0 where
+pub record NamesJob (kind : Kind) (read : Reads) (job : Job) : Type 0 where
   pub kind_is : job.kind ≡ kind
-  pub name : first_value (found_of matches) (codes "NAME") ≡ Some job.name.now
-  pub local : first_value (found_of matches) (codes "LOCAL") ≡ Some job.local.now
-  pub server :
-      (word : List ℕ) × (first_value (found_of matches) (codes "ADDR:PORT") ≡ Some word)
+  pub name : read.word (codes "NAME") ≡ Some job.name.now
+  pub local : read.word (codes "LOCAL") ≡ Some job.local.now
+  pub server : (word : List ℕ) × (read.word (codes "ADDR:PORT") ≡ Some word)
       × Names word (Some job.server)
-  pub existing : IsChosen (text_of matches (codes "replace")) Replaced Refused job.existing
-  pub mode : IsChosen (text_of matches (codes "netascii")) Netascii Octet job.mode
-  pub asked : AsksAs matches job.asked
-  pub retries : IsNumber 8 (text_of matches (codes "retries")) (Some job.retries)
-  pub falls_back : IsFlag (text_of matches (codes "fallback")) job.falls_back
+  pub existing : IsChosen (read.text (codes "replace")) Replaced Refused job.existing
+  pub mode : IsChosen (read.text (codes "netascii")) Netascii Octet job.mode
+  pub asked : AsksAs read job.asked
+  pub retries : IsNumber 8 (read.text (codes "retries")) (Some job.retries)
+  pub falls_back : IsFlag (read.text (codes "fallback")) job.falls_back

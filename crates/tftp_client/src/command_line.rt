@@ -1,14 +1,14 @@
 //! The command line of `tftp`, and the job that its words name.
 
-ghost use Rattle.std.specs.Prelude.{◌≡◌, ◌≤◌, codes, Some, None, map, [], ◌∷◌};
+ghost use Rattle.std.specs.Prelude.{◌≡◌, ◌≤◌, codes, Some, None, map};
 ghost use Rattle.std.specs.Prelude.{IfOk, IfErr, IfSome};
 ghost use Rattle.clap.specs.Simple.{App, subcommand_rows_of};
 ghost use Rattle.tftp_wire.specs.declared.mode.Mode.TheVariants.{Octet, Netascii};
-ghost use Rattle.tftp_arguments.specs.Read.{IsChosen, IsFlag, text_of};
-ghost use Rattle.tftp_arguments.specs.Rules.{HasRule, IsApp, word_rule};
+ghost use Rattle.tftp_arguments.specs.Read.{IsChosen, read_of, text_of};
+ghost use Rattle.tftp_arguments.specs.Rules.{HasRule, IsApp, by_default, within, word_rule};
 ghost use Rattle.tftp_client.specs.CommandLine.{AsksAs, NamesJob, kind_named};
 ghost use Rattle.tftp_client.specs.Words.{NamesBy, WordsName, bare_app, get_app, put_app, tftp_app};
-ghost use Rattle.tftp_client.specs.Words.{with_asked, with_options, with_reports, within};
+ghost use Rattle.tftp_client.specs.Words.{with_asked, with_options, with_reports};
 ghost use Rattle.tftp_client.specs.declared.local.Existing.TheVariants.{Refused, Replaced};
 
 use crate::local::Existing;
@@ -17,7 +17,7 @@ use clap::error::ErrorKind;
 use clap::{Arg, ArgMatches, Command, value_parser};
 use std::alloc::{AllocError, Global};
 use std::convert::AsStr;
-use tftp_arguments::{VERSION, flag, number, print_usage, word};
+use tftp_arguments::{VERSION, flag, is_set, number, print_usage, word};
 use tftp_host::endpoint_in;
 use tftp_negotiate::{Asked, DEFAULT_BLOCK, Kind, MAX_BLOCK, MIN_BLOCK};
 use tftp_wire::Mode;
@@ -127,7 +127,7 @@ fn report_address<P: Print + Eprint>(rt: &P, command: &mut Command<'_>) -> anyho
 
 /// The job of a valid command line, or `None` if its address is invalid.
 fn job_of<'a>(kind: Kind, matches: &ArgMatches<'a>, has_terminal: bool) -> Option<Job<'a>>
-    ensures { IfSome result (NamesJob kind matches.now) }
+    ensures { IfSome result (NamesJob kind (read_of matches.now)) }
 {
     Some(Job {
         kind,
@@ -167,7 +167,7 @@ fn mode(matches: &ArgMatches<'_>) -> Mode
 
 /// The requested options.
 fn asked(matches: &ArgMatches<'_>) -> Asked
-    ensures { AsksAs matches.now result }
+    ensures { AsksAs (read_of matches.now) result }
 {
     Asked {
         blksize: matches.get_one::<u16>("blksize"),
@@ -185,13 +185,6 @@ fn asked_length(matches: &ArgMatches<'_>) -> Option<u64>
     } else {
         None
     }
-}
-
-/// Whether a flag is set.
-fn is_set(matches: &ArgMatches<'_>, name: &str) -> bool
-    ensures { IsFlag (text_of matches.now name.now) result }
-{
-    matches.get_flag(name)
 }
 
 /// The command line of `tftp`.
@@ -302,8 +295,7 @@ fn with_options<'a>(
 
 /// The argument for the limit of retransmissions.
 fn retries<'a>(alloc: Global) -> Arg<'a>
-    ensures { HasRule (record (within (codes "retries") 0 10) { defaults = codes "5" ∷ [] })
-        result }
+    ensures { HasRule (by_default (codes "5") (within (codes "retries") 0 10)) result }
 {
     let retries = number(
         alloc,

@@ -2,12 +2,14 @@
 use Rattle.std.proofs.Common.{codes, refl}
 use Rattle.clap.specs.Simple.{new_app}
 use Rattle.tftp_arguments.specs.Rules.{IsApp}
-use Rattle.tftp_client.proofs.Commands.{arg_added, same_app}
+use Rattle.tftp_arguments.proofs.Commands.{commands_grow}
 use Rattle.tftp_client.proofs.command_line.put_command.Goals as goal
 
 pub returns : goal.returns
 returns c =
-    let named : IsApp (new_app (codes "put")) c.new.result = record { app_is = c.new.ensures.app; is_local = c.new.ensures.local } in
-    let bare = same_app _ named c.about-command.ensures refl refl in
+    let named : IsApp (new_app (codes "put")) c.new.result =
+    record { app_is = c.new.ensures.app; is_local = c.new.ensures.local } in
+    let bare = commands_grow.stays _ named c.about-command.ensures refl refl in
     c.with_options.ensures _
-    (arg_added (arg_added (arg_added bare c.server.ensures c.in_ok-command.ensures) c.word-local.ensures c.in_ok-command-2.ensures) c.name.ensures c.in_ok-arg.ensures)
+    (commands_grow.adds (commands_grow.adds (commands_grow.adds bare c.server.ensures c.in_ok-command.ensures)
+    c.word-local.ensures c.in_ok-command-2.ensures) c.name.ensures c.in_ok-arg.ensures)

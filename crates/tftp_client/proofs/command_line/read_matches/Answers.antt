@@ -8,5 +8,7 @@ use Rattle.tftp_client.proofs.command_line.read_matches.Goals as goal
 
 pub returns-in-Some-job_of-clause-names : goal.returns-in-Some-job_of-clause-names
 returns-in-Some-job_of-clause-names g c =
-    let met = subcommand_met (out-ArgMatches c.args.matches.now).subcommand c.in-Some.word.now (rows_of (found_of c.in-Some.matches.now)) c.in-Some.ensures.name c.in-Some.ensures.rows in
-    names_by (subcommand_rows_of c.args.matches.now) met (by_rows c.in-Some.matches.now c.in-Some-job_of.ensures) c.kind_of.ensures
+    let met = subcommand_met (out-ArgMatches c.args.matches.now).subcommand c.in-Some.word.now
+    (rows_of (found_of c.in-Some.matches.now)) c.in-Some.ensures.name c.in-Some.ensures.rows in
+    names_by (subcommand_rows_of c.args.matches.now) met (by_rows c.in-Some.matches.now c.in-Some-job_of.ensures)
+    c.kind_of.ensures

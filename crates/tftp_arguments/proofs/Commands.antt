@@ -1,0 +1,50 @@
+-- Commands, setting by setting and argument by argument.
+use Rattle.std.proofs.Common.{◌≡◌, ◌∙◌, Bool, List, ℕ, Option, ap}
+use Rattle.std.specs.Prelude.{◌||◌}
+use Rattle.std.proofs.Math.Path.{fun_ext}
+use Rattle.clap.specs.Built.{AddsArg}
+use Rattle.clap.specs.Matches.{found_of}
+use Rattle.clap.specs.Simple.{App, app_of, app_of_fields, with_rule}
+use Rattle.clap.specs.Walk.{Rule, first_of, rows_of}
+use Rattle.clap.specs.declared.builder.arg.Arg.{Arg}
+use Rattle.clap.specs.declared.builder.command.Command.{Command}
+use Rattle.clap.specs.declared.builder.command.Command.TheOpen.{Command-F}
+use Rattle.clap.specs.declared.builder.command.Command.TheViews.{out-Command as fields_of}
+use Rattle.clap.proofs.WalkLemmas.{first_value-rows, one_text-rows}
+use Rattle.tftp_arguments.specs.Commands.{CommandsGrow, MatchesAreRows}
+use Rattle.tftp_arguments.specs.Read.{Reads, text_of}
+use Rattle.tftp_arguments.specs.Rules.{HasRule, IsApp}
+
+changed : {app : App} {old new : Command} (change : App → App) (fields : Command-F Command)
+    → IsApp app old → fields_of new ≡ fields → app_of_fields fields ≡ change (app_of old)
+    → fields.has_globals ≡ (fields_of old).has_globals → IsApp (change app) new
+changed change fields is now same local =
+    record {
+      app_is = ap app_of_fields now ∙ (same ∙ ap change is.app_is);
+      is_local = ap (λ (f : Command-F Command). f.has_globals) now ∙ (local ∙ is.is_local);
+    }
+
+added : {app : App} {rule : Rule} {old new : Command} {a : Arg} → IsApp app old → HasRule rule a
+    → AddsArg old a new → IsApp (with_rule app rule) new
+added {rule = rule} {old = old} {a = a} is has adds =
+    record {
+      app_is = adds.shape has.is_local ∙
+          (ap (λ (r : Rule). with_rule (app_of old) r) has.rule_is ∙ ap (λ (x : App). with_rule x rule) is.app_is);
+      is_local = adds.globals ∙ (ap (λ (b : Bool). b || a.global) is.is_local ∙ has.is_local);
+    }
+
+pub commands_grow : CommandsGrow
+commands_grow =
+    record {
+      changes = λ change fields is now same local. changed change fields is now same local;
+      stays = λ fields is now same local. changed (λ (x : App). x) fields is now same local;
+      adds = λ is has adds. added is has adds;
+    }
+
+pub matches_are_rows : MatchesAreRows
+matches_are_rows m =
+    let Reader : Type 0 = List ℕ → Option (List ℕ) in
+    let f = found_of m in
+    let of_word : Reader → Reads = λ w. record { word = w; text = text_of m } in
+    let of_text : Reader → Reads = λ t. record { word = λ id. first_of id (rows_of f); text = t } in
+    ap of_word (fun_ext (first_value-rows f)) ∙ ap of_text (fun_ext (one_text-rows f))
