@@ -2,8 +2,9 @@
 //! open, no longer than to its deadline and never longer than a second. A wait that ends behind the
 //! deadline without progress is followed by the timeout (RFC 1350, section 2).
 
-ghost use Rattle.std.specs.Prelude.{◌≡◌, ◌≤◌, ◌+◌, true, length, take, IfOk, IfErr, OnOk};
-ghost use Rattle.tftp_ends.specs.End.{is_complete};
+ghost use Rattle.std.specs.Prelude.{◌≡◌, ◌≤◌, ◌+◌, ◌-◌, min, true, false, length, take};
+ghost use Rattle.std.specs.Prelude.{Some, None, IfSome, IfNone, IfOk, IfErr, OnOk};
+ghost use Rattle.tftp_ends.specs.End.{is_complete, outcome_of};
 ghost use Rattle.tftp_ends.specs.Files.{AreFilesOf};
 ghost use Rattle.tftp_sockets.specs.Journal.{replied};
 ghost use Rattle.tftp_sockets.specs.Quiet.{waits};
@@ -114,12 +115,8 @@ impl Conversation {
     {
         for _ in 0..MAX_WAITS {
             self.turn(rt, journal, files);
-            let record = self.end.record();
-            if record.complete {
-                return Ok(());
-            }
-            if let Some(outcome) = record.outcome {
-                return Err(outcome);
+            if let Some(ended) = ended(&self.end) {
+                return ended;
             }
             self.show(rt);
         }
@@ -200,7 +197,7 @@ impl Conversation {
             → self.new.due ≡ deadline_at self.new.watch.now self.new.end }
         ensures waits { waits journal.new.events ≡ 1 + waits journal.old.events }
     {
-        let wait = self.due.saturating_sub(self.watch.now).min(LONGEST_WAIT);
+        let wait = time_to_wait(self.watch.now, self.due);
         let received = self
             .socket
             .receive(journal, wait, self.buffer.as_mut_slice());
@@ -335,6 +332,30 @@ impl Conversation {
     pub(crate) fn into_peer_reason(self) -> Reason {
         self.peer_reason
     }
+}
+
+/// How a transfer ended, if it did: complete, or with the outcome of its closed end.
+fn ended(end: &End) -> Option<Result<(), Outcome>>
+    ensures complete { IfSome result (λ ended. OnOk ended
+        (is_complete end.now.position.phase ≡ true)) }
+    ensures closed { IfSome result (λ ended. IfErr ended (λ outcome.
+        outcome_of end.now.position.phase ≡ Some outcome)) }
+    ensures open { IfNone result ((is_complete end.now.position.phase ≡ false)
+        × (outcome_of end.now.position.phase ≡ None)) }
+{
+    let record = end.record();
+    if record.complete {
+        return Some(Ok(()));
+    }
+    record.outcome.map(Err)
+}
+
+/// How long a client waits for a datagram, in milliseconds: until it is due for a timeout, at most
+/// a second.
+fn time_to_wait(now: u64, due: u64) -> u64
+    ensures { result ≡ min (due - now) LONGEST_WAIT }
+{
+    due.saturating_sub(now).min(LONGEST_WAIT)
 }
 
 /// The datagram of so many bytes that was received into the buffer.

@@ -14,7 +14,8 @@ pub returns-in_default-clause-elapses : goal.returns-in_default-clause-elapses
 returns-in_default-clause-elapses c =
     let s : State = state_of c.args.self.now c.args.journal.now.events in
     let At : State → Type 0 = λ t. MayElapse c.args.self.now.socket.port s t in
-    subst At (state_is (sym c.in_default.ensures.err) refl refl refl) (Stays (inr (is_closed c.in_default.field-0 c.in_default.ensures.closed c.in_default.ensures.memory)))
+    subst At (state_is (sym c.in_default.ensures.err) refl refl refl)
+    (Stays (inr (is_closed c.in_default.field-0 c.in_default.ensures.closed c.in_default.ensures.memory)))
 
 pub returns-clause-elapses : goal.returns-clause-elapses
 returns-clause-elapses c =
@@ -23,14 +24,16 @@ returns-clause-elapses c =
     let At : State → Type 0 = λ t. MayElapse port s t in
     let lends = c.in-Ok.ensures.steps.0 in
     let noted = c.elapsed.ensures ∙ ap (λ (p : ℕ). Elapsed p s.now ∷ s.events) c.port.ensures in
-    let sent = replies port (timeout_turn s.end).reply c.reply.ensures lends.goes (c.bytes_of.ensures ∙ lends.bytes) noted in
+    let sent = replies port (timeout_turn s.end).reply c.reply.ensures lends.goes (c.bytes_of.ensures
+    ∙ lends.bytes) noted in
     let due = c.deadline-self.ensures.value ∙ ap (λ (n : ℕ). deadline_of s.now n) c.interval-seconds.ensures in
     subst At (sym (state_is lends.state refl due sent))
     (Elapses c.requires (not_refused _ _ c.in-Ok.ensures.closed))
 
 pub returns-in_default-clause-ready : goal.returns-in_default-clause-ready
 returns-in_default-clause-ready c is_open due =
-    absurd (subst IsOpen c.in_default.ensures.err is_open (is_closed c.in_default.field-0 c.in_default.ensures.closed c.in_default.ensures.memory))
+    absurd (subst IsOpen c.in_default.ensures.err is_open
+    (is_closed c.in_default.field-0 c.in_default.ensures.closed c.in_default.ensures.memory))
 
 pub returns-clause-ready : goal.returns-clause-ready
 returns-clause-ready c is_open due =

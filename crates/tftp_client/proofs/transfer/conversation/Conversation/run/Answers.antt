@@ -1,16 +1,23 @@
 -- Wait by wait.
-use Rattle.std.proofs.Common.{arith, inr, refl, sym, subst, ap, ◌∙◌, ◌≡◌, ◌≤◌}
+use Rattle.std.proofs.Common.{arith, inl, inr, refl, sym, subst, ◌∙◌, ◌≡◌, ◌≤◌}
 use Rattle.tftp_ends.specs.End.{EndState}
 use Rattle.tftp_ends.specs.Files.{AreFilesOf}
-use Rattle.tftp_ends.specs.declared.record.Record.{Record}
 use Rattle.tftp_client.specs.Conversation.{state_of}
 use Rattle.tftp_client.specs.Converses.{Converses, IsOpen, State, deadline_at}
 use Rattle.tftp_client.specs.Converses.Converses.{Begins}
 use Rattle.tftp_client.proofs.Conversing.{none_open, onward_at, state_is}
+use Rattle.tftp_client.proofs.Running.{if_err}
 use Rattle.tftp_client.proofs.transfer.conversation.Conversation.run.Goals as goal
 
 pub loop-init : goal.loop-init
-loop-init g c = record { fit = c.requires.files; port = refl; not_closed = c.requires.not_closed; ready = c.requires.ready; waits = omega arith; converses = Begins }
+loop-init g c = record {
+  fit = c.requires.files;
+  port = refl;
+  not_closed = c.requires.not_closed;
+  ready = c.requires.ready;
+  waits = omega arith;
+  converses = Begins;
+}
 
 pub turn-requires-clause-not_closed : goal.turn-requires-clause-not_closed
 turn-requires-clause-not_closed g c = c.loop.invariant.not_closed
@@ -18,11 +25,12 @@ turn-requires-clause-not_closed g c = c.loop.invariant.not_closed
 pub turn-requires-clause-ready : goal.turn-requires-clause-ready
 turn-requires-clause-ready g c = c.loop.invariant.ready
 
-pub returns-then-record-clause-converses : goal.returns-then-record-clause-converses
-returns-then-record-clause-converses g c = onward_at c.loop.invariant.converses c.loop.invariant.port c.turn.ensures.converses
-
 pub returns-in-Some-clause-converses : goal.returns-in-Some-clause-converses
-returns-in-Some-clause-converses g c = onward_at c.loop.invariant.converses c.loop.invariant.port c.turn.ensures.converses
+returns-in-Some-clause-converses g c = onward_at c.loop.invariant.converses c.loop.invariant.port
+    c.turn.ensures.converses
+
+pub returns-in-Some-clause-failed : goal.returns-in-Some-clause-failed
+returns-in-Some-clause-failed g c = if_err c.in-Some.ended _ _ (λ outcome is. inl is) c.in-Some.ensures.closed
 
 pub returns-clause-failed : goal.returns-clause-failed
 returns-clause-failed g c = inr (refl, omega (arith, c.loop.invariant.waits))
@@ -31,14 +39,14 @@ pub loop-preserved : goal.loop-preserved
 loop-preserved g c =
     let first : State = state_of c.args.self.now c.args.journal.now.events in
     let Fit : EndState → Type 0 = λ e. AreFilesOf e.role.side c.turn.new.files in
-    let At : State → Type 0 = λ t. Converses g.S.Source.meaning g.K.Sink.meaning c.args.self.now.socket.port first c.args.files.now t c.turn.new.files in
+    let At : State → Type 0 = λ t. Converses g.S.Source.meaning g.K.Sink.meaning c.args.self.now.socket.port first
+    c.args.files.now t c.turn.new.files in
     let Ready : State → Type 0 = λ t. IsOpen t.end → t.due ≤ t.now → t.due ≡ deadline_at t.now t.end in
-    let none = sym (ap (λ (r : Record). r.outcome) c.record-record.ensures.«record») ∙ c.in_default.is in
     let same = state_is (sym c.show.ensures.end) (sym c.show.ensures.now) (sym c.show.ensures.due) refl in
     record {
       fit = subst Fit (sym c.show.ensures.end) c.turn.ensures.files;
       port = c.show.ensures.port ∙ (c.turn.ensures.port ∙ c.loop.invariant.port);
-      not_closed = subst IsOpen (sym c.show.ensures.end) (none_open c.turn.new.self.end none);
+      not_closed = subst IsOpen (sym c.show.ensures.end) (none_open c.turn.new.self.end c.in_default.ensures.open.1);
       ready = subst Ready same c.turn.ensures.ready;
       waits = omega (arith, c.turn.ensures.waits, c.loop.invariant.waits);
       converses = subst At same (onward_at c.loop.invariant.converses c.loop.invariant.port c.turn.ensures.converses);

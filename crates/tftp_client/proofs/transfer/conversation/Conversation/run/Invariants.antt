@@ -1,4 +1,5 @@
--- The file stays one of the end's side, the port the same, the end is open and may wait, each turn was one wait, and the client has done nothing but the steps of its end.
+-- The file stays one of the end's side, the port the same, the end is open and may wait, each turn
+-- was one wait, and the client has done nothing but the steps of its end.
 use Rattle.std.specs.Prelude.{◌≡◌, ◌+◌}
 use Rattle.tftp_ends.specs.Files.{AreFilesOf}
 use Rattle.tftp_sockets.specs.Quiet.{waits}

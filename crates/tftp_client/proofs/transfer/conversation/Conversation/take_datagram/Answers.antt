@@ -13,19 +13,24 @@ pub returns-in_default-clause-handles : goal.returns-in_default-clause-handles
 returns-in_default-clause-handles g c =
     let port = c.args.self.now.socket.port in
     let s : State = state_of c.args.self.now c.args.journal.now.events in
-    let handles : List ℕ → State → Type 0 = λ b t. HandlesReceived g.S.Source.meaning g.K.Sink.meaning port c.args.from b s c.args.files.now t c.handle_datagram.new.files in
+    let handles : List ℕ → State → Type 0 = λ b t.
+    HandlesReceived g.S.Source.meaning g.K.Sink.meaning port c.args.from b s c.args.files.now t
+    c.handle_datagram.new.files in
     let At : State → Type 0 = λ t. handles (take c.args.count c.args.self.now.buffer.items) t in
     let whole = c.datagram_in-bytes.ensures ∙ ap (λ (b : List ℕ). take c.args.count b) c.as_slice.ensures.value in
     let Of : List ℕ → Type 0 = λ b. handles b s in
     subst At (state_is (sym c.in_default.ensures.err.0) refl refl refl)
     (subst Of whole
-    (Loses (lost c.in_default.field-0 c.args.from c.datagram_in-bytes.result.now s.end c.in_default.ensures.closed c.in_default.ensures.memory) c.in_default.ensures.err.1))
+    (Loses (lost c.in_default.field-0 c.args.from c.datagram_in-bytes.result.now s.end c.in_default.ensures.closed
+    c.in_default.ensures.memory) c.in_default.ensures.err.1))
 
 pub returns-clause-handles : goal.returns-clause-handles
 returns-clause-handles g c =
     let port = c.args.self.now.socket.port in
     let s : State = state_of c.args.self.now c.args.journal.now.events in
-    let handles : List ℕ → State → Type 0 = λ b t. HandlesReceived g.S.Source.meaning g.K.Sink.meaning port c.args.from b s c.args.files.now t c.handle_datagram.new.files in
+    let handles : List ℕ → State → Type 0 = λ b t.
+    HandlesReceived g.S.Source.meaning g.K.Sink.meaning port c.args.from b s c.args.files.now t
+    c.handle_datagram.new.files in
     let At : State → Type 0 = λ t. handles (take c.args.count c.args.self.now.buffer.items) t in
     let whole = c.datagram_in-bytes.ensures ∙ ap (λ (b : List ℕ). take c.args.count b) c.as_slice.ensures.value in
     let turn = c.in-Ok.ensures.steps.0 in

@@ -1,6 +1,5 @@
 -- A wait: a datagram that was received, or none.
-use Rattle.std.proofs.Common.{rules, ◌∙◌, ap, refl, ◌∷◌, ℕ, List, take, sym, subst, inl, inr, min}
-use Rattle.tftp_host.specs.declared.watch.TheConstants.{LONGEST_WAIT}
+use Rattle.std.proofs.Common.{rules, ◌∙◌, ap, refl, ◌∷◌, ℕ, List, take, sym, subst, inl, inr}
 use Rattle.std.proofs.lemmas.List.{with_items_is, places}
 use Rattle.tftp_client.specs.Conversation.{state_of}
 use Rattle.tftp_client.specs.Converses.{Converses, HandlesReceived, MayWait, State}
@@ -18,34 +17,49 @@ returns-in-Datagram-clause-converses g c =
     let from = c.in-Datagram.from in
     let time = c.read_watch.result in
     let next : State = state_of c.take_datagram.new.self c.take_datagram.new.journal.events in
-    let handles : List ℕ → ℕ → State → Type 0 = λ b p t. HandlesReceived g.S.Source.meaning g.K.Sink.meaning p from (take c.in-Datagram.count b) t c.args.files.now next c.take_datagram.new.files in
-    let t : State = record { end = s.end; now = c.read_watch.new.watch.now; due = s.due; events = c.read_watch.new.journal.events } in
+    let handles : List ℕ → ℕ → State → Type 0 = λ b p t.
+    HandlesReceived g.S.Source.meaning g.K.Sink.meaning p from (take c.in-Datagram.count b) t c.args.files.now
+    next c.take_datagram.new.files in
+    let t : State = record {
+      end = s.end;
+      now = c.read_watch.new.watch.now;
+      due = s.due;
+      events = c.read_watch.new.journal.events;
+    } in
     let At : State → Type 0 = λ t. handles c.receive-received.new.buffer port t in
     let Of : ℕ → Type 0 = λ p. handles c.receive-received.new.buffer p t in
     let Over : List ℕ → Type 0 = λ b. handles b c.receive-received.new.self.port t in
     let whole = with_items_is c.args.self.now.buffer c.receive-received.new.buffer (search (rules, places)) in
-    let wait = c.min-wait.ensures ∙ ap (λ (n : ℕ). min n LONGEST_WAIT) c.saturating_sub.ensures in
-    let noted = c.read_watch.ensures.noted ∙ ap (λ (es : List Event). Watched time ∷ es) (c.in-Datagram.ensures.noted ∙ slept s (Received port from (take c.in-Datagram.count c.receive-received.new.buffer)) wait) in
+    let wait = c.time_to_wait-wait.ensures in
+    let noted = c.read_watch.ensures.noted ∙ ap (λ (es : List Event). Watched time ∷ es) (c.in-Datagram.ensures.noted
+    ∙ slept s (Received port from (take c.in-Datagram.count c.receive-received.new.buffer)) wait) in
     let may : MayWait s = record { not_closed = c.requires.not_closed; due = c.requires.ready c.requires.not_closed } in
     Receives Begins may c.read_watch.ensures.forward
-    (subst At (state_is refl c.read_watch.ensures.time refl noted) (subst Of c.receive-received.ensures.port (subst Over whole c.take_datagram.ensures.handles)))
+    (subst At (state_is refl c.read_watch.ensures.time refl noted)
+    (subst Of c.receive-received.ensures.port (subst Over whole c.take_datagram.ensures.handles)))
 
 pub returns-in-Nothing-clause-converses : goal.returns-in-Nothing-clause-converses
 returns-in-Nothing-clause-converses g c =
     let s : State = state_of c.args.self.now c.args.journal.now.events in
-    let At : State → Type 0 = λ t. Converses g.S.Source.meaning g.K.Sink.meaning c.args.self.now.socket.port s c.args.files.now t c.args.files.now in
+    let At : State → Type 0 = λ t. Converses g.S.Source.meaning g.K.Sink.meaning c.args.self.now.socket.port s
+    c.args.files.now t c.args.files.now in
     let may : MayWait s = record { not_closed = c.requires.not_closed; due = c.requires.ready c.requires.not_closed } in
     let event : QuietEvent = Empty c.args.self.now.socket.port in
-    let wait = c.min-wait.ensures ∙ ap (λ (n : ℕ). min n LONGEST_WAIT) c.saturating_sub.ensures in
-    let noted = c.read_watch.ensures.noted ∙ ap (λ (es : List Event). Watched c.read_watch.result ∷ es) (c.in-Nothing.ensures.noted ∙ slept s (Quiet event) wait) in
-    subst At (sym (state_is refl c.read_watch.ensures.time refl noted)) (Waits {event = event} Begins may (inl refl) c.read_watch.ensures.forward)
+    let wait = c.time_to_wait-wait.ensures in
+    let noted = c.read_watch.ensures.noted ∙ ap (λ (es : List Event). Watched c.read_watch.result ∷ es)
+    (c.in-Nothing.ensures.noted ∙ slept s (Quiet event) wait) in
+    subst At (sym (state_is refl c.read_watch.ensures.time refl noted))
+    (Waits {event = event} Begins may (inl refl) c.read_watch.ensures.forward)
 
 pub returns-in-Failed-clause-converses : goal.returns-in-Failed-clause-converses
 returns-in-Failed-clause-converses g c =
     let s : State = state_of c.args.self.now c.args.journal.now.events in
-    let At : State → Type 0 = λ t. Converses g.S.Source.meaning g.K.Sink.meaning c.args.self.now.socket.port s c.args.files.now t c.args.files.now in
+    let At : State → Type 0 = λ t. Converses g.S.Source.meaning g.K.Sink.meaning c.args.self.now.socket.port s
+    c.args.files.now t c.args.files.now in
     let may : MayWait s = record { not_closed = c.requires.not_closed; due = c.requires.ready c.requires.not_closed } in
     let event : QuietEvent = Failed c.args.self.now.socket.port in
-    let wait = c.min-wait.ensures ∙ ap (λ (n : ℕ). min n LONGEST_WAIT) c.saturating_sub.ensures in
-    let noted = c.read_watch.ensures.noted ∙ ap (λ (es : List Event). Watched c.read_watch.result ∷ es) (c.in-Failed.ensures.noted ∙ slept s (Quiet event) wait) in
-    subst At (sym (state_is refl c.read_watch.ensures.time refl noted)) (Waits {event = event} Begins may (inr refl) c.read_watch.ensures.forward)
+    let wait = c.time_to_wait-wait.ensures in
+    let noted = c.read_watch.ensures.noted ∙ ap (λ (es : List Event). Watched c.read_watch.result ∷ es)
+    (c.in-Failed.ensures.noted ∙ slept s (Quiet event) wait) in
+    subst At (sym (state_is refl c.read_watch.ensures.time refl noted))
+    (Waits {event = event} Begins may (inr refl) c.read_watch.ensures.forward)

@@ -14,7 +14,8 @@ returns-clause-converses g c =
     let s : State = state_of c.take_received-step.new.self c.take_received-step.new.journal.events in
     let next : State = state_of c.take_timeout.new.self c.take_timeout.new.journal.events in
     let Of : ℕ → Type 0 = λ p. MayElapse p s next in
-    Times {s = s} c.take_received-step.ensures.converses (subst Of c.take_received-step.ensures.port c.take_timeout.ensures.elapses)
+    Times {s = s} c.take_received-step.ensures.converses
+    (subst Of c.take_received-step.ensures.port c.take_timeout.ensures.elapses)
 
 pub returns-clause-waits : goal.returns-clause-waits
 returns-clause-waits g c = waits_elapsed c.take_timeout.ensures.elapses ∙ c.take_received-step.ensures.waits
