@@ -235,7 +235,16 @@ fn ask_to_get<N: ClientUdp + Clock>(
         &mut out,
     );
     match opened {
-        Ok((end, _)) => begin(rt, alloc, journal, job, socket, end, out.as_slice(), None),
+        Ok((end, _)) => {
+            let request = out.as_slice();
+            let opened = Opened {
+                socket,
+                end,
+                request,
+                total: None,
+            };
+            begin(rt, alloc, journal, job, opened)
+        }
         Err(fault) => Err(Failure::of_opening(fault)),
     }
 }
@@ -250,22 +259,36 @@ fn bind_socket<N: ClientUdp>(net: &N) -> Result<ClientSocket, Failure>
     }
 }
 
+/// An end that opened, before its request is sent.
+#[derive(Drop)]
+struct Opened<'a> {
+    socket: ClientSocket,
+    end: End,
+    request: &'a [u8],
+    /// The length of the file in bytes, if known.
+    total: Option<u64>,
+}
+
 /// Sends the request of an end, and returns the conversation.
 fn begin<C: Clock>(
     clock: &C,
     alloc: Global,
     journal: &mut Journal,
     job: &Job<'_>,
-    socket: ClientSocket,
-    end: End,
-    request: &[u8],
-    total: Option<u64>,
+    opened: Opened<'_>,
 ) -> Result<Conversation, Failure>
     ensures begins { IfOk result (λ conversation. state_of conversation journal.new.events
-        ≡ sent_from conversation.socket.port end job.now.server request.now journal.old.events) }
+        ≡ sent_from conversation.socket.port opened.entry.end job.now.server
+        opened.entry.request.now journal.old.events) }
     ensures err { IfErr result (λ failure. (status_of failure.end ≡ 2)
         × (journal.new.events ≡ journal.old.events)) }
 {
+    let Opened {
+        socket,
+        end,
+        request,
+        total,
+    } = opened;
     match Conversation::new(clock, alloc, socket, end, job.shows_progress, total) {
         Ok(conversation) => {
             conversation.socket.send(journal, job.server, request);
@@ -353,8 +376,14 @@ fn ask_to_put<N: ClientUdp + Clock>(
     );
     match opened {
         Ok((end, _)) => {
-            let total = Some(length);
-            begin(rt, alloc, journal, job, socket, end, out.as_slice(), total)
+            let request = out.as_slice();
+            let opened = Opened {
+                socket,
+                end,
+                request,
+                total: Some(length),
+            };
+            begin(rt, alloc, journal, job, opened)
         }
         Err(fault) => Err(Failure::of_opening(fault)),
     }
