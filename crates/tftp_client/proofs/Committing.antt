@@ -1,5 +1,6 @@
 -- A received file is committed once its end is complete.
-use Rattle.std.proofs.Common.{◌≡◌, ℕ, Bool, true, false, List, [], length, Option, Some, None, Result, Ok, Err, inl, inr, refl, sym, ◌∙◌, subst}
+use Rattle.std.proofs.Common.{◌≡◌, ℕ, Bool, true, false, List, [], length, Option, Some, None}
+use Rattle.std.proofs.Common.{Result, Ok, Err, inl, inr, refl, sym, ◌∙◌, subst}
 use Rattle.std.specs.Prelude.{◌==◌, ◌&&◌, ◌+◌, ◌*◌, nat_lt, nat_le, is_none, if◌then◌else◌}
 use Rattle.std.proofs.lemmas.Bool.{true≢false}
 use Rattle.tftp_wire.specs.declared.mode.Mode.{Mode}
@@ -23,7 +24,9 @@ use Rattle.tftp_file.specs.declared.files.Files.TheVariants.{Source, Sink}
 use Rattle.tftp_ends.specs.declared.action.Action.{Action}
 use Rattle.tftp_ends.specs.declared.action.Action.TheVariants.{Respond, Send, Store}
 use Rattle.tftp_ends.specs.declared.action.Response.{Response}
-use Rattle.tftp_ends.specs.declared.action.Response.TheVariants.{Ignore, Stranger, ResendReply, Retransmit, Wait, Close, Refuse, Accept, Complete}
+use Rattle.tftp_ends.specs.declared.action.Response.TheVariants.{Ignore, Stranger, ResendReply}
+use Rattle.tftp_ends.specs.declared.action.Response.TheVariants.{Retransmit, Wait, Close, Refuse}
+use Rattle.tftp_ends.specs.declared.action.Response.TheVariants.{Accept, Complete}
 use Rattle.tftp_ends.specs.declared.endpoint.Endpoint.{Endpoint}
 use Rattle.tftp_ends.specs.declared.error_reply.ErrorReply.TheVariants.{FileTooLarge, NotNetascii, DiskFull}
 use Rattle.tftp_ends.specs.declared.outcome.Outcome.TheVariants as outcomes
@@ -37,9 +40,12 @@ use Rattle.tftp_ends.specs.Files.{KeepsFiles, KeepsHolding}
 use Rattle.tftp_ends.specs.Phase.{waited}
 use Rattle.tftp_ends.specs.Receiver.{receiver_action, data_action, next_action, dally_response}
 use Rattle.tftp_ends.specs.Sender.{illegal_action}
-use Rattle.tftp_ends.specs.Step.{Acts, DatagramStep, Done, GoesOn, Turn, after_turn, commit_reply, committed_turn, holding, response_turn}
+use Rattle.tftp_ends.specs.Step.{Acts, DatagramStep, Done, GoesOn, Turn, after_turn, commit_reply}
+use Rattle.tftp_ends.specs.Step.{committed_turn, holding, response_turn}
 use Rattle.tftp_ends.specs.Text.{is_readable}
-use Rattle.tftp_ends.specs.Waiting.{reader_action, writer_action, accept_action, begin_action, begin_with_action, refusal_action, default_terms, agreed_terms, no_answer}
+use Rattle.tftp_ends.specs.Waiting.{reader_action, writer_action, accept_action, begin_action}
+use Rattle.tftp_ends.specs.Waiting.{begin_with_action, refusal_action, default_terms, agreed_terms}
+use Rattle.tftp_ends.specs.Waiting.{no_answer}
 use Rattle.tftp_sockets.specs.Journal.{Event}
 use Rattle.tftp_client.specs.declared.transfer.Job.{Job}
 use Rattle.tftp_client.specs.Converses.{Converses, HandlesReceived, MayElapse, State, WorksOnFile}
@@ -70,7 +76,8 @@ abbrev HasSentNone : Phase → Type 0
 HasSentNone (Sending terms number) = ⊥
 HasSentNone _ = Unit {0}
 
-next_continues : (mode : Mode) (held : List ℕ) (terms : Terms) (number : ℕ) (piece : List ℕ) → GoesFurther (next_action mode held terms number piece)
+next_continues : (mode : Mode) (held : List ℕ) (terms : Terms) (number : ℕ) (piece : List ℕ)
+    → GoesFurther (next_action mode held terms number piece)
 next_continues mode held terms number piece =
     let readable = is_readable mode held piece (nat_lt (length piece) terms.size) in
     let bad = Respond (Refuse (Some terms) NotNetascii outcomes.NotNetascii) in
@@ -80,19 +87,23 @@ next_continues mode held terms number piece =
     if_either GoesFurther (nat_lt terms.size (length piece)) (illegal_action terms) (if beyond then large else store) tt
     (if_either GoesFurther beyond large store tt (if_either GoesFurther readable (Store terms number) bad tt tt))
 
-data_continues : (mode : Mode) (held : List ℕ) (terms : Terms) (stored number : ℕ) (piece : List ℕ) → GoesFurther (data_action mode held terms stored number piece)
+data_continues : (mode : Mode) (held : List ℕ) (terms : Terms) (stored number : ℕ) (piece : List ℕ)
+    → GoesFurther (data_action mode held terms stored number piece)
 data_continues mode held terms stored number piece =
     let next = if number == stored + 1 then next_action mode held terms number piece else illegal_action terms in
     let other = if nat_lt number stored then Respond Ignore else next in
     if_either GoesFurther (number == stored) (Respond ResendReply) other tt
     (if_either GoesFurther (nat_lt number stored) (Respond Ignore) next tt
-    (if_either GoesFurther (number == stored + 1) (next_action mode held terms number piece) (illegal_action terms) (next_continues mode held terms number piece) tt))
+    (if_either GoesFurther (number == stored + 1) (next_action mode held terms number piece) (illegal_action terms)
+    (next_continues mode held terms number piece) tt))
 
-receiver_continues : (client : Bool) (mode : Mode) (held : List ℕ) (terms : Terms) (stored : ℕ) (decoded : Option Packet) → GoesFurther (receiver_action client mode held terms stored decoded)
+receiver_continues : (client : Bool) (mode : Mode) (held : List ℕ) (terms : Terms) (stored : ℕ)
+    (decoded : Option Packet) → GoesFurther (receiver_action client mode held terms stored decoded)
 receiver_continues client mode held terms stored None = tt
 receiver_continues client mode held terms stored (Some (Read r)) = tt
 receiver_continues client mode held terms stored (Some (Write r)) = tt
-receiver_continues client mode held terms stored (Some (Data number piece)) = data_continues mode held terms stored number piece
+receiver_continues client mode held terms stored (Some (Data number piece)) =
+    data_continues mode held terms stored number piece
 receiver_continues client mode held terms stored (Some (Ack number)) = tt
 receiver_continues client mode held terms stored (Some (Error code text)) = tt
 receiver_continues client mode held terms stored (Some (Oack options)) =
@@ -111,32 +122,40 @@ accept_continues from (Ok agreed) = tt
 accept_continues from (Err refusal) = refusal_continues refusal
 
 begin_continues : (size : ℕ) (terms : Terms) → GoesFurther (begin_action size terms)
-begin_continues size terms = if_either GoesFurther (nat_lt size (65535 * terms.size)) (Send terms 1) (Respond (Refuse None FileTooLarge outcomes.TooLarge)) tt tt
+begin_continues size terms = if_either GoesFurther (nat_lt size (65535 * terms.size)) (Send terms 1)
+    (Respond (Refuse None FileTooLarge outcomes.TooLarge)) tt tt
 
-begin_with_continues : (from : Endpoint) (size : ℕ) (answer : Result (List Known) Refusal) → GoesFurther (begin_with_action from size answer)
+begin_with_continues : (from : Endpoint) (size : ℕ) (answer : Result (List Known) Refusal)
+    → GoesFurther (begin_with_action from size answer)
 begin_with_continues from size (Ok agreed) = begin_continues size (agreed_terms from agreed)
 begin_with_continues from size (Err refusal) = refusal_continues refusal
 
-reader_continues : (mode : Mode) (asked : Asked) (limit : ℕ) (from : Endpoint) (decoded : Option Packet) → GoesFurther (reader_action mode asked limit from decoded)
+reader_continues : (mode : Mode) (asked : Asked) (limit : ℕ) (from : Endpoint) (decoded : Option Packet)
+    → GoesFurther (reader_action mode asked limit from decoded)
 reader_continues mode asked limit from None = tt
 reader_continues mode asked limit from (Some (Read r)) = tt
 reader_continues mode asked limit from (Some (Write r)) = tt
 reader_continues mode asked limit from (Some (Data number piece)) =
     let first = receiver_action true mode [] (default_terms from) 0 (Some (Data number piece)) in
-    if_either GoesFurther (number == 1 && nat_le (length piece) DEFAULT_BLOCK) first no_answer (data_continues mode [] (default_terms from) 0 number piece) tt
+    if_either GoesFurther (number == 1 && nat_le (length piece) DEFAULT_BLOCK) first no_answer
+    (data_continues mode [] (default_terms from) 0 number piece) tt
 reader_continues mode asked limit from (Some (Ack number)) = tt
 reader_continues mode asked limit from (Some (Error code text)) = tt
-reader_continues mode asked limit from (Some (Oack options)) = accept_continues from (agreement asked kinds.Read mode options limit)
+reader_continues mode asked limit from (Some (Oack options)) =
+    accept_continues from (agreement asked kinds.Read mode options limit)
 
-writer_continues : (mode : Mode) (asked : Asked) (limit size : ℕ) (from : Endpoint) (decoded : Option Packet) → GoesFurther (writer_action mode asked limit size from decoded)
+writer_continues : (mode : Mode) (asked : Asked) (limit size : ℕ) (from : Endpoint) (decoded : Option Packet)
+    → GoesFurther (writer_action mode asked limit size from decoded)
 writer_continues mode asked limit size from None = tt
 writer_continues mode asked limit size from (Some (Read r)) = tt
 writer_continues mode asked limit size from (Some (Write r)) = tt
 writer_continues mode asked limit size from (Some (Data number piece)) = tt
 writer_continues mode asked limit size from (Some (Ack number)) =
-    if_either GoesFurther (number == 0) (begin_action size (default_terms from)) no_answer (begin_continues size (default_terms from)) tt
+    if_either GoesFurther (number == 0) (begin_action size (default_terms from)) no_answer
+    (begin_continues size (default_terms from)) tt
 writer_continues mode asked limit size from (Some (Error code text)) = tt
-writer_continues mode asked limit size from (Some (Oack options)) = begin_with_continues from size (agreement asked kinds.Write mode options limit)
+writer_continues mode asked limit size from (Some (Oack options)) =
+    begin_with_continues from size (agreement asked kinds.Write mode options limit)
 
 dally_continues : (stored : ℕ) (decoded : Option Packet) → Continues (dally_response stored decoded)
 dally_continues stored None = tt
@@ -147,14 +166,17 @@ dally_continues stored (Some (Ack number)) = tt
 dally_continues stored (Some (Error code text)) = tt
 dally_continues stored (Some (Oack options)) = tt
 
-packet_continues : (e : EndState) (from : Endpoint) (decoded : Option Packet) (phase : Phase) → HasSentNone phase → GoesFurther (packet_action e from decoded phase)
+packet_continues : (e : EndState) (from : Endpoint) (decoded : Option Packet) (phase : Phase) → HasSentNone phase
+    → GoesFurther (packet_action e from decoded phase)
 packet_continues e from decoded (Waiting asked limit) none =
     let writes = writer_action e.role.mode asked limit e.role.length from decoded in
     let reads = reader_action e.role.mode asked limit from decoded in
     if_either GoesFurther (is_sender e.role.side) writes reads
-    (writer_continues e.role.mode asked limit e.role.length from decoded) (reader_continues e.role.mode asked limit from decoded)
+    (writer_continues e.role.mode asked limit e.role.length from decoded)
+    (reader_continues e.role.mode asked limit from decoded)
 packet_continues e from decoded (Sending terms number) none = absurd none
-packet_continues e from decoded (Receiving terms number) none = receiver_continues (is_client e.role.side) e.role.mode e.position.held terms number decoded
+packet_continues e from decoded (Receiving terms number) none =
+    receiver_continues (is_client e.role.side) e.role.mode e.position.held terms number decoded
 packet_continues e from decoded (Dallying terms number dally) none = dally_continues number decoded
 packet_continues e from decoded (Closed terms number complete outcome) none = tt
 
@@ -166,27 +188,37 @@ garbled_continues (Dallying terms number dally) = tt
 garbled_continues (Closed terms number complete outcome) = tt
 
 -- a property of the action for a datagram
-by_tests : (P : Action → Type 0) (e : EndState) (from : Endpoint) (bytes : List ℕ) (decoded : Option Packet) → P (Respond Ignore) → P (Respond Stranger)
-    → P (Respond (garbled_response e.position.phase)) → P (packet_action e from decoded e.position.phase) → P (datagram_action e from bytes decoded)
+by_tests : (P : Action → Type 0) (e : EndState) (from : Endpoint) (bytes : List ℕ) (decoded : Option Packet)
+    → P (Respond Ignore) → P (Respond Stranger)
+    → P (Respond (garbled_response e.position.phase)) → P (packet_action e from decoded e.position.phase)
+    → P (datagram_action e from bytes decoded)
 by_tests P e from bytes decoded ignored foreign garbled handled =
     let stranger = if has_error_opcode bytes then Respond Ignore else Respond Stranger in
     let bad = has_error_opcode bytes && is_none decoded in
-    let peer = if bad then Respond (garbled_response e.position.phase) else packet_action e from decoded e.position.phase in
+    let peer = if bad then Respond (garbled_response e.position.phase) else packet_action e from decoded
+    e.position.phase in
     if_either P (is_stranger (terms_of e.position.phase) e.position.last_sent_to from) stranger peer
     (if_either P (has_error_opcode bytes) (Respond Ignore) (Respond Stranger) ignored foreign)
-    (if_either P bad (Respond (garbled_response e.position.phase)) (packet_action e from decoded e.position.phase) garbled handled)
+    (if_either P bad (Respond (garbled_response e.position.phase)) (packet_action e from decoded e.position.phase)
+    garbled handled)
 
-datagram_continues : (e : EndState) (from : Endpoint) (bytes : List ℕ) (decoded : Option Packet) → HasSentNone e.position.phase → GoesFurther (datagram_action e from bytes decoded)
+datagram_continues : (e : EndState) (from : Endpoint) (bytes : List ℕ) (decoded : Option Packet)
+    → HasSentNone e.position.phase → GoesFurther (datagram_action e from bytes decoded)
 datagram_continues e from bytes decoded none =
-    by_tests GoesFurther e from bytes decoded tt tt (garbled_continues e.position.phase) (packet_continues e from decoded e.position.phase none)
+    by_tests GoesFurther e from bytes decoded tt tt (garbled_continues e.position.phase)
+    (packet_continues e from decoded e.position.phase none)
 
 timeout_continues : (retries : ℕ) (phase : Phase) → Continues (timeout_response retries phase)
-timeout_continues retries (Waiting asked limit) = if_either Continues (retries == 0) (Close outcomes.TimedOut) Retransmit tt tt
-timeout_continues retries (Sending terms number) = if_either Continues (retries == 0) (Close outcomes.TimedOut) Retransmit tt tt
-timeout_continues retries (Receiving terms number) = if_either Continues (retries == 0) (Close outcomes.TimedOut) Retransmit tt tt
+timeout_continues retries (Waiting asked limit) = if_either Continues (retries == 0) (Close outcomes.TimedOut)
+    Retransmit tt tt
+timeout_continues retries (Sending terms number) =
+    if_either Continues (retries == 0) (Close outcomes.TimedOut) Retransmit tt tt
+timeout_continues retries (Receiving terms number) =
+    if_either Continues (retries == 0) (Close outcomes.TimedOut) Retransmit tt tt
 timeout_continues retries (Dallying terms number Fresh) = tt
 timeout_continues retries (Dallying terms number Waited) = tt
-timeout_continues retries (Closed terms number complete outcome) = if_either Continues (retries == 0) (Close outcomes.TimedOut) Retransmit tt tt
+timeout_continues retries (Closed terms number complete outcome) =
+    if_either Continues (retries == 0) (Close outcomes.TimedOut) Retransmit tt tt
 
 -- ---- a complete end stores no block
 abbrev StoresNone : Action → Type 0
@@ -194,14 +226,16 @@ StoresNone (Respond response) = Unit {0}
 StoresNone (Send terms number) = Unit {0}
 StoresNone (Store terms number) = ⊥
 
-packet_stores_none : (e : EndState) (from : Endpoint) (decoded : Option Packet) (phase : Phase) → is_complete phase ≡ true → StoresNone (packet_action e from decoded phase)
+packet_stores_none : (e : EndState) (from : Endpoint) (decoded : Option Packet) (phase : Phase)
+    → is_complete phase ≡ true → StoresNone (packet_action e from decoded phase)
 packet_stores_none e from decoded (Waiting asked limit) done = absurd (true≢false (sym done))
 packet_stores_none e from decoded (Sending terms number) done = absurd (true≢false (sym done))
 packet_stores_none e from decoded (Receiving terms number) done = absurd (true≢false (sym done))
 packet_stores_none e from decoded (Dallying terms number dally) done = tt
 packet_stores_none e from decoded (Closed terms number complete outcome) done = tt
 
-datagram_stores_none : (e : EndState) (from : Endpoint) (bytes : List ℕ) (decoded : Option Packet) → is_complete e.position.phase ≡ true → StoresNone (datagram_action e from bytes decoded)
+datagram_stores_none : (e : EndState) (from : Endpoint) (bytes : List ℕ) (decoded : Option Packet)
+    → is_complete e.position.phase ≡ true → StoresNone (datagram_action e from bytes decoded)
 datagram_stores_none e from bytes decoded done =
     by_tests StoresNone e from bytes decoded tt tt tt (packet_stores_none e from decoded e.position.phase done)
 
@@ -219,7 +253,8 @@ waits_complete (Receiving terms number) = refl
 waits_complete (Dallying terms number dally) = refl
 waits_complete (Closed terms number complete outcome) = refl
 
-module _ {S K : Type 0} (sources : SourceMeaning S) (sinks : SinkMeaning K) (known : (sink : K) → (held : Holding) × (sinks.held sink ≡ Some held)) where
+module _ {S K : Type 0} (sources : SourceMeaning S) (sinks : SinkMeaning K)
+    (known : (sink : K) → (held : Holding) × (sinks.held sink ≡ Some held)) where
   abbrev Kept : Files S K → Type 0
   Kept files = IsCommitted sources sinks files
 
@@ -228,34 +263,46 @@ module _ {S K : Type 0} (sources : SourceMeaning S) (sinks : SinkMeaning K) (kno
   Committing e (Source source) = Unit {0}
   Committing e (Sink sink) = HasSentNone e.position.phase × (is_complete e.position.phase ≡ true → Kept (Sink sink))
 
-  responds : (response : Response) (from : Endpoint) (e : EndState) (files : Files S K) → Continues response → Committing e files → Committing (after_turn e (response_turn response from e)) files
+  responds : (response : Response) (from : Endpoint) (e : EndState) (files : Files S K) → Continues response
+      → Committing e files → Committing (after_turn e (response_turn response from e)) files
   responds response from e (Source source) continues h = tt
   responds Ignore from e (Sink sink) continues h = h
   responds Stranger from e (Sink sink) continues h = h
   responds ResendReply from e (Sink sink) continues h = h
   responds Retransmit from e (Sink sink) continues h = h
-  responds Wait from e (Sink sink) continues h = (waits_none e.position.phase h.0, λ done. h.1 (sym (waits_complete e.position.phase) ∙ done))
+  responds Wait from e (Sink sink) continues h = (
+    waits_none e.position.phase h.0,
+    λ done. h.1 (sym (waits_complete e.position.phase) ∙ done),
+  )
   responds (Close outcome) from e (Sink sink) continues h = (tt, h.1)
   responds (Refuse terms reply outcome) from e (Sink sink) continues h = (tt, h.1)
   responds (Accept terms) from e (Sink sink) continues h = (tt, λ done. absurd (true≢false (sym done)))
   responds Complete from e (Sink sink) continues h = absurd continues
 
   -- a commit that succeeded
-  commits : (armed : Bool) (before : Holding) (after : Option Holding) (done : Done) → UnlessArmed armed before after (Ok done) (CommitsFreely before after (Ok done))
+  commits : (armed : Bool) (before : Holding) (after : Option Holding) (done : Done)
+      → UnlessArmed armed before after (Ok done) (CommitsFreely before after (Ok done))
       → after ≡ Some (as_committed before)
-  commits true before after done h = absurd (let e : ◌≡◌ {A = Result Done StoreFault} (Ok done) (Err Full) = h.answer in cc)
+  commits true before after done h = absurd (let e : ◌≡◌ {A = Result Done StoreFault} (Ok done) (Err Full) =
+      h.answer in cc)
   commits false before after done h = h
 
   -- the end failed, and was not complete
-  gives_up : (response : Response) (from : Endpoint) (e : EndState) (turn : Turn) (sink : K) → Continues response → HasSentNone e.position.phase → is_complete e.position.phase ≡ false
+  gives_up : (response : Response) (from : Endpoint) (e : EndState) (turn : Turn) (sink : K) → Continues response
+      → HasSentNone e.position.phase → is_complete e.position.phase ≡ false
       → turn ≡ response_turn response from e → Committing (after_turn e turn) (Sink sink)
   gives_up response from e turn sink continues none undone is =
       let At : Turn → Type 0 = λ t. Committing (after_turn e t) (Sink sink) in
-      subst At (sym is) (responds response from e (Sink sink) continues (none, λ done. absurd (true≢false (sym done ∙ undone))))
+      subst At (sym is) (responds response from e (Sink sink) continues (
+        none,
+        λ done. absurd (true≢false (sym done ∙ undone)),
+      ))
 
   -- the last block was stored
-  by_commit : (terms : Terms) (number : ℕ) (from : Endpoint) (e : EndState) (sink : K) (turn : Turn) (sink' : K) (answer : Result Done StoreFault)
-      → HasSentNone e.position.phase → is_complete e.position.phase ≡ false → Commits (sinks.held sink) (sinks.held sink') answer
+  by_commit : (terms : Terms) (number : ℕ) (from : Endpoint) (e : EndState) (sink : K) (turn : Turn) (sink' : K)
+      (answer : Result Done StoreFault)
+      → HasSentNone e.position.phase → is_complete e.position.phase ≡ false
+      → Commits (sinks.held sink) (sinks.held sink') answer
       → turn ≡ committed_turn terms number from e answer → Committing (after_turn e turn) (Sink sink')
   by_commit terms number from e sink turn sink' (Ok done) none undone c is =
       let before = known sink in
@@ -267,7 +314,8 @@ module _ {S K : Type 0} (sources : SourceMeaning S) (sinks : SinkMeaning K) (kno
       gives_up (Refuse (Some terms) (commit_reply fault) outcomes.StoreFault) from e turn sink' tt none undone is
 
   -- a block was appended
-  goes : (terms : Terms) (number : ℕ) (from : Endpoint) (e : EndState) (last : Bool) (after : List ℕ) (sink : K) (answer : Result Done StoreFault) (turn : Turn) (sink' : K)
+  goes : (terms : Terms) (number : ℕ) (from : Endpoint) (e : EndState) (last : Bool) (after : List ℕ) (sink : K)
+      (answer : Result Done StoreFault) (turn : Turn) (sink' : K)
       → HasSentNone e.position.phase → is_complete e.position.phase ≡ false
       → GoesOn sinks terms number from e last after sink answer turn sink' → Committing (after_turn e turn) (Sink sink')
   goes terms number from e true after sink (Err fault) turn sink' none undone h =
@@ -285,9 +333,11 @@ module _ {S K : Type 0} (sources : SourceMeaning S) (sinks : SinkMeaning K) (kno
   incomplete true never = absurd (never refl)
   incomplete false never = refl
 
-  acts : (action : Action) (from : Endpoint) (bytes : List ℕ) (e : EndState) (files : Files S K) (turn : Turn) (files' : Files S K) → (HasSentNone e.position.phase → GoesFurther action)
+  acts : (action : Action) (from : Endpoint) (bytes : List ℕ) (e : EndState) (files : Files S K) (turn : Turn)
+      (files' : Files S K) → (HasSentNone e.position.phase → GoesFurther action)
       → (is_complete e.position.phase ≡ true → StoresNone action)
-      → Committing e files → Acts sources sinks action from bytes e files turn files' → Committing (after_turn e turn) files'
+      → Committing e files → Acts sources sinks action from bytes e files turn files'
+      → Committing (after_turn e turn) files'
   acts action from bytes e files turn (Source source') further once h a = tt
   acts (Respond response) from bytes e (Source source) turn (Sink sink') further once h a =
       absurd (let e : ◌≡◌ {A = Files S K} (Sink sink') (Source source) = a.1 in cc)
@@ -299,46 +349,57 @@ module _ {S K : Type 0} (sources : SourceMeaning S) (sinks : SinkMeaning K) (kno
   acts (Send terms number) from bytes e (Sink sink) turn (Sink sink') further once h a = absurd a
   acts (Store terms number) from bytes e (Source source) turn (Sink sink') further once h a = absurd a.2
   acts (Store terms number) from bytes e (Sink sink) turn (Sink sink') further once h a =
-      goes terms number from e (nat_lt (length a.0) terms.size) a.2.after a.2.mid a.2.answer turn sink' h.0 (incomplete (is_complete e.position.phase) once) a.2.rest
+      goes terms number from e (nat_lt (length a.0) terms.size) a.2.after a.2.mid a.2.answer turn sink' h.0
+      (incomplete (is_complete e.position.phase) once) a.2.rest
 
   -- a step of the end for a datagram
-  steps : (from : Endpoint) (bytes : List ℕ) (e : EndState) (files : Files S K) (turn : Turn) (files' : Files S K) → Committing e files
+  steps : (from : Endpoint) (bytes : List ℕ) (e : EndState) (files : Files S K) (turn : Turn) (files' : Files S K)
+      → Committing e files
       → DatagramStep sources sinks from bytes e files turn files' → Committing (after_turn e turn) files'
   steps from bytes e files turn files' h step =
-      acts (datagram_action e from bytes step.decoded) from bytes e files turn files' (datagram_continues e from bytes step.decoded)
+      acts (datagram_action e from bytes step.decoded) from bytes e files turn files'
+      (datagram_continues e from bytes step.decoded)
       (datagram_stores_none e from bytes step.decoded) h step.acts
 
   -- what is known of a sink stays
-  stays : (before after : K) → ((held : Holding) → sinks.held before ≡ Some held → sinks.held after ≡ Some held) → Kept (Sink before) → Kept (Sink after)
+  stays : (before after : K) → ((held : Holding) → sinks.held before ≡ Some held → sinks.held after ≡ Some held)
+      → Kept (Sink before) → Kept (Sink after)
   stays before after same h = (h.0, same h.0 h.1, h.2)
 
-  loses : (files files' : Files S K) (e : EndState) → KeepsFiles sources sinks files files' → Committing e files → Committing e files'
+  loses : (files files' : Files S K) (e : EndState) → KeepsFiles sources sinks files files' → Committing e files
+      → Committing e files'
   loses files (Source source') e keeps h = tt
   loses (Source source) (Sink sink') e keeps h = absurd keeps
   loses (Sink sink) (Sink sink') e keeps h =
       let Of : Option Holding → Type 0 = λ held. KeepsHolding held (sinks.held sink') in
       (h.0, λ done. stays sink sink' (λ held is. subst Of is keeps.holding) (h.1 done))
 
-  works : (files files' : Files S K) (e : EndState) → WorksOnFile sources sinks files files' → Committing e files → Committing e files'
+  works : (files files' : Files S K) (e : EndState) → WorksOnFile sources sinks files files' → Committing e files
+      → Committing e files'
   works files (Source source') e work h = tt
   works (Source source) (Sink sink') e work h = absurd work
   works (Sink sink) (Sink sink') e work h =
       let Of : Option Holding → Type 0 = λ held. StaysKnown held (sinks.held sink') in
       (h.0, λ done. stays sink sink' (λ held is. subst Of is work.0.held) (h.1 done))
 
-  handles : {port : ℕ} {from : Endpoint} {bytes : List ℕ} {s : State} {files : Files S K} {next : State} {files' : Files S K}
-      → HandlesReceived sources sinks port from bytes s files next files' → Committing s.end files → Committing next.end files'
+  handles : {port : ℕ} {from : Endpoint} {bytes : List ℕ} {s : State} {files : Files S K} {next : State}
+      {files' : Files S K}
+      → HandlesReceived sources sinks port from bytes s files next files' → Committing s.end files
+      → Committing next.end files'
   handles (Answers {turn} {files'} is_open step) h = steps _ _ _ _ turn files' h step
   handles {s = s} {files = files} (Loses {files'} lost keeps) h = loses files files' s.end keeps h
 
-  elapses : {port : ℕ} {s next : State} (files : Files S K) → MayElapse port s next → Committing s.end files → Committing next.end files
+  elapses : {port : ℕ} {s next : State} (files : Files S K) → MayElapse port s next → Committing s.end files
+      → Committing next.end files
   elapses files (Stays why) h = h
   elapses {s = s} (Source source) (Elapses due is_open) h = tt
   elapses {s = s} (Sink sink) (Elapses due is_open) h =
-      responds (timeout_response s.end.position.retries_left s.end.position.phase) s.end.position.last_sent_to s.end (Sink sink)
+      responds (timeout_response s.end.position.retries_left s.end.position.phase) s.end.position.last_sent_to s.end
+      (Sink sink)
       (timeout_continues s.end.position.retries_left s.end.position.phase) h
 
-  converses : {port : ℕ} {first : State} {file : Files S K} {s : State} {files : Files S K} → Converses sources sinks port first file s files
+  converses : {port : ℕ} {first : State} {file : Files S K} {s : State} {files : Files S K}
+      → Converses sources sinks port first file s files
       → Committing first.end file → Committing s.end files
   converses Begins h = h
   converses (Receives run may time handled) h = handles handled (converses run h)

@@ -1,5 +1,7 @@
 -- What a client does at an event, from the facts of its calls, and runs one after another.
-use Rattle.std.proofs.Common.{◌≡◌, ℕ, Bool, true, false, List, ◌∷◌, Option, Some, None, Result, Ok, Err, IsErrOf, IsSome, ◌↔◌, inl, inr, refl, sym, ap, subst, ◌∙◌, option_map}
+use Rattle.std.proofs.Common.{◌≡◌, ℕ, Bool, true, false, List, ◌∷◌, Option, Some, None, Result, Ok}
+use Rattle.std.proofs.Common.{Err, IsErrOf, IsSome, ◌↔◌, inl, inr, refl, sym, ap, subst, ◌∙◌}
+use Rattle.std.proofs.Common.{option_map}
 use Rattle.std.specs.Prelude.{◌==◌, ◌-◌, max, min, if◌then◌else◌}
 use Rattle.std.proofs.lemmas.Bool.{true≢false}
 use Rattle.tftp_wire.specs.declared.packet.Packet.{Packet}
@@ -25,7 +27,8 @@ use Rattle.tftp_ends.specs.declared.phase.Terms.{Terms}
 use Rattle.tftp_host.specs.Watch.{deadline_of}
 use Rattle.tftp_host.specs.declared.watch.TheConstants.{LONGEST_WAIT}
 use Rattle.tftp_client.specs.declared.transfer.Job.{Job}
-use Rattle.tftp_client.specs.Converses.{Converses, HandlesReceived, IsLost, IsOpen, MayElapse, State, deadline_at, wait_at}
+use Rattle.tftp_client.specs.Converses.{Converses, HandlesReceived, IsLost, IsOpen, MayElapse}
+use Rattle.tftp_client.specs.Converses.{State, deadline_at, wait_at}
 use Rattle.tftp_client.specs.Converses.HandlesReceived.{Answers, Loses}
 use Rattle.tftp_client.specs.Converses.MayElapse.{Stays, Elapses}
 use Rattle.tftp_client.specs.Converses.Converses.{Begins, Receives, Waits, Times, Rests}
@@ -36,18 +39,22 @@ use Rattle.tftp_sockets.specs.Journal.QuietEvent.{Slept}
 use Rattle.tftp_sockets.specs.Quiet.{waits}
 
 -- the answer that a call lends was sent to its destination
-pub replies : (port : ℕ) (reply : Option Reply) {to : Option Endpoint} {bytes : List ℕ} {events before after : List Event}
+pub replies : (port : ℕ) (reply : Option Reply) {to : Option Endpoint} {bytes : List ℕ}
+    {events before after : List Event}
     → after ≡ replied port to bytes events → to ≡ option_map (λ (r : Reply). r.to) reply → bytes ≡ reply_bytes reply
     → events ≡ before → after ≡ answered port reply before
 replies port None {to} {bytes} {events} sent goes lends noted =
     sent ∙ (ap (λ (t : Option Endpoint). replied port t bytes events) goes ∙ noted)
 replies port (Some reply) {to} {bytes} {events} sent goes lends noted =
     sent ∙ (ap (λ (t : Option Endpoint). replied port t bytes events) goes
-    ∙ (ap (λ (b : List ℕ). Sent port reply.to b ∷ events) lends ∙ ap (λ (es : List Event). Sent port reply.to reply.bytes ∷ es) noted))
+    ∙ (ap (λ (b : List ℕ). Sent port reply.to b ∷ events) lends
+    ∙ ap (λ (es : List Event). Sent port reply.to reply.bytes ∷ es) noted))
 
 -- a state with these fields is that state
-pub state_is : {e e' : EndState} {now now' due due' : ℕ} {events events' : List Event} → e ≡ e' → now ≡ now' → due ≡ due' → events ≡ events'
-    → ◌≡◌ {A = State} (record { end = e; now = now; due = due; events = events }) (record { end = e'; now = now'; due = due'; events = events' })
+pub state_is : {e e' : EndState} {now now' due due' : ℕ} {events events' : List Event} → e ≡ e' → now ≡ now'
+    → due ≡ due' → events ≡ events'
+    → ◌≡◌ {A = State} (record { end = e; now = now; due = due; events = events })
+    (record { end = e'; now = now'; due = due'; events = events' })
 state_is {e} {e'} {now} {now'} {due} {due'} {events} {events'} p q r t =
     let at_end : EndState → State = λ x. record { end = x; now = now; due = due; events = events } in
     let at_now : ℕ → State = λ x. record { end = e'; now = x; due = due; events = events } in
@@ -62,7 +69,8 @@ not_refused {R} {F} answer fault refused p = let both : ◌≡◌ {A = Result R 
 -- a datagram that was refused is lost
 pub lost : {R : Type 0} (fault : EndFault) (from : Endpoint) (bytes : List ℕ) (e : EndState)
     → (IsErrOf {T = R} (Err fault) Closed ↔ IsSome (outcome_of e.position.phase))
-    → (IsErrOf {T = R} (Err fault) Memory → (decoded : Option Packet) × Decodes bytes decoded × UsesFile (datagram_action e from bytes decoded))
+    → (IsErrOf {T = R} (Err fault) Memory → (decoded : Option Packet) × Decodes bytes decoded
+    × UsesFile (datagram_action e from bytes decoded))
     → IsLost from bytes e
 lost Closed from bytes e closed memory = inl (closed.0 refl)
 lost Memory from bytes e closed memory = inr (memory refl)
@@ -76,11 +84,13 @@ dallied_terms (phases.Receiving terms number) = refl
 dallied_terms (phases.Dallying terms number dally) = refl
 dallied_terms (phases.Closed terms number complete outcome) = refl
 
-repeated_terms : (last : Bool) (to : Endpoint) (e : EndState) → terms_of (after (if last then Close TimedOut else Retransmit) to e).phase ≡ terms_of e.position.phase
+repeated_terms : (last : Bool) (to : Endpoint) (e : EndState)
+    → terms_of (after (if last then Close TimedOut else Retransmit) to e).phase ≡ terms_of e.position.phase
 repeated_terms true to e = refl
 repeated_terms false to e = refl
 
-response_terms : (left : ℕ) (phase : Phase) (to : Endpoint) (e : EndState) → terms_of (after (timeout_response left phase) to e).phase ≡ terms_of e.position.phase
+response_terms : (left : ℕ) (phase : Phase) (to : Endpoint) (e : EndState)
+    → terms_of (after (timeout_response left phase) to e).phase ≡ terms_of e.position.phase
 response_terms left (phases.Waiting asked limit) to e = repeated_terms (left == 0) to e
 response_terms left (phases.Sending terms number) to e = repeated_terms (left == 0) to e
 response_terms left (phases.Receiving terms number) to e = repeated_terms (left == 0) to e
@@ -97,22 +107,26 @@ due_elapsed s = ap (λ (t : Option Terms). deadline_of s.now (interval_of t)) (s
 
 -- the event after a wait of this length
 pub slept : {wait : ℕ} (s : State) (event : Event) → wait ≡ min (s.due - s.now) LONGEST_WAIT
-    → ◌≡◌ {A = List Event} (event ∷ Quiet (Slept (max wait 1)) ∷ s.events) (event ∷ Quiet (Slept (wait_at s)) ∷ s.events)
+    → ◌≡◌ {A = List Event} (event ∷ Quiet (Slept (max wait 1)) ∷ s.events)
+    (event ∷ Quiet (Slept (wait_at s)) ∷ s.events)
 slept s event is = ap (λ (n : ℕ). event ∷ Quiet (Slept (max n 1)) ∷ s.events) is
 
 -- an answer is no wait
-waits_answered : (port : ℕ) (reply : Option Reply) (events : List Event) → waits (answered port reply events) ≡ waits events
+waits_answered : (port : ℕ) (reply : Option Reply) (events : List Event)
+    → waits (answered port reply events) ≡ waits events
 waits_answered port None events = refl
 waits_answered port (Some reply) events = refl
 
 -- nor is a timeout
 pub waits_elapsed : {port : ℕ} {s next : State} → MayElapse port s next → waits next.events ≡ waits s.events
 waits_elapsed (Stays why) = refl
-waits_elapsed {port} {s} (Elapses due is_open) = waits_answered port (timeout_turn s.end).reply (Elapsed port s.now ∷ s.events)
+waits_elapsed {port} {s} (Elapses due is_open) = waits_answered port (timeout_turn s.end).reply
+    (Elapsed port s.now ∷ s.events)
 
 -- an end without an outcome is open
 pub none_open : (e : EndState) → outcome_of e.position.phase ≡ None → IsOpen e
-none_open e none = let Not : Option Outcome → Type 0 = λ o. IsSome o → ⊥ in subst Not (sym none) (λ some. true≢false (sym some))
+none_open e none = let Not : Option Outcome → Type 0 = λ o. IsSome o → ⊥ in
+    subst Not (sym none) (λ some. true≢false (sym some))
 
 -- the end of a job is open when its request is sent
 pub opens_open : (kind : Kind) (job : Job) (length : ℕ) → IsOpen (opens kind job length)
@@ -120,20 +134,24 @@ opens_open Read job length closed = true≢false (sym closed)
 opens_open Write job length closed = true≢false (sym closed)
 
 -- and then a wait begins
-pub begun_open : {s : State} (port : ℕ) (e : EndState) (before : List Event) → s ≡ begun port e before → IsOpen e → IsOpen s.end
+pub begun_open : {s : State} (port : ℕ) (e : EndState) (before : List Event) → s ≡ begun port e before → IsOpen e
+    → IsOpen s.end
 begun_open port e before is is_open = let Of : State → Type 0 = λ t. IsOpen t.end in subst Of (sym is) is_open
 
-pub begun_ready : {s : State} (port : ℕ) (e : EndState) (before : List Event) → s ≡ begun port e before → s.due ≡ deadline_at s.now s.end
+pub begun_ready : {s : State} (port : ℕ) (e : EndState) (before : List Event) → s ≡ begun port e before
+    → s.due ≡ deadline_at s.now s.end
 begun_ready port e before is = let Of : State → Type 0 = λ t. t.due ≡ deadline_at t.now t.end in subst Of (sym is) refl
 
 -- a timeout that was refused: the end is closed
-pub is_closed : {R P : Type 0} (fault : EndFault) → (IsErrOf {T = R} (Err fault) Closed ↔ P) → (IsErrOf {T = R} (Err fault) Memory → ⊥) → P
+pub is_closed : {R P : Type 0} (fault : EndFault) → (IsErrOf {T = R} (Err fault) Closed ↔ P)
+    → (IsErrOf {T = R} (Err fault) Memory → ⊥) → P
 is_closed Closed closed memory = closed.0 refl
 is_closed Memory closed memory = absurd (memory refl)
 
 module _ {S K : Type 0} {sources : SourceMeaning S} {sinks : SinkMeaning K} where
   -- what a client did until one state, and from there on
-  pub onward : {port : ℕ} {first : State} {file : Files S K} {s : State} {files : Files S K} {next : State} {files' : Files S K}
+  pub onward : {port : ℕ} {first : State} {file : Files S K} {s : State} {files : Files S K} {next : State}
+      {files' : Files S K}
       → Converses sources sinks port first file s files → Converses sources sinks port s files next files'
       → Converses sources sinks port first file next files'
   onward before Begins = before
@@ -143,14 +161,17 @@ module _ {S K : Type 0} {sources : SourceMeaning S} {sinks : SinkMeaning K} wher
   onward before (Rests run works) = Rests (onward before run) works
 
   -- the same, if the socket of the second has the port of the first
-  pub onward_at : {port port' : ℕ} {first : State} {file : Files S K} {s : State} {files : Files S K} {next : State} {files' : Files S K}
-      → Converses sources sinks port first file s files → port' ≡ port → Converses sources sinks port' s files next files'
+  pub onward_at : {port port' : ℕ} {first : State} {file : Files S K} {s : State} {files : Files S K} {next : State}
+      {files' : Files S K}
+      → Converses sources sinks port first file s files → port' ≡ port
+      → Converses sources sinks port' s files next files'
       → Converses sources sinks port first file next files'
   onward_at {s = s} {files = files} {next = next} {files' = files'} before same after =
       let Of : ℕ → Type 0 = λ p. Converses sources sinks p s files next files' in onward before (subst Of same after)
 
   -- a datagram is no wait
-  pub waits_handled : {port : ℕ} {from : Endpoint} {bytes : List ℕ} {s : State} {files : Files S K} {next : State} {files' : Files S K}
+  pub waits_handled : {port : ℕ} {from : Endpoint} {bytes : List ℕ} {s : State} {files : Files S K} {next : State}
+      {files' : Files S K}
       → HandlesReceived sources sinks port from bytes s files next files' → waits next.events ≡ waits s.events
   waits_handled {port} {s = s} (Answers {turn} is_open step) = waits_answered port turn.reply s.events
   waits_handled (Loses lost keeps) = refl

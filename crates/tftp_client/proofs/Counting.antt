@@ -17,20 +17,31 @@ use Rattle.tftp_client.specs.Converses.{State}
 use Rattle.tftp_client.specs.Runs.{IsCountOf, Runs, RunsAs, opens}
 use Rattle.tftp_client.specs.Stored.{count_of}
 
-module _ {S R F D : Type 0} {reads : read.Ghosts F} {writes : write.Ghosts F} {seeks : seek.Ghosts F} {lists : read.Ghosts D} where
+module _ {S R F D : Type 0} {reads : read.Ghosts F} {writes : write.Ghosts F} {seeks : seek.Ghosts F}
+    {lists : read.Ghosts D} where
   -- a received file holds as many bytes as it counted; a file that is sent in octet has its own length on the wire
-  counts : (sources : SourceMeaning S) (sinks : SinkMeaning (LocalFile R F D reads writes seeks lists)) → ((local : LocalFile R F D reads writes seeks lists) → sinks.held local ≡ Some local.taken.holding)
-      → (mode : Mode) (sent length : ℕ) (files : Files S (LocalFile R F D reads writes seeks lists)) (count : ℕ) → (mode ≡ Octet → sent ≡ length) → count ≡ count_of sent files
+  counts : (sources : SourceMeaning S) (sinks : SinkMeaning (LocalFile R F D reads writes seeks lists))
+      → ((local : LocalFile R F D reads writes seeks lists) → sinks.held local ≡ Some local.taken.holding)
+      → (mode : Mode) (sent length : ℕ) (files : Files S (LocalFile R F D reads writes seeks lists)) (count : ℕ)
+      → (mode ≡ Octet → sent ≡ length) → count ≡ count_of sent files
       → IsCountOf sources sinks files mode length count
-  counts sources sinks known mode sent length (Sink local) count same is = (local.taken.holding, known local, is ∙ local.counts)
+  counts sources sinks known mode sent length (Sink local) count same is =
+      (local.taken.holding, known local, is ∙ local.counts)
   counts sources sinks known Octet sent length (Source source) count same is = is ∙ same refl
   counts sources sinks known Netascii sent length (Source source) count same is = tt
 
   -- the run of an end that a job opens, with N of its file
   pub runs_as : (sources : SourceMeaning S) (sinks : SinkMeaning (LocalFile R F D reads writes seeks lists))
       → ((local : LocalFile R F D reads writes seeks lists) → sinks.held local ≡ Some local.taken.holding)
-      → (job : Job) (kind : Kind) (sent length : ℕ) {port : ℕ} {before : List Event} {last : State} {files : Files S (LocalFile R F D reads writes seeks lists)} {count : ℕ}
-      → Runs sources sinks port (opens kind job length) before last files → (job.mode ≡ Octet → sent ≡ length) → count ≡ count_of sent files
+      → (job : Job) (kind : Kind) (sent length : ℕ) {port : ℕ} {before : List Event} {last : State}
+      {files : Files S (LocalFile R F D reads writes seeks lists)} {count : ℕ}
+      → Runs sources sinks port (opens kind job length) before last files → (job.mode ≡ Octet → sent ≡ length)
+      → count ≡ count_of sent files
       → RunsAs sources sinks port kind job before last files count
   runs_as sources sinks known job kind sent length {port} {before} {last} {files} {count} run same is =
-      record { length = length; runs = run; counts = counts sources sinks known job.mode sent length files count same is }
+      record {
+        length = length;
+        runs = run;
+        counts =
+            counts sources sinks known job.mode sent length files count same is;
+      }

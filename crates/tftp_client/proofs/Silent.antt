@@ -1,5 +1,6 @@
 -- What a client does to whom nothing comes, step by step.
-use Rattle.std.proofs.Common.{◌≡◌, ◌<◌, ◌≤◌, ◌⊎◌, ℕ, Bool, true, false, List, Option, Some, IsSome, inl, inr, refl, sym, ap, subst, ◌∙◌, arith}
+use Rattle.std.proofs.Common.{◌≡◌, ◌<◌, ◌≤◌, ◌⊎◌, ℕ, Bool, true, false, List, Option, Some, IsSome}
+use Rattle.std.proofs.Common.{inl, inr, refl, sym, ap, subst, ◌∙◌, arith}
 use Rattle.std.specs.Prelude.{◌==◌, ◌+◌, ◌-◌, max, min, if◌then◌else◌}
 use Rattle.std.proofs.Math.Nat.{lt_of_not-le}
 use Rattle.std.proofs.lemmas.Bool.{true≢false}
@@ -25,7 +26,8 @@ use Rattle.tftp_sockets.specs.Journal.{Event, QuietEvent}
 use Rattle.tftp_sockets.specs.Journal.QuietEvent.{Empty, Failed}
 use Rattle.tftp_sockets.specs.Quiet.{waits, waits_in}
 use Rattle.tftp_client.specs.declared.transfer.Job.{Job}
-use Rattle.tftp_client.specs.Converses.{Converses, IsOpen, MayElapse, MayWait, State, deadline_at, elapsed, wait_at, waited}
+use Rattle.tftp_client.specs.Converses.{Converses, IsOpen, MayElapse, MayWait, State, deadline_at}
+use Rattle.tftp_client.specs.Converses.{elapsed, wait_at, waited}
 use Rattle.tftp_client.specs.Converses.Converses.{Begins, Receives, Waits, Times, Rests}
 use Rattle.tftp_client.specs.Converses.MayElapse.{Stays, Elapses}
 use Rattle.tftp_client.specs.Runs.{begun, opens}
@@ -46,7 +48,8 @@ abbrev Silent : ℕ → State → Type 0
 Silent most s = (outcome_of s.end.position.phase ≡ Some TimedOut) ⊎ Unanswered most s
 
 -- its deadline is a second away
-second : (now : ℕ) (e : EndState) (asked : Asked) (limit : ℕ) → e.position.phase ≡ Waiting asked limit → deadline_at now e ≡ min (now + 1000) last_moment
+second : (now : ℕ) (e : EndState) (asked : Asked) (limit : ℕ) → e.position.phase ≡ Waiting asked limit
+    → deadline_at now e ≡ min (now + 1000) last_moment
 second now e asked limit is = ap (λ (p : Phase). deadline_of now (interval_of (terms_of p))) is
 
 -- a wait is no event of a receive
@@ -55,19 +58,28 @@ no_wait event (inl is) = ap waits_in is
 no_wait event (inr is) = ap waits_in is
 
 positive : (n : ℕ) → (n == 0) ≡ false → 0 < n
-positive n more = lt_of_not-le (λ le. let zero : n ≡ 0 = omega (arith, le) in true≢false (sym (ap (λ (k : ℕ). k == 0) zero) ∙ more))
+positive n more = lt_of_not-le (λ le. let zero : n ≡ 0 = omega (arith, le) in
+    true≢false (sym (ap (λ (k : ℕ). k == 0) zero) ∙ more))
 
 -- a timeout of a waiting end
-timed_out : (last : Bool) (response : Response) (to : Endpoint) (e : EndState) → (e.position.retries_left == 0) ≡ last → response ≡ (if last then Close TimedOut else Retransmit)
-    → (outcome_of (after response to e).phase ≡ Some TimedOut) ⊎ ((0 < e.position.retries_left) × (after response to e ≡ record e.position { retries_left = e.position.retries_left - 1 }))
+timed_out : (last : Bool) (response : Response) (to : Endpoint) (e : EndState) → (e.position.retries_left == 0) ≡ last
+    → response ≡ (if last then Close TimedOut else Retransmit)
+    → (outcome_of (after response to e).phase ≡ Some TimedOut)
+    ⊎ ((0 < e.position.retries_left)
+    × (after response to e ≡ record e.position { retries_left = e.position.retries_left - 1 }))
 timed_out true response to e zero is = inl (ap (λ (r : Response). outcome_of (after r to e).phase) is)
-timed_out false response to e more is = inr (positive e.position.retries_left more, ap (λ (r : Response). after r to e) is)
+timed_out false response to e more is = inr (
+  positive e.position.retries_left more,
+  ap (λ (r : Response). after r to e) is,
+)
 
 times_out : (e : EndState) (asked : Asked) (limit : ℕ) → e.position.phase ≡ Waiting asked limit
     → (outcome_of (after_turn e (timeout_turn e)).position.phase ≡ Some TimedOut)
-    ⊎ ((0 < e.position.retries_left) × ((after_turn e (timeout_turn e)).position ≡ record e.position { retries_left = e.position.retries_left - 1 }))
+    ⊎ ((0 < e.position.retries_left)
+    × ((after_turn e (timeout_turn e)).position ≡ record e.position { retries_left = e.position.retries_left - 1 }))
 times_out e asked limit is =
-    timed_out (e.position.retries_left == 0) (timeout_response e.position.retries_left e.position.phase) e.position.last_sent_to e refl
+    timed_out (e.position.retries_left == 0) (timeout_response e.position.retries_left e.position.phase)
+    e.position.last_sent_to e refl
     (ap (λ (p : Phase). timeout_response e.position.retries_left p) is)
 
 -- an open end has no outcome
@@ -75,11 +87,13 @@ closed_not : (e : EndState) (outcome : Outcome) → outcome_of e.position.phase 
 closed_not e outcome is is_open = let Not : Option Outcome → Type 0 = λ o. IsSome o → ⊥ in subst Not is is_open refl
 
 -- after a wait that lasted as long as it was to, the end is due for a timeout
-after_wait : (most : ℕ) {port : ℕ} (s : State) (event : QuietEvent) (time : ℕ) → Unanswered most s → MayWait s → (event ≡ Empty port) ⊎ (event ≡ Failed port)
+after_wait : (most : ℕ) {port : ℕ} (s : State) (event : QuietEvent) (time : ℕ) → Unanswered most s → MayWait s
+    → (event ≡ Empty port) ⊎ (event ≡ Failed port)
     → s.now + wait_at s ≤ time → time < last_moment → Unanswered most (waited event time s)
 after_wait most s event time h may quiet lasts ends =
     let length : wait_at s ≡ max (min (s.due - s.now) 1000) 1 = refl in
-    let before : s.now < s.due = lt_of_not-le (λ late. let is = may.due late ∙ second s.now s.end h.asked h.limit h.waiting in absurd (omega (arith, is, late, lasts, ends))) in
+    let before : s.now < s.due = lt_of_not-le (λ late. let is = may.due late
+    ∙ second s.now s.end h.asked h.limit h.waiting in absurd (omega (arith, is, late, lasts, ends))) in
     let due : s.due ≤ time = omega (arith, length, before, h.near, lasts) in
     let none = no_wait event quiet in
     let early = h.early before in
@@ -93,12 +107,15 @@ after_wait most s event time h may quiet lasts ends =
     }
 
 -- after a timeout the request was sent again, and another wait begins
-after_elapsed : (most port : ℕ) (s : State) → Unanswered most s → s.due ≤ s.now → IsOpen s.end → s.now < last_moment → Silent most (elapsed port s)
+after_elapsed : (most port : ℕ) (s : State) → Unanswered most s → s.due ≤ s.now → IsOpen s.end → s.now < last_moment
+    → Silent most (elapsed port s)
 after_elapsed most port s h due is_open ends = elim (times_out s.end h.asked h.limit h.waiting) [
   | inl closed ↦ inl closed
   | inr again ↦
-      let same : waits (elapsed port s).events ≡ waits s.events = waits_elapsed {port = port} {s = s} (Elapses due is_open) in
-      let left : (elapsed port s).end.position.retries_left ≡ s.end.position.retries_left - 1 = ap (λ (p : Position). p.retries_left) again.1 in
+      let same : waits (elapsed port s).events ≡ waits s.events =
+      waits_elapsed {port = port} {s = s} (Elapses due is_open) in
+      let left : (elapsed port s).end.position.retries_left ≡ s.end.position.retries_left - 1 =
+      ap (λ (p : Position). p.retries_left) again.1 in
       let is = second s.now s.end h.asked h.limit h.waiting in
       inr
       (record {
@@ -111,7 +128,8 @@ after_elapsed most port s h due is_open ends = elim (times_out s.end h.asked h.l
       })
 ]
 
-elapses : (most port : ℕ) {s next : State} → MayElapse port s next → s.now < last_moment → Silent most s → Silent most next
+elapses : (most port : ℕ) {s next : State} → MayElapse port s next → s.now < last_moment → Silent most s
+    → Silent most next
 elapses most port (Stays why) ends h = h
 elapses most port {s} (Elapses due is_open) ends (inl closed) = absurd (closed_not s.end TimedOut closed is_open)
 elapses most port {s} (Elapses due is_open) ends (inr h) = after_elapsed most port s h due is_open ends
@@ -123,25 +141,42 @@ same_now (Elapses due is_open) = refl
 
 module _ {S K : Type 0} {sources : SourceMeaning S} {sinks : SinkMeaning K} where
   -- each moment of a silent run
-  silent : (most : ℕ) {port : ℕ} {first : State} {file : Files S K} {s : State} {files : Files S K} (run : Converses sources sinks port first file s files)
+  silent : (most : ℕ) {port : ℕ} {first : State} {file : Files S K} {s : State} {files : Files S K}
+      (run : Converses sources sinks port first file s files)
       → IsSilent run → Silent most first → s.now < last_moment → Silent most s
   silent most Begins quiet h ends = h
   silent most (Receives run may time handles) quiet h ends = absurd quiet
-  silent most (Waits {s} {event = event} {time = time} run may nothing later) quiet h ends = elim (silent most run quiet.0 h (omega (arith, later, ends))) [
-    | inl closed ↦ absurd (closed_not s.end TimedOut closed may.not_closed)
-    | inr unanswered ↦ inr (after_wait most s event time unanswered may nothing quiet.1 ends)
-  ]
+  silent most (Waits {s} {event = event} {time = time} run may nothing later) quiet h ends =
+      elim (silent most run quiet.0 h (omega (arith, later, ends))) [
+        | inl closed ↦ absurd (closed_not s.end TimedOut closed may.not_closed)
+        | inr unanswered ↦ inr (after_wait most s event time unanswered may nothing quiet.1 ends)
+      ]
   silent most {port} (Times {s} {next} run timed) quiet h ends =
       let Before : ℕ → Type 0 = λ n. n < last_moment in
       let early = subst Before (sym (same_now timed)) ends in
       elapses most port timed early (silent most run quiet h early)
   silent most (Rests run works) quiet h ends = silent most run quiet h ends
 
-begins : (port : ℕ) (kind : Kind) (job : Job) (length : ℕ) (before : List Event) → Silent (job.retries + waits before) (begun port (opens kind job length) before)
+begins : (port : ℕ) (kind : Kind) (job : Job) (length : ℕ) (before : List Event)
+    → Silent (job.retries + waits before) (begun port (opens kind job length) before)
 begins port Read job length before =
-    inr (record { asked = job.asked; limit = _; waiting = refl; near = omega arith; early = λ _. omega arith; few = omega arith })
+    inr (record {
+      asked = job.asked;
+      limit = _;
+      waiting = refl;
+      near = omega arith;
+      early = λ _. omega arith;
+      few = omega arith;
+    })
 begins port Write job length before =
-    inr (record { asked = _; limit = _; waiting = refl; near = omega arith; early = λ _. omega arith; few = omega arith })
+    inr (record {
+      asked = _;
+      limit = _;
+      waiting = refl;
+      near = omega arith;
+      early = λ _. omega arith;
+      few = omega arith;
+    })
 
 module _ {S K : Type 0} (sources : SourceMeaning S) (sinks : SinkMeaning K) where
   pub waits_for_each_sending : WaitsForEachSending sources sinks

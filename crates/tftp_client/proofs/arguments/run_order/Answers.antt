@@ -15,10 +15,16 @@ returns-in-Ok-clause-runs g c =
         count = c.in-Ok.completed.count;
         transfers = c.in-Ok.ensures.ok;
         complete = c.in-Ok.completed.complete;
-        committed = is_committed _ _ (λ local. (local.taken.holding, refl)) c.in-Ok.ensures.ok c.in-Ok.completed.complete;
+        committed = is_committed _ _ (λ local. (local.taken.holding, refl)) c.in-Ok.ensures.ok
+            c.in-Ok.completed.complete;
         stays = c.conclude.ensures.goes;
       },
     )
 
 pub returns-in-Err-clause-runs : goal.returns-in-Err-clause-runs
-returns-in-Err-clause-runs g c = inr (c.report.ensures.fails.0, c.in-Err.failure.end, c.report.ensures.status, c.in-Err.ensures.err)
+returns-in-Err-clause-runs g c = inr (
+  c.report.ensures.fails.0,
+  c.in-Err.failure.end,
+  c.report.ensures.status,
+  c.in-Err.ensures.err,
+)

@@ -4,4 +4,5 @@ use Rattle.tftp_client.proofs.Running.{runs_words}
 use Rattle.tftp_client.proofs.arguments.transfer_texts.Goals as goal
 
 pub returns-in-Ok-clause-runs : goal.returns-in-Ok-clause-runs
-returns-in-Ok-clause-runs g c = runs_words _ _ (map g.S.AsStr.text c.args.words.now) c.in-Ok.ordered c.in-Ok.ensures.names c.run_ordered.ensures.runs c.run_ordered.ensures.none
+returns-in-Ok-clause-runs g c = runs_words _ _ (map g.S.AsStr.text c.args.words.now) c.in-Ok.ordered
+    c.in-Ok.ensures.names c.run_ordered.ensures.runs c.run_ordered.ensures.none

@@ -12,19 +12,23 @@ use Rattle.tftp_client.proofs.transfer.get_into.Goals as goal
 pub returns-in-Ok-clause-ok : goal.returns-in-Ok-clause-ok
 returns-in-Ok-clause-ok g c =
     IfOk-weaker c.converse.result _ _
-    (λ completed ran. runs_as _ _ (λ local. refl) c.args.job.now Read 0 0 (runs _ _ c.in-Ok.ensures.begins (ap Some c.requires) (ran.0, ran.1)) (λ octet. refl) ran.2)
+    (λ completed ran. runs_as _ _ (λ local. refl) c.args.job.now Read 0 0
+    (runs _ _ c.in-Ok.ensures.begins (ap Some c.requires) (ran.0, ran.1)) (λ octet. refl) ran.2)
     c.converse.ensures.ok
 
 pub returns-in-Ok-clause-err : goal.returns-in-Ok-clause-err
 returns-in-Ok-clause-err g c =
-    if_err c.converse.result _ _ (λ failure stopped. fails _ _ failure.end _ _ _ _ c.in-Ok.ensures.begins stopped) c.converse.ensures.err
+    if_err c.converse.result _ _ (λ failure stopped. fails _ _ failure.end _ _ _ _ c.in-Ok.ensures.begins stopped)
+    c.converse.ensures.err
 
 pub converse-requires-clause-not_closed : goal.converse-requires-clause-not_closed
 converse-requires-clause-not_closed g c =
-    begun_open {s = state_of c.in-Ok.conversation c.ask_to_get.new.journal.events} c.in-Ok.conversation.socket.port (opens Read c.args.job.now 0) c.args.journal.now.events
+    begun_open {s = state_of c.in-Ok.conversation c.ask_to_get.new.journal.events} c.in-Ok.conversation.socket.port
+    (opens Read c.args.job.now 0) c.args.journal.now.events
     c.in-Ok.ensures.begins (opens_open Read c.args.job.now 0)
 
 pub converse-requires-clause-ready : goal.converse-requires-clause-ready
 converse-requires-clause-ready g c is_open due =
-    begun_ready {s = state_of c.in-Ok.conversation c.ask_to_get.new.journal.events} c.in-Ok.conversation.socket.port (opens Read c.args.job.now 0) c.args.journal.now.events
+    begun_ready {s = state_of c.in-Ok.conversation c.ask_to_get.new.journal.events} c.in-Ok.conversation.socket.port
+    (opens Read c.args.job.now 0) c.args.journal.now.events
     c.in-Ok.ensures.begins

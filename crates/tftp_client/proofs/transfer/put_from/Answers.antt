@@ -9,18 +9,22 @@ use Rattle.tftp_client.proofs.transfer.put_from.Goals as goal
 
 pub returns-in-Ok-clause-ok : goal.returns-in-Ok-clause-ok
 returns-in-Ok-clause-ok g c =
-    IfOk-weaker c.converse.result _ _ (λ completed ran. (runs _ _ c.in-Ok.ensures.begins tt (ran.0, ran.1), ran.2, c.in-Ok.ensures.fits)) c.converse.ensures.ok
+    IfOk-weaker c.converse.result _ _ (λ completed ran.
+    (runs _ _ c.in-Ok.ensures.begins tt (ran.0, ran.1), ran.2, c.in-Ok.ensures.fits)) c.converse.ensures.ok
 
 pub returns-in-Ok-clause-err : goal.returns-in-Ok-clause-err
 returns-in-Ok-clause-err g c =
-    if_err c.converse.result _ _ (λ failure stopped. fails _ _ failure.end _ _ _ _ c.in-Ok.ensures.begins stopped) c.converse.ensures.err
+    if_err c.converse.result _ _ (λ failure stopped. fails _ _ failure.end _ _ _ _ c.in-Ok.ensures.begins stopped)
+    c.converse.ensures.err
 
 pub converse-requires-clause-not_closed : goal.converse-requires-clause-not_closed
 converse-requires-clause-not_closed g c =
-    begun_open {s = state_of c.in-Ok.conversation c.ask_to_put.new.journal.events} c.in-Ok.conversation.socket.port (opens Write c.args.job.now c.args.outbound.wire_bytes) c.args.journal.now.events
+    begun_open {s = state_of c.in-Ok.conversation c.ask_to_put.new.journal.events} c.in-Ok.conversation.socket.port
+    (opens Write c.args.job.now c.args.outbound.wire_bytes) c.args.journal.now.events
     c.in-Ok.ensures.begins (opens_open Write c.args.job.now c.args.outbound.wire_bytes)
 
 pub converse-requires-clause-ready : goal.converse-requires-clause-ready
 converse-requires-clause-ready g c is_open due =
-    begun_ready {s = state_of c.in-Ok.conversation c.ask_to_put.new.journal.events} c.in-Ok.conversation.socket.port (opens Write c.args.job.now c.args.outbound.wire_bytes) c.args.journal.now.events
+    begun_ready {s = state_of c.in-Ok.conversation c.ask_to_put.new.journal.events} c.in-Ok.conversation.socket.port
+    (opens Write c.args.job.now c.args.outbound.wire_bytes) c.args.journal.now.events
     c.in-Ok.ensures.begins

@@ -6,8 +6,13 @@ use Rattle.tftp_client.proofs.transfer.transfer.Goals as goal
 pub returns-clause-ok : goal.returns-clause-ok
 returns-clause-ok g c =
     IfOk-weaker c.transfer_once-2.result _ _
-    (λ completed run. runs_again _ _ completed.conversation.socket.port c.args.job.now c.plain.result _ _ _ _ completed.count
-    (record { end = c.in-Err.failure.end; fails = c.in-Err.ensures.err; allowed = c.falls_back.ensures c.if-not-falls_back.false })
+    (λ completed run. runs_again _ _ completed.conversation.socket.port c.args.job.now c.plain.result _ _ _ _
+    completed.count
+    (record {
+      end = c.in-Err.failure.end;
+      fails = c.in-Err.ensures.err;
+      allowed = c.falls_back.ensures c.if-not-falls_back.false;
+    })
     c.plain.ensures run)
     c.transfer_once-2.ensures.ok
 
@@ -15,6 +20,10 @@ pub returns-clause-err : goal.returns-clause-err
 returns-clause-err g c =
     if_err c.transfer_once-2.result _ _
     (λ failure failed. fails_again _ _ c.args.job.now c.plain.result _ _ _ failure.end
-    (record { end = c.in-Err.failure.end; fails = c.in-Err.ensures.err; allowed = c.falls_back.ensures c.if-not-falls_back.false })
+    (record {
+      end = c.in-Err.failure.end;
+      fails = c.in-Err.ensures.err;
+      allowed = c.falls_back.ensures c.if-not-falls_back.false;
+    })
     c.plain.ensures failed)
     c.transfer_once-2.ensures.err
