@@ -1,28 +1,12 @@
 -- The server that the words of a command line configure, as they were read (own).
 use Rattle.std.specs.Prelude.{ℕ, ◌≡◌, ◌≤◌, true, false, List, ◌∷◌, ◌++◌, codes}
 use Rattle.std.specs.Prelude.{Option, Some, None, option_map}
-use Rattle.clap.specs.Matches.{first_value, found_of}
-use Rattle.clap.specs.Walk.{Row, first_of, one_of}
-use Rattle.clap.specs.declared.parser.matches.ArgMatches.{ArgMatches}
 use Rattle.tftp_server.specs.declared.config.Config.{Config}
-use Rattle.tftp_arguments.specs.Read.{IsFlag, IsNumber, text_of}
+use Rattle.tftp_arguments.specs.Read.{IsFlag, IsNumber, Reads}
 use Rattle.tftp_host.specs.Address.{Names}
 use Rattle.tftp_loop.specs.declared.port_order.PortRange.{PortRange}
 use Rattle.tftp_loop.specs.declared.serving.Ending.{Ending}
 use Rattle.tftp_daemon.specs.declared.daemon.DaemonConfig.{DaemonConfig}
-
--- what was read of each argument: its word, and the text of its flag or number
-pub record Reads : Type 0 where
-  pub word : List ℕ → Option (List ℕ)
-  pub text : List ℕ → Option (List ℕ)
-
--- what was read of the matches
-abbrev pub read_of : ArgMatches → Reads
-read_of matches = record { word = first_value (found_of matches); text = text_of matches }
-
--- what was read of the rows of a parse
-abbrev pub read_in : List Row → Reads
-read_in rows = record { word = λ id. first_of id rows; text = λ id. one_of id rows }
 
 -- the limits of transfers, as they were read
 pub record ConfiguresAs (read : Reads) (config : Config) : Type 0 where

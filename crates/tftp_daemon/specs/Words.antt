@@ -1,12 +1,13 @@
 -- The configuration that the words of a command line name (own).
-use Rattle.std.specs.Prelude.{ℕ, true, false, List, codes, Some, pos, ◌∷◌, []}
+use Rattle.std.specs.Prelude.{ℕ, true, false, List, codes, Some}
 use Rattle.std.specs.Fmt.{decimal}
 use Rattle.clap.specs.Simple.{App, matches_of, new_app, new_rule, on_top, with_rule}
 use Rattle.clap.specs.Walk.{Rule}
 use Rattle.clap.specs.declared.builder.value_parser.ValueParser.TheVariants as parsers
 use Rattle.tftp_server.specs.Config.{default_config}
-use Rattle.tftp_arguments.specs.Rules.{flag_rule, number_rule, word_rule}
-use Rattle.tftp_daemon.specs.CommandLine.{NamesServer, read_in}
+use Rattle.tftp_arguments.specs.Read.{read_in}
+use Rattle.tftp_arguments.specs.Rules.{by_default, flag_rule, number_rule, within, word_rule}
+use Rattle.tftp_daemon.specs.CommandLine.{NamesServer}
 use Rattle.tftp_daemon.specs.declared.daemon.DaemonConfig.{DaemonConfig}
 
 -- ---- the command line
@@ -14,17 +15,9 @@ use Rattle.tftp_daemon.specs.declared.daemon.DaemonConfig.{DaemonConfig}
 abbrev pub option_rule : List ℕ → Rule
 option_rule id = record (new_rule id) { long = Some id; value_names = 1 }
 
--- a number from the least to the most
-abbrev pub within : List ℕ → ℕ → ℕ → Rule
-within id least most = number_rule id (parsers.Signed (pos least) (pos most))
-
 -- any number below 2^64
 abbrev pub any_number : List ℕ → Rule
 any_number id = number_rule id (parsers.Unsigned 0 18446744073709551615)
-
--- an option that has this text where it is not used
-abbrev pub by_default : List ℕ → Rule → Rule
-by_default text rule = record rule { defaults = text ∷ [] }
 
 -- with the folder, the address of the request port and the ports of transfers
 abbrev pub with_places : App → App

@@ -8,13 +8,13 @@ ghost use Rattle.clap.specs.Matches.{first_value, found_of};
 ghost use Rattle.clap.specs.Simple.{App};
 ghost use Rattle.clap.specs.Walk.{rows_of};
 ghost use Rattle.tftp_server.specs.Config.{IsConfig, default_config};
-ghost use Rattle.tftp_arguments.specs.Read.{IsFlag, IsNumber, text_of};
-ghost use Rattle.tftp_arguments.specs.Rules.{HasRule, IsApp, flag_rule};
+ghost use Rattle.tftp_arguments.specs.Read.{IsNumber, read_in, read_of};
+ghost use Rattle.tftp_arguments.specs.Rules.{HasRule, IsApp, by_default, flag_rule, within};
 ghost use Rattle.tftp_daemon.specs.CommandLine.{ConfiguresAs, EndsAs, NamesPorts, NamesServer};
-ghost use Rattle.tftp_daemon.specs.CommandLine.{PortsAs, read_in, read_of};
-ghost use Rattle.tftp_daemon.specs.Words.{WordsConfigure, any_number, bare_app, by_default};
+ghost use Rattle.tftp_daemon.specs.CommandLine.{PortsAs};
+ghost use Rattle.tftp_daemon.specs.Words.{WordsConfigure, any_number, bare_app};
 ghost use Rattle.tftp_daemon.specs.Words.{option_rule, tftpd_app, with_ending, with_limits};
-ghost use Rattle.tftp_daemon.specs.Words.{with_places, with_writes, within};
+ghost use Rattle.tftp_daemon.specs.Words.{with_places, with_writes};
 
 use crate::daemon::DaemonConfig;
 use anyhow::Result;
@@ -22,7 +22,7 @@ use clap::error::ErrorKind;
 use clap::{Arg, ArgMatches, Command, value_parser};
 use std::alloc::{AllocError, Global};
 use std::convert::AsStr;
-use tftp_arguments::{VERSION, flag, number, print_usage, word};
+use tftp_arguments::{VERSION, flag, is_set, number, print_usage, word};
 use tftp_host::endpoint_in;
 use tftp_loop::{Ending, LoopConfig, PortRange};
 use tftp_negotiate::{Limits, MAX_BLOCK, MIN_BLOCK};
@@ -216,13 +216,6 @@ fn config(matches: &ArgMatches<'_>) -> Option<Config>
     } else {
         None
     }
-}
-
-/// Whether a flag is set.
-fn is_set(matches: &ArgMatches<'_>, name: &str) -> bool
-    ensures { IsFlag (text_of matches.now name.now) result }
-{
-    matches.get_flag(name)
 }
 
 /// The texts of the help and the defaults with numbers that other crates define.

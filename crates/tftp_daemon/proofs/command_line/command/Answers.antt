@@ -1,9 +1,9 @@
 -- Part by part.
-use Rattle.tftp_daemon.proofs.Commands.{arg_added}
+use Rattle.tftp_arguments.proofs.Commands.{commands_grow}
 use Rattle.tftp_daemon.proofs.command_line.command.Goals as goal
 
 pub returns : goal.returns
 returns c =
     let places = c.in_ok-command-2.ensures _ c.in_ok-command.ensures in
     let writes = c.in_ok-command-4.ensures _ (c.in_ok-command-3.ensures _ places) in
-    arg_added (c.in_ok-command-5.ensures _ writes) c.flag-log.ensures c.in_ok-arg.ensures
+    commands_grow.adds (c.in_ok-command-5.ensures _ writes) c.flag-log.ensures c.in_ok-arg.ensures

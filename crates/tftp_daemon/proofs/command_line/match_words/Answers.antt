@@ -2,7 +2,8 @@
 use Rattle.std.proofs.Common.{IfOk, List, map, subst}
 use Rattle.clap.specs.Simple.{App, HasMatchesOf}
 use Rattle.clap.specs.Walk.{Row}
-use Rattle.tftp_daemon.specs.CommandLine.{NamesServer, read_in}
+use Rattle.tftp_arguments.specs.Read.{read_in}
+use Rattle.tftp_daemon.specs.CommandLine.{NamesServer}
 use Rattle.tftp_daemon.proofs.Commands.{simple}
 use Rattle.tftp_daemon.proofs.command_line.match_words.Goals as goal
 

@@ -1,9 +1,10 @@
 -- Argument by argument.
-use Rattle.tftp_daemon.proofs.Commands.{arg_added}
+use Rattle.tftp_arguments.proofs.Commands.{commands_grow}
 use Rattle.tftp_daemon.proofs.command_line.with_writes.Goals as goal
 
 pub returns : goal.returns
 returns c app is =
-    let flags = arg_added (arg_added is c.flag-overwrite.ensures c.in_ok-command.ensures) c.flag-read_only.ensures
+    let flags = commands_grow.adds (commands_grow.adds is c.flag-overwrite.ensures c.in_ok-command.ensures)
+    c.flag-read_only.ensures
     c.in_ok-command-2.ensures in
-    arg_added flags c.option-uploads.ensures c.in_ok-arg.ensures
+    commands_grow.adds flags c.option-uploads.ensures c.in_ok-arg.ensures
