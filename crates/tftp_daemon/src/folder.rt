@@ -2,10 +2,11 @@
 
 ghost use Rattle.std.specs.Prelude.{◌≡◌, ◌≢◌, ℕ, List, true, false, None, Some, Ok, IfOk, IfErr};
 ghost use Rattle.std.specs.Prelude.{IfSome, OnErr};
+ghost use Rattle.std.specs.String.{string_bytes};
 ghost use Rattle.tftp_file.specs.Path.{path_of_name};
 ghost use Rattle.tftp_host.specs.DiskFault.{MayNotOpen, MayNotStore, MayNotName};
 ghost use Rattle.tftp_daemon.specs.Settings.{SameSettings};
-ghost use Rattle.tftp_daemon.specs.Uploads.{IsBelow};
+ghost use Rattle.tftp_daemon.specs.Uploads.{IsBelow, path_below};
 
 use crate::folder_draft::FolderDraft;
 use crate::folder_source::{FolderSource, NotedFile, SharedReason};
@@ -98,7 +99,8 @@ impl<R: Files + Drop> FolderStore<R> {
     /// no folder or a link, with the system's error, or when out of memory.
     pub fn admit_uploads(&mut self, alloc: Global, folder: &str) -> io::Result<()>
         ensures ok { IfOk result (λ _. (path : List ℕ) × (path_of_name folder.now ≡ Ok path)
-            × (self.new.uploads ≡ Some path)) }
+            × (self.new.uploads ≡ Some path)
+            × (string_bytes self.new.drafts ≡ path_below (string_bytes self.old.root) path)) }
         ensures rest { self.new ≡ record self.old {
           uploads = self.new.uploads;
           drafts = self.new.drafts;
@@ -117,7 +119,10 @@ impl<R: Files + Drop> FolderStore<R> {
     }
 
     /// The path of a folder below the root, which no link leads to.
-    fn folder_below(&self, alloc: Global, name: &[u8]) -> io::Result<String> {
+    fn folder_below(&self, alloc: Global, name: &[u8]) -> io::Result<String>
+        ensures { IfOk result (λ folder.
+            string_bytes folder ≡ path_below (string_bytes self.now.root) name.now) }
+    {
         let Ok(name) = str::from_utf8(name) else {
             return Err(io::Error::from_raw_os_error(ENOENT));
         };
