@@ -22,4 +22,7 @@ pub mod SinkMoves
 pub mod PhaseMoves
 pub mod WaitingMoves
 pub mod EndTurns
+pub mod Granted
+pub mod FirstSent
+pub mod EndOpenings
 pub mod KnownSteps

@@ -1,4 +1,4 @@
--- A turn of an open end, as rules of the guarded machine.
+-- A step of an open end, as rules of the guarded machine.
 use Rattle.std.specs.Prelude.{◌≡◌, ℕ, true, false, List, [], ◌∷◌, ◌++◌, ◌⊎◌, Option, Some, None}
 use Rattle.std.specs.Prelude.{is_some, slice_get, slice_set}
 use Rattle.std.specs.List.{Contains}
@@ -22,7 +22,7 @@ Replies from None said_now = said_now ≡ []
 Replies from (Some reply) said_now =
     (p : WirePacket) × Spells p reply.bytes × (said_now ≡ message from reply.to (said p) ∷ [])
 
--- the last datagram sent stays, or is the answer
+-- the last datagram sent is unchanged, or is the answer
 abbrev pub Newest : OpenEnd → Turn → OpenEnd → Type 0
 Newest x turn y =
     ((y.state.position.last_sent_to ≡ x.state.position.last_sent_to)
@@ -41,13 +41,13 @@ HasArrived messages from to bytes =
     (p : WirePacket) → Spells p bytes → Contains messages (message from to (said p))
 
 module _ (network : Network) where
-  -- the end e is at index k of the ends that are shown
+  -- the end e is at index k of views that refine a machine
   pub record Stands (first : List Rule) (views : List EndView) (messages : List Message) (k : ℕ)
       (e : EndView) : Type 0 where
     pub shown : IsShownAt network first views messages
     pub viewed : slice_get views k ≡ Some e
 
-  -- an open end at index k of the ends that are shown
+  -- an open end at index k of such views
   pub record IsOpenAt (first : List Rule) (views : List EndView) (messages : List Message) (k : ℕ)
       (x : OpenEnd) : Type 0 where
     pub stands : Stands first views messages k (open_view x)
@@ -57,7 +57,8 @@ module _ (network : Network) where
     pub last_sent : IsThere messages x.address x.state.position.last_sent_to
         x.state.position.last_sent
 
-  -- a turn of the end x at index k, after which it is y, is shown
+  -- after a step of the end x at index k, which leaves y, views and messages refine the machine
+  -- after at most three more rules
   pub record Goes (first : List Rule) (views : List EndView) (messages : List Message) (k : ℕ)
       (x : OpenEnd) (turn : Turn) (y : OpenEnd) : Type 0 where
     pub said_now : List Message
@@ -67,10 +68,10 @@ module _ (network : Network) where
     pub kept : EndKept network y
     pub side : y.state.role.side ≡ x.state.role.side
     pub last_sent : Newest x turn y
-    -- once it is complete, what it has stored stays
+    -- once it is complete, what it has stored is unchanged
     pub stored : is_complete x.state.position.phase ≡ true → y.stored ≡ x.stored
 
-  -- the step of an open end for a datagram, with a file of known content, is shown
+  -- so they do after the step of an open end for a datagram, with a file of known content
   abbrev pub DatagramTurnsAreShown : Type 0
   DatagramTurnsAreShown =
       (first : List Rule) (views : List EndView) (messages : List Message) (k : ℕ) (x : OpenEnd)
@@ -80,7 +81,7 @@ module _ (network : Network) where
       DatagramStep known_source known_sink from bytes x.state (files_of x) turn held →
       Goes first views messages k x turn (end_after x turn held)
 
-  -- so is its step for a timeout
+  -- and after its step for a timeout
   abbrev pub TimeoutTurnsAreShown : Type 0
   TimeoutTurnsAreShown =
       (first : List Rule) (views : List EndView) (messages : List Message) (k : ℕ) (x : OpenEnd) →

@@ -1,4 +1,5 @@
--- Ends and datagrams are shown again after a step of one end, an opening or a datagram.
+-- After a step of one end, an opening or a datagram, views and messages refine the machine after
+-- more rules.
 use Rattle.std.specs.Prelude.{◌≡◌, ℕ, false, List, [], ◌∷◌, ◌++◌, length, slice_get, slice_set}
 use Rattle.std.specs.Prelude.{Some}
 use Rattle.tftp_machine.specs.Machine.{Message, nobody, Network}
@@ -8,8 +9,8 @@ use Rattle.tftp_machine.specs.Shows.{IsShownWithin, ActInTurn, party_then, sent_
 use Rattle.tftp_machine.specs.Shows.{Speaks, AsksUnanswered}
 
 module _ (network : Network) where
-  -- a step of one end is shown, if it is the result of rules of that end that may act in sequence,
-  -- by the view of the end and the datagrams sent
+  -- a step of one end is some rules, if it is the result of rules of that end that may act, one
+  -- after another, by the view of the end and the datagrams sent
   abbrev pub EndsGoOn : Type 0
   EndsGoOn =
       (first : List Rule) (views : List EndView) (messages : List Message) (k : ℕ) (e f : EndView)
@@ -20,7 +21,7 @@ module _ (network : Network) where
       IsShownWithin network (length rules) first (slice_set views k f)
       (messages ++ sent_by network rules (party_of e))
 
-  -- an end that a rule opens at a new endpoint is shown, if no open end answers its request
+  -- an opening by a rule at a new endpoint is one rule, if no open end answers its request
   abbrev pub EndsOpen : Type 0
   EndsOpen =
       (first : List Rule) (views : List EndView) (messages : List Message) (f : EndView)
@@ -30,7 +31,7 @@ module _ (network : Network) where
       Matches f (party_after rule nobody) → AsksUnanswered rule f.request views →
       IsShownWithin network 1 first (views ++ f ∷ []) (messages ++ packets network rule nobody)
 
-  -- a datagram that changes no end is shown
+  -- a datagram that changes no end is one rule
   abbrev pub DatagramsAreAdded : Type 0
   DatagramsAreAdded =
       (first : List Rule) (views : List EndView) (messages : List Message) (rule : Rule) →

@@ -2,6 +2,7 @@ pub mod Machine
 pub mod KnownFiles
 pub mod Hosts
 pub mod Rules
+pub mod Safety
 pub mod MachineSafety
 pub mod Facts
 pub mod Recorded
@@ -13,3 +14,4 @@ pub mod Said
 pub mod OpenEnds
 pub mod EndKept
 pub mod EndShown
+pub mod EndOpens

@@ -57,7 +57,7 @@ abbrev pub with_phase : Phase → OpenEnd → OpenEnd
 with_phase phase x =
     in_state (with_position (record x.state.position { phase = phase }) x.state) x
 
--- the end after a turn
+-- the end after a step
 abbrev pub end_after : OpenEnd → Turn → Files (List ℕ) Holding → OpenEnd
 end_after x turn files = with_files (in_state (after_turn x.state turn) x) files
 
@@ -93,7 +93,7 @@ text_of x =
 abbrev pub peer_of : Phase → Option Endpoint
 peer_of phase = option_map (λ t. t.peer) (terms_of phase)
 
--- the view of an open end, also after a turn that closed it
+-- the view of an open end, also after a step that closed it
 abbrev pub open_view : OpenEnd → EndView
 open_view x =
     record {

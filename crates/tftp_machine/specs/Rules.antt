@@ -245,7 +245,7 @@ module _ (network : Network) where
         party = with_end m.party (actor r) (party_after r (m.party (actor r)));
       }
 
-  -- each rule may act in its turn
+  -- each rule may act after those before it
   abbrev pub IsLegal : List Rule → Machine → Type 0
   IsLegal [] m = Unit {0}
   IsLegal (r ∷ rs) m = Guard r m × OpensNoDuplicate r m × IsLegal rs (after r m)

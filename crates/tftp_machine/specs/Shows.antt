@@ -1,4 +1,4 @@
--- Which ends and datagrams the guarded machine shows.
+-- Which views of ends and which messages refine a state of the guarded machine.
 use Rattle.std.specs.Prelude.{◌≡◌, ◌≢◌, ℕ, ◌≤◌, Bool, true, false, not, List, [], ◌∷◌, ◌++◌, length}
 use Rattle.std.specs.Prelude.{slice_get, Option, Some}
 use Rattle.tftp_wire.specs.Spelling.{Spells}
@@ -154,7 +154,7 @@ AsksUnanswered (Opens_with at peer write request text size) bytes views =
 AsksUnanswered rule bytes views = Unit {0}
 
 module _ (network : Network) where
-  -- the rules are legal from the start, and the machine after them shows these
+  -- the rules are legal from the start, and these refine the machine after them
   abbrev pub IsShownAt : List Rule → List EndView → List Message → Type 0
   IsShownAt rules views messages =
       IsLegal network rules start × Shows views messages (run network rules start)
@@ -168,7 +168,7 @@ module _ (network : Network) where
   IsShownWithin most rules views messages =
       (more : List Rule) × (length more ≤ most) × IsShownAt (rules ++ more) views messages
 
-  -- the rules may act in sequence at the endpoint of the end x, by the datagrams sent before
+  -- the rules may act one after another at the endpoint of the end x, by the datagrams sent before
   abbrev pub ActInTurn : List Rule → Endpoint → List Message → Party → Type 0
   ActInTurn [] at sent x = Unit {0}
   ActInTurn (r ∷ rs) at sent x =

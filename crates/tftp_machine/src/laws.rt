@@ -2,6 +2,7 @@
 //! the proofs of the crates above.
 
 ghost use Rattle.std.specs.Prelude.{List, []};
+ghost use Rattle.tftp_machine.specs.EndOpens.{AnswersAreGranted, ReadsOpen, WritesOpen};
 ghost use Rattle.tftp_machine.specs.EndShown.{DatagramTurnsAreShown, TimeoutTurnsAreShown};
 ghost use Rattle.tftp_machine.specs.Facts.{Holds};
 ghost use Rattle.tftp_machine.specs.Kept.{EndsGoOn, EndsOpen, DatagramsAreAdded};
@@ -10,7 +11,7 @@ ghost use Rattle.tftp_machine.specs.Machine.{Endpoint, Message, Network};
 ghost use Rattle.tftp_machine.specs.MachineSafety.{IsSafeMachine, IsCompleted};
 ghost use Rattle.tftp_machine.specs.Recorded.{AreRecorded};
 ghost use Rattle.tftp_machine.specs.Rules.{Rule, IsLegal, run, start};
-ghost use Rattle.tftp_machine.specs.Shows.{EndView, IsShown};
+ghost use Rattle.tftp_machine.specs.Shows.{EndView, AreApart, IsShown};
 ghost use Rattle.tftp_machine.specs.Texts.{EndpointsAreTheirParts, BlocksGoOn, BlocksHaveLengths};
 ghost use Rattle.tftp_machine.specs.Texts.{BeginningsJoin, OnlyNothingBeginsNothing};
 ghost use Rattle.tftp_machine.specs.ViewSafety.{IsSafeViews, PeersAtHome};
@@ -34,36 +35,49 @@ pub fn some_run_completes()
         × IsLegal two_hosts rules start × IsCompleted (run two_hosts rules start) x y }
 {}
 
-/// Ends and datagrams that a machine shows are safe, and a machine shows the empty world. The
-/// claims exclude peers elsewhere; there are none if only the server and its clients send.
+/// Views of ends and messages that refine the machine after some rules are safe, and no two of the
+/// ends are at one endpoint. No views and no messages refine it at its start. The claims exclude
+/// peers elsewhere; there are none if only the server and its clients send.
 pub fn what_is_shown_is_safe()
     ensures start { (network : Network) → IsShown network [] [] }
+    ensures apart { (network : Network) (views : List EndView) (messages : List Message)
+        → IsShown network views messages → AreApart views }
     ensures safe { (network : Network) (views : List EndView) (messages : List Message)
         → IsShown network views messages → IsSafeViews network views }
     ensures home { (network : Network) (views : List EndView) (messages : List Message)
         → IsShown network views messages → PeersAtHome network views messages }
 {}
 
-/// A step of one end for a datagram or a timeout is shown.
+/// A step of one end for a datagram or a timeout is some rules.
 pub fn an_end_goes_on()
     ensures { (network : Network) → EndsGoOn network }
 {}
 
-/// An end that opens is shown.
+/// An opening is one rule.
 pub fn an_end_opens()
     ensures { (network : Network) → EndsOpen network }
 {}
 
-/// A datagram that changes no end is shown: an ERROR, a repeated datagram, one from elsewhere.
+/// A datagram that changes no end is one rule: an ERROR, a repeated datagram, one from elsewhere.
 pub fn a_datagram_is_added()
     ensures { (network : Network) → DatagramsAreAdded network }
 {}
 
-/// A turn of an open end of `tftp_ends` is shown, for a datagram and for a timeout, in any network.
-/// Its file has a known content: each read may fail, and each append and commit be refused.
+/// A step of an open end of `tftp_ends`, for a datagram or a timeout, is three rules at most, in
+/// any network. Its file has a known content: each read may fail, and each append and commit be
+/// refused.
 pub fn an_open_end_takes_its_turn()
     ensures datagrams { (network : Network) → DatagramTurnsAreShown network }
     ensures timeouts { (network : Network) → TimeoutTurnsAreShown network }
+{}
+
+/// A request that no end answers opens an end of the server in any network, and this is one rule,
+/// with the first datagram of the end: DATA 1 or ACK 0, or the OACK of the options that the server
+/// agrees to.
+pub fn a_request_opens_an_end()
+    ensures granted { AnswersAreGranted }
+    ensures reads { (network : Network) → ReadsOpen network }
+    ensures writes { (network : Network) → WritesOpen network }
 {}
 
 /// Facts of texts and endpoints, for the proofs of the crates above.

@@ -3,7 +3,7 @@
 //! are is its parameter.
 //!
 //! It has definitions and laws, and one function, [`is_foreign`]. Ends, or a whole world of them,
-//! that the machine shows have its invariants.
+//! that refine the machine have its invariants.
 //!
 //! Begin with [`laws::every_run_is_safe`].
 #![tactic(auto)]

@@ -1,29 +1,27 @@
--- Where the journals arrive, what a receiver was handed is what its peer's file gave: the invariant by the run says it of a text that is padded, and no padding is part of what is claimed.
-use Rattle.std.proofs.Common.{◌≡◌, ℕ, Bool, true, false, List, [], ◌++◌, length, Some, None, refl, sym, ap, ◌∙◌, subst, inl, inr}
-use Rattle.std.specs.Prelude.{◌≢◌, if◌then◌else◌, slice_get, option_map}
+-- In the end state of the journals what a receiver was handed is what its peer's file gave: the invariant by the run
+-- says it of a text that is padded, and no padding is part of what is claimed.
+use Rattle.std.proofs.Common.{◌≡◌, ℕ, true, false, List, [], length, Option, Some, None, refl, sym, ap, ◌∙◌, subst, inl, inr}
+use Rattle.std.specs.Prelude.{◌≢◌, slice_get, option_map}
 use Rattle.std.proofs.lemmas.Bool.{true≢false}
 use Rattle.std.proofs.lemmas.Option.{slice_get-map}
 use Rattle.tftp_wire.specs.declared.mode.Mode.{Mode}
 use Rattle.tftp_file.specs.Block.{IsBeginningOf}
-use Rattle.tftp_file.specs.Netascii.{wire_text}
 use Rattle.tftp_file.specs.Sink.{SinkMeaning}
 use Rattle.tftp_file.specs.Source.{SourceMeaning}
 use Rattle.tftp_file.specs.declared.files.Files.{Files}
 use Rattle.tftp_file.specs.declared.files.Files.TheVariants.{Source, Sink}
-use Rattle.tftp_ends.specs.declared.phase.Phase.{Phase}
-use Rattle.tftp_ends.specs.declared.phase.Phase.TheVariants.{Waiting, Sending, Receiving, Dallying, Closed}
 use Rattle.tftp_ends.specs.declared.role.Role.{Role}
-use Rattle.tftp_ends.specs.End.{EndState, is_client, is_complete, is_sender}
+use Rattle.tftp_ends.specs.End.{EndState, is_client, is_complete, is_sender, record_of}
 use Rattle.tftp_store.specs.Store.{StoreMeaning}
 use Rattle.tftp_server.specs.State.{HeldTransfer}
-use Rattle.tftp_machine.specs.Machine.{At_server, Elsewhere, Endpoint, Host}
-use Rattle.tftp_machine.specs.OpenEnds.{OpenEnd, goes_on, open_view, received_text}
+use Rattle.tftp_machine.specs.Machine.{Elsewhere, Endpoint}
+use Rattle.tftp_machine.specs.OpenEnds.{OpenEnd, open_view, received_text}
 use Rattle.tftp_machine.specs.Shows.{EndView}
-use Rattle.tftp_machine.specs.ViewSafety.{IsAmong, IsAt, IsSafeViews}
-use Rattle.tftp_machine.proofs.Shown.{shown_by}
+use Rattle.tftp_machine.specs.Safety.{IsCompleteAt, IsSenderAt}
+use Rattle.tftp_machine.specs.ViewSafety.{IsAmong, IsSafeViews, safety_view}
 use Rattle.tftp_machine.proofs.ViewSafe.{shown_safe}
 use Rattle.tftp_network.specs.ClientRuns.{moved_in}
-use Rattle.tftp_network.specs.AnyFiles.{IsComplete, IsEnd, IsOurs, IsSenderAt, KeepAnyFiles, ProgramEnd, Receives, Sends, WasOpened, client_end, has_of, peer_of, size_at, transfer_end}
+use Rattle.tftp_network.specs.AnyFiles.{IsEnd, IsOurs, KeepAnyFiles, ProgramEnd, WasOpened, client_end, has_of, safety_of, transfer_end}
 use Rattle.tftp_network.specs.Arrived.{ViewsEnd}
 use Rattle.tftp_network.specs.Moved.{Moved, moved_at, opened_at}
 use Rattle.tftp_network.specs.Order.{Programs}
@@ -36,20 +34,9 @@ use Rattle.tftp_network.proofs.KeptViews.{view_there}
 use Rattle.tftp_network.proofs.Places.{strangers_elsewhere}
 use Rattle.tftp_network.proofs.Texts.{begin_each_other, begins_unpadded, pad_length, pad_to}
 
--- a receiver that is complete holds nothing back
-stops : (phase : Phase) → is_complete phase ≡ true → goes_on phase ≡ false
-stops (Waiting asked limit) e = absurd (true≢false (sym e))
-stops (Sending terms number) e = absurd (true≢false (sym e))
-stops (Receiving terms number) e = absurd (true≢false (sym e))
-stops (Dallying terms number dally) e = refl
-stops (Closed terms number complete outcome) e = refl
-
-whole_text : (e : EndState) (bytes : List ℕ) → is_complete e.position.phase ≡ true → received_text e bytes ≡ wire_text e.role.mode bytes
-whole_text e bytes done = ap (λ (b : Bool). if b then wire_text e.role.mode bytes ++ e.position.held else wire_text e.role.mode bytes) (stops e.position.phase done)
-
--- what is elsewhere is not at the server
-no_server_elsewhere : (h : Host) → h ≡ Elsewhere → h ≡ At_server → ⊥
-no_server_elsewhere h e f = cc
+-- the endpoint of its peer
+abbrev peer_of : ProgramEnd → Option Endpoint
+peer_of x = (record_of x.state).peer
 
 module _ {S F D G K : Type 0} {stores : StoreMeaning S D} {sources : SourceMeaning F} {inputs : SourceMeaning G} {outputs : SinkMeaning K}
     (programs : Programs stores sources inputs outputs) (kept : (pad : ℕ) → IsKept programs (By_run pad) (all_of programs)) where
@@ -153,20 +140,20 @@ module _ {S F D G K : Type 0} {stores : StoreMeaning S D} {sources : SourceMeani
     own_view : (v : EndView) → IsAmong (views pad) v → v.address ≡ x.address → v ≡ view
     own_view v inside same = view_there (joined programs) (views pad) (kept pad).messages s.end v (kept pad).shown s.viewed inside (same ∙ sym s.address)
 
-    sender_at : Sends x → is_sender s.end.state.role.side ≡ true
+    sender_at : is_sender x.state.role.side ≡ true → is_sender s.end.state.role.side ≡ true
     sender_at sends = ap (λ (e : EndState). is_sender e.role.side) s.state ∙ sends
 
-    receiver_at : Receives x → is_sender s.end.state.role.side ≡ false
+    receiver_at : is_sender x.state.role.side ≡ false → is_sender s.end.state.role.side ≡ false
     receiver_at receives = ap (λ (e : EndState). is_sender e.role.side) s.state ∙ receives
 
     -- the text of a sender, and that of a receiver
-    sent_text : Sends x → view.text ≡ pad_to pad x.state.role.length x.moved.bytes
+    sent_text : is_sender x.state.role.side ≡ true → view.text ≡ pad_to pad x.state.role.length x.moved.bytes
     sent_text sends =
         let sender = sender_at sends in
         text_if (is_sender s.end.state.role.side) s.end.text (received_text s.end.state s.end.stored) sender
         ∙ (s.text sender ∙ ap (λ (e : EndState). pad_to pad e.role.length x.moved.bytes) s.state)
 
-    has_text : Receives x → view.text ≡ has_of x
+    has_text : is_sender x.state.role.side ≡ false → view.text ≡ has_of x
     has_text receives =
         let receiver = receiver_at receives in
         receiver_text s.end receiver ∙ (ap (received_text s.end.state) (s.took receiver).stored ∙ ap (λ (e : EndState). received_text e x.moved.bytes) s.state)
@@ -175,44 +162,45 @@ module _ {S F D G K : Type 0} {stores : StoreMeaning S D} {sources : SourceMeani
   not_elsewhere : (p : Endpoint) → IsOurs programs p → (joined programs).host_of p ≢ Elsewhere
   not_elsewhere p ours e = ours ((strangers_elsewhere programs p).0 e)
 
-  -- the peer of a client is at the server
+  -- the peer of a client is no stranger
   client_peer : (x : ProgramEnd) (p : Endpoint) → IsEnd programs x → is_client x.state.role.side ≡ true → peer_of x ≡ Some p → IsOurs programs p
   client_peer x p is_end client peer stranger =
       let s = stands 0 x is_end in
       let told = says 0 x s in
-      let by = shown_by (joined programs) (views 0) (kept 0).messages (kept 0).shown in
-      let m = by.3.ends s.viewed.index (view 0 x s) s.viewed.viewed in
-      let there = ((by.1.ends (view 0 x s).address m.is_open).serving (m.client ∙ (told.client ∙ client)) p (m.peer ∙ (told.peer ∙ peer))).0 in
-      no_server_elsewhere ((joined programs).host_of p) ((strangers_elsewhere programs p).1 stranger) there
+      (safe 0).ours (view 0 x s) p (among 0 x s) (told.client ∙ client) (told.peer ∙ peer) ((strangers_elsewhere programs p).1 stranger)
+
+  abbrev SendsAt : Endpoint → Mode → ProgramEnd → Type 0
+  SendsAt p m y = IsSenderAt safety_of (IsEnd programs) p m y
 
   -- a sender among the views, and its end
   record SenderThere (pad : ℕ) (p : Endpoint) (m : Mode) (v : EndView) : Type 0 where
     y : ProgramEnd
-    sender : IsSenderAt programs p m y
+    sender : SendsAt p m y
     is : v ≡ open_view (stands pad y sender.is_end).end
 
-  sender_there : (pad : ℕ) (p : Endpoint) (m : Mode) (v : EndView) → IsAt (views pad) p v → v.sender ≡ true → v.mode ≡ m → SenderThere pad p m v
-  sender_there pad p m v at sender mode =
-      let e = viewed_end pad v at.0 in
+  sender_there : (pad : ℕ) (p : Endpoint) (m : Mode) (v : EndView) → IsSenderAt safety_view (IsAmong (views pad)) p m v → SenderThere pad p m v
+  sender_there pad p m v at =
+      let e = viewed_end pad v at.is_end in
       let s = stands pad e.0 e.1 in
-      let is = own_view pad e.0 s v at.0 e.2 in
+      let is = own_view pad e.0 s v at.is_end e.2 in
       let told = says pad e.0 s in
       record {
         y = e.0;
         sender = record {
           is_end = e.1;
-          address = sym e.2 ∙ at.1;
-          sends = sym told.sender ∙ (ap (λ (w : EndView). w.sender) (sym is) ∙ sender);
-          mode = sym told.mode ∙ (ap (λ (w : EndView). w.mode) (sym is) ∙ mode);
+          address = sym e.2 ∙ at.address;
+          sends = sym told.sender ∙ (ap (λ (w : EndView). w.sender) (sym is) ∙ at.sends);
+          mode = sym told.mode ∙ (ap (λ (w : EndView). w.mode) (sym is) ∙ at.mode);
         };
         is = is;
       }
 
   -- the same end however its text is padded
-  same_there : (pad other : ℕ) (p : Endpoint) (m : Mode) (v w : EndView) (there : SenderThere pad p m v) → IsAt (views other) p w → w ≡ open_view (stands other there.y there.sender.is_end).end
-  same_there pad other p m v w there at = own_view other there.y (stands other there.y there.sender.is_end) w at.0 (at.1 ∙ sym there.sender.address)
+  same_there : (pad other : ℕ) (p : Endpoint) (m n : Mode) (v w : EndView) (there : SenderThere pad p m v) → IsSenderAt safety_view (IsAmong (views other)) p n w →
+      w ≡ open_view (stands other there.y there.sender.is_end).end
+  same_there pad other p m n v w there at = own_view other there.y (stands other there.y there.sender.is_end) w at.is_end (at.address ∙ sym there.sender.address)
 
-  module _ (x : ProgramEnd) (is_end : IsEnd programs x) (receives : Receives x) where
+  module _ (x : ProgramEnd) (is_end : IsEnd programs x) (receives : is_sender x.state.role.side ≡ false) where
     abbrev self : (pad : ℕ) → StandsFor pad x
     self pad = stands pad x is_end
 
@@ -222,77 +210,79 @@ module _ {S F D G K : Type 0} {stores : StoreMeaning S D} {sources : SourceMeani
     nothing : peer_of x ≡ None → has_of x ≡ []
     nothing none = sym (has_text 0 x (self 0) receives) ∙ (safe 0).is_empty (view 0 x (self 0)) (among 0 x (self 0)) (not_sender 0) ((says 0 x (self 0)).peer ∙ none)
 
-    beginning : (p : Endpoint) → peer_of x ≡ Some p → IsOurs programs p → (y : ProgramEnd) × IsSenderAt programs p x.state.role.mode y × IsBeginningOf (has_of x) y.moved.bytes
+    beginning : (p : Endpoint) → peer_of x ≡ Some p → IsOurs programs p → (y : ProgramEnd) × SendsAt p x.state.role.mode y × IsBeginningOf (has_of x) y.moved.bytes
     beginning p peer ours =
         let peer_at : (pad : ℕ) → (view pad x (self pad)).peer ≡ Some p = λ pad. (says pad x (self pad)).peer ∙ peer in
         let zero = (safe 0).is_beginning (view 0 x (self 0)) p (among 0 x (self 0)) (not_sender 0) (peer_at 0) (not_elsewhere p ours) in
         let one = (safe 1).is_beginning (view 1 x (self 1)) p (among 1 x (self 1)) (not_sender 1) (peer_at 1) (not_elsewhere p ours) in
-        let there = sender_there 0 p x.state.role.mode zero.0 zero.1 zero.2 (zero.3 ∙ (says 0 x (self 0)).mode) in
+        let there = sender_there 0 p x.state.role.mode zero.0 (subst (λ (m : Mode). IsSenderAt safety_view (IsAmong (views 0)) p m zero.0) (says 0 x (self 0)).mode zero.1) in
         let y = there.y in
         let text_zero : zero.0.text ≡ pad_to 0 y.state.role.length y.moved.bytes = ap (λ (v : EndView). v.text) there.is ∙ sent_text 0 y (stands 0 y there.sender.is_end) there.sender.sends in
-        let text_one : one.0.text ≡ pad_to 1 y.state.role.length y.moved.bytes =
-        ap (λ (v : EndView). v.text) (same_there 0 1 p x.state.role.mode zero.0 one.0 there one.1) ∙ sent_text 1 y (stands 1 y there.sender.is_end) there.sender.sends in
-        let begins_zero = subst (λ (t : List ℕ). IsBeginningOf t (pad_to 0 y.state.role.length y.moved.bytes)) (has_text 0 x (self 0) receives) (subst (λ (t : List ℕ). IsBeginningOf (view 0 x (self 0)).text t) text_zero zero.4) in
-        let begins_one = subst (λ (t : List ℕ). IsBeginningOf t (pad_to 1 y.state.role.length y.moved.bytes)) (has_text 1 x (self 1) receives) (subst (λ (t : List ℕ). IsBeginningOf (view 1 x (self 1)).text t) text_one one.4) in
+        let same = same_there 0 1 p x.state.role.mode (view 1 x (self 1)).mode zero.0 one.0 there one.1 in
+        let text_one : one.0.text ≡ pad_to 1 y.state.role.length y.moved.bytes = ap (λ (v : EndView). v.text) same ∙ sent_text 1 y (stands 1 y there.sender.is_end) there.sender.sends in
+        let begins_zero = subst (λ (t : List ℕ). IsBeginningOf t (pad_to 0 y.state.role.length y.moved.bytes)) (has_text 0 x (self 0) receives) (subst (λ (t : List ℕ). IsBeginningOf (view 0 x (self 0)).text t) text_zero zero.2) in
+        let begins_one = subst (λ (t : List ℕ). IsBeginningOf t (pad_to 1 y.state.role.length y.moved.bytes)) (has_text 1 x (self 1) receives) (subst (λ (t : List ℕ). IsBeginningOf (view 1 x (self 1)).text t) text_one one.2) in
         (y, there.sender, begins_unpadded y.state.role.length y.state.role.length y.moved.bytes (has_of x) begins_zero begins_one)
 
     -- what a sender gave is all that a complete receiver has
-    all_given : (p : Endpoint) → peer_of x ≡ Some p → IsOurs programs p →
-        ((v : EndView) × IsAt (views 0) p v × (v.sender ≡ true) × (v.mode ≡ (view 0 x (self 0)).mode) × ((view 0 x (self 0)).text ≡ v.text)) → IsComplete x →
-        (y : ProgramEnd) × IsSenderAt programs p x.state.role.mode y × (wire_text x.state.role.mode x.moved.bytes ≡ y.moved.bytes) × (length y.moved.bytes ≡ y.state.role.length)
-    all_given p peer ours at complete =
+    all_given : (p : Endpoint) → peer_of x ≡ Some p → IsOurs programs p → (v : EndView) → IsSenderAt safety_view (IsAmong (views 0)) p (view 0 x (self 0)).mode v → (view 0 x (self 0)).text ≡ v.text →
+        (y : ProgramEnd) × SendsAt p x.state.role.mode y × (has_of x ≡ y.moved.bytes) × (length y.moved.bytes ≡ y.state.role.length)
+    all_given p peer ours v at all_text =
         let begun = beginning p peer ours in
         let y = begun.0 in
         let s = stands 0 y begun.1.is_end in
-        let same : at.0 ≡ open_view s.end = own_view 0 y s at.0 at.1.0 (at.1.1 ∙ sym begun.1.address) in
+        let same : v ≡ open_view s.end = own_view 0 y s v at.is_end (at.address ∙ sym begun.1.address) in
         let text : has_of x ≡ pad_to 0 y.state.role.length y.moved.bytes =
-        sym (has_text 0 x (self 0) receives) ∙ (at.4 ∙ (ap (λ (v : EndView). v.text) same ∙ sent_text 0 y s begun.1.sends)) in
+        sym (has_text 0 x (self 0) receives) ∙ (all_text ∙ (ap (λ (w : EndView). w.text) same ∙ sent_text 0 y s begun.1.sends)) in
         let sender = sender_at 0 y s begun.1.sends in
         let end_text : s.end.text ≡ has_of x = s.text sender ∙ (ap (λ (e : EndState). pad_to 0 e.role.length y.moved.bytes) s.state ∙ sym text) in
         let all_of_it : has_of x ≡ y.moved.bytes =
-        begin_each_other (has_of x) y.moved.bytes begun.2 (subst (λ (t : List ℕ). IsBeginningOf y.moved.bytes t) end_text (s.gave sender).beginning) in (
-          y,
-          begun.1,
-          sym (whole_text x.state x.moved.bytes complete) ∙ all_of_it,
-          ap (λ (t : List ℕ). length t) (sym all_of_it ∙ text) ∙ pad_length 0 y.state.role.length y.moved.bytes,
-        )
+        begin_each_other (has_of x) y.moved.bytes begun.2 (subst (λ (t : List ℕ). IsBeginningOf y.moved.bytes t) end_text (s.gave sender).beginning) in
+        (y, begun.1, all_of_it, ap (λ (t : List ℕ). length t) (sym all_of_it ∙ text) ∙ pad_length 0 y.state.role.length y.moved.bytes)
 
-    whole : IsComplete x → (x.moved.committed ≡ true) × (p : Endpoint) × (peer_of x ≡ Some p)
-        × (IsOurs programs p → (y : ProgramEnd) × IsSenderAt programs p x.state.role.mode y × (wire_text x.state.role.mode x.moved.bytes ≡ y.moved.bytes) × (length y.moved.bytes ≡ y.state.role.length))
-    whole complete =
-        let done = (says 0 x (self 0)).done ∙ complete in
-        let all = (safe 0).is_whole (view 0 x (self 0)) (among 0 x (self 0)) (not_sender 0) done in
-        let p = all.0 in
-        let peer : peer_of x ≡ Some p = sym (says 0 x (self 0)).peer ∙ all.1 in
+    has_committed : is_complete x.state.position.phase ≡ true → x.moved.committed ≡ true
+    has_committed complete =
         let receiver = receiver_at 0 x (self 0) receives in
         let committed : (self 0).end.committed ≡ true =
         (self 0).viewed.kept.committed receiver ∙ (ap (λ (e : EndState). is_complete e.position.phase) (self 0).state ∙ complete) in
-        (((self 0).took receiver).committed committed, p, peer, λ ours. all_given p peer ours (all.2 (not_elsewhere p ours)) complete)
+        ((self 0).took receiver).committed committed
 
-  its_receiver : (x : ProgramEnd) (s : StandsFor 0 x) (p : Endpoint) → ((v : EndView) × IsAt (views 0) p v × (v.peer ≡ Some (view 0 x s).address) × (v.done ≡ true)) →
-      (y : ProgramEnd) × IsEnd programs y × (y.address ≡ p) × (peer_of y ≡ Some x.address) × IsComplete y
-  its_receiver x s p at =
+    whole : is_complete x.state.position.phase ≡ true → (p : Endpoint) × (peer_of x ≡ Some p)
+        × (IsOurs programs p → (y : ProgramEnd) × SendsAt p x.state.role.mode y × (has_of x ≡ y.moved.bytes) × (length y.moved.bytes ≡ y.state.role.length))
+    whole complete =
+        let all = (safe 0).is_whole (view 0 x (self 0)) (among 0 x (self 0)) (not_sender 0) ((says 0 x (self 0)).done ∙ complete) in
+        let p = all.0 in
+        let peer : peer_of x ≡ Some p = sym (says 0 x (self 0)).peer ∙ all.1 in
+        (p, peer, λ ours. let v = all.2 (not_elsewhere p ours) in all_given p peer ours v.0 v.1 v.2)
+
+  abbrev CompletesAt : Endpoint → Endpoint → ProgramEnd → Type 0
+  CompletesAt p other y = IsCompleteAt safety_of (IsEnd programs) p other y
+
+  its_receiver : (x : ProgramEnd) (s : StandsFor 0 x) (p : Endpoint) (v : EndView) → IsCompleteAt safety_view (IsAmong (views 0)) p (view 0 x s).address v → (y : ProgramEnd) × CompletesAt p x.address y
+  its_receiver x s p v at =
       let told = says 0 x s in
-      let e = viewed_end 0 at.0 at.1.0 in
+      let e = viewed_end 0 v at.is_end in
       let y = stands 0 e.0 e.1 in
-      let is = own_view 0 e.0 y at.0 at.1.0 e.2 in
+      let is = own_view 0 e.0 y v at.is_end e.2 in
       let says_y = says 0 e.0 y in (
         e.0,
-        e.1,
-        sym e.2 ∙ at.1.1,
-        sym says_y.peer ∙ (ap (λ (v : EndView). v.peer) (sym is) ∙ (at.2 ∙ ap (λ (a : Endpoint). Some a) told.address)),
-        sym says_y.done ∙ (ap (λ (v : EndView). v.done) (sym is) ∙ at.3),
+        record {
+          is_end = e.1;
+          address = sym e.2 ∙ at.address;
+          peer = sym says_y.peer ∙ (ap (λ (w : EndView). w.peer) (sym is) ∙ (at.peer ∙ ap (λ (a : Endpoint). Some a) told.address));
+          complete = sym says_y.done ∙ (ap (λ (w : EndView). w.done) (sym is) ∙ at.complete);
+        },
       )
 
-  last_sender : (x : ProgramEnd) → IsEnd programs x → Sends x → IsComplete x →
-      (p : Endpoint) × (peer_of x ≡ Some p) × (IsOurs programs p → (y : ProgramEnd) × IsEnd programs y × (y.address ≡ p) × (peer_of y ≡ Some x.address) × IsComplete y)
+  last_sender : (x : ProgramEnd) → IsEnd programs x → is_sender x.state.role.side ≡ true → is_complete x.state.position.phase ≡ true →
+      (p : Endpoint) × (peer_of x ≡ Some p) × (IsOurs programs p → (y : ProgramEnd) × CompletesAt p x.address y)
   last_sender x is_end sends complete =
       let s = stands 0 x is_end in
       let told = says 0 x s in
       let last = (safe 0).sender_last (view 0 x s) (among 0 x s) (sender_at 0 x s sends) (told.done ∙ complete) in
-      (last.0, sym told.peer ∙ last.1, λ ours. its_receiver x s last.0 (last.2 (not_elsewhere last.0 ours)))
+      (last.0, sym told.peer ∙ last.1, λ ours. let v = last.2 (not_elsewhere last.0 ours) in its_receiver x s last.0 v.0 v.1)
 
-  sizes : (x y : ProgramEnd) → IsEnd programs x → IsEnd programs y → peer_of x ≡ Some y.address → peer_of y ≡ Some x.address → size_at x ≡ size_at y
+  sizes : (x y : ProgramEnd) → IsEnd programs x → IsEnd programs y → peer_of x ≡ Some y.address → peer_of y ≡ Some x.address → (record_of x.state).size ≡ (record_of y.state).size
   sizes x y is_x is_y px py =
       let s = stands 0 x is_x in
       let t = stands 0 y is_y in
@@ -322,11 +312,14 @@ module _ {S F D G K : Type 0} {stores : StoreMeaning S D} {sources : SourceMeani
 
   pub any_kept : KeepAnyFiles programs
   any_kept = record {
-    same_size = sizes;
-    ours = client_peer;
-    is_empty = λ x is_end receives none. nothing x is_end receives none;
-    is_beginning = λ x p is_end receives peer ours. beginning x is_end receives p peer ours;
-    is_whole = λ x is_end receives complete. whole x is_end receives complete;
-    sender_last = last_sender;
+    safe = record {
+      same_size = sizes;
+      ours = client_peer;
+      is_empty = λ x is_end receives none. nothing x is_end receives none;
+      is_beginning = λ x p is_end receives peer ours. beginning x is_end receives p peer ours;
+      is_committed = λ x is_end receives complete. has_committed x is_end receives complete;
+      is_whole = λ x is_end receives complete. whole x is_end receives complete;
+      sender_last = last_sender;
+    };
     opened = was_opened;
   }

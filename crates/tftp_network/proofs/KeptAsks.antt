@@ -6,8 +6,6 @@ use Rattle.std.proofs.lemmas.Bool.{true≢false}
 use Rattle.std.proofs.lemmas.List.Elements.{Contains-push}
 use Rattle.std.proofs.lemmas.Option.{same_Some}
 use Rattle.tftp_wire.specs.Spelling.{IsValid, Spells, canonical}
-use Rattle.tftp_wire.specs.declared.mode.Mode.{Mode}
-use Rattle.tftp_wire.specs.declared.mode.Mode.TheVariants.{Octet, Netascii}
 use Rattle.tftp_wire.specs.declared.packet.Request.{Request as WireRequest}
 use Rattle.tftp_file.specs.Netascii.{wire_text}
 use Rattle.tftp_file.specs.Sink.{SinkMeaning}
@@ -21,13 +19,14 @@ use Rattle.tftp_sockets.specs.Journal.{Event}
 use Rattle.tftp_sockets.specs.Journal.Event.{Sent}
 use Rattle.tftp_client.specs.Converses.{State}
 use Rattle.tftp_client.specs.Runs.{IsNew, begun}
-use Rattle.tftp_machine.specs.EndKept.{EndKept, HeldFits}
+use Rattle.tftp_machine.specs.EndKept.{EndKept}
 use Rattle.tftp_machine.specs.Machine.{Endpoint, Message, Packet, Request}
 use Rattle.tftp_machine.specs.OpenEnds.{OpenEnd, open_view}
 use Rattle.tftp_machine.specs.Rules.{message, asking}
 use Rattle.tftp_machine.specs.Said.{said}
 use Rattle.tftp_machine.specs.Shows.{EndView, NoneAt, IsShown, requested, view_of}
 use Rattle.tftp_machine.proofs.Actions.{asks}
+use Rattle.tftp_machine.proofs.EndOpenings.{nothing_held, no_text}
 use Rattle.tftp_machine.proofs.Indices.{slice_get-push_new}
 use Rattle.tftp_machine.proofs.SaidLemmas.{spells_own}
 use Rattle.tftp_network.specs.ClientRuns.{moved_in}
@@ -43,15 +42,6 @@ use Rattle.tftp_network.proofs.KeptEvents.{only_one}
 use Rattle.tftp_network.proofs.KeptViews.{viewed_before, among_push}
 use Rattle.tftp_network.proofs.Places.{clients_there}
 use Rattle.tftp_network.proofs.Texts.{pad_length}
-
--- a client that has received nothing holds back nothing, and has no text
-pub nothing_held : (mode : Mode) → HeldFits mode []
-nothing_held Octet = refl
-nothing_held Netascii = tt
-
-pub no_text : (mode : Mode) → wire_text mode [] ++ [] ≡ []
-no_text Octet = refl
-no_text Netascii = refl
 
 -- a client's end as it opens, with this file and this text
 abbrev opening : Endpoint → EndState → List ℕ → List ℕ → OpenEnd

@@ -31,11 +31,14 @@ use Rattle.tftp_server.specs.declared.config.Config.{Config}
 use Rattle.tftp_sockets.specs.Journal.{Event}
 use Rattle.tftp_sockets.specs.Journal.Event.{Sent}
 use Rattle.tftp_loop.specs.Serves.{AnswersRequest, Does, LoopState, Request_answered, after_request}
+use Rattle.tftp_machine.specs.EndOpens.{EndOpens, IsNewly, left_at_first, new_receiver, new_sender, sending}
 use Rattle.tftp_machine.specs.Machine.{At_server, Endpoint, Message, Packet}
 use Rattle.tftp_machine.specs.OpenEnds.{OpenEnd, open_view}
 use Rattle.tftp_machine.specs.Rules.{message}
 use Rattle.tftp_machine.specs.Said.{said}
-use Rattle.tftp_machine.specs.Shows.{EndView, NoneAt, requested}
+use Rattle.tftp_machine.specs.Shows.{EndView, IsShown, NoneAt, requested}
+use Rattle.tftp_machine.proofs.EndOpenings.{opens_to_send, opens_to_store}
+use Rattle.tftp_machine.proofs.FirstSent.{first_want}
 use Rattle.tftp_machine.proofs.Indices.{slice_get-push_new}
 use Rattle.tftp_machine.proofs.SaidLemmas.{spells_own}
 use Rattle.tftp_network.specs.Modelled.{AreModelled}
@@ -45,7 +48,6 @@ use Rattle.tftp_network.specs.Ports.{AreDistinct, HasClosed, IsStored, opened_by
 use Rattle.tftp_network.specs.Programs.{endpoint}
 use Rattle.tftp_network.specs.Promises.{joined}
 use Rattle.tftp_network.specs.Snapshots.{Snapshot, server_did}
-use Rattle.tftp_network.proofs.FirstSent.{first_want, left_at_first, sending}
 use Rattle.tftp_network.proofs.Kept.{How, By_models, By_run, AreKeyedOnce, GaveSo, HasStored, HasTransferBy, IsFreshBy, IsKept, IsKnown, IsThere, ServerKept, TookSo, TransferKept, length_of, port_text}
 use Rattle.tftp_network.proofs.KeptAsks.{says_request}
 use Rattle.tftp_network.proofs.KeptEvents.{only_one}
@@ -53,7 +55,6 @@ use Rattle.tftp_network.proofs.KeptRefusals.{closed_earlier, left_is, new_is, on
 use Rattle.tftp_network.proofs.KeptServer.{ServerTurns, server_keeps}
 use Rattle.tftp_network.proofs.KeptViews.{among_push, viewed_before}
 use Rattle.tftp_network.proofs.MovedSteps.{MovesNone, none_answered}
-use Rattle.tftp_network.proofs.NewEnds.{IsNewly, EndOpens, new_receiver, new_sender, opens_to_send, opens_to_store}
 use Rattle.tftp_network.proofs.NewIdentifiers.{at-with_new, at-with_new_cases, at-with_new_other, once-with_new}
 use Rattle.tftp_network.proofs.Places.{at_port}
 use Rattle.tftp_network.proofs.PortAnswers.{Begins_to_send, Begins_to_store, IfKnown, IsFirst, OpensToSend, OpensToStore, PortAnswers, Says_error, SendsFile, Silent, port_answers}
@@ -178,7 +179,7 @@ module _ {S F D G K : Type 0} {stores : StoreMeaning S D} {sources : SourceMeani
     store_is = ap (λ (s : LoopState S F D). s.server.store) state_is
 
     module _ (same : SameStored programs how server.store store) (x : OpenEnd) (address : x.address ≡ a) (state : x.state ≡ transfer.end) (path : x.path ≡ transfer.path) (request : x.request ≡ transfer.request)
-        (opens : EndOpens (joined programs) kept.views kept.messages kept.shown a answers.from answers.bytes x) (has : HasStored programs how now x transfer.files) where
+        (opens : EndOpens (joined programs) kept.shown.0 kept.views kept.messages answers.from x) (has : HasStored programs how now x transfer.files) where
       abbrev said_now : List Message
       said_now = message a answers.from (said opens.packet) ∷ []
 
@@ -292,7 +293,7 @@ module _ {S F D G K : Type 0} {stores : StoreMeaning S D} {sources : SourceMeani
       turns = record {
         views = views;
         said_now = said_now;
-        shown = opens.shown_now;
+        shown = subst (λ (e : Endpoint). IsShown (joined programs) views (kept.messages ++ message e answers.from (said opens.packet) ∷ [])) address (kept.shown.0 ++ opens.shown.0, opens.shown.2);
         sends = one_sent programs old kept answers messages tid (record { to = answers.from; bytes = x.state.position.last_sent }) added one says_first;
         server = server_kept;
         clients = λ k client found z here v. viewed_before (joined programs) kept.views kept.messages said_now (open_view x) z v;
@@ -310,7 +311,7 @@ module _ {S F D G K : Type 0} {stores : StoreMeaning S D} {sources : SourceMeani
   -- ---- what the request is
   -- it was sent, and no end answers it
   newly : (write : Bool) (mode : Mode) (options : List RawOption) (asked : IsAsked answers.steps.decoded answers.steps.repeated write mode options) →
-      IsNewly (joined programs) kept.views kept.messages kept.shown a answers.from answers.bytes write asked.request
+      IsNewly (joined programs) kept.views kept.messages answers.from answers.bytes write asked.request
   newly write mode options asked =
       let packet = requested write asked.request in
       let spells : Spells packet answers.bytes = subst (λ (d : Option WirePacket). Decodes answers.bytes d) asked.packet answers.steps.says in
@@ -338,8 +339,8 @@ module _ {S F D G K : Type 0} {stores : StoreMeaning S D} {sources : SourceMeani
         let x = new_sender a answers.bytes o.agreed answers.from r.mode path file text server.config.retries in
         let fits : Fits text (size o.agreed) = subst (λ (n : ℕ). n < 65535 * size o.agreed) (sym long) o.fits in
         opening_keeps sent server.store o.is (same_if programs how server.store server.store refl) x refl (sym end) refl refl
-        (opens_to_send (joined programs) kept.views kept.messages kept.shown a answers.from answers.bytes (at_server sent server.store o.is) (none_there sent server.store o.is)
-        r path file text o.agreed server.config.retries (newly false mode options asked) o.granted fits)
+        (opens_to_send (joined programs) kept.shown.0 kept.views kept.messages a answers.from answers.bytes r path file text o.agreed server.config.retries kept.shown.1
+        (at_server sent server.store o.is) (none_there sent server.store o.is) (newly false mode options asked) o.granted fits)
         has
 
     -- by the models
@@ -413,8 +414,8 @@ module _ {S F D G K : Type 0} {stores : StoreMeaning S D} {sources : SourceMeani
     store_has : HasStored programs how now receiver (Sink o.draft) → IsKept programs how now
     store_has has =
         opening_keeps stored_by o.store o.is (same_if_known programs how old.state o.store kept.server.known o.same) receiver refl refl refl refl
-        (opens_to_store (joined programs) kept.views kept.messages kept.shown a answers.from answers.bytes (at_server stored_by o.store o.is) (none_there stored_by o.store o.is)
-        asked.request path o.agreed server.config.retries (newly true mode options asked) o.granted)
+        (opens_to_store (joined programs) kept.shown.0 kept.views kept.messages a answers.from answers.bytes asked.request path o.agreed server.config.retries kept.shown.1
+        (at_server stored_by o.store o.is) (none_there stored_by o.store o.is) (newly true mode options asked) o.granted)
         has
 
     storing_by : (w : How programs) → how ≡ w → IsKept programs how now

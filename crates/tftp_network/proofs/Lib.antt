@@ -12,9 +12,7 @@ pub mod StepEvents
 pub mod Orders
 pub mod SeenSteps
 pub mod JointRuns
-pub mod Granted
 pub mod Measured
-pub mod FirstSent
 pub mod Requested
 pub mod Kept
 pub mod KeptViews
@@ -30,7 +28,6 @@ pub mod KeptServer
 pub mod ServerStays
 pub mod KeptPorts
 pub mod NewIdentifiers
-pub mod NewEnds
 pub mod PortAnswers
 pub mod Unanswered
 pub mod KeptRefusals

@@ -8,7 +8,7 @@ use Rattle.tftp_file.specs.Source.{SourceMeaning}
 use Rattle.tftp_store.specs.Store.{StoreMeaning}
 use Rattle.tftp_machine.specs.Machine.{Endpoint, Host, At_server, At_client, Elsewhere, is_same, is_same_ip}
 use Rattle.tftp_machine.proofs.Endpoints.{same_ip, same_self, same_other}
-use Rattle.tftp_machine.proofs.ViewSafe.{shown_safe}
+use Rattle.tftp_machine.proofs.ViewSafe.{shown_apart, shown_safe}
 use Rattle.tftp_network.specs.Hosts.{ClientsAreThere, ServerIsThere, StrangersAreElsewhere}
 use Rattle.tftp_network.specs.Modelled.{AreModelled}
 use Rattle.tftp_network.specs.Order.{Programs, IsStranger}
@@ -89,4 +89,9 @@ module _ {S F D G K : Type 0} {stores : StoreMeaning S D} {sources : SourceMeani
 
   -- what is shown is safe
   pub promises_kept : (models : AreModelled programs) → AreShown programs models → KeepPromises programs models
-  promises_kept models s = record { views = s.views; viewed = s.viewed; safe = shown_safe (joined programs) s.views s.messages s.shown }
+  promises_kept models s = record {
+    views = s.views;
+    viewed = s.viewed;
+    apart = shown_apart (joined programs) s.views s.messages s.shown;
+    safe = shown_safe (joined programs) s.views s.messages s.shown;
+  }

@@ -29,8 +29,9 @@ use Rattle.tftp_store.specs.declared.store.Opening.{Opening}
 use Rattle.tftp_server.specs.Port.{Ask, Ignores, Refuses, Reads, Writes, Service, Sends, Refused, accept_reply, asks, begin_reply, by_draft, by_file, by_length, open_reply}
 use Rattle.tftp_server.specs.Request.{AsksToRead, AsksToWrite, Came, Nothing, An_error, A_transfer, Goes, Left, RequestStep, Sent, Starts, Taken, opened_length}
 use Rattle.tftp_server.specs.State.{ServerState}
-use Rattle.tftp_network.proofs.FirstSent.{left_at_first, read_opens, sending}
-use Rattle.tftp_network.proofs.Granted.{AreGranted, answer_granted, answer_small}
+use Rattle.tftp_machine.specs.EndOpens.{AreGranted, left_at_first, sending}
+use Rattle.tftp_machine.proofs.FirstSent.{read_opens}
+use Rattle.tftp_machine.proofs.Granted.{answer_granted, answer_small}
 use Rattle.tftp_network.proofs.Measured.{measured_whole}
 use Rattle.tftp_network.proofs.MovedSends.{piece_length}
 use Rattle.tftp_network.proofs.Requested.{Implies, IsAsked, asks_imply}

@@ -1,4 +1,4 @@
--- The ends at which the journals arrive, as the guarded machine views them.
+-- The views of the ends in the end state of the journals.
 use Rattle.std.specs.Prelude.{ℕ, ◌≡◌, ◌&&◌, not, true, false, is_some, List, Option, Some}
 use Rattle.tftp_file.specs.Netascii.{wire_text}
 use Rattle.tftp_file.specs.Sink.{Holding, SinkMeaning}
@@ -43,7 +43,7 @@ module _ {G K : Type 0} (inputs : SourceMeaning G) (outputs : SinkMeaning K) (to
   ViewsOwn e file (Source source) view = ViewsFile e file view
   ViewsOwn e file (Sink sink) view = ViewsSink e (outputs.held sink) view
 
-  -- the view is of the end of a client, which sends this file, where its journal arrives
+  -- the view is of the end of a client, which sends this file, in its end state
   pub record ViewsClient (client : ClientProgram inputs outputs to) (file : List ℕ)
       (view : EndView) : Type 0 where
     pub end : ViewsEnd (client_at inputs outputs to client) client.last.end view

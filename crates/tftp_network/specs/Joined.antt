@@ -18,8 +18,8 @@ module _ {S F D G K : Type 0} (stores : StoreMeaning S D) (sources : SourceMeani
     pub honest : IsHonest stores sources inputs outputs programs order
     pub fresh : ArePortsFresh programs
 
-  -- the journals of one server and of any number of clients, over files of known content: where
-  -- they arrive, the ends keep the promises
+  -- one server and any number of clients, over files of known content: in the end state of their
+  -- journals the ends keep the promises
   abbrev pub ProgramsKeepPromises : Type 0
   ProgramsKeepPromises =
       (programs : Programs stores sources inputs outputs) (order : List Noted)

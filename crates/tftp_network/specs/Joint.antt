@@ -81,7 +81,7 @@ module _ {S F D G K : Type 0} {stores : StoreMeaning S D} {sources : SourceMeani
 
 module _ {S F D G K : Type 0} (stores : StoreMeaning S D) (sources : SourceMeaning F)
     (inputs : SourceMeaning G) (outputs : SinkMeaning K) where
-  -- the programs come to where their journals arrive by a joint run
+  -- a joint run leads to the end state of the programs
   abbrev pub JournalsAreJoint : Type 0
   JournalsAreJoint =
       (programs : Programs stores sources inputs outputs) (order : List Noted)

@@ -28,7 +28,7 @@ module _ {S F D : Type 0} (stores : StoreMeaning S D) (sources : SourceMeaning F
   -- a server
   pub record ServerProgram : Type 0 where
     pub ip : List ℕ
-    -- it runs from its start, or from a later time, to where its journal arrives
+    -- it runs from its start, or from a later time, to its end state
     pub start : LoopState S F D
     pub last : LoopState S F D
     pub run : Run (Does stores sources) start last
@@ -40,7 +40,7 @@ module _ {S F D : Type 0} (stores : StoreMeaning S D) (sources : SourceMeaning F
     pub idle : start.pending ≡ None
     pub max_block : IsBlockSize start.server.config.limits.max_block
 
-  -- the server where its journal arrives
+  -- the end state of the server
   abbrev pub arrived : ServerProgram → LoopState S F D
   arrived server = server.last
 

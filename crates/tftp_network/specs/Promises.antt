@@ -1,11 +1,10 @@
--- The promises of a transfer, for the ends at which the journals arrive, over files of known
--- content.
+-- The promises of a transfer, in the end state of the journals, over files of known content.
 use Rattle.std.specs.Prelude.{ℕ, ◌≡◌, ◌⊎◌, List, slice_get, Some}
 use Rattle.tftp_file.specs.Sink.{SinkMeaning}
 use Rattle.tftp_file.specs.Source.{SourceMeaning}
 use Rattle.tftp_store.specs.Store.{StoreMeaning}
 use Rattle.tftp_machine.specs.Machine.{Message, Network}
-use Rattle.tftp_machine.specs.Shows.{EndView, IsShown}
+use Rattle.tftp_machine.specs.Shows.{AreApart, EndView, IsShown}
 use Rattle.tftp_machine.specs.ViewSafety.{IsAmong, IsSafeViews}
 use Rattle.tftp_server.specs.State.{HeldTransfer, at}
 use Rattle.tftp_network.specs.Arrived.{ViewsClient, ViewsTransfer}
@@ -62,11 +61,11 @@ module _ {S F D G K : Type 0} {stores : StoreMeaning S D} {sources : SourceMeani
           HasTransfer views port transfer
       pub only : (view : EndView) → IsAmong views view → IsOfSome view
 
-    -- they are safe: one block size, a beginning of the peer's text and all of it at a receiver
-    -- that is complete, and a sender complete only after its receiver
+    -- no two of them are at one endpoint, and their transfers are safe
     pub record KeepPromises : Type 0 where
       pub views : List EndView
       pub viewed : AreViewed views
+      pub apart : AreApart views
       pub safe : IsSafeViews joined views
 
     -- rules of the guarded machine lead to them

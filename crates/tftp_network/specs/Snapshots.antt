@@ -77,7 +77,7 @@ module _ {S F D G K : Type 0} {stores : StoreMeaning S D} {sources : SourceMeani
   abbrev pub client_did : Snapshot → ℕ → ClientStage G K → Snapshot
   client_did old k stage = record old { clients = slice_set old.clients k stage }
 
-  -- all programs are where their journals arrive
+  -- all programs in their end states
   abbrev pub all_of : Snapshot
   all_of =
       record {

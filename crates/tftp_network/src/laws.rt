@@ -18,20 +18,20 @@ use tftp_file::{Sink, Source};
 use tftp_store::Store;
 
 /// The ends of a server and its clients in an honest network keep the promises of a transfer. Over
-/// any store and any files, where their journals arrive: they have one block size; what a receiver
-/// handed to its file is a beginning of what its peer's file gave, and all of it, committed, once
-/// it is complete; a sender is complete only after its receiver. Over files with models the same
-/// holds of what these hold, and rules of the guarded machine lead to these ends (RFC 1350,
-/// sections 2, 4 and 6).
+/// any store and any files, in the end state of their journals: they have one block size; what a
+/// receiver handed to its file is a beginning of what its peer's file gave, and all of it,
+/// committed, once it is complete; a sender is complete only after its receiver. Over files with
+/// models the same holds of what these hold, and rules of the guarded machine lead to these ends
+/// (RFC 1350, sections 2, 4 and 6).
 pub fn programs_keep_promises<T: Store, G: Source, K: Sink>()
     ensures any_files { ProgramsKeepAnyFiles T.meaning T.Source.meaning G.meaning K.meaning }
     ensures promises { ProgramsKeepPromises T.meaning T.Source.meaning G.meaning K.meaning }
     ensures shown { ProgramsAreShown T.meaning T.Source.meaning G.meaning K.meaning }
 {}
 
-/// The programs of a network come to where their journals arrive by whole steps, one at a time, and
-/// each step receives only what was sent in the steps before it, or what is a stranger's (RFC 1350,
-/// sections 2 and 4).
+/// The programs of a network reach the end state of their journals by whole steps, one at a time,
+/// and each step receives only what was sent in the steps before it, or what is a stranger's (RFC
+/// 1350, sections 2 and 4).
 pub fn journals_are_joint<T: Store, G: Source, K: Sink>()
     ensures { JournalsAreJoint T.meaning T.Source.meaning G.meaning K.meaning }
 {}

@@ -21,7 +21,6 @@ pub mod StepLemmas
 pub mod UnansweredLemmas
 pub mod WorldTurns
 pub mod WorldKeeps
-pub mod OackLemmas
 pub mod WorldRuns
 pub mod WorldSafe
 pub mod RoomLemmas

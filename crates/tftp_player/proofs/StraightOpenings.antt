@@ -46,7 +46,8 @@ use Rattle.tftp_player.specs.WorldRuns.{MayHappen}
 use Rattle.tftp_player.specs.WorldSteps.{ServiceStep, OpeningStep}
 use Rattle.tftp_player.specs.declared.event.Event.TheVariants.{Get, Put}
 use Rattle.tftp_player.specs.declared.report.Report.{Report}
-use Rattle.tftp_player.proofs.OackLemmas.{valid_oack}
+use Rattle.tftp_machine.proofs.EndOpenings.{nothing_held}
+use Rattle.tftp_machine.proofs.Granted.{answer_granted}
 use Rattle.tftp_machine.proofs.Indices.{slice_get-push_old, slice_get-push_new}
 use Rattle.tftp_player.proofs.StraightActions.{from_server, data_next, block_within}
 use Rattle.tftp_player.proofs.StraightPort.{HasAsked, has_asked, port_comes, has_opened, accepted_answers}
@@ -101,10 +102,6 @@ begins reads strangers old new w c x accepts one other rest has to left accepted
 nothing_yet : (mode : Mode) (size : ℕ) (text : List ℕ) → wire_text mode [] ++ [] ≡ take (0 * size) text
 nothing_yet Octet size text = ap (λ (n : ℕ). take n text) (let z : 0 ≡ 0 * size = omega arith in z)
 nothing_yet Netascii size text = ap (λ (n : ℕ). take n text) (let z : 0 ≡ 0 * size = omega arith in z)
-
-nothing_held : (mode : Mode) → HeldFits mode []
-nothing_held Octet = refl
-nothing_held Netascii = tt
 
 new_text : (mode now : Mode) (stored held : List ℕ) (size : ℕ) (text : List ℕ) → now ≡ mode → stored ≡ [] → held ≡ [] →
     wire_text now stored ++ held ≡ take (0 * size) text
@@ -336,7 +333,7 @@ module _ (strangers : Bool) (old new : WorldState) (name : List ℕ) (mode : Mod
       let packet = Oack (agreed_options agreed) in
       let spelled : Spells packet (oack_bytes agreed) =
       spells_own packet
-      (valid_oack kinds.Read mode h.accepts.length limits answers.0 agreed counted has.ok.max_block answers.1
+      ((answer_granted answers.0 kinds.Read mode h.accepts.length limits agreed counted has.ok.max_block answers.1).oack
       (λ e. cc)) in
       let taken = h.accepts.answered.0 in
       let st = agreed_terms reader.address agreed in
@@ -476,7 +473,8 @@ module _ (strangers : Bool) (old new : WorldState) (name : List ℕ) (mode : Mod
       let packet = Oack (agreed_options agreed) in
       let spelled : Spells packet (oack_bytes agreed) =
       spells_own packet
-      (valid_oack kinds.Write mode 0 limits answers.0 agreed (omega arith) has.ok.max_block answers.1 (λ e. cc)) in
+      ((answer_granted answers.0 kinds.Write mode 0 limits agreed (omega arith) has.ok.max_block answers.1).oack
+      (λ e. cc)) in
       let taken = h.accepts.answered.0 in
       let st = agreed_terms x.address taken in
       let rt = agreed_terms writer.address agreed in

@@ -1,19 +1,16 @@
 -- Clients that open, and the request port, keep a world.
-use Rattle.std.proofs.Common.{◌≡◌, ℕ, ◌+◌, ◌*◌, ◌<◌, ◌≤◌, Bool, true, false, List, [], ◌∷◌, ◌++◌, length, map, drop}
+use Rattle.std.proofs.Common.{◌≡◌, ℕ, ◌+◌, ◌*◌, ◌<◌, ◌≤◌, Bool, true, false, List, [], ◌∷◌, ◌++◌, length, map}
 use Rattle.std.proofs.Common.{Option, Some, None, Result, Ok, Err, sym, refl, ap, ◌∙◌, subst, arith}
 use Rattle.std.specs.Prelude.{◌≢◌, if◌then◌else◌, nat_lt, nat_le}
 use Rattle.std.specs.List.{Contains, AllByRecursion}
 use Rattle.std.proofs.lemmas.Option.{same_Some, slice_get_within}
 use Rattle.std.proofs.lemmas.Bool.{true≢false, ltb-true}
-use Rattle.std.proofs.lemmas.List.{append-nil}
 use Rattle.tftp_wire.specs.declared.limits.TheConstants.{MAX_BLOCK}
-use Rattle.tftp_negotiate.specs.declared.limits.TheConstants.{DEFAULT_BLOCK}
 use Rattle.tftp_wire.specs.declared.mode.Mode.{Mode}
-use Rattle.tftp_wire.specs.declared.mode.Mode.TheVariants.{Octet, Netascii}
 use Rattle.tftp_wire.specs.declared.packet.Packet.{Packet as WirePacket}
 use Rattle.tftp_wire.specs.declared.packet.Packet.TheVariants.{Read, Write, Data, Ack, Error, Oack}
 use Rattle.tftp_wire.specs.declared.packet.Request.{Request}
-use Rattle.tftp_wire.specs.Spelling.{IsValid, Spells}
+use Rattle.tftp_wire.specs.Spelling.{IsValid, Spells, canonical}
 use Rattle.tftp_wire.specs.declared.options.RawOption.{RawOption}
 use Rattle.tftp_negotiate.specs.declared.asked.Asked.{Asked}
 use Rattle.tftp_negotiate.specs.declared.known.Kind.{Kind}
@@ -21,12 +18,12 @@ use Rattle.tftp_negotiate.specs.declared.known.Kind.TheVariants as kinds
 use Rattle.tftp_negotiate.specs.declared.known.Known.{Known}
 use Rattle.tftp_negotiate.specs.declared.limits.Limits.{Limits}
 use Rattle.tftp_negotiate.specs.declared.refusal.Refusal.{Refusal}
-use Rattle.tftp_negotiate.specs.Agreed.{size, IsAgreeable, agreed_options}
+use Rattle.tftp_negotiate.specs.Agreed.{size, IsAgreeable}
 use Rattle.tftp_negotiate.specs.Answer.{answer}
 use Rattle.tftp_negotiate.specs.Ranges.{IsBlockSize}
 use Rattle.tftp_negotiate.proofs.LawsLemmas.{answers_may_be_agreed}
 use Rattle.tftp_file.specs.declared.path.PathFault.{PathFault}
-use Rattle.tftp_file.specs.Block.{block, block_count, Fits}
+use Rattle.tftp_file.specs.Block.{Fits}
 use Rattle.tftp_file.specs.Netascii.{wire_text}
 use Rattle.tftp_file.specs.Path.{path_of_name}
 use Rattle.tftp_ends.specs.declared.error_reply.ErrorReply.{ErrorReply}
@@ -37,18 +34,18 @@ use Rattle.tftp_wire.specs.Reading.{has_error_opcode}
 use Rattle.tftp_ends.specs.Step.{error_bytes}
 use Rattle.tftp_store.specs.Store.{measured}
 use Rattle.tftp_machine.specs.Hosts.{host_of, server_ip, client_ip, request_port, two_hosts}
-use Rattle.tftp_machine.specs.Machine.{Endpoint, Elsewhere, Message, Request as Says_request, Oack as Says_oack}
+use Rattle.tftp_machine.specs.Machine.{Endpoint, Elsewhere, Message}
 use Rattle.tftp_machine.specs.Rules.{Rule, message}
 use Rattle.tftp_machine.specs.Said.{said}
-use Rattle.tftp_machine.specs.EndKept.{HeldFits}
-use Rattle.tftp_machine.proofs.Actions.{asks, serves_plainly, serves_with, says_error}
+use Rattle.tftp_machine.specs.EndOpens.{AreGranted, IsNewly}
+use Rattle.tftp_machine.proofs.Actions.{asks, says_error}
+use Rattle.tftp_machine.proofs.EndOpenings.{no_text, nothing_held, opens_to_send, opens_to_store}
+use Rattle.tftp_machine.proofs.Granted.{answer_granted, answer_small}
 use Rattle.tftp_machine.proofs.EndMoves.{valid_error}
-use Rattle.tftp_machine.proofs.SourceMoves.{valid_data}
-use Rattle.tftp_machine.proofs.WaitingMoves.{agreed_size}
-use Rattle.tftp_machine.proofs.SaidLemmas.{spells_own, own_oack}
+use Rattle.tftp_machine.proofs.SaidLemmas.{spells_own}
 use Rattle.tftp_machine.proofs.HostLemmas.{host_server, host_client}
-use Rattle.tftp_machine.specs.Shows.{NoneAt, requested, NoneAnswers, EndView, IsShownAt, IsShownWithin}
-use Rattle.tftp_player.specs.World.{WorldState, WorldEnd, Open_end, file_at, in_the_way, datagram, said_in, view_of_end}
+use Rattle.tftp_machine.specs.Shows.{NoneAt, requested, EndView, IsShownAt, IsShownWithin}
+use Rattle.tftp_player.specs.World.{WorldState, WorldEnd, file_at, in_the_way, datagram, said_in, view_of_end}
 use Rattle.tftp_player.specs.Openings.{request_of, reading_client, writing_client, MayGet, MayPut, sending_end}
 use Rattle.tftp_player.specs.Openings.{receiving_end}
 use Rattle.tftp_server.specs.Port.{Ask, Ignores, Refuses, Reads, Service, Refused, Sends, accept_reply, by_draft}
@@ -60,7 +57,6 @@ use Rattle.tftp_player.specs.declared.report.Report.{Report}
 use Rattle.tftp_machine.proofs.Shown.{shown_still, shown_within}
 use Rattle.tftp_player.proofs.UnansweredLemmas.{none_answers}
 use Rattle.tftp_player.proofs.Measured.{measured_fits}
-use Rattle.tftp_player.proofs.OackLemmas.{valid_oack}
 use Rattle.tftp_player.proofs.WorldTurns.{viewed_at, opening_keeps, saying_keeps}
 
 at_server : (a : Endpoint) → a.ip ≡ server_ip → host_of a ≢ Elsewhere
@@ -78,18 +74,6 @@ none_at_next first strangers w ok a port k e i same =
     let there : e.address.port ≡ a.port = ap (λ (q : Endpoint). q.port) same in
     let within = slice_get_within w.ends k h.0 h.1 in
     omega (arith, own, there, port, within)
-
-empty_text : (mode : Mode) → wire_text mode [] ≡ []
-empty_text Octet = refl
-empty_text Netascii = refl
-
-empty_held : (mode : Mode) → HeldFits mode []
-empty_held Octet = refl
-empty_held Netascii = tt
-
--- what a new receiver has
-no_text : (mode : Mode) → wire_text mode [] ++ [] ≡ []
-no_text mode = append-nil (wire_text mode []) ∙ empty_text mode
 
 -- no rule is a few
 pub none_more : (first : List Rule) (views : List EndView) (messages : List Message) →
@@ -135,7 +119,7 @@ reading_keeps first strangers w v name mode asked report ok may o =
     opening_keeps first strangers w v ok x report p (spells_own p may.valid) shown_now (at_client a refl) refl refl
     (record {
       phase = (refl, may.options.askable, refl, refl, λ _. refl, λ e. absurd (true≢false (sym e)));
-      held = empty_held mode;
+      held = nothing_held mode;
       committed = λ _. refl;
     }) refl refl o
 
@@ -155,16 +139,9 @@ writing_keeps first strangers w v name mode asked file report ok may o =
     opening_keeps first strangers w v ok x report p (spells_own p may.valid) shown_now (at_client a refl) refl refl
     (record {
       phase = (refl, may.options.askable, refl, refl, λ _. refl, λ _. refl);
-      held = empty_held mode;
+      held = nothing_held mode;
       committed = λ e. absurd (true≢false e);
     }) refl refl o
-
--- a request that these bytes spell was sent, and no open end answers it
-pub record IsNewly (messages : List Message) (ends : List WorldEnd) (from : Endpoint) (bytes : List ℕ) (write : Bool)
-    (request : Request) : Type 0 where
-  pub sent : Contains messages (message from request_port (Says_request write request))
-  pub spells : Spells (requested write request) bytes
-  pub unanswered : NoneAnswers (map view_of_end ends) from (requested write request)
 
 -- the options that a server agreed to
 pub answered_values :
@@ -174,106 +151,59 @@ pub answered_values :
 answered_values kind mode file_length limits options known ok e =
     (answers_may_be_agreed options kind mode file_length limits known ok e).values
 
+-- what an end has sent is a packet, if it is the packet's own bytes
+spells_at : (bytes : List ℕ) (p : WirePacket) → IsValid p → bytes ≡ canonical p → Spells p bytes
+spells_at bytes p valid is = subst (λ (b : List ℕ). Spells p b) (sym is) (spells_own p valid)
+
 -- a read is served
 sending_keeps :
     (first : List Rule) (strangers : Bool) (w v : WorldState) (from : Endpoint) (bytes : List ℕ) (request : Request)
     (path file : List ℕ) (agreed : List Known) (report : Report) (ok : IsOkAt first strangers w) →
-    IsNewly ok.messages w.ends from bytes false request → AllByRecursion IsAgreeable agreed →
-    (agreed ≢ [] → IsValid (Oack (agreed_options agreed))) → Fits (wire_text request.mode file) (size agreed) →
+    IsNewly two_hosts (map view_of_end w.ends) ok.messages from bytes false request → AreGranted agreed →
+    Fits (wire_text request.mode file) (size agreed) →
     OpeningStep w (sending_end w from bytes request.mode path file agreed) report v → IsOkWithin 3 first strangers v
-sending_keeps first strangers w v from bytes request path file [] report ok come agreeable valid fits o =
-    let text = wire_text request.mode file in
+sending_keeps first strangers w v from bytes request path file [] report ok come granted fits o =
     let x = sending_end w from bytes request.mode path file [] in
-    let one : 1 ≤ block_count text DEFAULT_BLOCK = omega arith in
-    let p = Data 1 (block text DEFAULT_BLOCK 1) in
-    let shown_now =
-    serves_plainly two_hosts first (map view_of_end w.ends) ok.messages ok.shown x.address from bytes false request text
-    (host_server x.address refl) (none_at_next first strangers w ok x.address refl) come.sent fits come.spells
-    come.unanswered in
-    opening_keeps first strangers w v ok x report p
-    (spells_own p (valid_data text DEFAULT_BLOCK 0 (omega arith) (omega arith) fits one)) shown_now
-    (at_server x.address refl) refl refl
-    (record {
-      phase =
-          record {
-            sender = refl;
-            positive = omega arith;
-            size = omega arith;
-            fits = fits;
-            so_far = one;
-            left = refl;
-            last_sent_to = refl;
-            measured = refl;
-          };
-      held = empty_held request.mode;
-      committed = λ e. absurd (true≢false e);
-    }) refl refl o
-sending_keeps first strangers w v from bytes request path file (known ∷ agreed) report ok come agreeable valid fits o =
-    let text = wire_text request.mode file in
+    let opens =
+    opens_to_send two_hosts first (map view_of_end w.ends) ok.messages x.address from bytes request path file
+    (wire_text request.mode file) [] w.retries ok.shown (host_server x.address refl)
+    (none_at_next first strangers w ok x.address refl) come granted fits in
+    let spelled = spells_at x.state.position.last_sent opens.packet opens.valid opens.last_sent in
+    opening_keeps first strangers w v ok x report opens.packet spelled opens.shown (at_server x.address refl) refl refl
+    opens.kept refl refl o
+sending_keeps first strangers w v from bytes request path file (known ∷ agreed) report ok come granted fits o =
     let x = sending_end w from bytes request.mode path file (known ∷ agreed) in
-    let b = agreed_size (known ∷ agreed) agreeable in
-    let p = Oack (agreed_options (known ∷ agreed)) in
-    let shown_now =
-    serves_with two_hosts first (map view_of_end w.ends) ok.messages ok.shown x.address from bytes false request text
-    (size (known ∷ agreed)) (host_server x.address refl) (none_at_next first strangers w ok x.address refl) come.sent
-    fits b.0 come.spells come.unanswered in
-    let says =
-    subst
-    (λ (n : ℕ).
-    IsShownWithin two_hosts 3 first (map view_of_end w.ends ++ view_of_end (Open_end x) ∷ [])
-    (ok.messages ++ message x.address from (Says_oack n) ∷ [])) (sym (own_oack (known ∷ agreed) agreeable)) shown_now in
-    let none : 0 * size (known ∷ agreed) ≡ 0 = omega arith in
-    opening_keeps first strangers w v ok x report p (spells_own p (valid (λ e. cc))) says (at_server x.address refl)
-    refl refl
-    (record {
-      phase =
-          record {
-            sender = refl;
-            positive = b.0;
-            size = b.1;
-            fits = fits;
-            so_far = omega arith;
-            left = ap (λ (n : ℕ). drop n text) (sym none);
-            last_sent_to = refl;
-            measured = refl;
-          };
-      held = empty_held request.mode;
-      committed = λ e. absurd (true≢false e);
-    }) refl refl o
+    let opens =
+    opens_to_send two_hosts first (map view_of_end w.ends) ok.messages x.address from bytes request path file
+    (wire_text request.mode file) (known ∷ agreed) w.retries ok.shown (host_server x.address refl)
+    (none_at_next first strangers w ok x.address refl) come granted fits in
+    let spelled = spells_at x.state.position.last_sent opens.packet opens.valid opens.last_sent in
+    opening_keeps first strangers w v ok x report opens.packet spelled opens.shown (at_server x.address refl) refl refl
+    opens.kept refl refl o
 
 -- a write is served
 taking_keeps :
     (first : List Rule) (strangers : Bool) (w v : WorldState) (from : Endpoint) (bytes : List ℕ) (request : Request)
     (path : List ℕ) (agreed : List Known) (report : Report) (ok : IsOkAt first strangers w) →
-    IsNewly ok.messages w.ends from bytes true request → AllByRecursion IsAgreeable agreed →
-    (agreed ≢ [] → IsValid (Oack (agreed_options agreed))) →
+    IsNewly two_hosts (map view_of_end w.ends) ok.messages from bytes true request → AreGranted agreed →
     OpeningStep w (receiving_end w from bytes request.mode path agreed) report v → IsOkWithin 3 first strangers v
-taking_keeps first strangers w v from bytes request path [] report ok come agreeable valid o =
+taking_keeps first strangers w v from bytes request path [] report ok come granted o =
     let x = receiving_end w from bytes request.mode path [] in
-    let shown_now =
-    serves_plainly two_hosts first (map view_of_end w.ends) ok.messages ok.shown x.address from bytes true request
-    (wire_text request.mode [] ++ []) (host_server x.address refl) (none_at_next first strangers w ok x.address refl)
-    come.sent (no_text request.mode) come.spells come.unanswered in
-    opening_keeps first strangers w v ok x report (Ack 0) (spells_own (Ack 0) (omega arith)) shown_now
-    (at_server x.address refl) refl refl
-    (record { phase = (refl, refl); held = empty_held request.mode; committed = λ _. refl }) refl refl o
-taking_keeps first strangers w v from bytes request path (known ∷ agreed) report ok come agreeable valid o =
+    let opens =
+    opens_to_store two_hosts first (map view_of_end w.ends) ok.messages x.address from bytes request path []
+    w.retries ok.shown (host_server x.address refl) (none_at_next first strangers w ok x.address refl) come granted in
+    let spelled = spells_at x.state.position.last_sent opens.packet opens.valid opens.last_sent in
+    opening_keeps first strangers w v ok x report opens.packet spelled opens.shown (at_server x.address refl) refl refl
+    (record { phase = opens.kept.phase; held = opens.kept.held; committed = opens.kept.committed }) refl refl o
+taking_keeps first strangers w v from bytes request path (known ∷ agreed) report ok come granted o =
     let x = receiving_end w from bytes request.mode path (known ∷ agreed) in
-    let b = agreed_size (known ∷ agreed) agreeable in
-    let p = Oack (agreed_options (known ∷ agreed)) in
-    let shown_now =
-    serves_with two_hosts first (map view_of_end w.ends) ok.messages ok.shown x.address from bytes true request
-    (wire_text request.mode [] ++ []) (size (known ∷ agreed)) (host_server x.address refl)
-    (none_at_next first strangers w ok x.address refl) come.sent (no_text request.mode) b.0 come.spells
-    come.unanswered in
-    let says =
-    subst
-    (λ (n : ℕ).
-    IsShownWithin two_hosts 3 first (map view_of_end w.ends ++ view_of_end (Open_end x) ∷ [])
-    (ok.messages ++ message x.address from (Says_oack n) ∷ [])) (sym (own_oack (known ∷ agreed) agreeable)) shown_now in
-    opening_keeps first strangers w v ok x report p (spells_own p (valid (λ e. cc))) says (at_server x.address refl)
-    refl refl
-    (record { phase = (refl, refl); held = empty_held request.mode; committed = λ _. refl }) refl refl o
+    let opens =
+    opens_to_store two_hosts first (map view_of_end w.ends) ok.messages x.address from bytes request path
+    (known ∷ agreed) w.retries ok.shown (host_server x.address refl)
+    (none_at_next first strangers w ok x.address refl) come granted in
+    let spelled = spells_at x.state.position.last_sent opens.packet opens.valid opens.last_sent in
+    opening_keeps first strangers w v ok x report opens.packet spelled opens.shown (at_server x.address refl) refl refl
+    (record { phase = opens.kept.phase; held = opens.kept.held; committed = opens.kept.committed }) refl refl o
 
 -- the request port refuses
 refusing_keeps : (first : List Rule) (strangers : Bool) (w v : WorldState) (from : Endpoint) (reply : ErrorReply) →
@@ -295,7 +225,7 @@ if_served P false r s f g = g refl
 -- a request in this mode was
 abbrev pub WasAsked : List Message → List WorldEnd → Endpoint → List ℕ → Bool → Mode → Type 0
 WasAsked messages ends from bytes write mode =
-    (q : Request) × (q.mode ≡ mode) × IsNewly messages ends from bytes write q
+    (q : Request) × (q.mode ≡ mode) × IsNewly two_hosts (map view_of_end ends) messages from bytes write q
 
 -- the decoded request was, unless it repeats another
 abbrev pub AsksSo : List Message → List WorldEnd → Endpoint → List ℕ → Bool → Option WirePacket → Type 0
@@ -348,16 +278,15 @@ module _ (first : List Rule) (strangers : Bool) (w v : WorldState) (from : Endpo
       if_served Kept_by (nat_lt m (65535 * size agreed)) (Sends path mode m agreed) (Refused FileTooLarge)
       (λ f o.
       let few : m < 65535 * size agreed = ltb-true m (65535 * size agreed) f in
-      let agreeable = answered_values kinds.Read mode m w.limits options agreed ok.max_block e in
-      let b = agreed_size agreed agreeable in
-      let fits : Fits (wire_text mode file) (size agreed) = measured_fits mode file (size agreed) b.1 few in
-      let small = let c = b.1 in let l : m < 65535 * MAX_BLOCK = omega arith in l in
+      let b : size agreed ≤ MAX_BLOCK = answer_small options kinds.Read mode m w.limits agreed ok.max_block e in
+      let fits : Fits (wire_text mode file) (size agreed) = measured_fits mode file (size agreed) b few in
+      let small : m < 65535 * MAX_BLOCK = omega arith in
       let same : o.0 ≡ file = same_Some o.0 file (sym o.1 ∙ there) in
       subst
       (λ (n : Mode). Fits (wire_text n file) (size agreed) →
       OpeningStep w (sending_end w from bytes n path file agreed) report v → IsOkWithin 3 first strangers v) come.1
-      (sending_keeps first strangers w v from bytes come.0 path file agreed report ok come.2 agreeable
-      (λ some. valid_oack kinds.Read mode m w.limits options agreed (omega (arith, small)) ok.max_block e some)) fits
+      (sending_keeps first strangers w v from bytes come.0 path file agreed report ok come.2
+      (answer_granted options kinds.Read mode m w.limits agreed (omega (arith, small)) ok.max_block e)) fits
       (subst (λ (g : List ℕ). OpeningStep w (sending_end w from bytes mode path g agreed) report v) same o.2))
       (λ f. refused FileTooLarge)
 
@@ -378,8 +307,7 @@ module _ (first : List Rule) (strangers : Bool) (w v : WorldState) (from : Endpo
       (λ (n : Mode). OpeningStep w (receiving_end w from bytes n path agreed) report v → IsOkWithin 3 first strangers v)
       come.1
       (taking_keeps first strangers w v from bytes come.0 path agreed report ok come.2
-      (answered_values kinds.Write mode 0 w.limits options agreed ok.max_block e)
-      (λ some. valid_oack kinds.Write mode 0 w.limits options agreed (omega arith) ok.max_block e some))
+      (answer_granted options kinds.Write mode 0 w.limits agreed (omega arith) ok.max_block e))
   taking_served path mode options (Some file) agreed come e = refused FileExists
 
   -- the result of what the port asks

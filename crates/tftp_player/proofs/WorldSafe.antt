@@ -1,6 +1,6 @@
 -- A world that is kept is safe.
 use Rattle.std.proofs.Common.{◌≡◌, ℕ, Bool, true, false, List, [], ◌++◌, map, Some, sym, refl, ap, ◌∙◌, subst, arith}
-use Rattle.std.specs.Prelude.{if◌then◌else◌, slice_get}
+use Rattle.std.specs.Prelude.{◌≢◌, if◌then◌else◌, slice_get}
 use Rattle.std.specs.Cmp.Lexicographic.{same_text}
 use Rattle.std.proofs.lemmas.Bool.{true≢false}
 use Rattle.std.proofs.lemmas.List.{append-nil}
@@ -16,13 +16,14 @@ use Rattle.tftp_machine.specs.Facts.{home, IsSoundParty}
 use Rattle.tftp_machine.specs.Hosts.{host_of, server_ip, client_ip, two_hosts}
 use Rattle.tftp_machine.specs.Machine.{Endpoint, At_server, At_client, Elsewhere, is_same_ip}
 use Rattle.tftp_machine.specs.Shows.{EndView, Matches}
-use Rattle.tftp_machine.specs.ViewSafety.{IsAmong, IsSafeViews}
+use Rattle.tftp_machine.specs.Safety.{AreSafe, IsSenderAt}
+use Rattle.tftp_machine.specs.ViewSafety.{IsAmong, IsSafeViews, safety_view}
 use Rattle.tftp_machine.specs.OpenEnds.{goes_on, received_text}
 use Rattle.tftp_machine.proofs.SinkMoves.{text_else}
 use Rattle.tftp_machine.proofs.SourceMoves.{text_if}
 use Rattle.tftp_player.specs.World.{WorldState, WorldEnd, Open_end, Closed_end, end_record, end_address, end_mode}
 use Rattle.tftp_player.specs.World.{end_file, end_stored, end_committed, end_text, end_wire, new_world, view_of_end}
-use Rattle.tftp_player.specs.WorldSafety.{IsIn, endpoint_of_end, IsSafe}
+use Rattle.tftp_player.specs.WorldSafety.{HasPeer, IsIn, IsSafe, endpoint_of_end, safety_of}
 use Rattle.tftp_player.specs.WorldKept.{IsKeptIn, IsOk}
 use Rattle.tftp_player.specs.WorldRuns.{WorldsAreSafe, PeersStayHome, KeptIsSafe}
 use Rattle.tftp_player.proofs.HostBytes.{wire_beginning, wire_same}
@@ -116,23 +117,36 @@ module _ (strangers : Bool) (w : WorldState) (ok : IsOk strangers w) where
   sound k x i =
       (shown_by two_hosts (map view_of_end w.ends) ok.messages ok.shown).1.ends (end_address x) (matched k x i).is_open
 
-  pub ok_safe : IsSafe w
-  ok_safe = record {
-    at_address = λ k x i.
-        let client = is_client (end_record x).side in
-        endpoint_from (end_address x) (endpoint_of_end (end_record x).side k)
-        (ip_at_home (end_address x) client ((sound k x i).at_home ∙ ap home (matched k x i).client))
-        (ok.ports k x i);
-    at_server =
-        λ x p i client peer.
-        ((sound i.0 x i.1).serving ((matched i.0 x i.1).client ∙ client) p ((matched i.0 x i.1).peer ∙ peer)).0;
-    unique = λ x y i j e.
-        let p = ok.ports i.0 x i.1 in
-        let q = ok.ports j.0 y j.1 in
-        let f : (end_address x).port ≡ (end_address y).port = ap (λ (a : Endpoint). a.port) e in
-        let k : i.0 ≡ j.0 = omega (arith, p, q, f) in
-        same_Some x y (sym i.1 ∙ (ap (slice_get w.ends) k ∙ j.1));
+  -- the end that sends to x, if its view is among the views
+  sender_at : (x : WorldEnd) (p : Endpoint) (v : EndView) →
+      IsSenderAt safety_view (IsAmong (map view_of_end w.ends)) p (end_mode x) v →
+      (z : WorldEnd) × IsSenderAt safety_of (IsIn w) p (end_mode x) z × (v.text ≡ wire_text (end_mode x) (end_file z))
+  sender_at x p v sender =
+      let y = end_of w v sender.is_end in
+      let z = y.0 in
+      let sends_it : is_sender (end_record z).side ≡ true = ap (λ (e : EndView). e.sender) y.2 ∙ sender.sends in
+      let mode : end_mode z ≡ end_mode x = ap (λ (e : EndView). e.mode) y.2 ∙ sender.mode in (
+        z,
+        record {
+          is_end = y.1;
+          address = ap (λ (e : EndView). e.address) y.2 ∙ sender.address;
+          sends = sends_it;
+          mode = mode;
+        },
+        ap (λ (e : EndView). e.text) (sym y.2)
+            ∙ (sends z y.1 sends_it ∙ ap (λ (m : Mode). wire_text m (end_file z)) mode),
+      )
+
+  at_server : (x : WorldEnd) (p : Endpoint) → IsIn w x → is_client (end_record x).side ≡ true → HasPeer x p →
+      host_of p ≡ At_server
+  at_server x p i client peer =
+      let m = matched i.0 x i.1 in
+      ((sound i.0 x i.1).serving (m.client ∙ client) p (m.peer ∙ peer)).0
+
+  transfers : AreSafe safety_of (IsIn w) (λ p. host_of p ≢ Elsewhere)
+  transfers = record {
     same_size = λ x y i j e f. safe.same_size (view_of_end x) (view_of_end y) (among x i) (among y j) e f;
+    ours = λ x p i client peer. safe.ours (view_of_end x) p (among x i) client peer;
     is_empty = λ x i r e.
         let t = safe.is_empty (view_of_end x) (among x i) r e in
         let b =
@@ -141,22 +155,10 @@ module _ (strangers : Bool) (w : WorldState) (ok : IsOk strangers w) where
         first_of_empty (end_stored x) (wire_beginning (end_mode x) (end_stored x) [] b);
     is_beginning = λ x p i r e own.
         let h = safe.is_beginning (view_of_end x) p (among x i) r e own in
-        let y = end_of w h.0 h.1.0 in
-        let z = y.0 in
-        let sender : is_sender (end_record z).side ≡ true = ap (λ (v : EndView). v.sender) y.2 ∙ h.2 in
-        let mode : end_mode z ≡ end_mode x = ap (λ (v : EndView). v.mode) y.2 ∙ h.3 in
-        let text : h.0.text ≡ wire_text (end_mode x) (end_file z) =
-        ap (λ (v : EndView). v.text) (sym y.2)
-        ∙ (sends z y.1 sender ∙ ap (λ (m : Mode). wire_text m (end_file z)) mode) in
-        let b = subst (λ (t : List ℕ). IsBeginningOf (wire_text (end_mode x) (end_stored x)) t) text
-        (IsBeginningOf-trans (wire_text (end_mode x) (end_stored x)) (end_text x) h.0.text (begins x r) h.4) in (
-          z,
-          (
-            (y.1, ap (λ (v : EndView). v.address) y.2 ∙ h.1.1),
-            sender,
-          ),
-          wire_beginning (end_mode x) (end_stored x) (end_file z) b,
-        );
+        let z = sender_at x p h.0 h.1 in
+        let b = subst (λ (t : List ℕ). IsBeginningOf (wire_text (end_mode x) (end_stored x)) t) z.2
+        (IsBeginningOf-trans (wire_text (end_mode x) (end_stored x)) (end_text x) h.0.text (begins x r) h.2) in
+        (z.0, z.1, wire_beginning (end_mode x) (end_stored x) (end_file z.0) b);
     is_committed = λ x i r d. committed x (ok.ends i.0 x i.1) r d;
     is_whole = λ x i r d.
         let g = safe.is_whole (view_of_end x) (among x i) r d in (
@@ -164,38 +166,43 @@ module _ (strangers : Bool) (w : WorldState) (ok : IsOk strangers w) where
           g.1,
           λ own.
               let h = g.2 own in
-              let y = end_of w h.0 h.1.0 in
-              let z = y.0 in
-              let sender : is_sender (end_record z).side ≡ true = ap (λ (v : EndView). v.sender) y.2 ∙ h.2 in
-              let mode : end_mode z ≡ end_mode x = ap (λ (v : EndView). v.mode) y.2 ∙ h.3 in
-              let text : h.0.text ≡ wire_text (end_mode x) (end_file z) =
-              ap (λ (v : EndView). v.text) (sym y.2)
-              ∙ (sends z y.1 sender ∙ ap (λ (m : Mode). wire_text m (end_file z)) mode) in (
-                z,
-                (
-                  (y.1, ap (λ (v : EndView). v.address) y.2 ∙ h.1.1),
-                  sender,
-                ),
-                wire_same (end_mode x) (end_stored x) (end_file z) (sym (whole x r d) ∙ (h.4 ∙ text)),
-              ),
+              let z = sender_at x g.0 h.0 h.1 in
+              (z.0, z.1, wire_same (end_mode x) (end_stored x) (end_file z.0) (sym (whole x r d) ∙ (h.2 ∙ z.2)), refl),
         );
-    is_at_path = λ o x i r d c. (ok.ends i.0 x i.1).stored o c r d;
     sender_last = λ x i s d.
         let g = safe.sender_last (view_of_end x) (among x i) s d in (
           g.0,
           g.1,
           λ own.
               let h = g.2 own in
-              let y = end_of w h.0 h.1.0 in (
+              let y = end_of w h.0 h.1.is_end in (
                 y.0,
-                (
-                  y.1,
-                  ap (λ (v : EndView). v.address) y.2 ∙ h.1.1,
-                ),
-                ap (λ (v : EndView). v.peer) y.2 ∙ h.2,
-                ap (λ (v : EndView). v.done) y.2 ∙ h.3,
+                record {
+                  is_end = y.1;
+                  address = ap (λ (v : EndView). v.address) y.2 ∙ h.1.address;
+                  peer = ap (λ (v : EndView). v.peer) y.2 ∙ h.1.peer;
+                  complete = ap (λ (v : EndView). v.done) y.2 ∙ h.1.complete;
+                },
               ),
         );
+  }
+
+  pub ok_safe : IsSafe w
+  ok_safe = record {
+    at_address = λ k x i.
+        let client = is_client (end_record x).side in
+        endpoint_from (end_address x) (endpoint_of_end (end_record x).side k)
+        (ip_at_home (end_address x) client ((sound k x i).at_home ∙ ap home (matched k x i).client))
+        (ok.ports k x i);
+    unique = λ x y i j e.
+        let p = ok.ports i.0 x i.1 in
+        let q = ok.ports j.0 y j.1 in
+        let f : (end_address x).port ≡ (end_address y).port = ap (λ (a : Endpoint). a.port) e in
+        let k : i.0 ≡ j.0 = omega (arith, p, q, f) in
+        same_Some x y (sym i.1 ∙ (ap (slice_get w.ends) k ∙ j.1));
+    transfers = transfers;
+    at_server = at_server;
+    is_at_path = λ o x i r d c. (ok.ends i.0 x i.1).stored o c r d;
   }
 
 pub kept_is_safe : KeptIsSafe

@@ -45,7 +45,7 @@ abbrev pub holding_in : Files (List ℕ) Holding → Holding
 holding_in (Source left) = no_holding
 holding_in (Sink holding) = holding
 
--- a client made this turn; `files` is its file after it
+-- a client made this step; `files` is its file after it
 pub record ClientTurns (port : ℕ) (old new : PlayedClient) (turn : Turn)
     (files : Files (List ℕ) Holding) (effect : Effect) (r : Record) : Type 0 where
   pub effects : effect ≡ effect_of (client_at port) turn

@@ -8,7 +8,7 @@ use Rattle.tftp_player.specs.declared.datagram.Datagram.{Datagram}
 use Rattle.tftp_player.specs.declared.effect.Effect.{Effect}
 use Rattle.tftp_player.specs.declared.report.Report.{Report}
 
--- the result of a turn of the end there
+-- the result of a step of the end there
 abbrev pub effect_of : Endpoint → Turn → Effect
 effect_of at turn =
     record {

@@ -1,5 +1,5 @@
 -- How the ends of a world open: the openings of an end, and the state that the world adds.
-use Rattle.std.specs.Prelude.{ℕ, false, List, [], ◌∷◌, length, drop}
+use Rattle.std.specs.Prelude.{ℕ, false, List, [], length}
 use Rattle.tftp_negotiate.specs.declared.limits.TheConstants.{DEFAULT_BLOCK}
 use Rattle.tftp_wire.specs.declared.mode.Mode.{Mode}
 use Rattle.tftp_negotiate.specs.declared.asked.Asked.{Asked}
@@ -9,6 +9,7 @@ use Rattle.tftp_file.specs.Netascii.{wire_text}
 use Rattle.tftp_ends.specs.End.{EndState}
 pub use Rattle.tftp_ends.specs.Opening.{request_of, getting, putting, serving_read, serving_write}
 pub use Rattle.tftp_ends.specs.Opening.{MayGet, MayPut}
+use Rattle.tftp_machine.specs.EndOpens.{left_at_first}
 use Rattle.tftp_machine.specs.Hosts.{request_port}
 use Rattle.tftp_machine.specs.Machine.{Endpoint}
 use Rattle.tftp_machine.specs.OpenEnds.{OpenEnd}
@@ -43,11 +44,6 @@ writing_client w name mode asked file =
     (putting request_port name mode asked (length (wire_text mode file)) w.limits.max_file
     w.retries)
     [] [] file (wire_text mode file)
-
--- the text that the server's end has left after it opened: without options DATA 1 was read
-abbrev pub left_at_first : List Known → List ℕ → List ℕ
-left_at_first [] text = drop DEFAULT_BLOCK text
-left_at_first (known ∷ agreed) text = text
 
 -- the server sends a file, for this request
 abbrev pub sending_end : WorldState → Endpoint → List ℕ → Mode → List ℕ → List ℕ → List Known

@@ -7,7 +7,7 @@ use Rattle.tftp_wire.specs.declared.packet.Packet.{Packet}
 use Rattle.tftp_file.specs.declared.fault.StoreFault.{StoreFault}
 use Rattle.tftp_file.specs.declared.fault.StoreFault.TheVariants.{Missing, Exists}
 use Rattle.tftp_ends.specs.End.{is_client}
-use Rattle.tftp_server.specs.Port.{Ask, Service, answered, asks}
+use Rattle.tftp_server.specs.Port.{Ask, Service, answered, service as service_by}
 use Rattle.tftp_store.specs.Store.{measured}
 use Rattle.tftp_machine.specs.Machine.{Endpoint}
 use Rattle.tftp_machine.specs.OpenEnds.{OpenEnd, peer_of}
@@ -40,10 +40,13 @@ served w ask =
     answered w.limits (λ path mode. opened_of mode (file_at w.files path))
     (λ path. begun_of (in_the_way w.overwrite (file_at w.files path))) ask
 
--- the service for a datagram, by whether it repeats the request of an open transfer
+-- the service for a datagram, by whether it repeats the request of an open transfer: that of a
+-- server with this store
 abbrev pub service : WorldState → Bool → List ℕ → Option Packet → Service
 service w repeated bytes decoded =
-    served w (asks w.cap (open_transfers w.ends) repeated w.limits bytes decoded)
+    service_by w.limits (λ path mode. opened_of mode (file_at w.files path))
+    (λ path. begun_of (in_the_way w.overwrite (file_at w.files path))) w.cap
+    (open_transfers w.ends) repeated bytes decoded
 
 -- an end of the server was requested from there by a datagram that spells this packet
 pub record WasAskedBy (from : Endpoint) (packet : Packet) (x : OpenEnd) : Type 0 where

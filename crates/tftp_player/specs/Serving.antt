@@ -61,7 +61,7 @@ abbrev pub concluded_held : Bool → ℕ → List (ℕ × Transfer) → List (�
 concluded_held true port held = without port held
 concluded_held false port held = held
 
--- an end of the server made this turn from `e`: its transfer is `next`, and the store `store`
+-- an end of the server made this step from `e`: its transfer is `next`, and the store `store`
 pub record ServedTurns (port : ℕ) (old new : Served) (before after : PlayedServer) (e : EndState)
     (turn : Turn) (next : Transfer) (refuses : Bool) (store : Stored) (effect : Effect)
     (r : Record) : Type 0 where

@@ -69,7 +69,7 @@ AreConsistent ends = IsStaged ends.server ends.players.items ends.records.items
 abbrev pub AreAsBefore : Ends → Ends → Type 0
 AreAsBefore old new = (new.server ≡ old.server) × (new.players.items ≡ old.players.items)
 
--- the end at this index made a turn
+-- the end at this index made a step
 pub record EndTurns (index : ℕ) (x : OpenEnd) (turn : Turn) (held : Files (List ℕ) Holding)
     (ends ends' : List WorldEnd) (effect : Effect) : Type 0 where
   pub effects : effect ≡ effect_of x.address turn

@@ -160,15 +160,15 @@ abbrev pub by_outcome : Option Outcome → OpenEnd → WorldEnd
 by_outcome None x = Open_end x
 by_outcome (Some outcome) x = Closed_end (closed_end x)
 
--- the end after a turn: open, or closed with its record
+-- the end after a step: open, or closed with its record
 abbrev pub standing : OpenEnd → WorldEnd
 standing x = by_outcome (outcome_of x.state.position.phase) x
 
--- the turn has committed what the end stored
+-- the step has committed what the end stored
 abbrev pub has_committed : OpenEnd → OpenEnd → Bool
 has_committed x y = not x.committed && y.committed
 
--- the world after a turn of the end x at index k
+-- the world after a step of the end x at index k
 abbrev pub world_after : WorldState → ℕ → OpenEnd → Turn → Files (List ℕ) Holding → List StoredFile
     → WorldState
 world_after w k x turn held files =
@@ -188,7 +188,7 @@ abbrev pub closed_at : Endpoint → Option Outcome → Option (ℕ × Outcome)
 closed_at at None = None
 closed_at at (Some outcome) = Some (at.port, outcome)
 
--- the report of a turn of an open end
+-- the report of a step of an open end
 abbrev pub report_of : WorldState → OpenEnd → Turn → Report
 report_of w x turn =
     record {
@@ -231,7 +231,7 @@ abbrev pub end_request : WorldEnd → List ℕ
 end_request (Open_end x) = x.request
 end_request (Closed_end x) = []
 
--- an end as the machine shows it: it has failed if it is closed and not complete
+-- the view of an end for the machine: it has failed if it is closed and not complete
 abbrev pub view_of_end : WorldEnd → EndView
 view_of_end x =
     record {

@@ -62,7 +62,7 @@ abbrev pub HasPorts : WorldState → Type 0
 HasPorts w =
     (k : ℕ) (x : WorldEnd) → slice_get w.ends k ≡ Some x → (end_address x).port ≡ 1024 + k
 
--- the guarded machine shows the world's ends and what was sent, as `IsShownSo` says; `strangers`
+-- the world's ends and what was sent refine the guarded machine, as `IsShownSo` says; `strangers`
 -- says that an endpoint at neither host may have sent
 pub record IsOkBy (IsShownSo : List EndView → List Message → Type 0) (strangers : Bool)
     (w : WorldState) : Type 0 where
@@ -78,14 +78,14 @@ pub record IsOkBy (IsShownSo : List EndView → List Message → Type 0) (strang
   pub max_block : IsBlockSize w.limits.max_block
   pub ends : (k : ℕ) (x : WorldEnd) → slice_get w.ends k ≡ Some x → IsKeptIn w x
 
--- it is shown after a legal list of rules
+-- they refine the machine after a legal list of rules
 abbrev pub IsOk : Bool → WorldState → Type 0
 IsOk strangers w = IsOkBy (IsShown two_hosts) strangers w
 
--- it is shown after these rules
+-- they refine it after these rules
 abbrev pub IsOkAt : List Rule → Bool → WorldState → Type 0
 IsOkAt rules strangers w = IsOkBy (IsShownAt two_hosts rules) strangers w
 
--- it is shown after these and `most` more at most
+-- they refine it after these and `most` more at most
 abbrev pub IsOkWithin : ℕ → List Rule → Bool → WorldState → Type 0
 IsOkWithin most rules strangers w = IsOkBy (IsShownWithin two_hosts most rules) strangers w

@@ -46,7 +46,7 @@ NewWorldsBegin =
     (strangers : Bool) (files : List StoredFile) (config : Config) →
     IsBlockSize config.limits.max_block → IsOk strangers (new_world files config)
 
--- a step keeps the invariant
+-- a step preserves the invariant
 abbrev pub StepsKeep : Type 0
 StepsKeep =
     (strangers : Bool) (old new : WorldState) (event : Event) (report : Report) →
@@ -59,8 +59,8 @@ abbrev pub most_rules : Event → ℕ
 most_rules (Stray from to bytes) = 4
 most_rules event = 3
 
--- a step is that many rules at most: each by its guard, from the machine that showed the old world
--- to one that shows the new
+-- a step is that many rules at most: each by its guard, from the machine that the old world refines
+-- to one that the new world refines
 abbrev pub StepsAreRules : Type 0
 StepsAreRules =
     (strangers : Bool) (old new : WorldState) (event : Event) (report : Report) →

@@ -77,7 +77,7 @@ abbrev pub FilesAfter : Bool → Bool → List ℕ → List ℕ → List StoredF
 FilesAfter overwrite true path bytes old new = IsStored overwrite path bytes old new
 FilesAfter overwrite false path bytes old new = new ≡ old
 
--- the end at index k has made this turn of an event; `held` is its file after it
+-- the end at index k has made this step at an event; `held` is its file after it
 pub record Turns (old : WorldState) (k : ℕ) (x : OpenEnd) (turn : Turn)
     (held : Files (List ℕ) Holding) (report : Report) (new : WorldState) : Type 0 where
   pub files : List StoredFile

@@ -39,9 +39,9 @@ pub fn some_worlds_transfer()
     ensures options { Transfers (Get (97 ∷ []) Octet blocks_of_8) (65 ∷ []) }
 {}
 
-/// The invariant that makes a world safe holds of a new one, and each event keeps it. An event is
-/// at most three rules of the guarded machine, or four for a stranger's datagram, from the machine
-/// that showed the old world to one that shows the new.
+/// The invariant that makes a world safe holds of a new one, and each event preserves it. An event
+/// is at most three rules of the guarded machine, or four for a stranger's datagram, from the
+/// machine that the old world refines to one that the new world refines.
 pub fn a_step_keeps_a_world()
     ensures begins { NewWorldsBegin }
     ensures kept { StepsKeep }

@@ -1,5 +1,6 @@
 -- The first datagram of a server's end, and what its source has left then.
-use Rattle.std.proofs.Common.{◌≡◌, ℕ, ◌*◌, ◌^◌, ◌<◌, List, [], ◌∷◌, length, take, drop, min, Option, Some, Ok, refl, ap, ◌∙◌, subst, arith, ◌-◌}
+use Rattle.std.proofs.Common.{◌≡◌, ℕ, ◌*◌, ◌^◌, ◌<◌, List, [], ◌∷◌, length, take, drop, min, Option, Some, Ok, refl}
+use Rattle.std.proofs.Common.{ap, ◌∙◌, subst, arith, ◌-◌}
 use Rattle.std.specs.Prelude.{◌≢◌}
 use Rattle.std.proofs.lemmas.List.{length-take, take_min, drop_min}
 use Rattle.tftp_wire.specs.declared.mode.Mode.{Mode}
@@ -15,16 +16,7 @@ use Rattle.tftp_ends.specs.declared.endpoint.Endpoint.{Endpoint}
 use Rattle.tftp_ends.specs.End.{EndState}
 use Rattle.tftp_ends.specs.Opening.{ServesRead, serving_read, serving_write}
 use Rattle.tftp_ends.specs.Step.{block_length}
-use Rattle.tftp_network.proofs.Granted.{AreGranted}
-
--- the text that a sender has left after its first datagram: without options DATA 1 was read
-abbrev pub left_at_first : List Known → List ℕ → List ℕ
-left_at_first [] text = drop DEFAULT_BLOCK text
-left_at_first (known ∷ agreed) text = text
-
--- the end of a read of this text
-abbrev pub sending : List Known → Endpoint → Mode → List ℕ → ℕ → EndState
-sending agreed peer mode text retries = serving_read agreed peer mode (length text) retries (block text DEFAULT_BLOCK 1)
+use Rattle.tftp_machine.specs.EndOpens.{AreGranted, left_at_first, sending}
 
 -- what the end of a read sends first: DATA 1, or the OACK of the agreed options
 abbrev pub first_of_read : List Known → List ℕ → WirePacket
@@ -42,7 +34,8 @@ pub first_want : (m n : ℕ) → m ≡ n → block_length m DEFAULT_BLOCK 1 ≡ 
 first_want m n e = omega arith
 
 -- and it was read
-first_moved : (text : List ℕ) (rest : Option (List ℕ)) (piece : List ℕ) (m : ℕ) → m ≡ length text → Moved text rest (block_length m DEFAULT_BLOCK 1) [] piece (block_length m DEFAULT_BLOCK 1) →
+first_moved : (text : List ℕ) (rest : Option (List ℕ)) (piece : List ℕ) (m : ℕ) → m ≡ length text →
+    Moved text rest (block_length m DEFAULT_BLOCK 1) [] piece (block_length m DEFAULT_BLOCK 1) →
     (piece ≡ block text DEFAULT_BLOCK 1) × (rest ≡ Some (drop DEFAULT_BLOCK text))
 first_moved text rest piece m e f =
     let want = first_want m (length text) e in (
@@ -51,15 +44,20 @@ first_moved text rest piece m e f =
     )
 
 module _ {F : Type 0} (sources : SourceMeaning F) where
-  filled : (text : List ℕ) (before after : Option (List ℕ)) (piece : List ℕ) (m : ℕ) → before ≡ Some text → m ≡ length text →
+  filled : (text : List ℕ) (before after : Option (List ℕ)) (piece : List ℕ) (m : ℕ) → before ≡ Some text →
+      m ≡ length text →
       Fills before after (block_length m DEFAULT_BLOCK 1) [] piece (Ok (block_length m DEFAULT_BLOCK 1)) →
       (piece ≡ block text DEFAULT_BLOCK 1) × (after ≡ Some (drop DEFAULT_BLOCK text))
   filled text before after piece m known whole f =
       first_moved text after piece m whole
-      (subst (λ (t : Option (List ℕ)). Fills t after (block_length m DEFAULT_BLOCK 1) [] piece (Ok (block_length m DEFAULT_BLOCK 1))) known f)
+      (subst
+      (λ (t : Option (List ℕ)).
+      Fills t after (block_length m DEFAULT_BLOCK 1) [] piece (Ok (block_length m DEFAULT_BLOCK 1))) known f)
 
   -- a read that is served has this end, and its source this text left
-  pub read_opens : (agreed : List Known) (peer : Endpoint) (mode : Mode) (text : List ℕ) (m retries : ℕ) (source rest : F) (e : EndState) → sources.left source ≡ Some text → m ≡ length text →
+  pub read_opens :
+      (agreed : List Known) (peer : Endpoint) (mode : Mode) (text : List ℕ) (m retries : ℕ) (source rest : F)
+      (e : EndState) → sources.left source ≡ Some text → m ≡ length text →
       ServesRead sources agreed peer mode m retries source rest e →
       (e ≡ sending agreed peer mode text retries) × (sources.left rest ≡ Some (left_at_first agreed text))
   read_opens [] peer mode text m retries source rest e known whole s =
@@ -90,10 +88,12 @@ write_first_valid [] g = let l : 0 < 2 ^ 16 = omega arith in l
 write_first_valid (k ∷ agreed) g = g.oack (λ e. cc)
 
 -- and it is what the end has sent, to its peer
-pub read_first_is : (agreed : List Known) (peer : Endpoint) (mode : Mode) (text : List ℕ) (retries : ℕ) → (sending agreed peer mode text retries).position.last_sent ≡ canonical (first_of_read agreed text)
+pub read_first_is : (agreed : List Known) (peer : Endpoint) (mode : Mode) (text : List ℕ) (retries : ℕ) →
+    (sending agreed peer mode text retries).position.last_sent ≡ canonical (first_of_read agreed text)
 read_first_is [] peer mode text retries = refl
 read_first_is (k ∷ agreed) peer mode text retries = refl
 
-pub write_first_is : (agreed : List Known) (peer : Endpoint) (mode : Mode) (retries : ℕ) → (serving_write agreed peer mode retries).position.last_sent ≡ canonical (first_of_write agreed)
+pub write_first_is : (agreed : List Known) (peer : Endpoint) (mode : Mode) (retries : ℕ) →
+    (serving_write agreed peer mode retries).position.last_sent ≡ canonical (first_of_write agreed)
 write_first_is [] peer mode retries = refl
 write_first_is (k ∷ agreed) peer mode retries = refl
