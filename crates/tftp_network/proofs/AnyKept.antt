@@ -163,14 +163,23 @@ module _ {S F D G K : Type 0} {stores : StoreMeaning S D} {sources : SourceMeani
   not_elsewhere p ours e = ours ((strangers_elsewhere programs p).0 e)
 
   -- the peer of a client is no stranger
-  client_peer : (x : ProgramEnd) (p : Endpoint) → IsEnd programs x → is_client x.state.role.side ≡ true → peer_of x ≡ Some p → IsOurs programs p
+  client_peer : (x : ProgramEnd) (p : Endpoint) → IsEnd programs x → is_client x.state.role.side ≡ true →
+      peer_of x ≡ Some p → IsOurs programs p
   client_peer x p is_end client peer stranger =
       let s = stands 0 x is_end in
       let told = says 0 x s in
-      (safe 0).ours (view 0 x s) p (among 0 x s) (told.client ∙ client) (told.peer ∙ peer) ((strangers_elsewhere programs p).1 stranger)
+      (safe 0).ours (view 0 x s) p (among 0 x s) (told.client ∙ client) (told.peer ∙ peer)
+      ((strangers_elsewhere programs p).1 stranger)
+
+  -- the claims on views, and those on ends
+  abbrev SendsThere : ℕ → Endpoint → Mode → EndView → Type 0
+  SendsThere pad p m v = IsSenderAt safety_view (IsAmong (views pad)) p m v
 
   abbrev SendsAt : Endpoint → Mode → ProgramEnd → Type 0
   SendsAt p m y = IsSenderAt safety_of (IsEnd programs) p m y
+
+  abbrev CompletesAt : Endpoint → Endpoint → ProgramEnd → Type 0
+  CompletesAt p other y = IsCompleteAt safety_of (IsEnd programs) p other y
 
   -- a sender among the views, and its end
   record SenderThere (pad : ℕ) (p : Endpoint) (m : Mode) (v : EndView) : Type 0 where
@@ -178,7 +187,7 @@ module _ {S F D G K : Type 0} {stores : StoreMeaning S D} {sources : SourceMeani
     sender : SendsAt p m y
     is : v ≡ open_view (stands pad y sender.is_end).end
 
-  sender_there : (pad : ℕ) (p : Endpoint) (m : Mode) (v : EndView) → IsSenderAt safety_view (IsAmong (views pad)) p m v → SenderThere pad p m v
+  sender_there : (pad : ℕ) (p : Endpoint) (m : Mode) (v : EndView) → SendsThere pad p m v → SenderThere pad p m v
   sender_there pad p m v at =
       let e = viewed_end pad v at.is_end in
       let s = stands pad e.0 e.1 in
@@ -196,100 +205,136 @@ module _ {S F D G K : Type 0} {stores : StoreMeaning S D} {sources : SourceMeani
       }
 
   -- the same end however its text is padded
-  same_there : (pad other : ℕ) (p : Endpoint) (m n : Mode) (v w : EndView) (there : SenderThere pad p m v) → IsSenderAt safety_view (IsAmong (views other)) p n w →
-      w ≡ open_view (stands other there.y there.sender.is_end).end
-  same_there pad other p m n v w there at = own_view other there.y (stands other there.y there.sender.is_end) w at.is_end (at.address ∙ sym there.sender.address)
+  same_there :
+      (pad other : ℕ) (p : Endpoint) (m n : Mode) (v w : EndView) (there : SenderThere pad p m v) →
+      SendsThere other p n w → w ≡ open_view (stands other there.y there.sender.is_end).end
+  same_there pad other p m n v w there at =
+      own_view other there.y (stands other there.y there.sender.is_end) w at.is_end
+      (at.address ∙ sym there.sender.address)
 
   module _ (x : ProgramEnd) (is_end : IsEnd programs x) (receives : is_sender x.state.role.side ≡ false) where
     abbrev self : (pad : ℕ) → StandsFor pad x
     self pad = stands pad x is_end
 
-    not_sender : (pad : ℕ) → (view pad x (self pad)).sender ≡ false
+    abbrev own : ℕ → EndView
+    own pad = view pad x (self pad)
+
+    not_sender : (pad : ℕ) → (own pad).sender ≡ false
     not_sender pad = receiver_at pad x (self pad) receives
 
     nothing : peer_of x ≡ None → has_of x ≡ []
-    nothing none = sym (has_text 0 x (self 0) receives) ∙ (safe 0).is_empty (view 0 x (self 0)) (among 0 x (self 0)) (not_sender 0) ((says 0 x (self 0)).peer ∙ none)
+    nothing none =
+        sym (has_text 0 x (self 0) receives)
+        ∙ (safe 0).is_empty (own 0) (among 0 x (self 0)) (not_sender 0) ((says 0 x (self 0)).peer ∙ none)
 
-    beginning : (p : Endpoint) → peer_of x ≡ Some p → IsOurs programs p → (y : ProgramEnd) × SendsAt p x.state.role.mode y × IsBeginningOf (has_of x) y.moved.bytes
+    -- what it has is a beginning of the text of the view v, which is that of the end y
+    begins : (pad : ℕ) (v : EndView) (y : ProgramEnd) (sender : is_sender y.state.role.side ≡ true)
+        (of : IsEnd programs y) → v ≡ open_view (stands pad y of).end → IsBeginningOf (own pad).text v.text →
+        IsBeginningOf (has_of x) (pad_to pad y.state.role.length y.moved.bytes)
+    begins pad v y sender of is beginning =
+        let text = ap (λ (w : EndView). w.text) is ∙ sent_text pad y (stands pad y of) sender in
+        subst (λ (t : List ℕ). IsBeginningOf t (pad_to pad y.state.role.length y.moved.bytes))
+        (has_text pad x (self pad) receives)
+        (subst (λ (t : List ℕ). IsBeginningOf (own pad).text t) text beginning)
+
+    beginning : (p : Endpoint) → peer_of x ≡ Some p → IsOurs programs p →
+        (y : ProgramEnd) × SendsAt p x.state.role.mode y × IsBeginningOf (has_of x) y.moved.bytes
     beginning p peer ours =
-        let peer_at : (pad : ℕ) → (view pad x (self pad)).peer ≡ Some p = λ pad. (says pad x (self pad)).peer ∙ peer in
-        let zero = (safe 0).is_beginning (view 0 x (self 0)) p (among 0 x (self 0)) (not_sender 0) (peer_at 0) (not_elsewhere p ours) in
-        let one = (safe 1).is_beginning (view 1 x (self 1)) p (among 1 x (self 1)) (not_sender 1) (peer_at 1) (not_elsewhere p ours) in
-        let there = sender_there 0 p x.state.role.mode zero.0 (subst (λ (m : Mode). IsSenderAt safety_view (IsAmong (views 0)) p m zero.0) (says 0 x (self 0)).mode zero.1) in
+        let elsewhere = not_elsewhere p ours in
+        let peer_at : (pad : ℕ) → (own pad).peer ≡ Some p = λ pad. (says pad x (self pad)).peer ∙ peer in
+        let zero = (safe 0).is_beginning (own 0) p (among 0 x (self 0)) (not_sender 0) (peer_at 0) elsewhere in
+        let one = (safe 1).is_beginning (own 1) p (among 1 x (self 1)) (not_sender 1) (peer_at 1) elsewhere in
+        let mode = (says 0 x (self 0)).mode in
+        let there =
+        sender_there 0 p x.state.role.mode zero.0 (subst (λ (m : Mode). SendsThere 0 p m zero.0) mode zero.1) in
+        let same = same_there 0 1 p x.state.role.mode (own 1).mode zero.0 one.0 there one.1 in
         let y = there.y in
-        let text_zero : zero.0.text ≡ pad_to 0 y.state.role.length y.moved.bytes = ap (λ (v : EndView). v.text) there.is ∙ sent_text 0 y (stands 0 y there.sender.is_end) there.sender.sends in
-        let same = same_there 0 1 p x.state.role.mode (view 1 x (self 1)).mode zero.0 one.0 there one.1 in
-        let text_one : one.0.text ≡ pad_to 1 y.state.role.length y.moved.bytes = ap (λ (v : EndView). v.text) same ∙ sent_text 1 y (stands 1 y there.sender.is_end) there.sender.sends in
-        let begins_zero = subst (λ (t : List ℕ). IsBeginningOf t (pad_to 0 y.state.role.length y.moved.bytes)) (has_text 0 x (self 0) receives) (subst (λ (t : List ℕ). IsBeginningOf (view 0 x (self 0)).text t) text_zero zero.2) in
-        let begins_one = subst (λ (t : List ℕ). IsBeginningOf t (pad_to 1 y.state.role.length y.moved.bytes)) (has_text 1 x (self 1) receives) (subst (λ (t : List ℕ). IsBeginningOf (view 1 x (self 1)).text t) text_one one.2) in
-        (y, there.sender, begins_unpadded y.state.role.length y.state.role.length y.moved.bytes (has_of x) begins_zero begins_one)
+        let size = y.state.role.length in (
+          y,
+          there.sender,
+          begins_unpadded size size y.moved.bytes (has_of x)
+              (begins 0 zero.0 y there.sender.sends there.sender.is_end there.is zero.2)
+              (begins 1 one.0 y there.sender.sends there.sender.is_end same one.2),
+        )
 
     -- what a sender gave is all that a complete receiver has
-    all_given : (p : Endpoint) → peer_of x ≡ Some p → IsOurs programs p → (v : EndView) → IsSenderAt safety_view (IsAmong (views 0)) p (view 0 x (self 0)).mode v → (view 0 x (self 0)).text ≡ v.text →
-        (y : ProgramEnd) × SendsAt p x.state.role.mode y × (has_of x ≡ y.moved.bytes) × (length y.moved.bytes ≡ y.state.role.length)
+    all_given : (p : Endpoint) → peer_of x ≡ Some p → IsOurs programs p → (v : EndView) →
+        SendsThere 0 p (own 0).mode v → (own 0).text ≡ v.text →
+        (y : ProgramEnd) × SendsAt p x.state.role.mode y × (has_of x ≡ y.moved.bytes)
+        × (length y.moved.bytes ≡ y.state.role.length)
     all_given p peer ours v at all_text =
         let begun = beginning p peer ours in
         let y = begun.0 in
         let s = stands 0 y begun.1.is_end in
         let same : v ≡ open_view s.end = own_view 0 y s v at.is_end (at.address ∙ sym begun.1.address) in
         let text : has_of x ≡ pad_to 0 y.state.role.length y.moved.bytes =
-        sym (has_text 0 x (self 0) receives) ∙ (all_text ∙ (ap (λ (w : EndView). w.text) same ∙ sent_text 0 y s begun.1.sends)) in
+        sym (has_text 0 x (self 0) receives)
+        ∙ (all_text ∙ (ap (λ (w : EndView). w.text) same ∙ sent_text 0 y s begun.1.sends)) in
         let sender = sender_at 0 y s begun.1.sends in
-        let end_text : s.end.text ≡ has_of x = s.text sender ∙ (ap (λ (e : EndState). pad_to 0 e.role.length y.moved.bytes) s.state ∙ sym text) in
-        let all_of_it : has_of x ≡ y.moved.bytes =
-        begin_each_other (has_of x) y.moved.bytes begun.2 (subst (λ (t : List ℕ). IsBeginningOf y.moved.bytes t) end_text (s.gave sender).beginning) in
-        (y, begun.1, all_of_it, ap (λ (t : List ℕ). length t) (sym all_of_it ∙ text) ∙ pad_length 0 y.state.role.length y.moved.bytes)
+        let end_text : s.end.text ≡ has_of x =
+        s.text sender ∙ (ap (λ (e : EndState). pad_to 0 e.role.length y.moved.bytes) s.state ∙ sym text) in
+        let gave = subst (λ (t : List ℕ). IsBeginningOf y.moved.bytes t) end_text (s.gave sender).beginning in
+        let all_of_it : has_of x ≡ y.moved.bytes = begin_each_other (has_of x) y.moved.bytes begun.2 gave in
+        let long = ap (λ (t : List ℕ). length t) (sym all_of_it ∙ text) in
+        (y, begun.1, all_of_it, long ∙ pad_length 0 y.state.role.length y.moved.bytes)
 
     has_committed : is_complete x.state.position.phase ≡ true → x.moved.committed ≡ true
     has_committed complete =
         let receiver = receiver_at 0 x (self 0) receives in
-        let committed : (self 0).end.committed ≡ true =
-        (self 0).viewed.kept.committed receiver ∙ (ap (λ (e : EndState). is_complete e.position.phase) (self 0).state ∙ complete) in
-        ((self 0).took receiver).committed committed
+        let done = ap (λ (e : EndState). is_complete e.position.phase) (self 0).state ∙ complete in
+        ((self 0).took receiver).committed ((self 0).viewed.kept.committed receiver ∙ done)
 
     whole : is_complete x.state.position.phase ≡ true → (p : Endpoint) × (peer_of x ≡ Some p)
-        × (IsOurs programs p → (y : ProgramEnd) × SendsAt p x.state.role.mode y × (has_of x ≡ y.moved.bytes) × (length y.moved.bytes ≡ y.state.role.length))
+        × (IsOurs programs p → (y : ProgramEnd) × SendsAt p x.state.role.mode y × (has_of x ≡ y.moved.bytes)
+        × (length y.moved.bytes ≡ y.state.role.length))
     whole complete =
-        let all = (safe 0).is_whole (view 0 x (self 0)) (among 0 x (self 0)) (not_sender 0) ((says 0 x (self 0)).done ∙ complete) in
+        let told = says 0 x (self 0) in
+        let all = (safe 0).is_whole (own 0) (among 0 x (self 0)) (not_sender 0) (told.done ∙ complete) in
         let p = all.0 in
-        let peer : peer_of x ≡ Some p = sym (says 0 x (self 0)).peer ∙ all.1 in
+        let peer : peer_of x ≡ Some p = sym told.peer ∙ all.1 in
         (p, peer, λ ours. let v = all.2 (not_elsewhere p ours) in all_given p peer ours v.0 v.1 v.2)
 
-  abbrev CompletesAt : Endpoint → Endpoint → ProgramEnd → Type 0
-  CompletesAt p other y = IsCompleteAt safety_of (IsEnd programs) p other y
-
-  its_receiver : (x : ProgramEnd) (s : StandsFor 0 x) (p : Endpoint) (v : EndView) → IsCompleteAt safety_view (IsAmong (views 0)) p (view 0 x s).address v → (y : ProgramEnd) × CompletesAt p x.address y
+  its_receiver : (x : ProgramEnd) (s : StandsFor 0 x) (p : Endpoint) (v : EndView) →
+      IsCompleteAt safety_view (IsAmong (views 0)) p (view 0 x s).address v →
+      (y : ProgramEnd) × CompletesAt p x.address y
   its_receiver x s p v at =
       let told = says 0 x s in
       let e = viewed_end 0 v at.is_end in
       let y = stands 0 e.0 e.1 in
       let is = own_view 0 e.0 y v at.is_end e.2 in
-      let says_y = says 0 e.0 y in (
+      let says_y = says 0 e.0 y in
+      let peer = at.peer ∙ ap (λ (a : Endpoint). Some a) told.address in (
         e.0,
         record {
           is_end = e.1;
           address = sym e.2 ∙ at.address;
-          peer = sym says_y.peer ∙ (ap (λ (w : EndView). w.peer) (sym is) ∙ (at.peer ∙ ap (λ (a : Endpoint). Some a) told.address));
+          peer = sym says_y.peer ∙ (ap (λ (w : EndView). w.peer) (sym is) ∙ peer);
           complete = sym says_y.done ∙ (ap (λ (w : EndView). w.done) (sym is) ∙ at.complete);
         },
       )
 
-  last_sender : (x : ProgramEnd) → IsEnd programs x → is_sender x.state.role.side ≡ true → is_complete x.state.position.phase ≡ true →
+  last_sender : (x : ProgramEnd) → IsEnd programs x → is_sender x.state.role.side ≡ true →
+      is_complete x.state.position.phase ≡ true →
       (p : Endpoint) × (peer_of x ≡ Some p) × (IsOurs programs p → (y : ProgramEnd) × CompletesAt p x.address y)
   last_sender x is_end sends complete =
       let s = stands 0 x is_end in
       let told = says 0 x s in
-      let last = (safe 0).sender_last (view 0 x s) (among 0 x s) (sender_at 0 x s sends) (told.done ∙ complete) in
-      (last.0, sym told.peer ∙ last.1, λ ours. let v = last.2 (not_elsewhere last.0 ours) in its_receiver x s last.0 v.0 v.1)
+      let last = (safe 0).sender_last (view 0 x s) (among 0 x s) (sender_at 0 x s sends) (told.done ∙ complete) in (
+        last.0,
+        sym told.peer ∙ last.1,
+        λ ours. let v = last.2 (not_elsewhere last.0 ours) in its_receiver x s last.0 v.0 v.1,
+      )
 
-  sizes : (x y : ProgramEnd) → IsEnd programs x → IsEnd programs y → peer_of x ≡ Some y.address → peer_of y ≡ Some x.address → (record_of x.state).size ≡ (record_of y.state).size
+  sizes : (x y : ProgramEnd) → IsEnd programs x → IsEnd programs y → peer_of x ≡ Some y.address →
+      peer_of y ≡ Some x.address → (record_of x.state).size ≡ (record_of y.state).size
   sizes x y is_x is_y px py =
       let s = stands 0 x is_x in
       let t = stands 0 y is_y in
       let told = says 0 x s in
       let told_y = says 0 y t in
-      let same = (safe 0).same_size (view 0 x s) (view 0 y t) (among 0 x s) (among 0 y t)
-      (told.peer ∙ (px ∙ ap (λ (a : Endpoint). Some a) (sym told_y.address))) (told_y.peer ∙ (py ∙ ap (λ (a : Endpoint). Some a) (sym told.address))) in
+      let peer = told.peer ∙ (px ∙ ap (λ (a : Endpoint). Some a) (sym told_y.address)) in
+      let peer_y = told_y.peer ∙ (py ∙ ap (λ (a : Endpoint). Some a) (sym told.address)) in
+      let same = (safe 0).same_size (view 0 x s) (view 0 y t) (among 0 x s) (among 0 y t) peer peer_y in
       sym told.size ∙ (same ∙ told_y.size)
 
   -- what the server opened at a port
