@@ -1,4 +1,4 @@
--- The joint run of all programs: whole steps of theirs, one at a time, each of which takes only
+-- The joint run of all programs: whole steps of theirs, one at a time, each of which receives only
 -- what was sent in the steps before it, or what is a stranger's.
 use Rattle.std.specs.Prelude.{ℕ, ◌≡◌, ◌⊎◌, List, ◌++◌, slice_get, Some}
 use Rattle.std.specs.List.{Contains}

@@ -102,7 +102,7 @@ module _ {G K : Type 0} (inputs : SourceMeaning G) (outputs : SinkMeaning K) (to
     pub before : List Event
     pub last : State
     pub files : Files G K
-    -- its file before the run, of which a received one has taken nothing
+    -- its file before the run; one that is to receive was handed nothing
     pub file : Files G K
     pub new : IsNew inputs outputs file
     pub runs : ClientRun inputs outputs port (begun port first before) file last files
