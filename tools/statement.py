@@ -35,7 +35,8 @@ HEADLINES = [
                    "this law assumes it"}),
     ("Programs", "tftp_network", "Joined", "ProgramsKeepAnyFiles",
      "One server and any clients as programs, over any store and any files, by what their journals note. The law is "
-     "`tftp_network::laws::programs_keep_promises`, its clause `any_files`.",
+     "`tftp_network::laws::programs_keep_promises`, its clause `any_files`. By `each_client_keeps_promises` there it "
+     "also holds of the server and each client apart, for which the other clients are strangers.",
      {"Runs": "a run of a client's loop; `tftp_client::transfer` ensures it, and this law assumes it",
       "ClientRun": "the whole run of a client's program; the parts of its loop ensure it, and this law assumes it",
       "Run": "steps, one after another; `tftp_loop::serve` ensures such a run of the server's loop, and this law assumes "
@@ -46,10 +47,14 @@ HEADLINES = [
       "IsNew": "a received file has taken nothing", "ServerState": "a server", "Does": "a step of the server's loop",
       "EndState": "an end, by its role and its position", "LoopState": "a server at its ports",
       "HeldTransfer": "a transfer that a server holds", "State": "a client with its journal",
-      "moved_in": "what moved in a client's run", "moved_at": "what moved at a port of a server's run",
-      "opened_at": "the last transfer that a server's run opened at a port",
-      "HasClosed": "the run closed this transfer at this port",
-      "opened_ports": "the ports at which a run opened transfers", "server_ports": "those of a server's run",
+      "moved_in": "what moved in a client's run",
+      "place_at": "where the transfer is that a server's run opened last at a port: at the port; that of a stranger is at "
+                  "an endpoint that no other end of the run has",
+      "moved_at": "what moved in a server's run at the transfer of a place",
+      "opened_at": "the transfer that a server's run opened at a place",
+      "HasClosed": "the run closed this transfer of this port, which was at this place",
+      "server_ports": "the port of a server's requests, and those of the transfers that its run opened for clients of the "
+                      "network",
       "SourceMeaning": "the model of a source, which may say nothing",
       "SinkMeaning": "the model of a sink, which may say nothing",
       "StoreMeaning": "the model of a store, which may say nothing"}),

@@ -3,7 +3,7 @@
 use Rattle.std.proofs.Common.{◌≡◌, ℕ, true, false, List, [], length, Option, Some, None, refl, sym, ap, ◌∙◌, subst, inl, inr}
 use Rattle.std.specs.Prelude.{◌≢◌, slice_get, option_map}
 use Rattle.std.proofs.lemmas.Bool.{true≢false}
-use Rattle.std.proofs.lemmas.Option.{slice_get-map}
+use Rattle.std.proofs.lemmas.Option.{same_Some, slice_get-map}
 use Rattle.tftp_wire.specs.declared.mode.Mode.{Mode}
 use Rattle.tftp_file.specs.Block.{IsBeginningOf}
 use Rattle.tftp_file.specs.Sink.{SinkMeaning}
@@ -14,18 +14,22 @@ use Rattle.tftp_ends.specs.declared.role.Role.{Role}
 use Rattle.tftp_ends.specs.End.{EndState, is_client, is_complete, is_sender, record_of}
 use Rattle.tftp_store.specs.Store.{StoreMeaning}
 use Rattle.tftp_server.specs.State.{HeldTransfer}
-use Rattle.tftp_machine.specs.Machine.{Elsewhere, Endpoint}
-use Rattle.tftp_machine.specs.OpenEnds.{OpenEnd, open_view, received_text}
-use Rattle.tftp_machine.specs.Shows.{EndView}
+use Rattle.tftp_machine.specs.Facts.{IsServing}
+use Rattle.tftp_machine.specs.Machine.{At_server, Elsewhere, Endpoint, Host, Machine, Party}
+use Rattle.tftp_machine.specs.OpenEnds.{OpenEnd, goes_on, open_view, received_text}
 use Rattle.tftp_machine.specs.Safety.{IsCompleteAt, IsSenderAt}
+use Rattle.tftp_machine.specs.Shows.{EndView, Matches, Shows}
 use Rattle.tftp_machine.specs.ViewSafety.{IsAmong, IsSafeViews, safety_view}
+use Rattle.tftp_machine.proofs.Shown.{shown_by}
 use Rattle.tftp_machine.proofs.ViewSafe.{shown_safe}
 use Rattle.tftp_network.specs.ClientRuns.{moved_in}
-use Rattle.tftp_network.specs.AnyFiles.{IsEnd, IsOurs, KeepAnyFiles, ProgramEnd, WasOpened, client_end, has_of, safety_of, transfer_end}
+use Rattle.tftp_network.specs.AnyFiles.{IsEnd, IsOurs, IsServingAt, KeepAnyFiles, ProgramEnd, WasOpened, client_end, has_of, peer_of}
+use Rattle.tftp_network.specs.AnyFiles.{safety_of, transfer_end}
 use Rattle.tftp_network.specs.Arrived.{ViewsEnd}
-use Rattle.tftp_network.specs.Moved.{Moved, moved_at, opened_at}
-use Rattle.tftp_network.specs.Order.{Programs}
-use Rattle.tftp_network.specs.Programs.{ClientProgram, requests_at}
+use Rattle.tftp_network.specs.Moved.{Moved}
+use Rattle.tftp_network.specs.Openings.{moved_at, opened_at}
+use Rattle.tftp_network.specs.Order.{Programs, IsStranger}
+use Rattle.tftp_network.specs.Programs.{ClientProgram, endpoint, requests_at}
 use Rattle.tftp_network.specs.Promises.{HasOpened, joined}
 use Rattle.tftp_network.specs.Snapshots.{Has_asked, all_of}
 use Rattle.tftp_network.proofs.Kept.{By_run, ClientKept, GaveSo, HasFile, HasStored, IsKept, IsOpened, IsViewed, TookSo, length_of}
@@ -79,19 +83,19 @@ module _ {S F D G K : Type 0} {stores : StoreMeaning S D} {sources : SourceMeani
     )
     client_stands (Sink sink) has = (λ s. absurd (true≢false (sym s ∙ has.receiver)), λ s. absurd (true≢false (sym s ∙ has.receiver)), λ r. has.took)
 
-  module _ (pad port : ℕ) (x : OpenEnd) (at : x.address.port ≡ port) where
-    moved_there : moved_at x.address.port programs.server.run ≡ moved_at port programs.server.run
-    moved_there = ap (λ (p : ℕ). moved_at p programs.server.run) at
+  module _ (pad : ℕ) (a : Endpoint) (x : OpenEnd) (at : x.address ≡ a) where
+    moved_there : moved_at programs x.address programs.server.run ≡ moved_at programs a programs.server.run
+    moved_there = ap (λ (e : Endpoint). moved_at programs e programs.server.run) at
 
-    measured : IsOpened programs (all_of programs) x → length_of (opened_at x.address.port programs.server.run) ≡ x.state.role.length
+    measured : IsOpened programs (all_of programs) x → length_of (opened_at programs x.address programs.server.run) ≡ x.state.role.length
     measured h = ap length_of h.opened ∙ ap (λ (r : Role). r.length) h.role
 
     transfer_stands : (files : Files F D) → HasStored programs (By_run pad) (all_of programs) x files →
-        (is_sender x.state.role.side ≡ true → x.text ≡ pad_to pad x.state.role.length (moved_at port programs.server.run).bytes)
-        × (is_sender x.state.role.side ≡ true → GaveSo x (moved_at port programs.server.run))
-        × (is_sender x.state.role.side ≡ false → TookSo x (moved_at port programs.server.run))
+        (is_sender x.state.role.side ≡ true → x.text ≡ pad_to pad x.state.role.length (moved_at programs a programs.server.run).bytes)
+        × (is_sender x.state.role.side ≡ true → GaveSo x (moved_at programs a programs.server.run))
+        × (is_sender x.state.role.side ≡ false → TookSo x (moved_at programs a programs.server.run))
     transfer_stands (Source source) has = (
-      λ s. has.text ∙ (ap (λ (n : ℕ). pad_to pad n (moved_at x.address.port programs.server.run).bytes) (measured has.opened) ∙ ap (λ (m : Moved). pad_to pad x.state.role.length m.bytes) moved_there),
+      λ s. has.text ∙ (ap (λ (n : ℕ). pad_to pad n (moved_at programs x.address programs.server.run).bytes) (measured has.opened) ∙ ap (λ (m : Moved). pad_to pad x.state.role.length m.bytes) moved_there),
       λ s. subst (λ (m : Moved). GaveSo x m) moved_there has.gave,
       λ r. absurd (true≢false (sym has.sender ∙ r)),
     )
@@ -108,21 +112,21 @@ module _ {S F D G K : Type 0} {stores : StoreMeaning S D} {sources : SourceMeani
       let got = client_stands pad client h.end client.files h.has in
       record { end = h.end; address = h.address; state = h.state; viewed = h.viewed; text = got.0; gave = got.1; took = got.2 }
 
-  of_transfer : (pad port : ℕ) (transfer : HeldTransfer F D) → HasOpened programs port transfer → StandsFor pad (transfer_end programs port transfer)
-  of_transfer pad port transfer opened =
-      let h = (kept pad).transfers port transfer opened in
-      let got = transfer_stands pad port h.end (ap (λ (a : Endpoint). a.port) h.address) transfer.files h.has in
+  of_transfer : (pad port : ℕ) (transfer : HeldTransfer F D) (a : Endpoint) → HasOpened programs port transfer a → StandsFor pad (transfer_end programs transfer a)
+  of_transfer pad port transfer a opened =
+      let h = (kept pad).transfers port transfer a opened in
+      let got = transfer_stands pad a h.end h.address transfer.files h.has in
       record { end = h.end; address = h.address; state = h.state; viewed = h.viewed; text = got.0; gave = got.1; took = got.2 }
 
   stands : (pad : ℕ) (x : ProgramEnd) → IsEnd programs x → StandsFor pad x
   stands pad x (inl of) = subst (λ (z : ProgramEnd). StandsFor pad z) (sym of.3) (of_client pad of.0 of.1 of.2)
-  stands pad x (inr of) = subst (λ (z : ProgramEnd). StandsFor pad z) (sym of.3) (of_transfer pad of.0 of.1 of.2)
+  stands pad x (inr of) = subst (λ (z : ProgramEnd). StandsFor pad z) (sym of.4) (of_transfer pad of.0 of.1 of.2 of.3)
 
   -- and each view is of an end
   viewed_end : (pad : ℕ) (view : EndView) → IsAmong (views pad) view → (x : ProgramEnd) × IsEnd programs x × (view.address ≡ x.address)
   viewed_end pad view among = elim ((kept pad).only view among) [
     | inl of ↦ (client_end programs of.client, inl (of.k, of.client, of.found, refl), of.address)
-    | inr of ↦ (transfer_end programs of.port of.transfer, inr (of.port, of.transfer, of.is_transfer, refl), of.address)
+    | inr of ↦ (transfer_end programs of.transfer view.address, inr (of.port, of.transfer, view.address, of.is_transfer, refl), refl)
   ]
 
   module _ (pad : ℕ) (x : ProgramEnd) (s : StandsFor pad x) where
@@ -180,6 +184,51 @@ module _ {S F D G K : Type 0} {stores : StoreMeaning S D} {sources : SourceMeani
 
   abbrev CompletesAt : Endpoint → Endpoint → ProgramEnd → Type 0
   CompletesAt p other y = IsCompleteAt safety_of (IsEnd programs) p other y
+
+  -- the end of a view of the server's
+  is_serving : (v : EndView) (p a : Endpoint) → IsAmong (views 0) v → v.address ≡ p → v.client ≡ false → v.peer ≡ Some a → (y : ProgramEnd) × IsServingAt programs p a y
+  is_serving v p a among at client peer =
+      let e = viewed_end 0 v among in
+      let t = stands 0 e.0 e.1 in
+      let told = says 0 e.0 t in
+      let is = own_view 0 e.0 t v among e.2 in (
+        e.0,
+        record {
+          is_end = e.1;
+          address = sym e.2 ∙ at;
+          server = sym told.client ∙ (ap (λ (w : EndView). w.client) (sym is) ∙ client);
+          peer = sym told.peer ∙ (ap (λ (w : EndView). w.peer) (sym is) ∙ peer);
+        },
+      )
+
+  -- a view of an end that serves
+  view_serving : (m : Machine) (x : Party) (p a : Endpoint) → Shows (views 0) (kept 0).messages m → IsServing a x (m.party p) → (v : EndView) × IsAmong (views 0) v × (v.address ≡ p) × (v.client ≡ false) × (v.peer ≡ Some a)
+  view_serving m x p a shows serves =
+      let there = shows.only p serves.is_open in
+      let matches : Matches there.1 (m.party p) = subst (λ (e : Endpoint). Matches there.1 (m.party e)) there.3 (shows.ends there.0 there.1 there.2) in
+      (there.1, (there.0, there.2), there.3, sym matches.client ∙ serves.client, sym matches.peer ∙ serves.peer)
+
+  -- the peer of a client serves it
+  server_peer : (x : ProgramEnd) (p : Endpoint) → IsEnd programs x → is_client x.state.role.side ≡ true → peer_of x ≡ Some p → (y : ProgramEnd) × IsServingAt programs p x.address y
+  server_peer x p is_end client peer =
+      let s = stands 0 x is_end in
+      let told = says 0 x s in
+      let by = shown_by (joined programs) (views 0) (kept 0).messages (kept 0).shown in
+      let m = by.3.ends s.viewed.index (view 0 x s) s.viewed.viewed in
+      let serves = ((by.1.ends (view 0 x s).address m.is_open).serving (m.client ∙ (told.client ∙ client)) p (m.peer ∙ (told.peer ∙ peer))).1 in
+      let v = view_serving by.0 (by.0.party (view 0 x s).address) p (view 0 x s).address by.3 serves in
+      is_serving v.0 p x.address v.1 v.2 v.3 (v.4 ∙ ap (λ (a : Endpoint). Some a) told.address)
+
+  -- a transfer whose peer is ours is at its port
+  at_its_port : (port : ℕ) (transfer : HeldTransfer F D) (a p : Endpoint) → HasOpened programs port transfer a → peer_of (transfer_end programs transfer a) ≡ Some p → IsOurs programs p → a ≡ endpoint programs.server.ip port
+  at_its_port port transfer a p opened peer ours =
+      let h = (kept 0).transfers port transfer a opened in
+      elim h.seat [
+        | inl here ↦ here
+        | inr s ↦
+            let same : s.peer ≡ p = same_Some s.peer p (sym s.is_peer ∙ (ap (λ (e : EndState). (record_of e).peer) h.state ∙ peer)) in
+            absurd (ours (subst (λ (b : Endpoint). IsStranger stores sources inputs outputs programs b) same s.strange))
+      ]
 
   -- a sender among the views, and its end
   record SenderThere (pad : ℕ) (p : Endpoint) (m : Mode) (v : EndView) : Type 0 where
@@ -337,11 +386,11 @@ module _ {S F D G K : Type 0} {stores : StoreMeaning S D} {sources : SourceMeani
       let same = (safe 0).same_size (view 0 x s) (view 0 y t) (among 0 x s) (among 0 y t) peer peer_y in
       sym told.size ∙ (same ∙ told_y.size)
 
-  -- what the server opened at a port
-  opened_so : (port : ℕ) (transfer : HeldTransfer F D) (x : OpenEnd) → x.address.port ≡ port → x.state ≡ transfer.end → x.path ≡ transfer.path → IsOpened programs (all_of programs) x → WasOpened programs port transfer
-  opened_so port transfer x at state path h = record {
+  -- what the server opened at a place
+  opened_so : (transfer : HeldTransfer F D) (a : Endpoint) (x : OpenEnd) → x.address ≡ a → x.state ≡ transfer.end → x.path ≡ transfer.path → IsOpened programs (all_of programs) x → WasOpened programs transfer a
+  opened_so transfer a x at state path h = record {
     opening = h.opening;
-    opened = ap (λ (p : ℕ). opened_at p programs.server.run) (sym at) ∙ h.opened;
+    opened = ap (λ (e : Endpoint). opened_at programs e programs.server.run) (sym at) ∙ h.opened;
     path = h.path ∙ path;
     role = h.role ∙ ap (λ (e : EndState). e.role) state;
   }
@@ -350,10 +399,10 @@ module _ {S F D G K : Type 0} {stores : StoreMeaning S D} {sources : SourceMeani
   opened_of (Source source) x has = has.opened
   opened_of (Sink draft) x has = has.opened
 
-  was_opened : (port : ℕ) (transfer : HeldTransfer F D) → HasOpened programs port transfer → WasOpened programs port transfer
-  was_opened port transfer opened =
-      let h = (kept 0).transfers port transfer opened in
-      opened_so port transfer h.end (ap (λ (a : Endpoint). a.port) h.address) h.state h.path (opened_of transfer.files h.end h.has)
+  was_opened : (port : ℕ) (transfer : HeldTransfer F D) (a : Endpoint) → HasOpened programs port transfer a → WasOpened programs transfer a
+  was_opened port transfer a opened =
+      let h = (kept 0).transfers port transfer a opened in
+      opened_so transfer a h.end h.address h.state h.path (opened_of transfer.files h.end h.has)
 
   pub any_kept : KeepAnyFiles programs
   any_kept = record {
@@ -366,5 +415,7 @@ module _ {S F D G K : Type 0} {stores : StoreMeaning S D} {sources : SourceMeani
       is_whole = λ x is_end receives complete. whole x is_end receives complete;
       sender_last = last_sender;
     };
+    served = server_peer;
+    at_port = at_its_port;
     opened = was_opened;
   }

@@ -1,5 +1,5 @@
 -- A closed end with any datagram, and at a timeout: it sends an ERROR or its last datagram at most, and its view stays.
-use Rattle.std.proofs.Common.{◌≡◌, ℕ, suc, zero, Bool, true, List, [], ◌∷◌, ◌++◌, set, Option, Some, refl, sym, ap, subst, inl, arith}
+use Rattle.std.proofs.Common.{◌≡◌, ◌≢◌, ℕ, suc, zero, Bool, true, List, [], ◌∷◌, ◌++◌, set, Option, Some, refl, sym, ap, subst, inl, arith}
 use Rattle.std.specs.Prelude.{◌==◌, ◌&&◌, is_none, is_some, slice_get}
 use Rattle.std.proofs.lemmas.Bool.{true≢false}
 use Rattle.std.proofs.lemmas.List.{append-nil}
@@ -22,7 +22,7 @@ use Rattle.tftp_ends.specs.Step.{response_turn, timeout_turn, after, with_positi
 use Rattle.tftp_machine.specs.EndShown.{Stands, Goes, IsThere}
 use Rattle.tftp_machine.specs.EndKept.{EndKept}
 use Rattle.tftp_machine.specs.Machine.{Endpoint, Error, Message, Network}
-use Rattle.tftp_machine.specs.OpenEnds.{OpenEnd, files_of, in_state, with_phase, end_after, open_view}
+use Rattle.tftp_machine.specs.OpenEnds.{OpenEnd, files_of, in_state, peer_of, with_phase, end_after, open_view}
 use Rattle.tftp_machine.specs.Rules.{Rule, message}
 use Rattle.tftp_machine.specs.Said.{said}
 use Rattle.tftp_machine.specs.Shows.{EndView, IsShownWithin}
@@ -30,6 +30,7 @@ use Rattle.tftp_machine.proofs.Actions.{says_error, repeats}
 use Rattle.tftp_machine.proofs.EndMoves.{error_says, from_response}
 use Rattle.tftp_machine.proofs.PhaseMoves.{if_acts}
 use Rattle.tftp_machine.proofs.Shown.{shown_still, shown_within}
+use Rattle.tftp_network.proofs.StrangePeers.{wrong_peer}
 
 -- what is there already changes nothing
 pub set_same : {X : Type 0} (xs : List X) (k : ℕ) (x : X) → slice_get xs k ≡ Some x → set xs k x ≡ xs
@@ -136,6 +137,15 @@ module _ (network : Network) (first : List Rule) (views : List EndView) (message
     by_phase (Sending terms n) t kept c = absurd (true≢false (sym c))
     by_phase (Receiving terms n) t kept c = absurd (true≢false (sym c))
     by_phase (Dallying terms n dally) t kept c = absurd (true≢false (sym c))
+
+  -- an end with a datagram that is not from its peer
+  pub wrong_datagram_goes : (x : OpenEnd) → Stands network first views messages k (open_view x) → EndKept network x → (peer : Endpoint) → peer_of x.state.position.phase ≡ Some peer → (from : Endpoint) → peer ≢ from →
+      (bytes : List ℕ) (decoded : Option WirePacket) → ClosedAnswers x from (datagram_action x.state from bytes decoded)
+  wrong_datagram_goes x s kept peer is from n bytes decoded =
+      let P = ClosedAnswers x from in
+      let ignored : P (Respond Ignore) = record { response = Ignore; is = refl; same = refl; goes = ignores x s kept from } in
+      let refused : P (Respond Stranger) = record { response = Stranger; is = refl; same = refl; goes = answers_stranger x s kept from } in
+      subst P (sym (wrong_peer x.state from bytes decoded peer is n)) (if_acts P (has_error_opcode bytes) (Respond Ignore) (Respond Stranger) (λ b. ignored) (λ b. refused))
 
   -- a closed end at a timeout
   pub closed_timeout_goes : (x : OpenEnd) → Stands network first views messages k (open_view x) → EndKept network x → is_some (outcome_of x.state.position.phase) ≡ true →

@@ -24,8 +24,8 @@ use Rattle.tftp_client.specs.Converses.{State}
 use Rattle.tftp_client.specs.Converses.HandlesReceived.{Answers}
 use Rattle.tftp_client.specs.Runs.{begun}
 use Rattle.tftp_network.specs.ClientRuns.{ClientDoes, Starts, Goes_on, Receives_one, Prints_line}
-use Rattle.tftp_network.specs.Programs.{ClientProgram, To_read}
-use Rattle.tftp_network.specs.Witness.{agreed, blocks_of_8, client_ip, read_file, read_name, read_port, requests}
+use Rattle.tftp_network.specs.Programs.{ClientOpens, ClientProgram, To_read}
+use Rattle.tftp_network.specs.Witness.{agreed, blocks_of_8, client_ip, other_ip, read_file, read_name, read_port, requests}
 use Rattle.tftp_network.proofs.ExchangeParts.{block_spelled, may_read, oack_spelled, read_8, takes_all}
 
 abbrev at_first : EndState
@@ -147,6 +147,36 @@ stores_does = Receives_one (record { not_closed = λ o. absurd (true≢false (sy
 pub again_does : Does s3 (Sink stored) s4 (Sink stored)
 again_does = Receives_one (record { not_closed = λ o. absurd (true≢false (sym o)); due = λ late. absurd (omega (arith, late)) }) (omega arith) (Answers (λ o. absurd (true≢false (sym o))) again_so)
 
+abbrev its_request : ClientOpens memory_source memory_sink requests at_first empty
+its_request = To_read (record {
+  name = read_name;
+  mode = Octet;
+  asked = blocks_of_8;
+  limit = 10;
+  retries = 1;
+  may = may_read;
+  is = refl;
+  sink = new_mem_sink 10 false;
+  is_file = refl;
+})
+
+-- a client that has asked for the file, and no more
+abbrev pub asking : ClientProgram memory_source memory_sink requests
+asking = record {
+  ip = other_ip;
+  port = 7001;
+  first = at_first;
+  before = [];
+  last = begun 7001 at_first [];
+  files = empty;
+  file = empty;
+  new = refl;
+  runs = Starts;
+  opens = its_request;
+  noted = (begun 7001 at_first []).events;
+  is_noted = refl;
+}
+
 abbrev pub reading : ClientProgram memory_source memory_sink requests
 reading = record {
   ip = client_ip;
@@ -158,17 +188,7 @@ reading = record {
   file = empty;
   new = refl;
   runs = Goes_on (Goes_on (Goes_on (Goes_on Starts accepts_does) stores_does) (Prints_line (end_text (ends.Complete 1)))) again_does;
-  opens = To_read (record {
-    name = read_name;
-    mode = Octet;
-    asked = blocks_of_8;
-    limit = 10;
-    retries = 1;
-    may = may_read;
-    is = refl;
-    sink = new_mem_sink 10 false;
-    is_file = refl;
-  });
+  opens = its_request;
   noted = s4.events;
   is_noted = refl;
 }

@@ -1,5 +1,6 @@
 -- The server of the exchange, step by step.
-use Rattle.std.proofs.Common.{◌≡◌, ℕ, ◌<◌, Bool, true, false, List, [], ◌∷◌, Some, None, Ok, refl, sym, ap, ◌∙◌, arith, rules, inl, inr}
+use Rattle.std.proofs.Common.{◌≡◌, ℕ, ◌<◌, Bool, true, false, List, [], ◌∷◌, ◌++◌, length, Some, None, Ok, refl, sym, ap, ◌∙◌, arith, rules, inl, inr}
+use Rattle.std.specs.Prelude.{◌+◌, if◌then◌else◌}
 use Rattle.std.proofs.lemmas.Bool.{true≢false}
 use Rattle.std.proofs.lemmas.List.Elements.{All-from_recursion}
 use Rattle.std.proofs.lemmas.Option.{same_Some}
@@ -10,6 +11,8 @@ use Rattle.tftp_negotiate.specs.Negotiation.{occurrences_of}
 use Rattle.tftp_negotiate.specs.Options.{name_of}
 use Rattle.tftp_negotiate.specs.Ranges.{IsBlockSize}
 use Rattle.tftp_file.specs.Memory.{memory_source}
+use Rattle.tftp_file.specs.Sink.{SinkMeaning}
+use Rattle.tftp_file.specs.Source.{SourceMeaning}
 use Rattle.tftp_file.specs.declared.files.Files.{Files}
 use Rattle.tftp_file.specs.declared.files.Files.TheVariants.{Source, Sink}
 use Rattle.tftp_ends.specs.declared.action.Response.TheVariants.{Complete, Stranger}
@@ -22,12 +25,12 @@ use Rattle.tftp_ends.specs.Opening.{request_of, oack_bytes, serving_read, servin
 use Rattle.tftp_ends.specs.Step.{Done, Turn, after_turn, ack_bytes, committed_turn, data_bytes, error_bytes, filled_turn, reported, response_turn, timeout_turn}
 use Rattle.tftp_ends.specs.Waiting.{agreed_terms, default_terms}
 use Rattle.tftp_store.specs.Memory.{memory_meaning}
-use Rattle.tftp_store.specs.Store.{Stored, Drafted, new_draft}
+use Rattle.tftp_store.specs.Store.{FileList, Stored, Drafted, new_draft}
 use Rattle.tftp_host.specs.Printed.{line_text}
 use Rattle.tftp_host.specs.declared.server.printed.Printed.TheVariants.{Closed}
 use Rattle.tftp_machine.specs.Machine.{Endpoint}
 use Rattle.tftp_server.specs.Draft.{Drafting}
-use Rattle.tftp_server.specs.Request.{A_transfer, left_by}
+use Rattle.tftp_server.specs.Request.{A_transfer, AsksToRead, left_by}
 use Rattle.tftp_server.specs.State.{HeldTransfer, ServerState, AnyRepeats, at, taken_of}
 use Rattle.tftp_server.specs.Steps.{StepIn}
 use Rattle.tftp_server.specs.declared.config.Config.{Config}
@@ -39,9 +42,11 @@ use Rattle.tftp_loop.specs.Serves.{Timer, LoopState, Does, IsServed, MayWait, at
 use Rattle.tftp_loop.specs.Serves.AtPort.{A_datagram, Nothing_found, A_timeout}
 use Rattle.tftp_loop.specs.Serves.Does.{Waited, At_port, Request_received, No_request_found, Request_answered, Clock_read, Transfer_closed}
 use Rattle.tftp_loop.specs.declared.serving.Ending.{Ending}
-use Rattle.tftp_network.specs.Ports.{HasClosed, opened_ports}
-use Rattle.tftp_network.specs.Programs.{ServerProgram}
-use Rattle.tftp_network.specs.Witness.{agreed, blocks_of_8, no_options, read_file, read_name, read_request, reader, server_ip, stranger, write_request, writer, written_file, written_name}
+use Rattle.tftp_network.specs.Openings.{HasClosed, above, is_ours, our_ports}
+use Rattle.tftp_network.specs.Order.{Programs}
+use Rattle.tftp_network.specs.Ports.{opened_ports}
+use Rattle.tftp_network.specs.Programs.{ServerProgram, endpoint}
+use Rattle.tftp_network.specs.Witness.{agreed, blocks_of_8, latecomer, no_options, read_file, read_name, read_request, reader, server_ip, stranger, write_request, writer, written_file, written_name}
 use Rattle.tftp_network.proofs.ExchangeParts.{ack_spelled, block_spelled, read_8, read_spelled, write_spelled}
 
 abbrev Held : Type 0
@@ -149,6 +154,12 @@ held_5 = (1024, read_by reading_3 []) ∷ (1025, written_by writing_1 committed)
 abbrev held_6 : List (ℕ × Held)
 held_6 = (1025, written_by writing_1 committed) ∷ []
 
+abbrev late_0 : EndState
+late_0 = serving_read agreed latecomer Octet 1 1 []
+
+abbrev held_7 : List (ℕ × Held)
+held_7 = (1024, read_by late_0 read_file) ∷ held_6
+
 -- ---- the timers
 abbrev timed : ℕ → Endpoint → ℕ → Bool → ℕ → Timer
 timed port peer deadline marked look_at = record { port = port; peer = peer; interval = 1; deadline = deadline; marked = marked; look_at = look_at }
@@ -227,12 +238,23 @@ s13 = record s12 {
   events = Received 1024 reader (ack_bytes 1) ∷ s12.events;
 }
 
-abbrev pub s14 : Loop
+abbrev s14 : Loop
 s14 = record s13 {
   server = serving after_write held_6;
   timers = writes ∷ [];
   left = 1;
   events = Printed (line_text (Closed 1024 5000 outcomes.Complete)) ∷ s13.events;
+}
+
+abbrev s15 : Loop
+s15 = record s14 { pending = Some (latecomer, read_request); marked = true; events = Received 69 latecomer read_request ∷ s14.events }
+
+abbrev pub s16 : Loop
+s16 = record s15 {
+  server = serving after_write held_7;
+  pending = None;
+  timers = writes ∷ timed 1024 latecomer 2000 false 1500 ∷ [];
+  events = Sent 1024 latecomer (oack_bytes agreed) ∷ s15.events;
 }
 
 -- ---- the steps
@@ -241,6 +263,21 @@ Step old new = Does memory_meaning memory_source old new
 
 pub asks_to_read : Step s0 s1
 asks_to_read = Request_received (record { from = reader; bytes = read_request; none = refl; is = refl })
+
+-- the file is opened for a client that reads it
+reads_file : (files : FileList) (held : List (ℕ × Held)) (peer : Endpoint) →
+    AsksToRead memory_meaning memory_source (serving (record { files = (read_name, read_file) ∷ files; refuses = false }) held) peer read_request read_name Octet (request_of read_name Octet blocks_of_8).options
+    (A_transfer (read_by (serving_read agreed peer Octet 1 1 []) read_file) (record { files = (read_name, read_file) ∷ files; refuses = false }))
+unfolding occurrences_of name_of answered_option
+reads_file files held peer = record {
+  file = Ok (record { source = read_file; length = 1 });
+  opens = (read_file, refl, record { source = refl; length = refl });
+  refused = tt;
+  must = λ fault m. absurd (let f : Some read_file ≡ None = m.missing in cc);
+  reads = λ want f. absurd f;
+  memory = λ e. absurd (cc);
+  goes_on = rw read_8 (inl (record { rest = read_file; end = serving_read agreed peer Octet 1 1 []; serves = (refl, refl); opens = refl }));
+}
 
 pub opens_read : Step s1 s2
 unfolding occurrences_of name_of answered_option
@@ -258,15 +295,7 @@ opens_read = Request_answered (record {
     repeated = false;
     repeats = (λ f. absurd (true≢false (sym f)), λ none. absurd none);
     came = A_transfer (read_by reading_0 read_file) before_write;
-    goes = record {
-      file = Ok (record { source = read_file; length = 1 });
-      opens = (read_file, refl, record { source = refl; length = refl });
-      refused = tt;
-      must = λ fault m. absurd (let f : Some read_file ≡ None = m.missing in cc);
-      reads = λ want f. absurd f;
-      memory = λ e. absurd (cc);
-      goes_on = rw read_8 (inl (record { rest = read_file; end = reading_0; serves = (refl, refl); opens = refl }));
-    };
+    goes = reads_file [] [] reader;
     left = refl;
   };
   is = refl;
@@ -599,32 +628,77 @@ closes_read = Transfer_closed (record {
   is = refl;
 })
 
+pub asks_again : Step s14 s15
+asks_again = Request_received (record { from = latecomer; bytes = read_request; none = refl; is = refl })
+
+-- the writer has asked for something else
+not_the_writer : AnyRepeats latecomer (Read (request_of read_name Octet blocks_of_8)) held_6 → ⊥
+not_the_writer any = elim any [
+  | inl again ↦
+      let same : writer ≡ latecomer = same_Some writer latecomer again.peer in
+      let ports : 5001 ≡ 7001 = ap (λ (a : Endpoint). a.port) same in
+      omega (arith, ports)
+  | inr none ↦ absurd none
+]
+
+pub opens_again : Step s15 s16
+unfolding occurrences_of name_of answered_option
+opens_again = Request_answered (record {
+  from = latecomer;
+  bytes = read_request;
+  pending = refl;
+  tid = 1024;
+  free = refl;
+  left = left_by (A_transfer (read_by late_0 read_file) after_write) (serving after_write held_6) latecomer 1024;
+  port = tt;
+  steps = record {
+    decoded = Some (Read (request_of read_name Octet blocks_of_8));
+    says = read_spelled;
+    repeated = false;
+    repeats = (λ f. absurd (true≢false (sym f)), λ any. absurd (not_the_writer any));
+    came = A_transfer (read_by late_0 read_file) after_write;
+    goes = reads_file ((written_name, written_file) ∷ []) held_6 latecomer;
+    left = refl;
+  };
+  is = refl;
+})
+
 pub agreeable : IsBlockSize config.limits.max_block
 agreeable = search rules
 
-abbrev pub serves : Run (Does memory_meaning memory_source) s0 s14
+abbrev pub serves : Run (Does memory_meaning memory_source) s0 s16
 serves =
-    Then (Then (Then (Then (Then (Then (Then (Then (Then (Then (Then (Then (Then (Then Start asks_to_read) opens_read) answers_stranger) asks_to_write) opens_write) sends_block) commits_block) finds_no_request) waits)
-    reads_clock) finds_nothing) sends_again) completes_read) closes_read
+    Then (Then (Then (Then (Then (Then (Then (Then (Then (Then (Then (Then (Then (Then (Then (Then Start asks_to_read) opens_read) answers_stranger) asks_to_write) opens_write) sends_block) commits_block) finds_no_request) waits)
+    reads_clock) finds_nothing) sends_again) completes_read) closes_read) asks_again) opens_again
 
 abbrev pub server : ServerProgram memory_meaning memory_source
 server = record {
   ip = server_ip;
   start = s0;
-  last = s14;
+  last = s16;
   run = serves;
-  noted = s14.events;
+  noted = s16.events;
   is_noted = refl;
   empty = refl;
   idle = refl;
   max_block = agreeable;
 }
 
--- the transfers that it opened, and the one that it closed
-pub opened_there : opened_ports serves ≡ 1025 ∷ 1024 ∷ []
-unfolding asks_to_read opens_read answers_stranger asks_to_write opens_write sends_block commits_block finds_no_request waits reads_clock finds_nothing sends_again completes_read closes_read
-opened_there = refl
+-- the transfers that it opened
+pub all_opened : opened_ports serves ≡ 1024 ∷ 1025 ∷ 1024 ∷ []
+unfolding asks_to_read opens_read answers_stranger asks_to_write opens_write sends_block commits_block finds_no_request waits reads_clock finds_nothing sends_again completes_read closes_read asks_again opens_again
+all_opened = refl
 
-pub closed_there : HasClosed serves 1024 (read_by reading_3 [])
-unfolding closes_read
-closed_there = inl (refl, refl)
+-- those of the clients of a network
+abbrev pub ours_of : Bool → Bool → Bool → List ℕ
+ours_of late writes reads = (if late then 1024 ∷ [] else []) ++ ((if writes then 1025 ∷ [] else []) ++ ((if reads then 1024 ∷ [] else []) ++ []))
+
+-- and the one that it closed
+module _ {G K : Type 0} {inputs : SourceMeaning G} {outputs : SinkMeaning K} (programs : Programs memory_meaning memory_source inputs outputs) where
+  pub opened_for : our_ports programs serves ≡ ours_of (is_ours programs latecomer) (is_ours programs writer) (is_ours programs reader)
+  unfolding asks_to_read opens_read answers_stranger asks_to_write opens_write sends_block commits_block finds_no_request waits reads_clock finds_nothing sends_again completes_read closes_read asks_again opens_again
+  opened_for = refl
+
+  pub closed_there : is_ours programs reader ≡ true → HasClosed programs serves 1024 (read_by reading_3 []) (endpoint programs.server.ip 1024)
+  unfolding asks_to_read opens_read answers_stranger asks_to_write opens_write sends_block commits_block finds_no_request waits reads_clock finds_nothing sends_again completes_read closes_read asks_again opens_again
+  closed_there reads = inr (inr (inl ((refl, refl), sym (ap (λ (b : Bool). endpoint programs.server.ip (if b then 1024 else above programs + length (opened_ports (Then Start asks_to_read)))) reads))))

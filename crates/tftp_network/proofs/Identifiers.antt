@@ -77,7 +77,7 @@ module _ {T : Type 0} where
   next_none other next e held more false h none rest = none_here other e.0 e.1 more h rest
 
   -- where none was found, none is
-  pub none-with_next : (tid other : ℕ) (next : T) (held : List (ℕ × T)) → at other held ≡ None → at other (with_next tid next held) ≡ None
+  none-with_next : (tid other : ℕ) (next : T) (held : List (ℕ × T)) → at other held ≡ None → at other (with_next tid next held) ≡ None
   none-with_next tid other next [] none = none
   none-with_next tid other next (e ∷ held) none =
       let h = none_both other e held none in
@@ -112,7 +112,7 @@ module _ {T : Type 0} where
   out_none other e held more false h none rest = none_here other e.0 e.1 more h rest
 
   -- where none was found, none is
-  pub none-without : (tid other : ℕ) (held : List (ℕ × T)) → at other held ≡ None → at other (without tid held) ≡ None
+  none-without : (tid other : ℕ) (held : List (ℕ × T)) → at other held ≡ None → at other (without tid held) ≡ None
   none-without tid other [] none = none
   none-without tid other (e ∷ held) none =
       let h = none_both other e held none in
@@ -133,7 +133,7 @@ module _ {T : Type 0} where
   out_here tid e held more false h once rest = none_here tid e.0 e.1 more h rest
 
   -- the one that was removed is not found
-  pub at-without : (tid : ℕ) (held : List (ℕ × T)) → AreKeyedOnce held → at tid (without tid held) ≡ None
+  at-without : (tid : ℕ) (held : List (ℕ × T)) → AreKeyedOnce held → at tid (without tid held) ≡ None
   at-without tid [] once = refl
   at-without tid (e ∷ held) once =
       out_here tid e held (without tid held) (is_at (nat_cmp tid) e.0) refl once.0 (at-without tid held once.1)

@@ -1,5 +1,5 @@
 -- The invariant of the programs between two of their steps: rules of the guarded machine lead to the views of all ends that were opened, and each datagram that was sent is one of its messages. That a message is there (`IsThere`) is said as for the turns of an end.
-use Rattle.std.specs.Prelude.{ℕ, ◌≡◌, ◌≢◌, ◌⊎◌, true, false, List, [], ◌∷◌, ◌++◌, slice_get, Option, Some, None, IsSome}
+use Rattle.std.specs.Prelude.{ℕ, ◌≡◌, ◌≢◌, ◌⊎◌, ◌<◌, true, false, List, [], ◌∷◌, ◌++◌, slice_get, Option, Some, None, IsSome}
 use Rattle.std.specs.List.{Contains}
 use Rattle.tftp_file.specs.Block.{IsBeginningOf}
 use Rattle.tftp_file.specs.Netascii.{wire_text}
@@ -7,13 +7,13 @@ use Rattle.tftp_file.specs.Sink.{SinkMeaning}
 use Rattle.tftp_file.specs.Source.{SourceMeaning}
 use Rattle.tftp_file.specs.declared.files.Files.{Files}
 use Rattle.tftp_file.specs.declared.files.Files.TheVariants.{Source, Sink}
-use Rattle.tftp_ends.specs.End.{is_sender, is_client, is_complete, outcome_of}
+use Rattle.tftp_ends.specs.End.{EndState, is_sender, is_client, is_complete, outcome_of}
 use Rattle.tftp_store.specs.Store.{StoreMeaning}
 use Rattle.tftp_machine.specs.EndKept.{EndKept}
 pub use Rattle.tftp_machine.specs.EndShown.{IsThere, HasArrived}
 use Rattle.tftp_machine.specs.KnownFiles.{HasLeft}
 use Rattle.tftp_machine.specs.Machine.{Endpoint, Message, Network}
-use Rattle.tftp_machine.specs.OpenEnds.{OpenEnd, holding_of, open_view}
+use Rattle.tftp_machine.specs.OpenEnds.{OpenEnd, holding_of, open_view, peer_of}
 use Rattle.tftp_machine.specs.Shows.{EndView, IsShown}
 use Rattle.tftp_machine.specs.ViewSafety.{IsAmong}
 use Rattle.tftp_server.specs.State.{HeldTransfer, at}
@@ -23,12 +23,14 @@ use Rattle.tftp_loop.specs.Serves.{LoopState}
 use Rattle.tftp_network.specs.ClientRuns.{moved_in}
 use Rattle.tftp_network.specs.Joint.{WasSentBefore}
 use Rattle.tftp_network.specs.Modelled.{AreModelled}
-use Rattle.tftp_network.specs.Moved.{Moved, moved_at, opened_at}
-use Rattle.tftp_network.specs.Order.{Programs}
-use Rattle.tftp_network.specs.Ports.{IsStored, WasStored, HasClosed, opened_ports, AreDistinct}
+use Rattle.tftp_network.specs.Moved.{Moved}
+use Rattle.tftp_network.specs.Openings.{HasClosed, above, moved_at, opened_at, our_ports, place_at}
+use Rattle.tftp_network.specs.Order.{Programs, IsStranger}
+use Rattle.tftp_network.specs.Ports.{IsStored, WasStored, AreDistinct}
 use Rattle.tftp_network.specs.Programs.{endpoint, requests_at, ClientProgram, client_at}
 use Rattle.tftp_network.specs.Promises.{joined}
 use Rattle.tftp_network.specs.Snapshots.{Snapshot, ClientStage, Unasked, Has_asked}
+use Rattle.tftp_network.proofs.RunPlaces.{places}
 use Rattle.tftp_network.proofs.Texts.{pad_to}
 
 -- no identifier is there twice
@@ -70,9 +72,9 @@ module _ {S F D G K : Type 0} {stores : StoreMeaning S D} {sources : SourceMeani
   abbrev pub client_text : ℕ → ClientProgram inputs outputs (requests_at stores sources programs.server) → List ℕ
   client_text pad client = pad_to pad client.first.role.length (moved_in client.runs).bytes
 
-  -- the text of a transfer that sends
-  abbrev pub port_text : ℕ → ℕ → List ℕ
-  port_text pad port = pad_to pad (length_of (opened_at port programs.server.run)) (moved_at port programs.server.run).bytes
+  -- the text of a transfer that sends, at this place
+  abbrev pub place_text : ℕ → Endpoint → List ℕ
+  place_text pad a = pad_to pad (length_of (opened_at programs a programs.server.run)) (moved_at programs a programs.server.run).bytes
 
   -- a client that sends, by the models and by the run; of a closed one a source may be one that must fail
   pub record ClientSends (file : List ℕ) (x : OpenEnd) (source : G) : Type 0 where
@@ -118,10 +120,17 @@ module _ {S F D G K : Type 0} {stores : StoreMeaning S D} {sources : SourceMeani
   StageKept how views messages client Unasked = Unit {0}
   StageKept how views messages client (Has_asked s files noted moved) = ClientKept how views messages client s files moved
 
-  -- the server holds the transfer, or has removed it
-  abbrev pub HasTransferBy : Snapshot programs → ℕ → HeldTransfer F D → Type 0
-  HasTransferBy snapshot port transfer =
-      (at port snapshot.state.server.held ≡ Some transfer) ⊎ HasClosed snapshot.run port transfer
+  -- the server holds the transfer, which is at this place, or has removed it
+  abbrev pub HasTransferBy : Snapshot programs → ℕ → HeldTransfer F D → Endpoint → Type 0
+  HasTransferBy snapshot port transfer a =
+      ((at port snapshot.state.server.held ≡ Some transfer) × (a ≡ place_at programs port snapshot.run)) ⊎ HasClosed programs snapshot.run port transfer a
+
+  -- the end of a stranger's transfer: its peer is one, and its last datagram went to one
+  pub record IsStrangers (e : EndState) : Type 0 where
+    pub peer : Endpoint
+    pub is_peer : peer_of e.position.phase ≡ Some peer
+    pub strange : IsStranger stores sources inputs outputs programs peer
+    pub last_sent_to : IsStranger stores sources inputs outputs programs e.position.last_sent_to
 
   -- what a transfer sends was under its path, and still is unless writes may replace files; an open one has this left, or must fail
   pub record SendsKept (snapshot : Snapshot programs) (x : OpenEnd) (source : F) : Type 0 where
@@ -137,10 +146,10 @@ module _ {S F D G K : Type 0} {stores : StoreMeaning S D} {sources : SourceMeani
     pub drafted : stores.drafted draft ≡ Some (record { bytes = x.stored; committed = x.committed })
     pub stays : programs.server.start.server.config.overwrite ≡ false → is_complete x.state.position.phase ≡ true → IsStored stores snapshot.state x.path x.stored
 
-  -- the transfer was opened so at its port
+  -- the transfer was opened so at its place
   pub record IsOpened (snapshot : Snapshot programs) (x : OpenEnd) : Type 0 where
     pub opening : HeldTransfer F D
-    pub opened : opened_at x.address.port snapshot.run ≡ Some opening
+    pub opened : opened_at programs x.address snapshot.run ≡ Some opening
     pub path : opening.path ≡ x.path
     pub role : opening.end.role ≡ x.state.role
 
@@ -148,13 +157,13 @@ module _ {S F D G K : Type 0} {stores : StoreMeaning S D} {sources : SourceMeani
   pub record SendsMoved (pad : ℕ) (snapshot : Snapshot programs) (x : OpenEnd) : Type 0 where
     pub sender : is_sender x.state.role.side ≡ true
     pub opened : IsOpened snapshot x
-    pub text : x.text ≡ port_text pad x.address.port
-    pub gave : GaveSo x (moved_at x.address.port snapshot.run)
+    pub text : x.text ≡ place_text pad x.address
+    pub gave : GaveSo x (moved_at programs x.address snapshot.run)
 
   pub record StoresMoved (snapshot : Snapshot programs) (x : OpenEnd) : Type 0 where
     pub receiver : is_sender x.state.role.side ≡ false
     pub opened : IsOpened snapshot x
-    pub took : TookSo x (moved_at x.address.port snapshot.run)
+    pub took : TookSo x (moved_at programs x.address snapshot.run)
 
   -- what is known of the file of a transfer
   abbrev pub HasStored : How → Snapshot programs → OpenEnd → Files F D → Type 0
@@ -163,10 +172,11 @@ module _ {S F D G K : Type 0} {stores : StoreMeaning S D} {sources : SourceMeani
   HasStored (By_run pad) snapshot x (Source source) = SendsMoved pad snapshot x
   HasStored (By_run pad) snapshot x (Sink draft) = StoresMoved snapshot x
 
-  -- the end of a transfer, held or removed
-  pub record TransferKept (how : How) (views : List EndView) (messages : List Message) (snapshot : Snapshot programs) (port : ℕ) (transfer : HeldTransfer F D) : Type 0 where
+  -- the end of a transfer, held or removed, which is at its port, or a stranger's
+  pub record TransferKept (how : How) (views : List EndView) (messages : List Message) (snapshot : Snapshot programs) (port : ℕ) (transfer : HeldTransfer F D) (a : Endpoint) : Type 0 where
     pub end : OpenEnd
-    pub address : end.address ≡ endpoint programs.server.ip port
+    pub address : end.address ≡ a
+    pub seat : (a ≡ endpoint programs.server.ip port) ⊎ IsStrangers end.state
     pub state : end.state ≡ transfer.end
     pub path : end.path ≡ transfer.path
     pub request : end.request ≡ transfer.request
@@ -187,9 +197,10 @@ module _ {S F D G K : Type 0} {stores : StoreMeaning S D} {sources : SourceMeani
     pub pending : (from : Endpoint) (bytes : List ℕ) → snapshot.state.pending ≡ Some (from, bytes) →
         HasArrived messages from (requests_at stores sources programs.server) bytes
     pub once : AreKeyedOnce snapshot.state.server.held
-    -- a port whose transfer was removed has none
-    pub gone : (port : ℕ) (transfer : HeldTransfer F D) → HasClosed snapshot.run port transfer → at port snapshot.state.server.held ≡ None
-    pub opened : (port : ℕ) (transfer : HeldTransfer F D) → HasTransferBy snapshot port transfer → Contains (opened_ports snapshot.run) port
+    -- no two transfers that are held are at one place, and none is where one was removed
+    pub seats : (p q : ℕ) (t u : HeldTransfer F D) → at p snapshot.state.server.held ≡ Some t → at q snapshot.state.server.held ≡ Some u → place_at programs p snapshot.run ≡ place_at programs q snapshot.run → p ≡ q
+    pub gone : (p q : ℕ) (t u : HeldTransfer F D) (a : Endpoint) → HasClosed programs snapshot.run p t a → at q snapshot.state.server.held ≡ Some u → a ≢ place_at programs q snapshot.run
+    pub opened : (port : ℕ) (transfer : HeldTransfer F D) (a : Endpoint) → HasTransferBy snapshot port transfer a → Contains (places programs snapshot.run) a
 
   -- the endpoint of a client that has asked
   pub record IsOfClient (snapshot : Snapshot programs) (a : Endpoint) : Type 0 where
@@ -203,41 +214,42 @@ module _ {S F D G K : Type 0} {stores : StoreMeaning S D} {sources : SourceMeani
     pub is_stage : slice_get snapshot.clients k ≡ Some (Has_asked s files noted moved)
     pub address : a ≡ client_at inputs outputs (requests_at stores sources programs.server) client
 
-  -- the endpoint of a transfer, held or removed
+  -- the place of a transfer, held or removed
   pub record IsOfTransfer (snapshot : Snapshot programs) (a : Endpoint) : Type 0 where
     pub port : ℕ
     pub transfer : HeldTransfer F D
-    pub is_transfer : HasTransferBy snapshot port transfer
-    pub address : a ≡ endpoint programs.server.ip port
+    pub is_transfer : HasTransferBy snapshot port transfer a
 
   -- the invariant
   pub record IsKept (how : How) (snapshot : Snapshot programs) : Type 0 where
     pub views : List EndView
     pub messages : List Message
     pub shown : IsShown (joined programs) views messages
-    pub sent : (from to : Endpoint) (bytes : List ℕ) → WasSentBefore programs snapshot from to bytes → IsThere messages from to bytes
+    -- what was sent is there, unless it is for a stranger
+    pub sent : (from to : Endpoint) (bytes : List ℕ) → WasSentBefore programs snapshot from to bytes → IsThere messages from to bytes ⊎ IsStranger stores sources inputs outputs programs to
     pub server : ServerKept how messages snapshot
     pub clients : (k : ℕ) (client : ClientProgram inputs outputs (requests_at stores sources programs.server)) (stage : ClientStage G K) →
         slice_get programs.clients k ≡ Some client → slice_get snapshot.clients k ≡ Some stage → StageKept how views messages client stage
-    pub transfers : (port : ℕ) (transfer : HeldTransfer F D) → HasTransferBy snapshot port transfer → TransferKept how views messages snapshot port transfer
+    pub transfers : (port : ℕ) (transfer : HeldTransfer F D) (a : Endpoint) → HasTransferBy snapshot port transfer a → TransferKept how views messages snapshot port transfer a
     -- the view of an end at an endpoint is the only one there, so this determines it
     pub only : (view : EndView) → IsAmong views view → IsOfClient snapshot view.address ⊎ IsOfTransfer snapshot view.address
 
-  -- what has moved so far at a port that was opened begins what moved there in all, at the same transfer
-  pub record IsToldAt (snapshot : Snapshot programs) (port : ℕ) : Type 0 where
-    pub bytes : IsBeginningOf (moved_at port snapshot.run).bytes (moved_at port programs.server.run).bytes
-    pub opened : opened_at port snapshot.run ≡ opened_at port programs.server.run
+  -- what has moved so far at the place of a transfer that was opened begins what moved there in all, at the same transfer
+  pub record IsToldAt (snapshot : Snapshot programs) (a : Endpoint) : Type 0 where
+    pub bytes : IsBeginningOf (moved_at programs a snapshot.run).bytes (moved_at programs a programs.server.run).bytes
+    pub opened : opened_at programs a snapshot.run ≡ opened_at programs a programs.server.run
 
-  -- what the steps need: ports of the server so far that no two ends have, and that what has moved so far begins what moved in all
+  -- what the steps need: ports of the clients' transfers so far that no two ends have, below the places of others, and that what has moved so far begins what moved in all
   pub record IsFreshBy (snapshot : Snapshot programs) : Type 0 where
-    pub server : AreDistinct (programs.server.start.requests ∷ opened_ports snapshot.run)
+    pub server : AreDistinct (programs.server.start.requests ∷ our_ports programs snapshot.run)
+    pub below : (port : ℕ) → Contains (our_ports programs snapshot.run) port → port < above programs
     pub clients : (j k : ℕ) (x y : ClientProgram inputs outputs (requests_at stores sources programs.server)) →
         slice_get programs.clients j ≡ Some x → slice_get programs.clients k ≡ Some y →
         client_at inputs outputs (requests_at stores sources programs.server) x ≡ client_at inputs outputs (requests_at stores sources programs.server) y → j ≡ k
     pub apart : (k port : ℕ) (x : ClientProgram inputs outputs (requests_at stores sources programs.server)) →
-        slice_get programs.clients k ≡ Some x → Contains (programs.server.start.requests ∷ opened_ports snapshot.run) port →
+        slice_get programs.clients k ≡ Some x → Contains (programs.server.start.requests ∷ our_ports programs snapshot.run) port →
         client_at inputs outputs (requests_at stores sources programs.server) x ≢ endpoint programs.server.ip port
-    pub told : (port : ℕ) → Contains (opened_ports snapshot.run) port → IsToldAt snapshot port
+    pub told : (a : Endpoint) → Contains (places programs snapshot.run) a → IsToldAt snapshot a
     pub gave : (k : ℕ) (client : ClientProgram inputs outputs (requests_at stores sources programs.server)) (s : State) (files : Files G K) (noted : List Event) (moved : Moved) →
         slice_get programs.clients k ≡ Some client → slice_get snapshot.clients k ≡ Some (Has_asked s files noted moved) →
         IsBeginningOf moved.bytes (moved_in client.runs).bytes

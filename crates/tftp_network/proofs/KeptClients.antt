@@ -1,9 +1,8 @@
 -- A step of a client keeps the invariant, if it does of the client's own end.
-use Rattle.std.proofs.Common.{◌≡◌, ℕ, List, [], ◌∷◌, ◌++◌, set, Some, sym, ap, ◌∙◌, subst, inl, inr}
+use Rattle.std.proofs.Common.{◌≡◌, ℕ, List, ◌++◌, set, Some, sym, ap, ◌∙◌, subst, inl, inr}
 use Rattle.std.specs.Prelude.{◌≢◌, ◌⊎◌, slice_get}
 use Rattle.std.specs.List.{Contains}
 use Rattle.std.proofs.lemmas.Bool.{cases_eq}
-use Rattle.std.proofs.lemmas.List.Elements.{Contains-append_right}
 use Rattle.std.proofs.lemmas.Option.{same_Some}
 use Rattle.tftp_file.specs.Sink.{SinkMeaning}
 use Rattle.tftp_file.specs.Source.{SourceMeaning}
@@ -21,13 +20,13 @@ use Rattle.tftp_machine.specs.ViewSafety.{IsAmong}
 use Rattle.tftp_machine.proofs.Indices.{slice_get-set_cases, slice_get-set_same, slice_get-set_other}
 use Rattle.tftp_network.specs.Joint.{WasSentBefore}
 use Rattle.tftp_network.specs.Moved.{Moved}
-use Rattle.tftp_network.specs.Order.{Programs}
-use Rattle.tftp_network.specs.Ports.{opened_ports}
+use Rattle.tftp_network.specs.Order.{Programs, IsStranger}
 use Rattle.tftp_network.specs.Programs.{endpoint, requests_at, ClientProgram, client_at}
 use Rattle.tftp_network.specs.Promises.{joined}
 use Rattle.tftp_network.specs.Snapshots.{Snapshot, ClientStage, Unasked, Has_asked, noted_by, client_did}
 use Rattle.tftp_network.proofs.Kept.{How, By_models, By_run, IsOpened, IsThere, IsViewed, HasStored, HasTransferBy, ClientKept, StageKept, TransferKept, ServerKept, IsOfClient, IsOfTransfer, IsKept, IsFreshBy}
-use Rattle.tftp_network.proofs.KeptViews.{arrived_still, there_still}
+use Rattle.tftp_network.proofs.KeptViews.{arrived_still, sent_still}
+use Rattle.tftp_network.proofs.NewPlaces.{client_apart}
 
 module _ {S F D G K : Type 0} {stores : StoreMeaning S D} {sources : SourceMeaning F} {inputs : SourceMeaning G} {outputs : SinkMeaning K}
     (programs : Programs stores sources inputs outputs) where
@@ -49,16 +48,10 @@ module _ {S F D G K : Type 0} {stores : StoreMeaning S D} {sources : SourceMeani
   stored_still (By_run pad) old k stage x (Source source) h = record { sender = h.sender; opened = opened_still old k stage x h.opened; text = h.text; gave = h.gave }
   stored_still (By_run pad) old k stage x (Sink draft) h = record { receiver = h.receiver; opened = opened_still old k stage x h.opened; took = h.took }
 
-  -- the port of a transfer is one of the server
-  pub port_known : {how : How programs} (old : Snapshot programs) (messages : List Message) → ServerKept programs how messages old → (port : ℕ) (transfer : HeldTransfer F D) → HasTransferBy programs old port transfer →
-      Contains (programs.server.start.requests ∷ opened_ports old.run) port
-  port_known old messages h port transfer is = Contains-append_right (programs.server.start.requests ∷ []) (opened_ports old.run) port (h.opened port transfer is)
-
   -- a transfer is at no client's endpoint
   pub transfer_apart : {how : How programs} (old : Snapshot programs) (kept : IsKept programs how old) → IsFreshBy programs old → (k : ℕ) (client : Client) → slice_get programs.clients k ≡ Some client →
       (a : Endpoint) → IsOfTransfer programs old a → there client ≢ a
-  transfer_apart old kept fresh k client found a h same =
-      fresh.apart k h.port client found (port_known old kept.messages kept.server h.port h.transfer h.is_transfer) (same ∙ h.address)
+  transfer_apart old kept fresh k client found a h same = client_apart programs old fresh a (kept.server.opened h.port h.transfer a h.is_transfer) k client found same
 
   -- two clients at one index are one
   one_client : (j k : ℕ) (c client : Client) → slice_get programs.clients j ≡ Some c → slice_get programs.clients k ≡ Some client → j ≡ k → c ≡ client
@@ -87,21 +80,24 @@ module _ {S F D G K : Type 0} {stores : StoreMeaning S D} {sources : SourceMeani
     messages = kept.messages ++ turns.said_now
 
     -- what was sent before
-    before : (from to : Endpoint) (bytes : List ℕ) → WasSentBefore programs old from to bytes → IsThere messages from to bytes
-    before from to bytes h = there_still kept.messages turns.said_now from to bytes (kept.sent from to bytes h)
+    abbrev Arrives : Endpoint → Endpoint → List ℕ → Type 0
+    Arrives from to bytes = IsThere messages from to bytes ⊎ IsStranger stores sources inputs outputs programs to
+
+    before : (from to : Endpoint) (bytes : List ℕ) → WasSentBefore programs old from to bytes → Arrives from to bytes
+    before from to bytes h = sent_still programs kept.messages turns.said_now from to bytes (kept.sent from to bytes h)
 
     -- what the client has sent
     by_client : (c : Client) (stage : ClientStage G K) (port : ℕ) (from to : Endpoint) (bytes : List ℕ) → c ≡ client → stage ≡ next → from ≡ endpoint c.ip port → Contains (noted_by stage) (Sent port to bytes) →
-        IsThere messages from to bytes
+        Arrives from to bytes
     by_client c stage port from to bytes same is at sent =
         let here : from ≡ endpoint client.ip port = at ∙ ap (λ (z : Client). endpoint z.ip port) same in
-        subst (λ (a : Endpoint). IsThere messages a to bytes) (sym here)
+        subst (λ (a : Endpoint). Arrives a to bytes) (sym here)
         (elim (turns.notes port to bytes (subst (λ (z : ClientStage G K). Contains (noted_by z) (Sent port to bytes)) is sent)) [
           | inl h ↦ before (endpoint client.ip port) to bytes h
-          | inr h ↦ h
+          | inr h ↦ inl h
         ])
 
-    all_sent : (from to : Endpoint) (bytes : List ℕ) → WasSentBefore programs new from to bytes → IsThere messages from to bytes
+    all_sent : (from to : Endpoint) (bytes : List ℕ) → WasSentBefore programs new from to bytes → Arrives from to bytes
     all_sent from to bytes (inl h) = before from to bytes (inl (record { port = h.port; at = h.at; sent = h.sent }))
     all_sent from to bytes (inr h) = elim (slice_get-set_cases old.clients k h.k next h.stage h.is_stage) [
       | inl e ↦ by_client h.client h.stage h.port from to bytes (one_client h.k k h.client client h.is_client found e.0) e.1 h.at h.sent
@@ -127,17 +123,18 @@ module _ {S F D G K : Type 0} {stores : StoreMeaning S D} {sources : SourceMeani
       | inr h ↦ other j c stage at h.0 (kept.clients j c stage at h.1)
     ]
 
-    all_transfers : (port : ℕ) (transfer : HeldTransfer F D) → HasTransferBy programs new port transfer → TransferKept programs how turns.views messages new port transfer
-    all_transfers port transfer is =
-        let h = kept.transfers port transfer is in
+    all_transfers : (port : ℕ) (transfer : HeldTransfer F D) (a : Endpoint) → HasTransferBy programs new port transfer a → TransferKept programs how turns.views messages new port transfer a
+    all_transfers port transfer a is =
+        let h = kept.transfers port transfer a is in
         record {
           end = h.end;
           address = h.address;
+          seat = h.seat;
           state = h.state;
           path = h.path;
           request = h.request;
           side = h.side;
-          viewed = turns.others h.end (transfer_apart old kept fresh k client found h.end.address (record { port = port; transfer = transfer; is_transfer = is; address = h.address })) h.viewed;
+          viewed = turns.others h.end (λ same. transfer_apart old kept fresh k client found a (record { port = port; transfer = transfer; is_transfer = is }) (same ∙ h.address)) h.viewed;
           has = stored_still how old k next h.end transfer.files h.has;
         }
 
@@ -148,6 +145,7 @@ module _ {S F D G K : Type 0} {stores : StoreMeaning S D} {sources : SourceMeani
       known = kept.server.known;
       pending = λ from bytes e. arrived_still kept.messages turns.said_now from (requests_at stores sources programs.server) bytes (kept.server.pending from bytes e);
       once = kept.server.once;
+      seats = kept.server.seats;
       gone = kept.server.gone;
       opened = kept.server.opened;
     }
@@ -183,7 +181,7 @@ module _ {S F D G K : Type 0} {stores : StoreMeaning S D} {sources : SourceMeani
     all_views view among = elim (turns.only view among) [
       | inl o ↦ elim (kept.only view o) [
         | inl h ↦ inl (asked_still view.address h)
-        | inr h ↦ inr (record { port = h.port; transfer = h.transfer; is_transfer = h.is_transfer; address = h.address })
+        | inr h ↦ inr (record { port = h.port; transfer = h.transfer; is_transfer = h.is_transfer })
       ]
       | inr here ↦ inl (record {
         k = k;

@@ -1,5 +1,5 @@
 -- A transfer that the server removes keeps the invariant: its end stays among the views.
-use Rattle.std.proofs.Common.{◌≡◌, ℕ, List, [], ◌++◌, Some, None, refl, sym, ap, ◌∙◌, subst, inl, inr}
+use Rattle.std.proofs.Common.{◌≡◌, ◌≢◌, ℕ, List, [], ◌++◌, Some, refl, sym, ap, ◌∙◌, subst, inl, inr}
 use Rattle.std.proofs.lemmas.Bool.{cases_eq}
 use Rattle.std.proofs.lemmas.List.{append-nil}
 use Rattle.tftp_file.specs.Sink.{SinkMeaning}
@@ -8,14 +8,14 @@ use Rattle.tftp_store.specs.Store.{StoreMeaning, files_of}
 use Rattle.tftp_server.specs.State.{HeldTransfer, ServerState, at, without}
 use Rattle.tftp_sockets.specs.Journal.{Event}
 use Rattle.tftp_loop.specs.Serves.{LoopState, Does, Closes, Transfer_closed}
-use Rattle.tftp_machine.specs.Machine.{Message}
+use Rattle.tftp_machine.specs.Machine.{Endpoint, Message}
 use Rattle.tftp_machine.specs.Shows.{IsShown}
+use Rattle.tftp_network.specs.Openings.{HasClosed, place_at}
 use Rattle.tftp_network.specs.Order.{Programs}
-use Rattle.tftp_network.specs.Ports.{HasClosed}
 use Rattle.tftp_network.specs.Programs.{requests_at}
 use Rattle.tftp_network.specs.Promises.{joined}
 use Rattle.tftp_network.specs.Snapshots.{Snapshot, server_did}
-use Rattle.tftp_network.proofs.Identifiers.{at-without, at-without_other, at-without_cases, none-without, once-without}
+use Rattle.tftp_network.proofs.Identifiers.{at-without_other, at-without_cases, once-without}
 use Rattle.tftp_network.proofs.Kept.{How, AreKeyedOnce, HasTransferBy, TransferKept, ServerKept, IsKept}
 use Rattle.tftp_network.proofs.KeptEvents.{IsSilent}
 use Rattle.tftp_network.proofs.KeptServer.{ServerTurns, server_keeps}
@@ -52,42 +52,50 @@ module _ {S F D G K : Type 0} {stores : StoreMeaning S D} {sources : SourceMeani
   files = stay_if programs how old.state new (λ o path file h. (h.0, ap (λ (s : ServerState S F D). files_of (stores.stored s.store)) server_is ∙ h.1, h.2))
 
   -- nothing moves
-  none : (q : ℕ) → MovesNone does q
-  none q = record { opens = refl; moves = λ moved. refl }
+  none : (a : Endpoint) → MovesNone programs old.run does a
+  none a = record { opens = refl; moves = λ moved. refl }
 
   -- a transfer that is held or was removed was held before, or removed
-  held_before : (q : ℕ) (transfer : HeldTransfer F D) → HasTransferBy programs now q transfer → HasTransferBy programs old q transfer
-  held_before q transfer (inl e) = inl (at-without_cases port q transfer old.state.server.held kept.server.once (ap (at q) (sym held) ∙ e)).1
-  held_before q transfer (inr (inl removes)) = inl (ap (λ (p : ℕ). at p old.state.server.held) removes.0 ∙ removes_at q transfer removes) where
-    removes_at : (q : ℕ) (transfer : HeldTransfer F D) → (q ≡ port) × (at q old.state.server.held ≡ Some transfer) → at port old.state.server.held ≡ Some transfer
-    removes_at q transfer r = ap (λ (p : ℕ). at p old.state.server.held) (sym r.0) ∙ r.1
-  held_before q transfer (inr (inr closed)) = inr closed
+  still_held : (q : ℕ) (transfer : HeldTransfer F D) → at q new.server.held ≡ Some transfer → (q ≢ port) × (at q old.state.server.held ≡ Some transfer)
+  still_held q transfer e =
+      let h = at-without_cases port q transfer old.state.server.held kept.server.once (ap (at q) (sym held) ∙ e) in (h.0, h.1)
+
+  removed_at : (q : ℕ) (transfer : HeldTransfer F D) → (q ≡ port) × (at q old.state.server.held ≡ Some transfer) → at port old.state.server.held ≡ Some transfer
+  removed_at q transfer r = ap (λ (p : ℕ). at p old.state.server.held) (sym r.0) ∙ r.1
+
+  held_before : (q : ℕ) (transfer : HeldTransfer F D) (a : Endpoint) → HasTransferBy programs now q transfer a → HasTransferBy programs old q transfer a
+  held_before q transfer a (inl e) = inl ((still_held q transfer e.0).1, e.1)
+  held_before q transfer a (inr (inl removes)) = inl (removes.0.1, removes.1)
+  held_before q transfer a (inr (inr closed)) = inr closed
 
   -- and is so after the step
-  held_after : (q : ℕ) (transfer : HeldTransfer F D) → HasTransferBy programs old q transfer → HasTransferBy programs now q transfer
-  held_after q transfer (inl e) = elim (cases_eq q port) [
-    | inl same ↦ inr (inl (same, e))
-    | inr n ↦ inl (ap (at q) held ∙ (at-without_other port q old.state.server.held n ∙ e))
+  held_after : (q : ℕ) (transfer : HeldTransfer F D) (a : Endpoint) → HasTransferBy programs old q transfer a → HasTransferBy programs now q transfer a
+  held_after q transfer a (inl e) = elim (cases_eq q port) [
+    | inl same ↦ inr (inl ((same, e.0), e.1))
+    | inr n ↦ inl (ap (at q) held ∙ (at-without_other port q old.state.server.held n ∙ e.0), e.1)
   ]
-  held_after q transfer (inr closed) = inr (inr closed)
+  held_after q transfer a (inr closed) = inr (inr closed)
 
-  -- no transfer is left at its port
-  gone : (q : ℕ) (transfer : HeldTransfer F D) → HasClosed now.run q transfer → at q new.server.held ≡ None
-  gone q transfer (inl removes) = ap (at q) held ∙ (ap (λ (p : ℕ). at p (without port old.state.server.held)) removes.0 ∙ at-without port old.state.server.held kept.server.once)
-  gone q transfer (inr closed) = ap (at q) held ∙ none-without port q old.state.server.held (kept.server.gone q transfer closed)
+  -- no transfer is left at its place
+  gone : (p q : ℕ) (t u : HeldTransfer F D) (a : Endpoint) → HasClosed programs now.run p t a → at q new.server.held ≡ Some u → a ≢ place_at programs q old.run
+  gone p q t u a (inl removes) e same =
+      let h = still_held q u e in
+      h.0 (kept.server.seats q port u t h.1 (removed_at p t removes.0) (sym same ∙ (removes.1 ∙ ap (λ (r : ℕ). place_at programs r old.run) removes.0.0)))
+  gone p q t u a (inr closed) e same = kept.server.gone p q t u a closed (still_held q u e).1 same
 
-  all_transfers : (q : ℕ) (transfer : HeldTransfer F D) → HasTransferBy programs now q transfer → TransferKept programs how kept.views messages now q transfer
-  all_transfers q transfer is =
-      let h = kept.transfers q transfer (held_before q transfer is) in
+  all_transfers : (q : ℕ) (transfer : HeldTransfer F D) (a : Endpoint) → HasTransferBy programs now q transfer a → TransferKept programs how kept.views messages now q transfer a
+  all_transfers q transfer a is =
+      let h = kept.transfers q transfer a (held_before q transfer a is) in
       record {
         end = h.end;
         address = h.address;
+        seat = h.seat;
         state = h.state;
         path = h.path;
         request = h.request;
         side = h.side;
         viewed = viewed_still (joined programs) kept.views kept.messages [] h.end h.viewed;
-        has = stored_after programs how old does added files h.end (none h.end.address.port) transfer.files h.has;
+        has = stored_after programs how old does added files h.end (none h.end.address) transfer.files h.has;
       }
 
   server_kept : ServerKept programs how messages now
@@ -99,8 +107,9 @@ module _ {S F D G K : Type 0} {stores : StoreMeaning S D} {sources : SourceMeani
         arrived_still kept.messages [] from (requests_at stores sources programs.server) bytes
         (kept.server.pending from bytes (ap (λ (s : LoopState S F D). s.pending) (sym closes.is) ∙ e));
     once = subst (λ (hs : List (ℕ × HeldTransfer F D)). AreKeyedOnce hs) (sym held) (once-without port old.state.server.held kept.server.once);
+    seats = λ p q t u e f same. kept.server.seats p q t u (still_held p t e).1 (still_held q u f).1 same;
     gone = gone;
-    opened = λ q transfer is. kept.server.opened q transfer (held_before q transfer is);
+    opened = λ q transfer a is. kept.server.opened q transfer a (held_before q transfer a is);
   }
 
   close_turns : ServerTurns programs old kept now added
@@ -113,7 +122,7 @@ module _ {S F D G K : Type 0} {stores : StoreMeaning S D} {sources : SourceMeani
     clients = λ k client found z at_client h. viewed_still (joined programs) kept.views kept.messages [] z h;
     transfers = all_transfers;
     only = λ view among. inl among;
-    were = λ a h. record { port = h.port; transfer = h.transfer; is_transfer = held_after h.port h.transfer h.is_transfer; address = h.address };
+    were = λ a h. record { port = h.port; transfer = h.transfer; is_transfer = held_after h.port h.transfer a h.is_transfer };
   }
 
   pub closing_keeps : IsKept programs how now

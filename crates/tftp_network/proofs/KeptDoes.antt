@@ -38,7 +38,7 @@ use Rattle.tftp_network.proofs.KeptEvents.{IsSilent, added_by, added_none, answe
 use Rattle.tftp_network.proofs.KeptFiles.{StepsOver, step_over, file_same, file_kept, file_worked}
 use Rattle.tftp_network.proofs.KeptTurns.{own, turn_keeps, stays_keeps}
 use Rattle.tftp_network.proofs.KeptStrays.{arrives}
-use Rattle.tftp_network.proofs.Places.{clients_there, near_server}
+use Rattle.tftp_network.proofs.Places.{clients_there, near_server, stranger_no_client}
 
 -- an open end has no outcome
 no_outcome : (o : Option Outcome) → (IsSome o → ⊥) → o ≡ None
@@ -177,7 +177,8 @@ module _ {S F D G K : Type 0} {stores : StoreMeaning S D} {sources : SourceMeani
       Contains-append_left (Watched time ∷ Received client.port from bytes ∷ []) (Quiet (Slept (wait_at s)) ∷ []) (Received client.port from bytes) (Contains-push (Watched time ∷ []) (Received client.port from bytes)) in
       let added_is = added_by client.port turn.reply receipt s.events added events in
       let came = take client.port from bytes (subst (λ (es : List Event). Contains es (Received client.port from bytes)) added_is (answered_has client.port turn.reply receipt (Received client.port from bytes) receipt_in)) in
-      let a = arrives programs old kept from (client_at inputs outputs (requests_at stores sources programs.server) client) bytes came in
+      let a = arrives programs old kept from (client_at inputs outputs (requests_at stores sources programs.server) client) bytes
+      (stranger_no_client programs (client_at inputs outputs (requests_at stores sources programs.server) client) k client found refl) came in
       answers programs old a.now fresh k client found s files noted moved is_stage from bytes time a.come turn files' added still step told events
   handles from bytes time next files' added (Loses lost keeps) told events take = loses programs old kept fresh k client found s files noted moved is_stage from bytes time files' added keeps events
 

@@ -1,11 +1,11 @@
 -- Ports that are fresh after a step were so before it.
-use Rattle.std.proofs.Common.{◌≡◌, ℕ, suc, zero, ◌+◌, List, [], ◌∷◌, ◌++◌, length, set, Option, Some, None, refl, sym, ap, subst, ◌∙◌, arith}
+use Rattle.std.proofs.Common.{◌≡◌, ℕ, suc, zero, ◌+◌, List, [], ◌∷◌, ◌++◌, length, set, Option, Some, refl, sym, ap, subst, ◌∙◌, arith}
 use Rattle.std.specs.Prelude.{slice_get, option_map}
 use Rattle.std.specs.List.{Contains}
 use Rattle.std.proofs.lemmas.List.Elements.{Contains-append_left, Contains-append_right, Contains-append_cases}
 use Rattle.std.proofs.Common.{inl, inr}
 use Rattle.std.proofs.lemmas.Bool.{cases_eq}
-use Rattle.std.proofs.lemmas.Option.{same_Some, slice_get_read, slice_get-map}
+use Rattle.std.proofs.lemmas.Option.{same_Some, slice_get-map}
 use Rattle.tftp_file.specs.Block.{IsBeginningOf}
 use Rattle.tftp_file.specs.Sink.{SinkMeaning}
 use Rattle.tftp_file.specs.Source.{SourceMeaning}
@@ -15,15 +15,19 @@ use Rattle.tftp_server.specs.State.{HeldTransfer}
 use Rattle.tftp_sockets.specs.Journal.{Event}
 use Rattle.tftp_loop.specs.Serves.{LoopState, Does}
 use Rattle.tftp_client.specs.Converses.{State}
+use Rattle.tftp_machine.specs.Machine.{Endpoint}
 use Rattle.tftp_machine.proofs.Indices.{slice_get-set_same, slice_get-set_other}
 use Rattle.tftp_network.specs.ClientRuns.{ClientDoes, client_moves, moved_in}
-use Rattle.tftp_network.specs.Moved.{Moved, does_move, moved_at, opened_at, or_before}
+use Rattle.tftp_network.specs.Moved.{Moved, or_before}
+use Rattle.tftp_network.specs.Openings.{ArePortsFresh, does_move, moved_at, opened_at, our_ports, ours_by}
 use Rattle.tftp_network.specs.Order.{Programs}
-use Rattle.tftp_network.specs.Ports.{AreDistinct, ArePortsFresh, opened_by, opened_ports}
+use Rattle.tftp_network.specs.Ports.{AreDistinct}
 use Rattle.tftp_network.specs.Programs.{ClientProgram, requests_at}
 use Rattle.tftp_network.specs.Snapshots.{Snapshot, ClientStage, Unasked, Has_asked, server_did, client_did, all_of}
+use Rattle.tftp_network.proofs.RunPlaces.{placed_by, places}
 use Rattle.tftp_network.proofs.Kept.{IsFreshBy, IsToldAt}
 use Rattle.tftp_network.proofs.MovedSteps.{client_more, opens_none, server_more}
+use Rattle.tftp_network.proofs.NewPlaces.{below_above, not_again}
 use Rattle.tftp_network.proofs.Texts.{begins_itself, begins_on}
 
 -- an element after these
@@ -44,12 +48,6 @@ distinct_after p xs ys all (suc j) zero port e f =
 distinct_after p xs ys all (suc j) (suc k) port e f =
     let l = all (suc (length xs + j)) (suc (length xs + k)) port (get_past p xs ys j ∙ e) (get_past p xs ys k ∙ f) in omega (arith, l)
 
--- an element of the first
-get_first : (xs ys : List ℕ) (j port : ℕ) → slice_get xs j ≡ Some port → slice_get (xs ++ ys) j ≡ Some port
-get_first [] ys j port e = absurd (let f : None ≡ Some port = e in cc)
-get_first (x ∷ xs) ys zero port e = e
-get_first (x ∷ xs) ys (suc j) port e = get_first xs ys j port e
-
 -- one of the last is one of all
 contains_after : (p : ℕ) (xs ys : List ℕ) (port : ℕ) → Contains (p ∷ ys) port → Contains (p ∷ (xs ++ ys)) port
 contains_after p xs ys port i = elim (Contains-append_cases (p ∷ []) ys port i) [
@@ -57,35 +55,29 @@ contains_after p xs ys port i = elim (Contains-append_cases (p ∷ []) ys port i
   | inr h ↦ Contains-append_right (p ∷ xs) ys port h
 ]
 
--- a port that was opened before is not opened again
-not_again : (p port : ℕ) (now before : List ℕ) → AreDistinct (p ∷ (now ++ before)) → Contains before port → Contains now port → ⊥
-not_again p port now before all c d =
-    let i : slice_get now d.0 ≡ Some port = slice_get_read now (length now) d.0 port refl d.1 (sym d.2) in
-    let j : slice_get before c.0 ≡ Some port = slice_get_read before (length before) c.0 port refl c.1 (sym c.2) in
-    let same = all (suc d.0) (suc (length now + c.0)) port (get_first now before d.0 port i) (get_past p now before c.0 ∙ j) in
-    let l = d.1 in
-    omega (arith, same, l)
-
 module _ {S F D G K : Type 0} {stores : StoreMeaning S D} {sources : SourceMeaning F} {inputs : SourceMeaning G} {outputs : SinkMeaning K}
     (programs : Programs stores sources inputs outputs) where
   -- before a step of the server
   told_before : (old : Snapshot programs) (new : LoopState S F D) (does : Does stores sources old.state new) (added : List Event) →
-      IsFreshBy programs (server_did programs old does added) → (port : ℕ) → Contains (opened_ports old.run) port → IsToldAt programs old port
-  told_before old new does added h port c =
-      let t = h.told port (Contains-append_right (opened_by does) (opened_ports old.run) port c) in
-      let none = opens_none does port (not_again programs.server.start.requests port (opened_by does) (opened_ports old.run) h.server c) in
+      IsFreshBy programs (server_did programs old does added) → (a : Endpoint) → Contains (places programs old.run) a → IsToldAt programs old a
+  told_before old new does added h a c =
+      let t = h.told a (Contains-append_right (placed_by programs old.run does) (places programs old.run) a c) in
+      let none = opens_none programs old.run does a (not_again programs old does added h a c) in
       record {
-        bytes = begins_on (moved_at port old.run).bytes (does_move port does (moved_at port old.run)).bytes (moved_at port programs.server.run).bytes (server_more port does (moved_at port old.run) none) t.bytes;
-        opened = ap (λ (o : Option (HeldTransfer F D)). or_before o (opened_at port old.run)) (sym none) ∙ t.opened;
+        bytes =
+            begins_on (moved_at programs a old.run).bytes (does_move programs a old.run does (moved_at programs a old.run)).bytes (moved_at programs a programs.server.run).bytes
+            (server_more programs old.run a does (moved_at programs a old.run) none) t.bytes;
+        opened = ap (λ (o : Option (HeldTransfer F D)). or_before o (opened_at programs a old.run)) (sym none) ∙ t.opened;
       }
 
   pub fresh_before_server : (old : Snapshot programs) (new : LoopState S F D) (does : Does stores sources old.state new) (added : List Event) →
       IsFreshBy programs (server_did programs old does added) → IsFreshBy programs old
   fresh_before_server old new does added h = record {
-    server = distinct_after programs.server.start.requests (opened_by does) (opened_ports old.run) h.server;
+    server = distinct_after programs.server.start.requests (ours_by programs does) (our_ports programs old.run) h.server;
+    below = λ port i. h.below port (Contains-append_right (ours_by programs does) (our_ports programs old.run) port i);
     clients = h.clients;
-    apart = λ k port x found i. h.apart k port x found (contains_after programs.server.start.requests (opened_by does) (opened_ports old.run) port i);
-    told = λ port c. told_before old new does added h port c;
+    apart = λ k port x found i. h.apart k port x found (contains_after programs.server.start.requests (ours_by programs does) (our_ports programs old.run) port i);
+    told = λ a c. told_before old new does added h a c;
     gave = h.gave;
   }
 
@@ -102,9 +94,10 @@ module _ {S F D G K : Type 0} {stores : StoreMeaning S D} {sources : SourceMeani
   pub fresh_before_client : (old : Snapshot programs) (k : ℕ) (stage : ClientStage G K) → HadMoved old k stage → IsFreshBy programs (client_did programs old k stage) → IsFreshBy programs old
   fresh_before_client old k stage had h = record {
     server = h.server;
+    below = h.below;
     clients = h.clients;
     apart = h.apart;
-    told = λ port c. let t = h.told port c in record { bytes = t.bytes; opened = t.opened };
+    told = λ a c. let t = h.told a c in record { bytes = t.bytes; opened = t.opened };
     gave = λ j client s files noted moved found at. elim (cases_eq j k) [
       | inl same ↦
           let now = had s files noted moved (ap (slice_get old.clients) (sym same) ∙ at) in
@@ -139,9 +132,10 @@ module _ {S F D G K : Type 0} {stores : StoreMeaning S D} {sources : SourceMeani
   pub fresh_at_last : ArePortsFresh programs → IsFreshBy programs (all_of programs)
   fresh_at_last fresh = record {
     server = fresh.server;
+    below = λ port i. below_above programs port i;
     clients = fresh.clients;
     apart = fresh.apart;
-    told = λ port c. record { bytes = begins_itself (moved_at port programs.server.run).bytes; opened = refl };
+    told = λ a c. record { bytes = begins_itself (moved_at programs a programs.server.run).bytes; opened = refl };
     gave = λ k client s files noted moved found at.
         let last : Client → ClientStage G K = λ c. Has_asked c.last c.files c.noted (moved_in c.runs) in
         let is : Some (last client) ≡ Some (Has_asked s files noted moved) = sym (slice_get-map last programs.clients k ∙ ap (option_map last) found) ∙ at in

@@ -1,11 +1,10 @@
 -- A request that a transfer answers keeps the invariant.
-use Rattle.std.proofs.Common.{◌≡◌, ◌≢◌, ℕ, suc, zero, ◌*◌, ◌<◌, ◌≤◌, Bool, true, false, List, [], ◌∷◌, ◌++◌, length, take, drop, min, Option, Some, None, refl, sym, ap, ◌∙◌, subst, inl, inr, arith}
-use Rattle.std.specs.Prelude.{◌⊎◌, IsSome, if◌then◌else◌, option_to_list, slice_get}
+use Rattle.std.proofs.Common.{◌≡◌, ◌≢◌, ℕ, ◌+◌, ◌*◌, ◌<◌, ◌≤◌, Bool, true, false, List, [], ◌∷◌, ◌++◌, length, take, drop, min, Option, Some, None, refl, sym, ap, ◌∙◌, subst, inl, inr, arith}
+use Rattle.std.specs.Prelude.{◌⊎◌, ◌==◌, IsSome, if◌then◌else◌, map, option_map, option_to_list}
 use Rattle.std.specs.List.{Contains}
-use Rattle.std.proofs.lemmas.Bool.{true≢false, eq-eqb}
+use Rattle.std.proofs.lemmas.Bool.{true≢false, eq-eqb, ne_eqb}
 use Rattle.std.proofs.lemmas.List.{append_cancel_right, take_min, drop_min}
 use Rattle.std.proofs.lemmas.List.Elements.{Contains-append_left, Contains-append_right, Contains-push}
-use Rattle.std.proofs.lemmas.Option.{slice_get_read}
 use Rattle.tftp_wire.specs.Spelling.{Spells}
 use Rattle.tftp_wire.specs.declared.mode.Mode.{Mode}
 use Rattle.tftp_wire.specs.declared.options.RawOption.{RawOption}
@@ -32,23 +31,26 @@ use Rattle.tftp_sockets.specs.Journal.{Event}
 use Rattle.tftp_sockets.specs.Journal.Event.{Sent}
 use Rattle.tftp_loop.specs.Serves.{AnswersRequest, Does, LoopState, Request_answered, after_request}
 use Rattle.tftp_machine.specs.EndOpens.{EndOpens, IsNewly, left_at_first, new_receiver, new_sender, sending}
-use Rattle.tftp_machine.specs.Machine.{At_server, Endpoint, Message, Packet}
-use Rattle.tftp_machine.specs.OpenEnds.{OpenEnd, open_view}
+use Rattle.tftp_machine.specs.Machine.{At_server, Endpoint, Message, Packet, is_same}
+use Rattle.tftp_machine.specs.OpenEnds.{OpenEnd, open_view, peer_of}
 use Rattle.tftp_machine.specs.Rules.{message}
 use Rattle.tftp_machine.specs.Said.{said}
 use Rattle.tftp_machine.specs.Shows.{EndView, IsShown, NoneAt, requested}
 use Rattle.tftp_machine.proofs.EndOpenings.{opens_to_send, opens_to_store}
+use Rattle.tftp_machine.proofs.Endpoints.{same_self}
 use Rattle.tftp_machine.proofs.FirstSent.{first_want}
 use Rattle.tftp_machine.proofs.Indices.{slice_get-push_new}
 use Rattle.tftp_machine.proofs.SaidLemmas.{spells_own}
 use Rattle.tftp_network.specs.Modelled.{AreModelled}
-use Rattle.tftp_network.specs.Moved.{Moved, came_at, first_moved, moved_at, opened_at, opening_moves, or_before}
-use Rattle.tftp_network.specs.Order.{Programs}
-use Rattle.tftp_network.specs.Ports.{AreDistinct, HasClosed, IsStored, opened_by, opened_ports}
+use Rattle.tftp_network.specs.Moved.{Moved, came_if, first_moved, opening_moves, or_before}
+use Rattle.tftp_network.specs.Openings.{HasClosed, above, is_ours, moved_at, opened_at, opens_at, or_place, place, place_at}
+use Rattle.tftp_network.specs.Order.{Programs, IsStranger}
+use Rattle.tftp_network.specs.Ports.{IsStored, opened_ports}
 use Rattle.tftp_network.specs.Programs.{endpoint}
 use Rattle.tftp_network.specs.Promises.{joined}
 use Rattle.tftp_network.specs.Snapshots.{Snapshot, server_did}
-use Rattle.tftp_network.proofs.Kept.{How, By_models, By_run, AreKeyedOnce, GaveSo, HasStored, HasTransferBy, IsFreshBy, IsKept, IsKnown, IsThere, ServerKept, TookSo, TransferKept, length_of, port_text}
+use Rattle.tftp_network.proofs.RunPlaces.{placed_by, places}
+use Rattle.tftp_network.proofs.Kept.{How, By_models, By_run, AreKeyedOnce, GaveSo, HasStored, HasTransferBy, IsFreshBy, IsKept, IsKnown, IsOfTransfer, IsStrangers, IsThere, ServerKept, TookSo, TransferKept, length_of, place_text}
 use Rattle.tftp_network.proofs.KeptAsks.{says_request}
 use Rattle.tftp_network.proofs.KeptEvents.{only_one}
 use Rattle.tftp_network.proofs.KeptRefusals.{closed_earlier, left_is, new_is, one_sent, refusal_keeps, silent_keeps}
@@ -56,7 +58,8 @@ use Rattle.tftp_network.proofs.KeptServer.{ServerTurns, server_keeps}
 use Rattle.tftp_network.proofs.KeptViews.{among_push, viewed_before}
 use Rattle.tftp_network.proofs.MovedSteps.{MovesNone, none_answered}
 use Rattle.tftp_network.proofs.NewIdentifiers.{at-with_new, at-with_new_cases, at-with_new_other, once-with_new}
-use Rattle.tftp_network.proofs.Places.{at_port}
+use Rattle.tftp_network.proofs.NewPlaces.{at_server as place_at_server, client_apart, new_place}
+use Rattle.tftp_network.proofs.Places.{strange_if}
 use Rattle.tftp_network.proofs.PortAnswers.{Begins_to_send, Begins_to_store, IfKnown, IsFirst, OpensToSend, OpensToStore, PortAnswers, Says_error, SendsFile, Silent, port_answers}
 use Rattle.tftp_network.proofs.Requested.{IsAsked}
 use Rattle.tftp_network.proofs.ServerStays.{SameStored, content_by, content_known, files_same, if_some, known_same, same_if, same_if_known, same_then, stored_after}
@@ -84,6 +87,15 @@ read_length : (agreed : List Known) (peer : Endpoint) (mode : Mode) (measured re
 read_length [] peer mode measured retries piece = refl
 read_length (known ∷ agreed) peer mode measured retries piece = refl
 
+-- the peer of both is the client
+read_peer : (agreed : List Known) (peer : Endpoint) (mode : Mode) (text : List ℕ) (retries : ℕ) → peer_of (sending agreed peer mode text retries).position.phase ≡ Some peer
+read_peer [] peer mode text retries = refl
+read_peer (known ∷ agreed) peer mode text retries = refl
+
+write_peer : (agreed : List Known) (peer : Endpoint) (mode : Mode) (retries : ℕ) → peer_of (serving_write agreed peer mode retries).position.phase ≡ Some peer
+write_peer [] peer mode retries = refl
+write_peer (known ∷ agreed) peer mode retries = refl
+
 write_moves_none : (agreed : List Known) (peer : Endpoint) (mode : Mode) (retries : ℕ) → (first_moved (serving_write agreed peer mode retries)).bytes ≡ []
 write_moves_none [] peer mode retries = refl
 write_moves_none (known ∷ agreed) peer mode retries = refl
@@ -110,13 +122,6 @@ first_of_text (known ∷ agreed) peer mode measured retries piece text first lon
   refl,
 )
 
--- the second of distinct ports is none of those after it
-second_apart : (first second port : ℕ) (ports : List ℕ) → AreDistinct (first ∷ (second ∷ ports)) → Contains ports port → port ≢ second
-second_apart first second port ports distinct c same =
-    let there : slice_get ports c.0 ≡ Some port = slice_get_read ports (length ports) c.0 port refl c.1 (sym c.2) in
-    let one : suc zero ≡ suc (suc c.0) = distinct (suc zero) (suc (suc c.0)) second refl (there ∙ ap (λ (p : ℕ). Some p) same) in
-    omega (arith, one)
-
 module _ {S F D G K : Type 0} {stores : StoreMeaning S D} {sources : SourceMeaning F} {inputs : SourceMeaning G} {outputs : SinkMeaning K}
     (programs : Programs stores sources inputs outputs) {how : How programs} (old : Snapshot programs) (kept : IsKept programs how old) {new : LoopState S F D} (answers : AnswersRequest stores sources old.state new)
     (added : List Event) (noted : new.events ≡ added ++ old.state.events) (fresh : IsFreshBy programs (server_did programs old (Request_answered answers) added)) where
@@ -129,45 +134,59 @@ module _ {S F D G K : Type 0} {stores : StoreMeaning S D} {sources : SourceMeani
   abbrev now : Snapshot programs
   now = server_did programs old does added
 
-  -- the new port, and its endpoint
+  -- the new port, and its place
   abbrev tid : ℕ
   tid = answers.tid
 
-  abbrev a : Endpoint
-  a = endpoint programs.server.ip tid
+  abbrev count : ℕ
+  count = length (opened_ports old.run)
 
-  abbrev opened : List ℕ
-  opened = opened_ports old.run
+  abbrev a : Endpoint
+  a = place programs count answers.from tid
+
+  abbrev opened : List Endpoint
+  opened = places programs old.run
 
   -- ---- a transfer opens
   module _ (transfer : HeldTransfer F D) (store : S) (is : answers.steps.came ≡ A_transfer transfer store) where
-    opens_port : opened_by does ≡ tid ∷ []
+    opens_port : option_to_list answers.left.opened.tid ≡ tid ∷ []
     opens_port = ap (λ (l : Left S F D). option_to_list l.opened.tid) (left_is programs old kept answers (A_transfer transfer store) is)
 
-    ports_are : opened_ports now.run ≡ tid ∷ opened
-    ports_are = ap (λ (ports : List ℕ). ports ++ opened) opens_port
+    placed : placed_by programs old.run does ≡ a ∷ []
+    placed = ap (map (place programs count answers.from)) opens_port
 
-    its_port : Contains (opened_ports now.run) tid
-    its_port = subst (λ (ports : List ℕ). Contains ports tid) (sym ports_are) (Contains-append_left (tid ∷ []) opened tid (Contains-push [] tid))
+    its_place : Contains (places programs now.run) a
+    its_place = subst (λ (ps : List Endpoint). Contains (ps ++ opened) a) (sym placed) (Contains-append_left (a ∷ []) opened a (Contains-push [] a))
 
-    -- it is what came at this port
-    came_here : came_at tid answers.tid answers.steps.came ≡ Some transfer
-    came_here = ap (came_at tid tid) is ∙ ap (λ (b : Bool). if b then Some transfer else None) (eq-eqb tid tid refl)
+    -- it is what came at this place, and at this port
+    came_here : opens_at programs a old.run does ≡ Some transfer
+    came_here = ap (came_if (is_same a a)) is ∙ ap (λ (b : Bool). if b then Some transfer else None) (same_self a)
 
-    -- no transfer before had this port
-    port_is_new : (port : ℕ) → Contains opened port → port ≢ tid
-    port_is_new port c =
-        second_apart programs.server.start.requests tid port opened (subst (λ (ports : List ℕ). AreDistinct (programs.server.start.requests ∷ ports)) ports_are fresh.server) c
+    abbrev or_there : (port : ℕ) → Option (HeldTransfer F D) → Endpoint
+    or_there port o = or_place (option_map (λ (held : HeldTransfer F D). place programs count answers.from port) o) (place_at programs port old.run)
+
+    place_now : place_at programs tid now.run ≡ a
+    place_now = ap (or_there tid) (ap (came_if (tid == tid)) is ∙ ap (λ (b : Bool). if b then Some transfer else None) (eq-eqb tid tid refl))
+
+    place_still : (port : ℕ) → port ≢ tid → place_at programs port now.run ≡ place_at programs port old.run
+    place_still port n = ap (or_there port) (ap (came_if (tid == port)) is ∙ ap (λ (b : Bool). if b then Some transfer else None) (ne_eqb tid port (λ e. n (sym e))))
+
+    -- no transfer before was at this place, or is held at this port
+    place_is_new : (b : Endpoint) → Contains opened b → b ≢ a
+    place_is_new b c = new_place programs old answers opens_port added fresh b c
+
+    free_port : (port : ℕ) (t : HeldTransfer F D) → at port server.held ≡ Some t → port ≢ tid
+    free_port port t e same = let f : None ≡ Some t = sym answers.free ∙ (ap (λ (p : ℕ). at p server.held) (sym same) ∙ e) in cc
 
     none_there : NoneAt kept.views a
     none_there k view at same = elim (kept.only view (k, at)) [
-      | inl h ↦ fresh.apart h.k tid h.client h.found (Contains-append_right (programs.server.start.requests ∷ []) (opened_ports now.run) tid its_port) (sym h.address ∙ same)
-      | inr h ↦ port_is_new h.port (kept.server.opened h.port h.transfer h.is_transfer) (ap (λ (e : Endpoint). e.port) (sym h.address ∙ same))
+      | inl h ↦ client_apart programs now fresh a its_place h.k h.client h.found (sym h.address ∙ same)
+      | inr h ↦ place_is_new view.address (kept.server.opened h.port h.transfer view.address h.is_transfer) same
     ]
 
     -- it is at the server
     at_server : (joined programs).host_of a ≡ At_server
-    at_server = at_port programs tid (λ k client found. fresh.apart k tid client found (Contains-append_right (programs.server.start.requests ∷ []) (opened_ports now.run) tid its_port))
+    at_server = place_at_server programs now fresh a its_place
 
     state_is : new ≡ after_request old.state answers.from (left_by (A_transfer transfer store) server answers.from tid)
     state_is = new_is programs old kept answers (A_transfer transfer store) is
@@ -178,7 +197,7 @@ module _ {S F D G K : Type 0} {stores : StoreMeaning S D} {sources : SourceMeani
     store_is : new.server.store ≡ store
     store_is = ap (λ (s : LoopState S F D). s.server.store) state_is
 
-    module _ (same : SameStored programs how server.store store) (x : OpenEnd) (address : x.address ≡ a) (state : x.state ≡ transfer.end) (path : x.path ≡ transfer.path) (request : x.request ≡ transfer.request)
+    module _ (same : SameStored programs how server.store store) (x : OpenEnd) (address : x.address ≡ a) (peer : peer_of x.state.position.phase ≡ Some answers.from) (state : x.state ≡ transfer.end) (path : x.path ≡ transfer.path) (request : x.request ≡ transfer.request)
         (opens : EndOpens (joined programs) kept.shown.0 kept.views kept.messages answers.from x) (has : HasStored programs how now x transfer.files) where
       abbrev said_now : List Message
       said_now = message a answers.from (said opens.packet) ∷ []
@@ -209,10 +228,25 @@ module _ {S F D G K : Type 0} {stores : StoreMeaning S D} {sources : SourceMeani
           ap (λ (e : EndState). Sent tid answers.from e.position.last_sent ∷ []) state
           ∙ append_cancel_right (Sent tid answers.from transfer.end.position.last_sent ∷ []) added old.state.events (sym (ap (λ (s : LoopState S F D). s.events) state_is) ∙ noted)
 
-      own : TransferKept programs how views messages now tid transfer
+      -- it stands at its port, or is a stranger's
+      seat_by : (b : Bool) → is_ours programs answers.from ≡ b → (a ≡ endpoint programs.server.ip tid) ⊎ IsStrangers programs x.state
+      seat_by true e = inl (ap (λ (b : Bool). endpoint programs.server.ip (if b then tid else above programs + count)) e)
+      seat_by false e =
+          let strange = strange_if programs answers.from e in
+          inr (record { peer = answers.from; is_peer = peer; strange = strange; last_sent_to = subst (λ (to : Endpoint). IsStranger stores sources inputs outputs programs to) (sym opens.last_sent_to) strange })
+
+      seat : (a ≡ endpoint programs.server.ip tid) ⊎ IsStrangers programs x.state
+      seat = seat_by (is_ours programs answers.from) refl
+
+      first_by : (a ≡ endpoint programs.server.ip tid) ⊎ IsStrangers programs x.state → IsThere messages (endpoint programs.server.ip tid) answers.from x.state.position.last_sent ⊎ IsStranger stores sources inputs outputs programs answers.from
+      first_by (inl here) = inl (subst (λ (e : Endpoint). IsThere messages e answers.from x.state.position.last_sent) here says_first)
+      first_by (inr s) = inr (subst (λ (to : Endpoint). IsStranger stores sources inputs outputs programs to) opens.last_sent_to s.last_sent_to)
+
+      own : TransferKept programs how views messages now tid transfer a
       own = record {
         end = x;
         address = address;
+        seat = seat;
         state = state;
         path = path;
         request = request;
@@ -221,53 +255,88 @@ module _ {S F D G K : Type 0} {stores : StoreMeaning S D} {sources : SourceMeani
         has = has;
       }
 
-      -- nothing moves at another port
-      beside : (port : ℕ) → Contains opened port → MovesNone does port
-      beside port c = none_answered answers port (λ d. port_is_new port c (sym (only_one tid port (subst (λ (ports : List ℕ). Contains ports port) opens_port d))))
+      -- nothing moves at another place
+      beside : (b : Endpoint) → Contains opened b → MovesNone programs old.run does b
+      beside b c = none_answered programs old.run answers b (λ d. place_is_new b c (sym (only_one a b (subst (λ (ps : List Endpoint). Contains ps b) placed d))))
 
-      other : (port : ℕ) (t : HeldTransfer F D) → HasTransferBy programs old port t → TransferKept programs how views messages now port t
-      other port t was =
-          let h = kept.transfers port t was in
+      other : (port : ℕ) (t : HeldTransfer F D) (b : Endpoint) → HasTransferBy programs old port t b → TransferKept programs how views messages now port t b
+      other port t b was =
+          let h = kept.transfers port t b was in
           record {
             end = h.end;
             address = h.address;
+            seat = h.seat;
             state = h.state;
             path = h.path;
             request = h.request;
             side = h.side;
             viewed = viewed_before (joined programs) kept.views kept.messages said_now (open_view x) h.end h.viewed;
-            has = stored_after programs how old does added (files_same programs how old.state new stored) h.end (subst (λ (p : Endpoint). MovesNone does p.port) (sym h.address) (beside port (kept.server.opened port t was))) t.files h.has;
+            has =
+                stored_after programs how old does added (files_same programs how old.state new stored) h.end
+                (subst (λ (e : Endpoint). MovesNone programs old.run does e) (sym h.address) (beside b (kept.server.opened port t b was))) t.files h.has;
           }
 
-      new_own : (port : ℕ) (t : HeldTransfer F D) → port ≡ tid → transfer ≡ t → TransferKept programs how views messages now port t
-      new_own port t here this =
-          subst (λ (n : ℕ). TransferKept programs how views messages now n t) (sym here) (subst (λ (u : HeldTransfer F D). TransferKept programs how views messages now tid u) this own)
+      -- a transfer that is held is the new one, or was held at another port
+      abbrev IsNew : ℕ → HeldTransfer F D → Type 0
+      IsNew port t = (port ≡ tid) × (transfer ≡ t)
 
-      found_now : (port : ℕ) (t : HeldTransfer F D) → at port new.server.held ≡ Some t → ((port ≡ tid) × (transfer ≡ t)) ⊎ ((port ≢ tid) × (at port server.held ≡ Some t))
+      abbrev WasHeld : ℕ → HeldTransfer F D → Type 0
+      WasHeld port t = (port ≢ tid) × (at port server.held ≡ Some t)
+
+      found_now : (port : ℕ) (t : HeldTransfer F D) → at port new.server.held ≡ Some t → IsNew port t ⊎ WasHeld port t
       found_now port t found = at-with_new_cases tid port transfer t server.held (ap (at port) (sym held_is) ∙ found)
 
-      all_transfers : (port : ℕ) (t : HeldTransfer F D) → HasTransferBy programs now port t → TransferKept programs how views messages now port t
-      all_transfers port t (inl found) = elim (found_now port t found) [
-        | inl this ↦ new_own port t this.0 this.1
-        | inr was ↦ other port t (inl was.1)
+      new_place_at : (port : ℕ) (t : HeldTransfer F D) → IsNew port t → place_at programs port now.run ≡ a
+      new_place_at port t h = ap (λ (p : ℕ). place_at programs p now.run) h.0 ∙ place_now
+
+      known_place : (port : ℕ) (t : HeldTransfer F D) → WasHeld port t → Contains opened (place_at programs port old.run)
+      known_place port t h = kept.server.opened port t (place_at programs port old.run) (inl (h.1, refl))
+
+      new_own : (port : ℕ) (t : HeldTransfer F D) (b : Endpoint) → IsNew port t → b ≡ a → TransferKept programs how views messages now port t b
+      new_own port t b h here =
+          subst (λ (e : Endpoint). TransferKept programs how views messages now port t e) (sym here)
+          (subst (λ (n : ℕ). TransferKept programs how views messages now n t a) (sym h.0) (subst (λ (u : HeldTransfer F D). TransferKept programs how views messages now tid u a) h.1 own))
+
+      all_transfers : (port : ℕ) (t : HeldTransfer F D) (b : Endpoint) → HasTransferBy programs now port t b → TransferKept programs how views messages now port t b
+      all_transfers port t b (inl found) = elim (found_now port t found.0) [
+        | inl this ↦ new_own port t b this (found.1 ∙ new_place_at port t this)
+        | inr was ↦ other port t b (inl (was.1, found.1 ∙ place_still port was.0))
       ]
-      all_transfers port t (inr closed) = other port t (inr (closed_earlier programs old kept answers added port t closed))
+      all_transfers port t b (inr closed) = other port t b (inr (closed_earlier programs old kept answers added port t b closed))
 
-      opened_still : (port : ℕ) → Contains opened port → Contains (opened_ports now.run) port
-      opened_still port c = Contains-append_right (opened_by does) opened port c
+      opened_still : (b : Endpoint) → Contains opened b → Contains (places programs now.run) b
+      opened_still b c = Contains-append_right (placed_by programs old.run does) opened b c
 
-      all_opened : (port : ℕ) (t : HeldTransfer F D) → HasTransferBy programs now port t → Contains (opened_ports now.run) port
-      all_opened port t (inl found) = elim (found_now port t found) [
-        | inl this ↦ subst (λ (n : ℕ). Contains (opened_ports now.run) n) (sym this.0) its_port
-        | inr was ↦ opened_still port (kept.server.opened port t (inl was.1))
+      all_opened : (port : ℕ) (t : HeldTransfer F D) (b : Endpoint) → HasTransferBy programs now port t b → Contains (places programs now.run) b
+      all_opened port t b (inl found) = elim (found_now port t found.0) [
+        | inl this ↦ subst (λ (e : Endpoint). Contains (places programs now.run) e) (sym (found.1 ∙ new_place_at port t this)) its_place
+        | inr was ↦ opened_still b (kept.server.opened port t b (inl (was.1, found.1 ∙ place_still port was.0)))
       ]
-      all_opened port t (inr closed) = opened_still port (kept.server.opened port t (inr (closed_earlier programs old kept answers added port t closed)))
+      all_opened port t b (inr closed) = opened_still b (kept.server.opened port t b (inr (closed_earlier programs old kept answers added port t b closed)))
 
-      still_gone : (port : ℕ) (t : HeldTransfer F D) → HasClosed now.run port t → at port new.server.held ≡ None
-      still_gone port t closed =
-          let was = closed_earlier programs old kept answers added port t closed in
-          let n : port ≢ tid = port_is_new port (kept.server.opened port t (inr was)) in
-          ap (at port) held_is ∙ (at-with_new_other tid port transfer server.held n ∙ kept.server.gone port t was)
+      -- no two are at one place
+      new_apart : (p q : ℕ) (t u : HeldTransfer F D) → IsNew p t → WasHeld q u → place_at programs p now.run ≡ place_at programs q now.run → ⊥
+      new_apart p q t u h was same = place_is_new (place_at programs q old.run) (known_place q u was) (sym (place_still q was.0) ∙ (sym same ∙ new_place_at p t h))
+
+      all_seats : (p q : ℕ) (t u : HeldTransfer F D) → at p new.server.held ≡ Some t → at q new.server.held ≡ Some u → place_at programs p now.run ≡ place_at programs q now.run → p ≡ q
+      all_seats p q t u e f same = elim (found_now p t e) [
+        | inl this ↦ elim (found_now q u f) [
+          | inl that ↦ this.0 ∙ sym that.0
+          | inr was ↦ absurd (new_apart p q t u this was same)
+        ]
+        | inr had ↦ elim (found_now q u f) [
+          | inl that ↦ absurd (new_apart q p u t that had (sym same))
+          | inr was ↦ kept.server.seats p q t u had.1 was.1 (sym (place_still p had.0) ∙ (same ∙ place_still q was.0))
+        ]
+      ]
+
+      still_gone : (p q : ℕ) (t u : HeldTransfer F D) (b : Endpoint) → HasClosed programs now.run p t b → at q new.server.held ≡ Some u → b ≢ place_at programs q now.run
+      still_gone p q t u b closed e same =
+          let was = closed_earlier programs old kept answers added p t b closed in
+          elim (found_now q u e) [
+            | inl this ↦ place_is_new b (kept.server.opened p t b (inr was)) (same ∙ new_place_at q u this)
+            | inr had ↦ kept.server.gone p q t u b was had.1 (same ∙ place_still q had.0)
+          ]
 
       server_kept : ServerKept programs how messages now
       server_kept = record {
@@ -276,33 +345,34 @@ module _ {S F D G K : Type 0} {stores : StoreMeaning S D} {sources : SourceMeani
         known = known_same programs how old.state new stored kept.server.known;
         pending = λ from bytes e. absurd (let f : None ≡ Some (from, bytes) = sym (ap (λ (s : LoopState S F D). s.pending) state_is) ∙ e in cc);
         once = subst (λ (held : List (ℕ × HeldTransfer F D)). AreKeyedOnce held) (sym held_is) (once-with_new tid transfer server.held answers.free kept.server.once);
+        seats = all_seats;
         gone = still_gone;
         opened = all_opened;
       }
 
-      still_there : (port : ℕ) (t : HeldTransfer F D) → HasTransferBy programs old port t → HasTransferBy programs now port t
-      still_there port t (inl found) =
-          let n : port ≢ tid = port_is_new port (kept.server.opened port t (inl found)) in
-          inl (ap (at port) held_is ∙ (at-with_new_other tid port transfer server.held n ∙ found))
-      still_there port t (inr closed) = inr (inr closed)
+      still_there : (port : ℕ) (t : HeldTransfer F D) (b : Endpoint) → HasTransferBy programs old port t b → HasTransferBy programs now port t b
+      still_there port t b (inl found) =
+          let n = free_port port t found.0 in
+          inl (ap (at port) held_is ∙ (at-with_new_other tid port transfer server.held n ∙ found.0), found.1 ∙ sym (place_still port n))
+      still_there port t b (inr closed) = inr (inr closed)
 
-      there_now : HasTransferBy programs now tid transfer
-      there_now = inl (ap (at tid) held_is ∙ at-with_new tid transfer server.held)
+      there_now : HasTransferBy programs now tid transfer a
+      there_now = inl (ap (at tid) held_is ∙ at-with_new tid transfer server.held, sym place_now)
 
       turns : ServerTurns programs old kept now added
       turns = record {
         views = views;
         said_now = said_now;
         shown = subst (λ (e : Endpoint). IsShown (joined programs) views (kept.messages ++ message e answers.from (said opens.packet) ∷ [])) address (kept.shown.0 ++ opens.shown.0, opens.shown.2);
-        sends = one_sent programs old kept answers messages tid (record { to = answers.from; bytes = x.state.position.last_sent }) added one says_first;
+        sends = one_sent programs old kept answers messages tid (record { to = answers.from; bytes = x.state.position.last_sent }) added one (first_by seat);
         server = server_kept;
         clients = λ k client found z here v. viewed_before (joined programs) kept.views kept.messages said_now (open_view x) z v;
         transfers = all_transfers;
         only = λ view among. elim (among_push kept.views (open_view x) view among) [
           | inl was ↦ inl was
-          | inr this ↦ inr (record { port = tid; transfer = transfer; is_transfer = there_now; address = ap (λ (v : EndView). v.address) this ∙ address })
+          | inr this ↦ inr (subst (λ (e : Endpoint). IsOfTransfer programs now e) (sym (ap (λ (v : EndView). v.address) this ∙ address)) (record { port = tid; transfer = transfer; is_transfer = there_now }))
         ];
-        were = λ e h. record { port = h.port; transfer = h.transfer; is_transfer = still_there h.port h.transfer h.is_transfer; address = h.address };
+        were = λ e h. record { port = h.port; transfer = h.transfer; is_transfer = still_there h.port h.transfer e h.is_transfer };
       }
 
       pub opening_keeps : IsKept programs how now
@@ -338,7 +408,7 @@ module _ {S F D G K : Type 0} {stores : StoreMeaning S D} {sources : SourceMeani
     send_text file text long end has =
         let x = new_sender a answers.bytes o.agreed answers.from r.mode path file text server.config.retries in
         let fits : Fits text (size o.agreed) = subst (λ (n : ℕ). n < 65535 * size o.agreed) (sym long) o.fits in
-        opening_keeps sent server.store o.is (same_if programs how server.store server.store refl) x refl (sym end) refl refl
+        opening_keeps sent server.store o.is (same_if programs how server.store server.store refl) x refl (read_peer o.agreed answers.from r.mode text server.config.retries) (sym end) refl refl
         (opens_to_send (joined programs) kept.shown.0 kept.views kept.messages a answers.from answers.bytes r path file text o.agreed server.config.retries kept.shown.1
         (at_server sent server.store o.is) (none_there sent server.store o.is) (newly false mode options asked) o.granted fits)
         has
@@ -361,25 +431,25 @@ module _ {S F D G K : Type 0} {stores : StoreMeaning S D} {sources : SourceMeani
         }))
 
     -- by the run
-    its_opening : opened_at tid now.run ≡ Some sent
-    its_opening = ap (λ (z : Option (HeldTransfer F D)). or_before z (opened_at tid old.run)) (came_here sent server.store o.is)
+    its_opening : opened_at programs a now.run ≡ Some sent
+    its_opening = ap (λ (z : Option (HeldTransfer F D)). or_before z (opened_at programs a old.run)) (came_here sent server.store o.is)
 
-    its_moved : moved_at tid now.run ≡ first_moved sent.end
-    its_moved = ap (λ (z : Option (HeldTransfer F D)). opening_moves z (moved_at tid old.run)) (came_here sent server.store o.is)
+    its_moved : moved_at programs a now.run ≡ first_moved sent.end
+    its_moved = ap (λ (z : Option (HeldTransfer F D)). opening_moves z (moved_at programs a old.run)) (came_here sent server.store o.is)
 
     send_moved : (pad : ℕ) → how ≡ By_run pad → IsKept programs how now
     send_moved pad is =
-        let text = port_text programs pad tid in
-        let told = fresh.told tid (its_port sent server.store o.is) in
-        let long : length_of (opened_at tid programs.server.run) ≡ o.measured =
+        let text = place_text programs pad a in
+        let told = fresh.told a (its_place sent server.store o.is) in
+        let long : length_of (opened_at programs a programs.server.run) ≡ o.measured =
         ap length_of (sym told.opened) ∙ (ap length_of its_opening ∙ read_length o.agreed answers.from r.mode o.measured server.config.retries o.piece) in
-        let measured : length text ≡ o.measured = pad_length pad (length_of (opened_at tid programs.server.run)) (moved_at tid programs.server.run).bytes ∙ long in
-        let all : List ℕ = (moved_at tid programs.server.run).bytes in
+        let measured : length text ≡ o.measured = pad_length pad (length_of (opened_at programs a programs.server.run)) (moved_at programs a programs.server.run).bytes ∙ long in
+        let all : List ℕ = (moved_at programs a programs.server.run).bytes in
         let begins : IsBeginningOf (first_moved sent.end).bytes all = subst (λ (m : Moved). IsBeginningOf m.bytes all) its_moved told.bytes in
         let f = first_of_text o.agreed answers.from r.mode o.measured server.config.retries o.piece text o.first measured
-        (λ short. begins_padded pad (length_of (opened_at tid programs.server.run)) (first_moved sent.end).bytes all begins (subst (λ (n : ℕ). length (first_moved sent.end).bytes ≤ n) (sym long) short)) in
+        (λ short. begins_padded pad (length_of (opened_at programs a programs.server.run)) (first_moved sent.end).bytes all begins (subst (λ (n : ℕ). length (first_moved sent.end).bytes ≤ n) (sym long) short)) in
         let x = new_sender a answers.bytes o.agreed answers.from r.mode path [] text server.config.retries in
-        let gave : GaveSo x (moved_at tid now.run) = subst (λ (m : Moved). GaveSo x m) (sym its_moved) (record { beginning = f.1; left = λ _. f.2 }) in
+        let gave : GaveSo x (moved_at programs a now.run) = subst (λ (m : Moved). GaveSo x m) (sym its_moved) (record { beginning = f.1; left = λ _. f.2 }) in
         send_text [] text measured f.0
         (subst (λ (w : How programs). HasStored programs w now x (Source o.rest)) (sym is)
         (record {
@@ -413,7 +483,7 @@ module _ {S F D G K : Type 0} {stores : StoreMeaning S D} {sources : SourceMeani
 
     store_has : HasStored programs how now receiver (Sink o.draft) → IsKept programs how now
     store_has has =
-        opening_keeps stored_by o.store o.is (same_if_known programs how old.state o.store kept.server.known o.same) receiver refl refl refl refl
+        opening_keeps stored_by o.store o.is (same_if_known programs how old.state o.store kept.server.known o.same) receiver refl (write_peer o.agreed answers.from asked.request.mode server.config.retries) refl refl refl
         (opens_to_store (joined programs) kept.shown.0 kept.views kept.messages a answers.from answers.bytes asked.request path o.agreed server.config.retries kept.shown.1
         (at_server stored_by o.store o.is) (none_there stored_by o.store o.is) (newly true mode options asked) o.granted)
         has
@@ -429,13 +499,13 @@ module _ {S F D G K : Type 0} {stores : StoreMeaning S D} {sources : SourceMeani
           stays = λ _ done. absurd (true≢false (sym done ∙ write_begins o.agreed answers.from asked.request.mode server.config.retries));
         }))
     storing_by (By_run pad) is =
-        let moved : moved_at tid now.run ≡ first_moved stored_by.end = ap (λ (z : Option (HeldTransfer F D)). opening_moves z (moved_at tid old.run)) (came_here stored_by o.store o.is) in
+        let moved : moved_at programs a now.run ≡ first_moved stored_by.end = ap (λ (z : Option (HeldTransfer F D)). opening_moves z (moved_at programs a old.run)) (came_here stored_by o.store o.is) in
         let none : (first_moved stored_by.end).bytes ≡ [] = write_moves_none o.agreed answers.from asked.request.mode server.config.retries in
         store_has (subst (λ (w : How programs). HasStored programs w now receiver (Sink o.draft)) (sym is) (record {
           receiver = write_stores o.agreed answers.from asked.request.mode server.config.retries;
           opened = record {
             opening = stored_by;
-            opened = ap (λ (z : Option (HeldTransfer F D)). or_before z (opened_at tid old.run)) (came_here stored_by o.store o.is);
+            opened = ap (λ (z : Option (HeldTransfer F D)). or_before z (opened_at programs a old.run)) (came_here stored_by o.store o.is);
             path = refl;
             role = refl;
           };

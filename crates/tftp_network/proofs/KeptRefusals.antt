@@ -1,6 +1,6 @@
 -- A datagram that the request port ignores, or answers by an ERROR, keeps the invariant.
 use Rattle.std.proofs.Common.{◌≡◌, ℕ, List, [], ◌∷◌, ◌++◌, Some, None, sym, ap, ◌∙◌, subst, inl, inr}
-use Rattle.std.specs.Prelude.{option_to_list}
+use Rattle.std.specs.Prelude.{◌⊎◌, length, map, option_to_list}
 use Rattle.std.specs.List.{Contains}
 use Rattle.std.proofs.lemmas.List.{append_cancel_right}
 use Rattle.std.proofs.lemmas.List.Elements.{Contains-push}
@@ -20,16 +20,18 @@ use Rattle.tftp_machine.specs.Rules.{message}
 use Rattle.tftp_machine.proofs.Actions.{says_error}
 use Rattle.tftp_machine.proofs.EndMoves.{valid_error}
 use Rattle.tftp_machine.proofs.SaidLemmas.{spells_own}
-use Rattle.tftp_network.specs.Order.{Programs}
-use Rattle.tftp_network.specs.Ports.{HasClosed, opened_by}
+use Rattle.tftp_network.specs.Openings.{HasClosed, place}
+use Rattle.tftp_network.specs.Order.{Programs, IsStranger}
+use Rattle.tftp_network.specs.Ports.{opened_ports}
 use Rattle.tftp_network.specs.Programs.{endpoint, requests_at}
 use Rattle.tftp_network.specs.Promises.{joined}
 use Rattle.tftp_network.specs.Snapshots.{Snapshot, server_did}
+use Rattle.tftp_network.proofs.RunPlaces.{placed_by}
 use Rattle.tftp_network.proofs.Kept.{How, IsKept, IsThere}
 use Rattle.tftp_network.proofs.KeptEvents.{IsSilent, added_none, answered_sends, none_silent, nothing_in}
 use Rattle.tftp_network.proofs.KeptStill.{says_keeps, still_keeps}
 use Rattle.tftp_network.proofs.PortAnswers.{IsRefused}
-use Rattle.tftp_network.proofs.MovedSteps.{MovesNone, none_answered}
+use Rattle.tftp_network.proofs.MovedSteps.{MovesNone, answer_places_none, none_answered}
 use Rattle.tftp_network.proofs.ServerStays.{SameStored, ServerStays, content_by, files_same, known_same, same_if, same_if_known, same_then}
 
 module _ {S F D G K : Type 0} {stores : StoreMeaning S D} {sources : SourceMeaning F} {inputs : SourceMeaning G} {outputs : SinkMeaning K}
@@ -49,23 +51,27 @@ module _ {S F D G K : Type 0} {stores : StoreMeaning S D} {sources : SourceMeani
   new_is came is = answers.is ∙ ap (λ (l : Left S F D). after_request old.state answers.from l) (left_is came is)
 
   -- a request removes no transfer
-  pub closed_earlier : (added : List Event) (port : ℕ) (transfer : HeldTransfer F D) → HasClosed (server_did programs old does added).run port transfer → HasClosed old.run port transfer
-  closed_earlier added port transfer (inl removes) = absurd removes
-  closed_earlier added port transfer (inr closed) = closed
+  pub closed_earlier : (added : List Event) (port : ℕ) (transfer : HeldTransfer F D) (a : Endpoint) → HasClosed programs (server_did programs old does added).run port transfer a → HasClosed programs old.run port transfer a
+  closed_earlier added port transfer a (inl removes) = absurd removes.0
+  closed_earlier added port transfer a (inr closed) = closed
 
   -- one datagram was sent
-  pub one_sent : (messages : List Message) (own : ℕ) (reply : Reply) (added : List Event) → Sent own reply.to reply.bytes ∷ [] ≡ added → IsThere messages (endpoint programs.server.ip own) reply.to reply.bytes →
-      (port : ℕ) (to : Endpoint) (bytes : List ℕ) → Contains added (Sent port to bytes) → IsThere messages (endpoint programs.server.ip port) to bytes
+  abbrev pub SentOf : List Message → Endpoint → Endpoint → List ℕ → Type 0
+  SentOf messages from to bytes = IsThere messages from to bytes ⊎ IsStranger stores sources inputs outputs programs to
+
+  pub one_sent : (messages : List Message) (own : ℕ) (reply : Reply) (added : List Event) → Sent own reply.to reply.bytes ∷ [] ≡ added → SentOf messages (endpoint programs.server.ip own) reply.to reply.bytes →
+      (port : ℕ) (to : Endpoint) (bytes : List ℕ) → Contains added (Sent port to bytes) → SentOf messages (endpoint programs.server.ip port) to bytes
   one_sent messages own reply added is there port to bytes c =
       let s = answered_sends own (Some reply) [] none_silent port to bytes (subst (λ (es : List Event). Contains es (Sent port to bytes)) (sym is) c) in
-      subst (λ (r : Reply). IsThere messages (endpoint programs.server.ip port) r.to r.bytes) (same_Some reply (record { to = to; bytes = bytes }) s.1)
-      (subst (λ (n : ℕ). IsThere messages (endpoint programs.server.ip n) reply.to reply.bytes) s.0 there)
+      subst (λ (r : Reply). SentOf messages (endpoint programs.server.ip port) r.to r.bytes) (same_Some reply (record { to = to; bytes = bytes }) s.1)
+      (subst (λ (n : ℕ). SentOf messages (endpoint programs.server.ip n) reply.to reply.bytes) s.0 there)
 
   -- if no transfer opens and the store's content stays, all else is as it was
-  stays_so : opened_by does ≡ [] → new.requests ≡ old.state.requests → new.server.config ≡ server.config → SameStored programs how server.store new.server.store → new.pending ≡ None →
+  stays_so : option_to_list answers.left.opened.tid ≡ [] → new.requests ≡ old.state.requests → new.server.config ≡ server.config → SameStored programs how server.store new.server.store → new.pending ≡ None →
       ServerStays programs old kept does
   stays_so opens requests config stored pending = record {
-    opens = opens;
+    opens = ap (map (place programs (length (opened_ports old.run)) answers.from)) opens;
+    seats = λ port. answer_places_none programs old.run answers port opens;
     removes = λ port transfer removes. removes;
     requests = requests;
     config = config;
@@ -75,8 +81,8 @@ module _ {S F D G K : Type 0} {stores : StoreMeaning S D} {sources : SourceMeani
   }
 
   -- nothing moves then
-  moves_none : opened_by does ≡ [] → (port : ℕ) → MovesNone does port
-  moves_none opens port = none_answered answers port (λ c. nothing_in port (subst (λ (ports : List ℕ). Contains ports port) opens c))
+  moves_none : placed_by programs old.run does ≡ [] → (a : Endpoint) → MovesNone programs old.run does a
+  moves_none opens a = none_answered programs old.run answers a (λ c. nothing_in a (subst (λ (ps : List Endpoint). Contains ps a) opens c))
 
   -- a datagram that is ignored
   pub silent_keeps : (added : List Event) → new.events ≡ added ++ old.state.events → answers.steps.came ≡ Nothing → IsKept programs how (server_did programs old does added)
@@ -106,4 +112,4 @@ module _ {S F D G K : Type 0} {stores : StoreMeaning S D} {sources : SourceMeani
       (same_then programs how server.store r.store new.server.store (ap (λ (s : LoopState S F D). s.server.store) e) (same_if_known programs how old.state r.store kept.server.known r.same)) (ap (λ (s : LoopState S F D). s.pending) e) in
       let shown = says_error (joined programs) kept.shown.0 kept.views kept.messages kept.shown.1 a from in
       says_keeps programs old kept does stays (moves_none stays.opens) (ap (λ (s : LoopState S F D). s.server.held) e) added (m ∷ []) (kept.shown.0 ++ shown.0, shown.2)
-      (one_sent (kept.messages ++ m ∷ []) own (record { to = from; bytes = bytes }) added one there)
+      (one_sent (kept.messages ++ m ∷ []) own (record { to = from; bytes = bytes }) added one (inl there))

@@ -15,12 +15,12 @@ use Rattle.tftp_machine.specs.OpenEnds.{OpenEnd}
 use Rattle.tftp_machine.specs.Shows.{EndView, IsShown}
 use Rattle.tftp_machine.specs.ViewSafety.{IsAmong}
 use Rattle.tftp_network.specs.Joint.{WasSentBefore}
-use Rattle.tftp_network.specs.Order.{Programs}
+use Rattle.tftp_network.specs.Order.{Programs, IsStranger}
 use Rattle.tftp_network.specs.Programs.{endpoint, requests_at, ClientProgram, client_at}
 use Rattle.tftp_network.specs.Promises.{joined}
 use Rattle.tftp_network.specs.Snapshots.{Snapshot, ClientStage, Unasked, Has_asked, server_did}
 use Rattle.tftp_network.proofs.Kept.{How, IsThere, IsViewed, HasTransferBy, StageKept, TransferKept, ServerKept, IsOfClient, IsOfTransfer, IsKept}
-use Rattle.tftp_network.proofs.KeptViews.{there_still}
+use Rattle.tftp_network.proofs.KeptViews.{sent_still}
 
 module _ {S F D G K : Type 0} {stores : StoreMeaning S D} {sources : SourceMeaning F} {inputs : SourceMeaning G} {outputs : SinkMeaning K}
     (programs : Programs stores sources inputs outputs) {how : How programs} where
@@ -29,13 +29,14 @@ module _ {S F D G K : Type 0} {stores : StoreMeaning S D} {sources : SourceMeani
     pub views : List EndView
     pub said_now : List Message
     pub shown : IsShown (joined programs) views (kept.messages ++ said_now)
-    pub sends : (port : ℕ) (to : Endpoint) (bytes : List ℕ) → Contains added (Sent port to bytes) → IsThere (kept.messages ++ said_now) (endpoint programs.server.ip port) to bytes
+    pub sends : (port : ℕ) (to : Endpoint) (bytes : List ℕ) → Contains added (Sent port to bytes) →
+        IsThere (kept.messages ++ said_now) (endpoint programs.server.ip port) to bytes ⊎ IsStranger stores sources inputs outputs programs to
     pub server : ServerKept programs how (kept.messages ++ said_now) now
     -- the end of a client stays viewed
     pub clients : (k : ℕ) (client : ClientProgram inputs outputs (requests_at stores sources programs.server)) → slice_get programs.clients k ≡ Some client →
         (z : OpenEnd) → z.address ≡ client_at inputs outputs (requests_at stores sources programs.server) client →
         IsViewed (joined programs) kept.views kept.messages z → IsViewed (joined programs) views (kept.messages ++ said_now) z
-    pub transfers : (port : ℕ) (transfer : HeldTransfer F D) → HasTransferBy programs now port transfer → TransferKept programs how views (kept.messages ++ said_now) now port transfer
+    pub transfers : (port : ℕ) (transfer : HeldTransfer F D) (a : Endpoint) → HasTransferBy programs now port transfer a → TransferKept programs how views (kept.messages ++ said_now) now port transfer a
     pub only : (view : EndView) → IsAmong views view → IsAmong kept.views view ⊎ IsOfTransfer programs now view.address
     pub were : (a : Endpoint) → IsOfTransfer programs old a → IsOfTransfer programs now a
 
@@ -47,12 +48,15 @@ module _ {S F D G K : Type 0} {stores : StoreMeaning S D} {sources : SourceMeani
     abbrev now : Snapshot programs
     now = server_did programs old does added
 
-    before : (from to : Endpoint) (bytes : List ℕ) → WasSentBefore programs old from to bytes → IsThere messages from to bytes
-    before from to bytes h = there_still kept.messages turns.said_now from to bytes (kept.sent from to bytes h)
+    abbrev Arrives : Endpoint → Endpoint → List ℕ → Type 0
+    Arrives from to bytes = IsThere messages from to bytes ⊎ IsStranger stores sources inputs outputs programs to
 
-    all_sent : (from to : Endpoint) (bytes : List ℕ) → WasSentBefore programs now from to bytes → IsThere messages from to bytes
+    before : (from to : Endpoint) (bytes : List ℕ) → WasSentBefore programs old from to bytes → Arrives from to bytes
+    before from to bytes h = sent_still programs kept.messages turns.said_now from to bytes (kept.sent from to bytes h)
+
+    all_sent : (from to : Endpoint) (bytes : List ℕ) → WasSentBefore programs now from to bytes → Arrives from to bytes
     all_sent from to bytes (inl h) = elim (Contains-append_cases added old.noted (Sent h.port to bytes) h.sent) [
-      | inl c ↦ subst (λ (a : Endpoint). IsThere messages a to bytes) (sym h.at) (turns.sends h.port to bytes c)
+      | inl c ↦ subst (λ (a : Endpoint). Arrives a to bytes) (sym h.at) (turns.sends h.port to bytes c)
       | inr c ↦ before from to bytes (inl (record { port = h.port; at = h.at; sent = c }))
     ]
     all_sent from to bytes (inr h) = before from to bytes (inr (record { k = h.k; client = h.client; is_client = h.is_client; stage = h.stage; is_stage = h.is_stage; port = h.port; at = h.at; sent = h.sent }))

@@ -1,34 +1,41 @@
 -- Each step of the server keeps the invariant, if an answered request does.
-use Rattle.std.proofs.Common.{◌≡◌, ℕ, List, [], ◌∷◌, ◌++◌, Some, None, refl, sym, ap, ◌∙◌, subst}
+use Rattle.std.proofs.Common.{◌≡◌, ℕ, true, List, [], ◌∷◌, ◌++◌, Some, None, refl, sym, ap, ◌∙◌, subst, inl, inr}
 use Rattle.std.specs.Prelude.{◌⊎◌}
 use Rattle.std.specs.List.{Contains, AllByRecursion}
+use Rattle.std.proofs.lemmas.Bool.{cases_Bool}
 use Rattle.std.proofs.lemmas.List.Elements.{Contains-push}
 use Rattle.std.proofs.lemmas.Option.{same_Some}
 use Rattle.tftp_file.specs.Sink.{SinkMeaning}
 use Rattle.tftp_file.specs.Source.{SourceMeaning}
+use Rattle.tftp_ends.specs.declared.error_reply.ErrorReply.TheVariants.{UnknownTransferId}
+use Rattle.tftp_ends.specs.End.{EndState}
+use Rattle.tftp_ends.specs.Step.{error_bytes}
 use Rattle.tftp_store.specs.Store.{StoreMeaning, files_of as stored_files}
 use Rattle.tftp_server.specs.State.{HeldTransfer, ServerState}
 use Rattle.tftp_sockets.specs.Journal.{Event}
 use Rattle.tftp_sockets.specs.Journal.Event.{Received, Watched, Elapsed, Printed, Quiet}
 use Rattle.tftp_sockets.specs.Journal.QuietEvent.{Empty, Failed, No_socket, Slept, Woke}
 use Rattle.tftp_loop.specs.Serves.{LoopState, Does, port_state, Waited, At_port, Request_received, No_request_found, Request_not_received, No_port_found, Request_answered, Request_lost, Clock_read, Store_set, Transfer_closed}
-use Rattle.tftp_loop.specs.Serves.{Waits, ServesPort, ReceivesRequest, FindsNoRequest, FailsToReceiveRequest, FindsNoPort, AnswersRequest, LosesRequest, ReadsClock, SetsStore, AtPort, A_datagram, A_lost_datagram, Nothing_found, A_failed_receive, A_timeout, A_missed_timeout, Work}
+use Rattle.tftp_loop.specs.Serves.{Waits, ServesPort, ReceivesRequest, FindsNoRequest, FailsToReceiveRequest, FindsNoPort, AnswersRequest, LosesRequest, ReadsClock, SetsStore, AtPort, A_datagram, A_lost_datagram, Nothing_found, A_failed_receive, A_timeout, A_missed_timeout, ReceivesAndHandles, Work}
 use Rattle.tftp_machine.specs.Machine.{Endpoint}
 use Rattle.tftp_network.specs.Joint.{CanTake, WasSentBefore}
 use Rattle.tftp_network.specs.Moved.{Moved, port_moves}
+use Rattle.tftp_network.specs.Openings.{is_ours, place_at}
 use Rattle.tftp_network.specs.Order.{Programs, IsStranger}
-use Rattle.tftp_network.specs.Ports.{Removes, opened_by}
+use Rattle.tftp_network.specs.Ports.{Removes}
 use Rattle.tftp_network.specs.Programs.{endpoint, requests_at}
 use Rattle.tftp_network.specs.Snapshots.{Snapshot, server_did}
-use Rattle.tftp_network.proofs.Kept.{How, HasArrived, IsKept, IsFreshBy}
+use Rattle.tftp_network.proofs.RunPlaces.{placed_by}
+use Rattle.tftp_network.proofs.Kept.{How, HasArrived, IsThere, IsKept, IsFreshBy, IsStrangers}
 use Rattle.tftp_network.proofs.KeptCloses.{closing_keeps}
 use Rattle.tftp_network.proofs.KeptEvents.{IsSilent, IsUnsent, printed_silent, added_by, none_silent, unsent_silent}
 use Rattle.tftp_network.proofs.KeptFresh.{fresh_before_server}
 use Rattle.tftp_network.proofs.KeptRuns.{ServerStepsKeep}
 use Rattle.tftp_network.proofs.KeptStill.{still_keeps}
 use Rattle.tftp_network.proofs.MovedSteps.{MovesNone, none_at_port}
-use Rattle.tftp_network.proofs.PortDatagrams.{datagram_keeps}
-use Rattle.tftp_network.proofs.KeptStrays.{arrives}
+use Rattle.tftp_network.proofs.Places.{strange_if, stranger_no_port}
+use Rattle.tftp_network.proofs.PortDatagrams.{datagram_keeps, wrong_keeps}
+use Rattle.tftp_network.proofs.KeptStrays.{arrives, errs, strays_in}
 use Rattle.tftp_network.proofs.PortSteps.{received_there, datagram_silent}
 use Rattle.tftp_network.proofs.PortTimeouts.{timeout_keeps}
 use Rattle.tftp_network.proofs.PortWork.{lost_keeps, missed_keeps, work_keeps}
@@ -74,22 +81,25 @@ module _ {S F D G K : Type 0} {stores : StoreMeaning S D} {sources : SourceMeani
       receiving_keeps =
           still_keeps programs old kept (Request_received h) (record {
             opens = refl;
+            seats = λ port. refl;
             removes = λ port transfer r. r;
             requests = ap (λ (s : LoopState S F D). s.requests) h.is;
             config = ap (λ (s : ServerState S F D). s.config) server_same;
             known = known_if programs how old.state new (ap (λ (s : ServerState S F D). stores.stored s.store) server_same) kept.server.known;
             pending = pending_sent;
             files = stay_if programs how old.state new (λ o path file f. subst (λ (s : ServerState S F D). IsIn (stores.stored s.store) path file) (sym server_same) f);
-          }) (λ port. record { opens = refl; moves = λ moved. refl }) (ap (λ (s : ServerState S F D). s.held) server_same) added
+          }) (λ a. record { opens = refl; moves = λ moved. refl }) (ap (λ (s : ServerState S F D). s.held) server_same) added
           (silent_by (Received old.state.requests h.from h.bytes ∷ []) (ap (λ (s : LoopState S F D). s.events) h.is) (datagram_silent old.state.requests h.from h.bytes))
 
     -- ---- the server is as it was, and no datagram more is pending
-    same_keeps : (does : Does stores sources old.state new) → opened_by does ≡ [] → ((port : ℕ) (transfer : HeldTransfer F D) → Removes does port transfer → ⊥) → ((port : ℕ) → MovesNone does port) → new.requests ≡ old.state.requests →
+    same_keeps : (does : Does stores sources old.state new) → placed_by programs old.run does ≡ [] → ((port : ℕ) → place_at programs port (server_did programs old does []).run ≡ place_at programs port old.run) →
+        ((port : ℕ) (transfer : HeldTransfer F D) → Removes does port transfer → ⊥) → ((a : Endpoint) → MovesNone programs old.run does a) → new.requests ≡ old.state.requests →
         new.server ≡ old.state.server → ((from : Endpoint) (bytes : List ℕ) → new.pending ≡ Some (from, bytes) → old.state.pending ≡ Some (from, bytes)) →
         (noted : List Event) → new.events ≡ noted ++ old.state.events → AllByRecursion IsUnsent noted → IsKept programs how (server_did programs old does added)
-    same_keeps does opens removes none requests server_same pending noted e unsent =
+    same_keeps does opens seats removes none requests server_same pending noted e unsent =
         still_keeps programs old kept does (record {
           opens = opens;
+          seats = seats;
           removes = removes;
           requests = requests;
           config = ap (λ (s : ServerState S F D). s.config) server_same;
@@ -104,36 +114,36 @@ module _ {S F D G K : Type 0} {stores : StoreMeaning S D} {sources : SourceMeani
     -- ---- a wait
     waiting_keeps : (h : Waits stores sources old.state new) → IsKept programs how (server_did programs old (Waited h) added)
     waiting_keeps h =
-        same_keeps (Waited h) refl (λ port transfer r. r) (λ port. record { opens = refl; moves = λ moved. refl }) (ap (λ (s : LoopState S F D). s.requests) h.is) (ap (λ (s : LoopState S F D). s.server) h.is)
+        same_keeps (Waited h) refl (λ port. refl) (λ port transfer r. r) (λ a. record { opens = refl; moves = λ moved. refl }) (ap (λ (s : LoopState S F D). s.requests) h.is) (ap (λ (s : LoopState S F D). s.server) h.is)
         (same_pending (ap (λ (s : LoopState S F D). s.pending) h.is)) (Quiet (Woke h.ports) ∷ Quiet (Slept h.millis) ∷ []) (ap (λ (s : LoopState S F D). s.events) h.is) (tt, (tt, tt))
 
     -- ---- a receive at the request port without a datagram
     finding_keeps : (h : FindsNoRequest stores sources old.state new) → IsKept programs how (server_did programs old (No_request_found h) added)
     finding_keeps h =
-        same_keeps (No_request_found h) refl (λ port transfer r. r) (λ port. record { opens = refl; moves = λ moved. refl }) (ap (λ (s : LoopState S F D). s.requests) h.is) (ap (λ (s : LoopState S F D). s.server) h.is)
+        same_keeps (No_request_found h) refl (λ port. refl) (λ port transfer r. r) (λ a. record { opens = refl; moves = λ moved. refl }) (ap (λ (s : LoopState S F D). s.requests) h.is) (ap (λ (s : LoopState S F D). s.server) h.is)
         (same_pending (ap (λ (s : LoopState S F D). s.pending) h.is)) (Quiet (Empty old.state.requests) ∷ []) (ap (λ (s : LoopState S F D). s.events) h.is) (tt, tt)
 
     failing_keeps : (h : FailsToReceiveRequest stores sources old.state new) → IsKept programs how (server_did programs old (Request_not_received h) added)
     failing_keeps h =
-        same_keeps (Request_not_received h) refl (λ port transfer r. r) (λ port. record { opens = refl; moves = λ moved. refl }) (ap (λ (s : LoopState S F D). s.requests) h.is) (ap (λ (s : LoopState S F D). s.server) h.is)
+        same_keeps (Request_not_received h) refl (λ port. refl) (λ port transfer r. r) (λ a. record { opens = refl; moves = λ moved. refl }) (ap (λ (s : LoopState S F D). s.requests) h.is) (ap (λ (s : LoopState S F D). s.server) h.is)
         (same_pending (ap (λ (s : LoopState S F D). s.pending) h.is)) (Quiet (Failed old.state.requests) ∷ []) (ap (λ (s : LoopState S F D). s.events) h.is) (tt, tt)
 
     -- ---- no port is found
     untaken_keeps : (h : FindsNoPort stores sources old.state new) → IsKept programs how (server_did programs old (No_port_found h) added)
     untaken_keeps h =
-        same_keeps (No_port_found h) refl (λ port transfer r. r) (λ port. record { opens = refl; moves = λ moved. refl }) (ap (λ (s : LoopState S F D). s.requests) h.is) (ap (λ (s : LoopState S F D). s.server) h.is)
+        same_keeps (No_port_found h) refl (λ port. refl) (λ port transfer r. r) (λ a. record { opens = refl; moves = λ moved. refl }) (ap (λ (s : LoopState S F D). s.requests) h.is) (ap (λ (s : LoopState S F D). s.server) h.is)
         (same_pending (ap (λ (s : LoopState S F D). s.pending) h.is)) (Quiet (No_socket h.port) ∷ []) (ap (λ (s : LoopState S F D). s.events) h.is) (tt, tt)
 
     -- ---- a request is lost
     losing_keeps : (h : LosesRequest stores sources old.state new) → IsKept programs how (server_did programs old (Request_lost h) added)
     losing_keeps h =
-        same_keeps (Request_lost h) refl (λ port transfer r. r) (λ port. record { opens = refl; moves = λ moved. refl }) (ap (λ (s : LoopState S F D). s.requests) h.is) (ap (λ (s : LoopState S F D). s.server) h.is)
+        same_keeps (Request_lost h) refl (λ port. refl) (λ port transfer r. r) (λ a. record { opens = refl; moves = λ moved. refl }) (ap (λ (s : LoopState S F D). s.requests) h.is) (ap (λ (s : LoopState S F D). s.server) h.is)
         (λ from bytes e. absurd (let f : None ≡ Some (from, bytes) = sym (ap (λ (s : LoopState S F D). s.pending) h.is) ∙ e in cc)) [] (ap (λ (s : LoopState S F D). s.events) h.is) tt
 
     -- ---- the clock is read
     clock_keeps : (h : ReadsClock stores sources old.state new) → IsKept programs how (server_did programs old (Clock_read h) added)
     clock_keeps h =
-        same_keeps (Clock_read h) refl (λ port transfer r. r) (λ port. record { opens = refl; moves = λ moved. refl }) (ap (λ (s : LoopState S F D). s.requests) h.is) (ap (λ (s : LoopState S F D). s.server) h.is)
+        same_keeps (Clock_read h) refl (λ port. refl) (λ port transfer r. r) (λ a. record { opens = refl; moves = λ moved. refl }) (ap (λ (s : LoopState S F D). s.requests) h.is) (ap (λ (s : LoopState S F D). s.server) h.is)
         (same_pending (ap (λ (s : LoopState S F D). s.pending) h.is)) (Watched h.time ∷ []) (ap (λ (s : LoopState S F D). s.events) h.is) (tt, tt)
 
     -- ---- the store is set
@@ -143,43 +153,90 @@ module _ {S F D G K : Type 0} {stores : StoreMeaning S D} {sources : SourceMeani
         let stored_now : stores.stored new.server.store ≡ stores.stored old.state.server.store = ap (λ (s : ServerState S F D). stores.stored s.store) server_now ∙ h.same in
         still_keeps programs old kept (Store_set h) (record {
           opens = refl;
+          seats = λ port. refl;
           removes = λ port transfer r. r;
           requests = ap (λ (s : LoopState S F D). s.requests) h.is;
           config = ap (λ (s : ServerState S F D). s.config) server_now;
           known = known_if programs how old.state new stored_now kept.server.known;
           pending = λ from bytes e. kept.server.pending from bytes (sym (ap (λ (s : LoopState S F D). s.pending) h.is) ∙ e);
           files = stay_if programs how old.state new (λ o path file f. same_stay (stores.stored old.state.server.store) (stores.stored new.server.store) (ap stored_files stored_now) path file f);
-        }) (λ port. record { opens = refl; moves = λ moved. refl }) (ap (λ (s : ServerState S F D). s.held) server_now) added (silent_by [] (ap (λ (s : LoopState S F D). s.events) h.is) none_silent)
+        }) (λ a. record { opens = refl; moves = λ moved. refl }) (ap (λ (s : ServerState S F D). s.held) server_now) added (silent_by [] (ap (λ (s : LoopState S F D). s.events) h.is) none_silent)
 
     -- ---- at the port of a transfer
-    port_keeps : (serves : ServesPort stores sources old.state new) → IsFreshBy programs (server_did programs old (At_port serves) added) → IsKept programs how (server_did programs old (At_port serves) added)
-    port_keeps serves fresh_now = by_case serves.does refl where
-      fresh : IsFreshBy programs old
-      fresh = fresh_before_server programs old new (At_port serves) added fresh_now
+    module _ (serves : ServesPort stores sources old.state new) (fresh_now : IsFreshBy programs (server_did programs old (At_port serves) added)) where
+      old_fresh : IsFreshBy programs old
+      old_fresh = fresh_before_server programs old new (At_port serves) added fresh_now
 
       -- nothing moves at a step that is no datagram
-      quiet : (does : AtPort stores sources old.state.now (port_state old.state serves.timer) serves.next) → serves.does ≡ does → ((moved : Moved) → port_moves does moved ≡ moved) → (port : ℕ) → MovesNone (At_port serves) port
-      quiet does is still = none_at_port serves (λ moved. ap (λ (d : AtPort stores sources old.state.now (port_state old.state serves.timer) serves.next). port_moves d moved) is ∙ still moved)
+      quiet : (does : AtPort stores sources old.state.now (port_state old.state serves.timer) serves.next) → serves.does ≡ does → ((moved : Moved) → port_moves does moved ≡ moved) → (a : Endpoint) → MovesNone programs old.run (At_port serves) a
+      quiet does is still = none_at_port programs old.run serves (λ moved. ap (λ (d : AtPort stores sources old.state.now (port_state old.state serves.timer) serves.next). port_moves d moved) is ∙ still moved)
+
+      -- its place
+      abbrev port : ℕ
+      port = serves.timer.port
+
+      abbrev place : Endpoint
+      place = place_at programs port old.run
+
+      -- a datagram for a transfer at its port, or for a stranger's: from a stranger, or from one that is ours
+      abbrev Handles : Type 0
+      Handles = ReceivesAndHandles stores sources old.state.now (port_state old.state serves.timer) serves.next
+
+      abbrev Keeps : Type 0
+      Keeps = IsKept programs how (server_did programs old (At_port serves) added)
+
+      here_keeps : (h : Handles) → serves.does ≡ A_datagram h → WasSentBefore programs old h.from (endpoint programs.server.ip port) h.bytes ⊎ IsStranger stores sources inputs outputs programs h.from →
+          place ≡ endpoint programs.server.ip port → Keeps
+      here_keeps h is came here =
+          let a = arrives programs old kept h.from (endpoint programs.server.ip port) h.bytes (stranger_no_port programs (endpoint programs.server.ip port) port refl) came in
+          datagram_keeps programs old a.now old_fresh serves added events h is fresh_now (subst (λ (e : Endpoint). HasArrived a.now.messages h.from e h.bytes) (sym here) a.come) (inl here)
+
+      strange_keeps : (h : Handles) → serves.does ≡ A_datagram h → IsStranger stores sources inputs outputs programs h.from → Keeps
+      strange_keeps h is strange =
+          let a = strays_in programs old kept h.from place h.bytes strange in
+          datagram_keeps programs old a.now old_fresh serves added events h is fresh_now a.come (inr strange)
+
+      ours_keeps : (h : Handles) → serves.does ≡ A_datagram h → WasSentBefore programs old h.from (endpoint programs.server.ip port) h.bytes ⊎ IsStranger stores sources inputs outputs programs h.from →
+          is_ours programs h.from ≡ true → (now : IsKept programs how old) → IsThere now.messages (endpoint programs.server.ip port) h.from (error_bytes UnknownTransferId) →
+          (place ≡ endpoint programs.server.ip port) ⊎ IsStrangers programs (now.transfers port h.handles.takes.transfer place (inl (h.handles.takes.found, refl))).end.state → Keeps
+      ours_keeps h is came ours now there (inl here) = here_keeps h is came here
+      ours_keeps h is came ours now there (inr s) = wrong_keeps programs old now old_fresh serves added events h is fresh_now s ours there
+
+      ours_answered : (h : Handles) → serves.does ≡ A_datagram h → WasSentBefore programs old h.from (endpoint programs.server.ip port) h.bytes ⊎ IsStranger stores sources inputs outputs programs h.from →
+          is_ours programs h.from ≡ true → Keeps
+      ours_answered h is came ours =
+          let a = errs programs old kept (endpoint programs.server.ip port) h.from UnknownTransferId in
+          ours_keeps h is came ours a.now a.there (a.now.transfers port h.handles.takes.transfer place (inl (h.handles.takes.found, refl))).seat
+
+      by_seat : (h : Handles) → serves.does ≡ A_datagram h → WasSentBefore programs old h.from (endpoint programs.server.ip port) h.bytes ⊎ IsStranger stores sources inputs outputs programs h.from →
+          {e : EndState} → (place ≡ endpoint programs.server.ip port) ⊎ IsStrangers programs e → Keeps
+      by_seat h is came (inl here) = here_keeps h is came here
+      by_seat h is came (inr s) = elim (cases_Bool (is_ours programs h.from)) [
+        | inl ours ↦ ours_answered h is came ours
+        | inr not ↦ strange_keeps h is (strange_if programs h.from not)
+      ]
 
       by_case : (does : AtPort stores sources old.state.now (port_state old.state serves.timer) serves.next) → serves.does ≡ does → IsKept programs how (server_did programs old (At_port serves) added)
       by_case (A_datagram h) is =
-          let came = received_there programs old kept serves added events h.handles.takes.takes.turn.reply (Received serves.timer.port h.from h.bytes ∷ []) h.handles.events serves.timer.port h.from h.bytes
-          (Contains-push [] (Received serves.timer.port h.from h.bytes)) take in
-          let a = arrives programs old kept h.from (endpoint programs.server.ip serves.timer.port) h.bytes came in
-          datagram_keeps programs old a.now fresh serves added events h is a.come fresh_now
-      by_case (A_lost_datagram h) is = lost_keeps programs old kept fresh serves added events (quiet (A_lost_datagram h) is (λ moved. refl)) h.from h.bytes h.loses h.events
-      by_case (A_timeout h) is = timeout_keeps programs old kept fresh serves added events (quiet (A_timeout h) is (λ moved. refl)) h.step h.times_out
-      by_case (Nothing_found h) is = missed_keeps programs old kept fresh serves added events (quiet (Nothing_found h) is (λ moved. refl)) (Quiet (Empty serves.timer.port)) tt h.server h.events
-      by_case (A_failed_receive h) is = missed_keeps programs old kept fresh serves added events (quiet (A_failed_receive h) is (λ moved. refl)) (Quiet (Failed serves.timer.port)) tt h.server h.events
-      by_case (A_missed_timeout h) is = missed_keeps programs old kept fresh serves added events (quiet (A_missed_timeout h) is (λ moved. refl)) (Elapsed serves.timer.port old.state.now) tt h.server h.events
-      by_case (Work h) is = work_keeps programs old kept fresh serves added events (quiet (Work h) is (λ moved. refl)) h.works h.events
+          let came = received_there programs old kept serves added events h.handles.takes.takes.turn.reply (Received port h.from h.bytes ∷ []) h.handles.events port h.from h.bytes
+          (Contains-push [] (Received port h.from h.bytes)) take in
+          by_seat h is came (kept.transfers port h.handles.takes.transfer place (inl (h.handles.takes.found, refl))).seat
+      by_case (A_lost_datagram h) is = lost_keeps programs old kept old_fresh serves added events (quiet (A_lost_datagram h) is (λ moved. refl)) h.from h.bytes h.loses h.events
+      by_case (A_timeout h) is = timeout_keeps programs old kept old_fresh serves added events (quiet (A_timeout h) is (λ moved. refl)) h.step h.times_out
+      by_case (Nothing_found h) is = missed_keeps programs old kept old_fresh serves added events (quiet (Nothing_found h) is (λ moved. refl)) (Quiet (Empty serves.timer.port)) tt h.server h.events
+      by_case (A_failed_receive h) is = missed_keeps programs old kept old_fresh serves added events (quiet (A_failed_receive h) is (λ moved. refl)) (Quiet (Failed serves.timer.port)) tt h.server h.events
+      by_case (A_missed_timeout h) is = missed_keeps programs old kept old_fresh serves added events (quiet (A_missed_timeout h) is (λ moved. refl)) (Elapsed serves.timer.port old.state.now) tt h.server h.events
+      by_case (Work h) is = work_keeps programs old kept old_fresh serves added events (quiet (Work h) is (λ moved. refl)) h.works h.events
+
+      port_keeps : IsKept programs how (server_did programs old (At_port serves) added)
+      port_keeps = by_case serves.does refl
 
   -- each step of the server
   pub serves_keep : AnswersKeep → ServerStepsKeep programs how
   serves_keep answers_keep old new (Waited h) added kept fresh events take = waiting_keeps old new kept added events take h
   serves_keep answers_keep old new (At_port serves) added kept fresh events take = port_keeps old new kept added events take serves fresh
   serves_keep answers_keep old new (Request_received h) added kept fresh events take =
-      let a = arrives programs old kept h.from (requests_at stores sources programs.server) h.bytes (request_came old new kept added events take h) in
+      let a = arrives programs old kept h.from (requests_at stores sources programs.server) h.bytes (stranger_no_port programs (requests_at stores sources programs.server) programs.server.start.requests refl) (request_came old new kept added events take h) in
       receiving_keeps old new a.now added events take h a.come
   serves_keep answers_keep old new (No_request_found h) added kept fresh events take = finding_keeps old new kept added events take h
   serves_keep answers_keep old new (Request_not_received h) added kept fresh events take = failing_keeps old new kept added events take h

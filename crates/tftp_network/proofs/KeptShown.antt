@@ -22,7 +22,7 @@ use Rattle.tftp_network.specs.Arrived.{ViewsEnd, ViewsFile, ViewsSink, ViewsOwn,
 use Rattle.tftp_network.specs.Modelled.{AreModelled}
 use Rattle.tftp_network.specs.Order.{Programs}
 use Rattle.tftp_network.specs.Ports.{IsStored, WasStored}
-use Rattle.tftp_network.specs.Programs.{endpoint, requests_at, arrived, ClientProgram, client_at}
+use Rattle.tftp_network.specs.Programs.{requests_at, arrived, ClientProgram, client_at}
 use Rattle.tftp_network.specs.Promises.{joined, HasClient, HasTransfer, HasOpened, IsOfSome, AreViewed, AreShown}
 use Rattle.tftp_network.specs.Snapshots.{ClientStage, Has_asked, all_of}
 use Rattle.tftp_network.proofs.Kept.{By_models, HasFile, HasStored, ClientKept, TransferKept, IsOfClient, IsOfTransfer, IsKept}
@@ -138,17 +138,17 @@ module _ {S F D G K : Type 0} {stores : StoreMeaning S D} {sources : SourceMeani
         stays = λ o done. subst (λ (p : List ℕ). IsStored stores (arrived stores sources programs.server) p x.stored) path (has.stays o done);
       })
 
-  views_transfer : (port : ℕ) (transfer : HeldTransfer F D) (h : TransferKept programs (By_models models) kept.views kept.messages (all_of programs) port transfer) →
-      ViewsTransfer stores sources programs.server port transfer (open_view h.end)
-  views_transfer port transfer h = record {
-    end = views_end h.end (endpoint programs.server.ip port) transfer.end h.address h.state;
+  views_transfer : (port : ℕ) (transfer : HeldTransfer F D) (a : Endpoint) (h : TransferKept programs (By_models models) kept.views kept.messages (all_of programs) port transfer a) →
+      ViewsTransfer stores sources programs.server transfer a (open_view h.end)
+  views_transfer port transfer a h = record {
+    end = views_end h.end a transfer.end h.address h.state;
     own = views_stored transfer h.end transfer.files h.viewed.kept h.state h.path h.has;
   }
 
-  has_transfer : (port : ℕ) (transfer : HeldTransfer F D) → HasOpened programs port transfer → HasTransfer programs kept.views port transfer
-  has_transfer port transfer opened =
-      let h = kept.transfers port transfer opened in
-      (open_view h.end, (h.viewed.index, h.viewed.viewed), views_transfer port transfer h)
+  has_transfer : (port : ℕ) (transfer : HeldTransfer F D) (a : Endpoint) → HasOpened programs port transfer a → HasTransfer programs kept.views transfer a
+  has_transfer port transfer a opened =
+      let h = kept.transfers port transfer a opened in
+      (open_view h.end, (h.viewed.index, h.viewed.viewed), views_transfer port transfer a h)
 
   -- and no view is of another end
   client_only : (view : EndView) → IsAmong kept.views view → IsOfClient programs (all_of programs) view.address → IsOfSome programs models view
@@ -159,9 +159,9 @@ module _ {S F D G K : Type 0} {stores : StoreMeaning S D} {sources : SourceMeani
 
   transfer_only : (view : EndView) → IsAmong kept.views view → IsOfTransfer programs (all_of programs) view.address → IsOfSome programs models view
   transfer_only view among of =
-      let h = kept.transfers of.port of.transfer of.is_transfer in
-      let same = view_there (joined programs) kept.views kept.messages h.end view kept.shown h.viewed among (of.address ∙ sym h.address) in
-      inr (of.port, of.transfer, of.is_transfer, subst (λ (v : EndView). ViewsTransfer stores sources programs.server of.port of.transfer v) (sym same) (views_transfer of.port of.transfer h))
+      let h = kept.transfers of.port of.transfer view.address of.is_transfer in
+      let same = view_there (joined programs) kept.views kept.messages h.end view kept.shown h.viewed among (sym h.address) in
+      inr (of.port, of.transfer, view.address, of.is_transfer, subst (λ (v : EndView). ViewsTransfer stores sources programs.server of.transfer view.address v) (sym same) (views_transfer of.port of.transfer view.address h))
 
   all_viewed : AreViewed programs models kept.views
   all_viewed = record {

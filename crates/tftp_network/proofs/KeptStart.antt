@@ -1,6 +1,6 @@
 -- The invariant holds before any program has done anything.
 use Rattle.std.proofs.Common.{◌≡◌, ℕ, suc, zero, List, [], ◌∷◌, map, Some, None, refl, sym, ap, ◌∙◌, subst, inl, inr}
-use Rattle.std.specs.Prelude.{slice_get}
+use Rattle.std.specs.Prelude.{◌⊎◌, slice_get}
 use Rattle.std.specs.List.{Contains}
 use Rattle.tftp_file.specs.Sink.{SinkMeaning}
 use Rattle.tftp_file.specs.Source.{SourceMeaning}
@@ -10,7 +10,7 @@ use Rattle.tftp_sockets.specs.Journal.Event.{Sent}
 use Rattle.tftp_machine.specs.Machine.{Endpoint}
 use Rattle.tftp_machine.proofs.Shown.{shown_start}
 use Rattle.tftp_network.specs.Joint.{WasSentBefore}
-use Rattle.tftp_network.specs.Order.{Programs}
+use Rattle.tftp_network.specs.Order.{Programs, IsStranger}
 use Rattle.tftp_network.specs.Promises.{joined}
 use Rattle.tftp_network.specs.Snapshots.{ClientStage, Unasked, noted_by, nothing_done}
 use Rattle.tftp_network.proofs.Kept.{How, By_models, By_run, IsKnown, IsThere, AreKeyedOnce, HasTransferBy, StageKept, IsKept}
@@ -25,7 +25,7 @@ unasked_at (c ∷ clients) (suc k) stage e = unasked_at clients k stage e
 module _ {S F D G K : Type 0} {stores : StoreMeaning S D} {sources : SourceMeaning F} {inputs : SourceMeaning G} {outputs : SinkMeaning K}
     (programs : Programs stores sources inputs outputs) where
   -- nothing was sent
-  nothing_sent : (from to : Endpoint) (bytes : List ℕ) → WasSentBefore programs (nothing_done programs) from to bytes → IsThere [] from to bytes
+  nothing_sent : (from to : Endpoint) (bytes : List ℕ) → WasSentBefore programs (nothing_done programs) from to bytes → IsThere [] from to bytes ⊎ IsStranger stores sources inputs outputs programs to
   nothing_sent from to bytes (inl h) = absurd (nothing_in (Sent h.port to bytes) h.sent)
   nothing_sent from to bytes (inr h) =
       absurd (nothing_in (Sent h.port to bytes) (subst (λ (s : ClientStage G K). Contains (noted_by s) (Sent h.port to bytes)) (sym (unasked_at programs.clients h.k h.stage h.is_stage)) h.sent))
@@ -34,9 +34,9 @@ module _ {S F D G K : Type 0} {stores : StoreMeaning S D} {sources : SourceMeani
   nothing_held : (port : ℕ) (transfer : HeldTransfer F D) → at port programs.server.start.server.held ≡ Some transfer → ⊥
   nothing_held port transfer e = let f : None ≡ Some transfer = ap (at port) (sym programs.server.empty) ∙ e in cc
 
-  no_transfer : (port : ℕ) (transfer : HeldTransfer F D) → HasTransferBy programs (nothing_done programs) port transfer → ⊥
-  no_transfer port transfer (inl e) = nothing_held port transfer e
-  no_transfer port transfer (inr closed) = closed
+  no_transfer : (port : ℕ) (transfer : HeldTransfer F D) (a : Endpoint) → HasTransferBy programs (nothing_done programs) port transfer a → ⊥
+  no_transfer port transfer a (inl e) = nothing_held port transfer e.0
+  no_transfer port transfer a (inr closed) = closed
 
   known_at_first : (how : How programs) → IsKnown programs how (nothing_done programs).state
   known_at_first (By_models models) = models.known
@@ -54,10 +54,11 @@ module _ {S F D G K : Type 0} {stores : StoreMeaning S D} {sources : SourceMeani
       known = known_at_first how;
       pending = λ from bytes e. absurd (let f : None ≡ Some (from, bytes) = sym programs.server.idle ∙ e in cc);
       once = subst (λ (held : List (ℕ × HeldTransfer F D)). AreKeyedOnce held) (sym programs.server.empty) tt;
-      gone = λ port transfer h. absurd h;
-      opened = λ port transfer h. absurd (no_transfer port transfer h);
+      seats = λ p q t u e. absurd (nothing_held p t e);
+      gone = λ p q t u a h. absurd h;
+      opened = λ port transfer a h. absurd (no_transfer port transfer a h);
     };
     clients = λ k client stage found e. subst (λ (s : ClientStage G K). StageKept programs how [] [] client s) (unasked_at programs.clients k stage e) tt;
-    transfers = λ port transfer h. absurd (no_transfer port transfer h);
+    transfers = λ port transfer a h. absurd (no_transfer port transfer a h);
     only = λ view among. absurd (let f : None ≡ Some view = among.1 in cc);
   }

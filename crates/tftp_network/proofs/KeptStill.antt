@@ -1,5 +1,6 @@
 -- A step of the server that changes no transfer keeps the invariant, if what it sends is shown.
 use Rattle.std.proofs.Common.{◌≡◌, ℕ, List, [], ◌++◌, sym, ap, ◌∙◌, subst, inl, inr}
+use Rattle.std.specs.Prelude.{◌⊎◌}
 use Rattle.std.specs.List.{Contains}
 use Rattle.std.proofs.lemmas.List.{append-nil}
 use Rattle.tftp_file.specs.Sink.{SinkMeaning}
@@ -11,7 +12,7 @@ use Rattle.tftp_sockets.specs.Journal.Event.{Sent}
 use Rattle.tftp_loop.specs.Serves.{LoopState, Does}
 use Rattle.tftp_machine.specs.Machine.{Endpoint, Message}
 use Rattle.tftp_machine.specs.Shows.{IsShown}
-use Rattle.tftp_network.specs.Order.{Programs}
+use Rattle.tftp_network.specs.Order.{Programs, IsStranger}
 use Rattle.tftp_network.specs.Programs.{endpoint, requests_at}
 use Rattle.tftp_network.specs.Promises.{joined}
 use Rattle.tftp_network.specs.Snapshots.{Snapshot, server_did}
@@ -24,36 +25,38 @@ use Rattle.tftp_network.proofs.ServerStays.{ServerStays, stored_after, closed_be
 
 module _ {S F D G K : Type 0} {stores : StoreMeaning S D} {sources : SourceMeaning F} {inputs : SourceMeaning G} {outputs : SinkMeaning K}
     (programs : Programs stores sources inputs outputs) {how : How programs} (old : Snapshot programs) (kept : IsKept programs how old) {new : LoopState S F D} (does : Does stores sources old.state new)
-    (stays : ServerStays programs old kept does) (none : (port : ℕ) → MovesNone does port) (held : new.server.held ≡ old.state.server.held) (added : List Event) where
+    (stays : ServerStays programs old kept does) (none : (a : Endpoint) → MovesNone programs old.run does a) (held : new.server.held ≡ old.state.server.held) (added : List Event) where
   abbrev now : Snapshot programs
   now = server_did programs old does added
 
-  held_before : (port : ℕ) (transfer : HeldTransfer F D) → HasTransferBy programs now port transfer → HasTransferBy programs old port transfer
-  held_before port transfer (inl e) = inl (ap (at port) (sym held) ∙ e)
-  held_before port transfer (inr closed) = inr (closed_before programs old kept does stays added port transfer closed)
+  held_before : (port : ℕ) (transfer : HeldTransfer F D) (a : Endpoint) → HasTransferBy programs now port transfer a → HasTransferBy programs old port transfer a
+  held_before port transfer a (inl e) = inl (ap (at port) (sym held) ∙ e.0, e.1 ∙ stays.seats port)
+  held_before port transfer a (inr closed) = inr (closed_before programs old kept does stays added port transfer a closed)
 
-  held_after : (port : ℕ) (transfer : HeldTransfer F D) → HasTransferBy programs old port transfer → HasTransferBy programs now port transfer
-  held_after port transfer (inl e) = inl (ap (at port) held ∙ e)
-  held_after port transfer (inr closed) = inr (inr closed)
+  held_after : (port : ℕ) (transfer : HeldTransfer F D) (a : Endpoint) → HasTransferBy programs old port transfer a → HasTransferBy programs now port transfer a
+  held_after port transfer a (inl e) = inl (ap (at port) held ∙ e.0, e.1 ∙ sym (stays.seats port))
+  held_after port transfer a (inr closed) = inr (inr closed)
 
   -- what it sends is shown
   module _ (said_now : List Message) (shown : IsShown (joined programs) kept.views (kept.messages ++ said_now))
-      (sends : (port : ℕ) (to : Endpoint) (bytes : List ℕ) → Contains added (Sent port to bytes) → IsThere (kept.messages ++ said_now) (endpoint programs.server.ip port) to bytes) where
+      (sends : (port : ℕ) (to : Endpoint) (bytes : List ℕ) → Contains added (Sent port to bytes) →
+      IsThere (kept.messages ++ said_now) (endpoint programs.server.ip port) to bytes ⊎ IsStranger stores sources inputs outputs programs to) where
     abbrev messages : List Message
     messages = kept.messages ++ said_now
 
-    all_transfers : (port : ℕ) (transfer : HeldTransfer F D) → HasTransferBy programs now port transfer → TransferKept programs how kept.views messages now port transfer
-    all_transfers port transfer is =
-        let h = kept.transfers port transfer (held_before port transfer is) in
+    all_transfers : (port : ℕ) (transfer : HeldTransfer F D) (a : Endpoint) → HasTransferBy programs now port transfer a → TransferKept programs how kept.views messages now port transfer a
+    all_transfers port transfer a is =
+        let h = kept.transfers port transfer a (held_before port transfer a is) in
         record {
           end = h.end;
           address = h.address;
+          seat = h.seat;
           state = h.state;
           path = h.path;
           request = h.request;
           side = h.side;
           viewed = viewed_still (joined programs) kept.views kept.messages said_now h.end h.viewed;
-          has = stored_after programs how old does added stays.files h.end (none h.end.address.port) transfer.files h.has;
+          has = stored_after programs how old does added stays.files h.end (none h.end.address) transfer.files h.has;
         }
 
     server_kept : ServerKept programs how messages now
@@ -63,8 +66,9 @@ module _ {S F D G K : Type 0} {stores : StoreMeaning S D} {sources : SourceMeani
       known = stays.known;
       pending = λ from bytes e. arrived_still kept.messages said_now from (requests_at stores sources programs.server) bytes (stays.pending from bytes e);
       once = subst (λ (hs : List (ℕ × HeldTransfer F D)). AreKeyedOnce hs) (sym held) kept.server.once;
-      gone = λ port transfer closed. ap (at port) held ∙ kept.server.gone port transfer (closed_before programs old kept does stays added port transfer closed);
-      opened = λ port transfer is. opened_still programs old kept does stays added port (kept.server.opened port transfer (held_before port transfer is));
+      seats = λ p q t u e f same. kept.server.seats p q t u (ap (at p) (sym held) ∙ e) (ap (at q) (sym held) ∙ f) (sym (stays.seats p) ∙ (same ∙ stays.seats q));
+      gone = λ p q t u a closed e same. kept.server.gone p q t u a (closed_before programs old kept does stays added p t a closed) (ap (at q) (sym held) ∙ e) (same ∙ stays.seats q);
+      opened = λ port transfer a is. opened_still programs old kept does stays added a (kept.server.opened port transfer a (held_before port transfer a is));
     }
 
     turns : ServerTurns programs old kept now added
@@ -77,7 +81,7 @@ module _ {S F D G K : Type 0} {stores : StoreMeaning S D} {sources : SourceMeani
       clients = λ k client found z at_client h. viewed_still (joined programs) kept.views kept.messages said_now z h;
       transfers = all_transfers;
       only = λ view among. inl among;
-      were = λ a h. record { port = h.port; transfer = h.transfer; is_transfer = held_after h.port h.transfer h.is_transfer; address = h.address };
+      were = λ a h. record { port = h.port; transfer = h.transfer; is_transfer = held_after h.port h.transfer a h.is_transfer };
     }
 
     pub says_keeps : IsKept programs how now

@@ -8,19 +8,25 @@ use Rattle.tftp_wire.specs.declared.packet.Packet.{Packet as WirePacket}
 use Rattle.tftp_wire.proofs.SpellingLemmas.{spelled_is_found}
 use Rattle.tftp_file.specs.Sink.{SinkMeaning}
 use Rattle.tftp_file.specs.Source.{SourceMeaning}
+use Rattle.tftp_ends.specs.ErrorReply.{error_packet}
+use Rattle.tftp_ends.specs.Step.{error_bytes}
+use Rattle.tftp_ends.specs.declared.error_reply.ErrorReply.{ErrorReply}
 use Rattle.tftp_store.specs.Store.{StoreMeaning}
 use Rattle.tftp_server.specs.State.{HeldTransfer}
-use Rattle.tftp_machine.specs.Machine.{Endpoint, Message}
+use Rattle.tftp_machine.specs.Machine.{Endpoint, Error as Says_an_error, Message}
 use Rattle.tftp_machine.specs.Rules.{message}
 use Rattle.tftp_machine.specs.Said.{said}
-use Rattle.tftp_machine.proofs.Actions.{strays}
+use Rattle.tftp_machine.specs.Shows.{IsShown}
+use Rattle.tftp_machine.proofs.Actions.{says_error, strays}
+use Rattle.tftp_machine.proofs.EndMoves.{valid_error}
+use Rattle.tftp_machine.proofs.SaidLemmas.{spells_own}
 use Rattle.tftp_network.specs.Joint.{WasSentBefore}
 use Rattle.tftp_network.specs.Order.{Programs, IsStranger}
 use Rattle.tftp_network.specs.Programs.{ClientProgram, requests_at}
 use Rattle.tftp_network.specs.Promises.{joined}
 use Rattle.tftp_network.specs.Snapshots.{Snapshot, ClientStage, Unasked, Has_asked}
-use Rattle.tftp_network.proofs.Kept.{How, HasArrived, IsKept, StageKept, TransferKept}
-use Rattle.tftp_network.proofs.KeptViews.{arrived_still, there_says, there_still, viewed_still}
+use Rattle.tftp_network.proofs.Kept.{How, HasArrived, IsThere, IsKept, StageKept, TransferKept}
+use Rattle.tftp_network.proofs.KeptViews.{arrived_still, sent_still, there_says, viewed_still}
 use Rattle.tftp_network.proofs.Places.{strangers_elsewhere}
 
 module _ {S F D G K : Type 0} {stores : StoreMeaning S D} {sources : SourceMeaning F} {inputs : SourceMeaning G} {outputs : SinkMeaning K}
@@ -41,11 +47,12 @@ module _ {S F D G K : Type 0} {stores : StoreMeaning S D} {sources : SourceMeani
       has = h.has;
     }
 
-    transfer_still : (port : ℕ) (transfer : HeldTransfer F D) → TransferKept programs how kept.views kept.messages snapshot port transfer →
-        TransferKept programs how kept.views (kept.messages ++ more) snapshot port transfer
-    transfer_still port transfer h = record {
+    transfer_still : (port : ℕ) (transfer : HeldTransfer F D) (a : Endpoint) → TransferKept programs how kept.views kept.messages snapshot port transfer a →
+        TransferKept programs how kept.views (kept.messages ++ more) snapshot port transfer a
+    transfer_still port transfer a h = record {
       end = h.end;
       address = h.address;
+      seat = h.seat;
       state = h.state;
       path = h.path;
       request = h.request;
@@ -54,29 +61,35 @@ module _ {S F D G K : Type 0} {stores : StoreMeaning S D} {sources : SourceMeani
       has = h.has;
     }
 
-  -- a stranger's datagram
-  stray_kept : (from to : Endpoint) (bytes : List ℕ) → IsStranger stores sources inputs outputs programs from → IsKept programs how snapshot
-  stray_kept from to bytes stranger =
-      let m : Message = message from to (said (packet_in bytes)) in
-      let now = strays (joined programs) kept.shown.0 kept.views kept.messages kept.shown.1 m ((strangers_elsewhere programs from).1 stranger) in
+  -- one that may be said at any time
+  said_kept : (m : Message) → IsShown (joined programs) kept.views (kept.messages ++ m ∷ []) → IsKept programs how snapshot
+  said_kept m shown =
       record {
         views = kept.views;
         messages = kept.messages ++ m ∷ [];
-        shown = (kept.shown.0 ++ now.0, now.2);
-        sent = λ a b bs sent. there_still kept.messages (m ∷ []) a b bs (kept.sent a b bs sent);
+        shown = shown;
+        sent = λ a b bs sent. sent_still programs kept.messages (m ∷ []) a b bs (kept.sent a b bs sent);
         server = record {
           requests = kept.server.requests;
           config = kept.server.config;
           known = kept.server.known;
           pending = λ a bs e. arrived_still kept.messages (m ∷ []) a (requests_at stores sources programs.server) bs (kept.server.pending a bs e);
           once = kept.server.once;
+          seats = kept.server.seats;
           gone = kept.server.gone;
           opened = kept.server.opened;
         };
         clients = λ k client stage found at. stage_still (m ∷ []) client stage (kept.clients k client stage found at);
-        transfers = λ port transfer is. transfer_still (m ∷ []) port transfer (kept.transfers port transfer is);
+        transfers = λ port transfer a is. transfer_still (m ∷ []) port transfer a (kept.transfers port transfer a is);
         only = kept.only;
       }
+
+  -- a stranger's datagram
+  stray_kept : (from to : Endpoint) (bytes : List ℕ) → IsStranger stores sources inputs outputs programs from → IsKept programs how snapshot
+  stray_kept from to bytes stranger =
+      let m : Message = message from to (said (packet_in bytes)) in
+      let now = strays (joined programs) kept.shown.0 kept.views kept.messages kept.shown.1 m ((strangers_elsewhere programs from).1 stranger) in
+      said_kept m (kept.shown.0 ++ now.0, now.2)
 
   stray_arrived : (from to : Endpoint) (bytes : List ℕ) → HasArrived (kept.messages ++ message from to (said (packet_in bytes)) ∷ []) from to bytes
   stray_arrived from to bytes p spells =
@@ -88,7 +101,28 @@ module _ {S F D G K : Type 0} {stores : StoreMeaning S D} {sources : SourceMeani
     pub now : IsKept programs how snapshot
     pub come : HasArrived now.messages from to bytes
 
-  pub arrives : (from to : Endpoint) (bytes : List ℕ) → WasSentBefore programs snapshot from to bytes ⊎ IsStranger stores sources inputs outputs programs from → Arrived from to bytes
-  unfolding stray_kept
-  arrives from to bytes (inl sent) = record { now = kept; come = there_says kept.messages from to bytes (kept.sent from to bytes sent) }
-  arrives from to bytes (inr stranger) = record { now = stray_kept from to bytes stranger; come = stray_arrived from to bytes }
+  pub strays_in : (from to : Endpoint) (bytes : List ℕ) → IsStranger stores sources inputs outputs programs from → Arrived from to bytes
+  unfolding stray_kept said_kept
+  strays_in from to bytes stranger = record { now = stray_kept from to bytes stranger; come = stray_arrived from to bytes }
+
+  -- what a program receives
+  pub arrives : (from to : Endpoint) (bytes : List ℕ) → (IsStranger stores sources inputs outputs programs to → ⊥) → WasSentBefore programs snapshot from to bytes ⊎ IsStranger stores sources inputs outputs programs from → Arrived from to bytes
+  arrives from to bytes ours (inl sent) = elim (kept.sent from to bytes sent) [
+    | inl there ↦ record { now = kept; come = there_says kept.messages from to bytes there }
+    | inr strange ↦ absurd (ours strange)
+  ]
+  arrives from to bytes ours (inr stranger) = strays_in from to bytes stranger
+
+  -- an ERROR may be said from any endpoint
+  pub record SaysError (from to : Endpoint) (reply : ErrorReply) : Type 0 where
+    pub now : IsKept programs how snapshot
+    pub there : IsThere now.messages from to (error_bytes reply)
+
+  pub errs : (from to : Endpoint) (reply : ErrorReply) → SaysError from to reply
+  unfolding said_kept
+  errs from to reply =
+      let shown = says_error (joined programs) kept.shown.0 kept.views kept.messages kept.shown.1 from to in
+      record {
+        now = said_kept (message from to Says_an_error) (kept.shown.0 ++ shown.0, shown.2);
+        there = (error_packet reply, spells_own (error_packet reply) (valid_error reply), Contains-push kept.messages (message from to Says_an_error));
+      }

@@ -7,6 +7,9 @@ use Rattle.std.proofs.lemmas.Option.{same_Some}
 use Rattle.tftp_wire.specs.Spelling.{Spells}
 use Rattle.tftp_wire.specs.declared.packet.Packet.{Packet as WirePacket}
 use Rattle.tftp_wire.proofs.SpellingLemmas.{one_meaning}
+use Rattle.tftp_file.specs.Sink.{SinkMeaning}
+use Rattle.tftp_file.specs.Source.{SourceMeaning}
+use Rattle.tftp_store.specs.Store.{StoreMeaning}
 use Rattle.tftp_machine.specs.Machine.{Endpoint, Message, Network}
 use Rattle.tftp_machine.specs.OpenEnds.{OpenEnd, open_view}
 use Rattle.tftp_machine.specs.Rules.{message}
@@ -14,6 +17,7 @@ use Rattle.tftp_machine.specs.Said.{said}
 use Rattle.tftp_machine.specs.Shows.{EndView, AreApart, IsShown}
 use Rattle.tftp_machine.specs.ViewSafety.{IsAmong}
 use Rattle.tftp_machine.proofs.Indices.{slice_get-set_cases, slice_get-set_other, slice_get-push_cases, slice_get-push_old}
+use Rattle.tftp_network.specs.Order.{Programs, IsStranger}
 use Rattle.tftp_network.proofs.Kept.{IsThere, HasArrived, IsViewed}
 
 -- what was said is there still
@@ -22,6 +26,14 @@ there_still messages more from to bytes h = (h.0, h.1, Contains-append_left mess
 
 pub arrived_still : (messages more : List Message) (from to : Endpoint) (bytes : List ℕ) → HasArrived messages from to bytes → HasArrived (messages ++ more) from to bytes
 arrived_still messages more from to bytes h p spells = Contains-append_left messages more (message from to (said p)) (h p spells)
+
+-- so is what was sent there, unless it is for a stranger
+module _ {S F D G K : Type 0} {stores : StoreMeaning S D} {sources : SourceMeaning F} {inputs : SourceMeaning G} {outputs : SinkMeaning K}
+    (programs : Programs stores sources inputs outputs) where
+  pub sent_still : (messages more : List Message) (from to : Endpoint) (bytes : List ℕ) → IsThere messages from to bytes ⊎ IsStranger stores sources inputs outputs programs to →
+      IsThere (messages ++ more) from to bytes ⊎ IsStranger stores sources inputs outputs programs to
+  sent_still messages more from to bytes (inl h) = inl (there_still messages more from to bytes h)
+  sent_still messages more from to bytes (inr h) = inr h
 
 -- the message of a datagram says what its bytes spell
 pub there_says : (messages : List Message) (from to : Endpoint) (bytes : List ℕ) → IsThere messages from to bytes → (p : WirePacket) → Spells p bytes → Contains messages (message from to (said p))

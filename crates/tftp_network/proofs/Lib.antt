@@ -14,8 +14,12 @@ pub mod SeenSteps
 pub mod JointRuns
 pub mod Measured
 pub mod Requested
+pub mod RunPlaces
 pub mod Kept
 pub mod KeptViews
+pub mod NewPlaces
+pub mod StrangePeers
+pub mod FreshPorts
 pub mod KeptFresh
 pub mod KeptStart
 pub mod KeptClients
@@ -41,6 +45,7 @@ pub mod KeptDoes
 pub mod KeptShown
 pub mod KeptRuns
 pub mod ProgramsShown
+pub mod EachAlone
 pub mod ClosedEnds
 pub mod TurnsAtPort
 pub mod TransferFiles

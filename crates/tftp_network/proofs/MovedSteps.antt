@@ -1,8 +1,8 @@
--- What has moved at a port after a step of the server, and after a run.
-use Rattle.std.proofs.Common.{◌≡◌, ℕ, Bool, true, false, List, [], ◌∷◌, Option, Some, None, refl, sym, ap, ◌∙◌, subst}
-use Rattle.std.specs.Prelude.{◌≢◌, ◌==◌, if◌then◌else◌, option_to_list}
+-- What has moved at the place of a transfer after a step of the server, and after a run; and where a step leaves the transfers.
+use Rattle.std.proofs.Common.{◌≡◌, ℕ, Bool, true, false, List, [], ◌∷◌, Option, Some, None, refl, sym, ap, ◌∙◌, subst, inl, inr}
+use Rattle.std.specs.Prelude.{◌≢◌, ◌==◌, if◌then◌else◌, length, map, option_map, option_to_list}
 use Rattle.std.specs.List.{Contains}
-use Rattle.std.proofs.lemmas.Bool.{eq-eqb, eqb-true, false_from_ne_true}
+use Rattle.std.proofs.lemmas.Bool.{true≢false}
 use Rattle.std.proofs.lemmas.List.Elements.{Contains-push}
 use Rattle.tftp_file.specs.Block.{IsBeginningOf}
 use Rattle.tftp_file.specs.Sink.{SinkMeaning}
@@ -18,12 +18,18 @@ use Rattle.tftp_server.specs.Request.{Came, Nothing, An_error, A_transfer, left_
 use Rattle.tftp_server.specs.State.{HeldTransfer}
 use Rattle.tftp_loop.specs.Serves.{LoopState, Does, Waited, At_port, Request_received, No_request_found, Request_not_received, No_port_found, Request_answered, Request_lost, Clock_read, Store_set, Transfer_closed}
 use Rattle.tftp_loop.specs.Serves.{ServesPort, AnswersRequest, AtPort, A_datagram, A_lost_datagram, Nothing_found, A_failed_receive, A_timeout, A_missed_timeout, Work, PortState}
+use Rattle.tftp_loop.specs.Run.{Run}
+use Rattle.tftp_loop.specs.Run.Run.{Then}
 use Rattle.tftp_client.specs.Converses.{State, HandlesReceived}
 use Rattle.tftp_client.specs.Converses.HandlesReceived.{Answers, Loses}
+use Rattle.tftp_machine.specs.Machine.{is_same}
+use Rattle.tftp_machine.proofs.Endpoints.{cases_same, same_other, same_self}
 use Rattle.tftp_network.specs.ClientRuns.{ClientDoes, Receives_one, Waits_until, Times_out, File_works, Prints_line, client_moves}
-use Rattle.tftp_network.specs.Moved.{Moved, acts_move, came_at, does_move, handling_moves, opening_moves, opens_at, port_moves}
-use Rattle.tftp_network.specs.Ports.{opened_by}
-use Rattle.tftp_network.specs.Snapshots.{}
+use Rattle.tftp_network.specs.Moved.{Moved, acts_move, came_if, handling_moves, opening_moves, port_moves}
+use Rattle.tftp_network.specs.Openings.{does_move, opens_at, or_place, place, place_at}
+use Rattle.tftp_network.specs.Order.{Programs}
+use Rattle.tftp_network.specs.Ports.{opened_ports}
+use Rattle.tftp_network.proofs.RunPlaces.{placed_by}
 use Rattle.tftp_network.proofs.Texts.{begins_itself, begins_more}
 
 -- ---- what moved before begins what has moved after
@@ -62,13 +68,20 @@ module _ {F D : Type 0} where
   opening_more None moved e = begins_itself moved.bytes
   opening_more (Some held) moved e = absurd (let f : Some held ≡ None = e in cc)
 
+-- endpoints that are the same are one
+one_endpoint : (a b : Endpoint) → is_same a b ≡ true → a ≡ b
+one_endpoint a b e = elim (cases_same a b) [
+  | inl same ↦ same
+  | inr n ↦ absurd (true≢false (sym e ∙ same_other a b n))
+]
+
 module _ {S F D : Type 0} where
-  -- the port that a request opens is that of the transfer that comes
-  came_none : (port tid : ℕ) (came : Came S F D) → (tid ≡ port → (held : HeldTransfer F D) (store : S) → came ≡ A_transfer held store → ⊥) → came_at port tid came ≡ None
-  came_none port tid Nothing n = refl
-  came_none port tid (An_error reply store) n = refl
-  came_none port tid (A_transfer held store) n =
-      ap (λ (b : Bool). if b then Some held else None) (false_from_ne_true (tid == port) (λ e. n (eqb-true tid port e) held store refl))
+  -- a transfer that does not come here
+  came_none : (here : Bool) (came : Came S F D) → (here ≡ true → (held : HeldTransfer F D) (store : S) → came ≡ A_transfer held store → ⊥) → came_if here came ≡ None
+  came_none here Nothing n = refl
+  came_none here (An_error reply store) n = refl
+  came_none true (A_transfer held store) n = absurd (n refl held store refl)
+  came_none false (A_transfer held store) n = refl
 
 module _ {S F D : Type 0} {stores : StoreMeaning S D} {sources : SourceMeaning F} where
   port_more : {now : ℕ} {old new : PortState S F D} (does : AtPort stores sources now old new) (moved : Moved) → IsBeginningOf moved.bytes (port_moves does moved).bytes
@@ -80,66 +93,78 @@ module _ {S F D : Type 0} {stores : StoreMeaning S D} {sources : SourceMeaning F
   port_more (A_missed_timeout h) moved = begins_itself moved.bytes
   port_more (Work h) moved = begins_itself moved.bytes
 
-  -- of the server, at a port that it does not open
-  pub server_more : (port : ℕ) {old new : LoopState S F D} (does : Does stores sources old new) (moved : Moved) → opens_at port does ≡ None → IsBeginningOf moved.bytes (does_move port does moved).bytes
-  server_more port (Waited h) moved none = begins_itself moved.bytes
-  server_more port (At_port serves) moved none = either_more (serves.timer.port == port) moved (port_moves serves.does moved) (port_more serves.does moved)
-  server_more port (Request_received h) moved none = begins_itself moved.bytes
-  server_more port (No_request_found h) moved none = begins_itself moved.bytes
-  server_more port (Request_not_received h) moved none = begins_itself moved.bytes
-  server_more port (No_port_found h) moved none = begins_itself moved.bytes
-  server_more port (Request_answered answers) moved none = opening_more (came_at port answers.tid answers.steps.came) moved none
-  server_more port (Request_lost h) moved none = begins_itself moved.bytes
-  server_more port (Clock_read h) moved none = begins_itself moved.bytes
-  server_more port (Store_set h) moved none = begins_itself moved.bytes
-  server_more port (Transfer_closed h) moved none = begins_itself moved.bytes
+module _ {S F D G K : Type 0} {stores : StoreMeaning S D} {sources : SourceMeaning F} {inputs : SourceMeaning G} {outputs : SinkMeaning K}
+    (programs : Programs stores sources inputs outputs) {first old new : LoopState S F D} (run : Run (Does stores sources) first old) where
+  -- of the server, at a place where it opens no transfer
+  pub server_more : (a : Endpoint) (does : Does stores sources old new) (moved : Moved) → opens_at programs a run does ≡ None → IsBeginningOf moved.bytes (does_move programs a run does moved).bytes
+  server_more a (Waited h) moved none = begins_itself moved.bytes
+  server_more a (At_port serves) moved none = either_more (is_same (place_at programs serves.timer.port run) a) moved (port_moves serves.does moved) (port_more serves.does moved)
+  server_more a (Request_received h) moved none = begins_itself moved.bytes
+  server_more a (No_request_found h) moved none = begins_itself moved.bytes
+  server_more a (Request_not_received h) moved none = begins_itself moved.bytes
+  server_more a (No_port_found h) moved none = begins_itself moved.bytes
+  server_more a (Request_answered answers) moved none =
+      opening_more (came_if (is_same (place programs (length (opened_ports run)) answers.from answers.tid) a) answers.steps.came) moved none
+  server_more a (Request_lost h) moved none = begins_itself moved.bytes
+  server_more a (Clock_read h) moved none = begins_itself moved.bytes
+  server_more a (Store_set h) moved none = begins_itself moved.bytes
+  server_more a (Transfer_closed h) moved none = begins_itself moved.bytes
 
-  -- ---- which ports a step opens
-  answer_opens_none : {old new : LoopState S F D} (answers : AnswersRequest stores sources old new) (port : ℕ) → (Contains (opened_by {stores = stores} {sources = sources} {old = old} {new = new} (Request_answered answers)) port → ⊥) →
-      came_at port answers.tid answers.steps.came ≡ None
-  answer_opens_none {old = old} answers port n =
-      came_none port answers.tid answers.steps.came (λ same held store came.
-      let opens : option_to_list answers.left.opened.tid ≡ answers.tid ∷ [] =
-      ap (λ (l : _). option_to_list l.opened.tid) (answers.steps.left ∙ ap (λ (c : Came S F D). left_by c old.server answers.from answers.tid) came) in
-      n (subst (λ (ports : List ℕ). Contains ports port) (sym opens) (subst (λ (p : ℕ). Contains (answers.tid ∷ []) p) same (Contains-push [] answers.tid))))
+  -- ---- where a step opens transfers
+  -- the port of a transfer that comes
+  came_port : (answers : AnswersRequest stores sources old new) (held : HeldTransfer F D) (store : S) → answers.steps.came ≡ A_transfer held store → option_to_list answers.left.opened.tid ≡ answers.tid ∷ []
+  came_port answers held store came = ap (λ (l : _). option_to_list l.opened.tid) (answers.steps.left ∙ ap (λ (c : Came S F D). left_by c old.server answers.from answers.tid) came)
 
-  -- a port that a step does not open
-  pub opens_none : {old new : LoopState S F D} (does : Does stores sources old new) (port : ℕ) → (Contains (opened_by does) port → ⊥) → opens_at port does ≡ None
-  opens_none (Waited h) port n = refl
-  opens_none (At_port serves) port n = refl
-  opens_none (Request_received h) port n = refl
-  opens_none (No_request_found h) port n = refl
-  opens_none (Request_not_received h) port n = refl
-  opens_none (No_port_found h) port n = refl
-  opens_none (Request_answered answers) port n = answer_opens_none answers port n
-  opens_none (Request_lost h) port n = refl
-  opens_none (Clock_read h) port n = refl
-  opens_none (Store_set h) port n = refl
-  opens_none (Transfer_closed h) port n = refl
+  answer_opens_none : (answers : AnswersRequest stores sources old new) (a : Endpoint) → (Contains (placed_by programs run (Request_answered answers)) a → ⊥) →
+      opens_at programs a run (Request_answered answers) ≡ None
+  answer_opens_none answers a n =
+      let b = place programs (length (opened_ports run)) answers.from answers.tid in
+      came_none (is_same b a) answers.steps.came (λ same held store came.
+      let placed : placed_by programs run (Request_answered answers) ≡ b ∷ [] = ap (map (place programs (length (opened_ports run)) answers.from)) (came_port answers held store came) in
+      n (subst (λ (ps : List Endpoint). Contains ps a) (sym placed) (subst (λ (e : Endpoint). Contains (b ∷ []) e) (one_endpoint b a same) (Contains-push [] b))))
 
-  -- ---- a step at which nothing moves at a port
-  pub record MovesNone {old new : LoopState S F D} (does : Does stores sources old new) (port : ℕ) : Type 0 where
-    pub opens : opens_at port does ≡ None
-    pub moves : (moved : Moved) → does_move port does moved ≡ moved
+  -- a place where a step opens none
+  pub opens_none : (does : Does stores sources old new) (a : Endpoint) → (Contains (placed_by programs run does) a → ⊥) → opens_at programs a run does ≡ None
+  opens_none (Waited h) a n = refl
+  opens_none (At_port serves) a n = refl
+  opens_none (Request_received h) a n = refl
+  opens_none (No_request_found h) a n = refl
+  opens_none (Request_not_received h) a n = refl
+  opens_none (No_port_found h) a n = refl
+  opens_none (Request_answered answers) a n = answer_opens_none answers a n
+  opens_none (Request_lost h) a n = refl
+  opens_none (Clock_read h) a n = refl
+  opens_none (Store_set h) a n = refl
+  opens_none (Transfer_closed h) a n = refl
+
+  -- a request that opens no transfer leaves the transfers where they were
+  pub answer_places_none : (answers : AnswersRequest stores sources old new) (port : ℕ) → option_to_list answers.left.opened.tid ≡ [] → place_at programs port (Then run (Request_answered answers)) ≡ place_at programs port run
+  answer_places_none answers port none =
+      let came = came_none (answers.tid == port) answers.steps.came (λ same held store came. let two : answers.tid ∷ [] ≡ [] = sym (came_port answers held store came) ∙ none in cc) in
+      ap (λ (o : Option (HeldTransfer F D)). or_place (option_map (λ (held : HeldTransfer F D). place programs (length (opened_ports run)) answers.from port) o) (place_at programs port run)) came
+
+  -- ---- a step at which nothing moves at a place
+  pub record MovesNone (does : Does stores sources old new) (a : Endpoint) : Type 0 where
+    pub opens : opens_at programs a run does ≡ None
+    pub moves : (moved : Moved) → does_move programs a run does moved ≡ moved
 
   -- a step at the port of a transfer that is no datagram
-  pub none_at_port : {old new : LoopState S F D} (serves : ServesPort stores sources old new) → ((moved : Moved) → port_moves serves.does moved ≡ moved) → (port : ℕ) → MovesNone (At_port serves) port
-  none_at_port serves quiet port = record { opens = refl; moves = λ moved. same_either (serves.timer.port == port) moved (port_moves serves.does moved) (quiet moved) }
+  pub none_at_port : (serves : ServesPort stores sources old new) → ((moved : Moved) → port_moves serves.does moved ≡ moved) → (a : Endpoint) → MovesNone (At_port serves) a
+  none_at_port serves quiet a = record { opens = refl; moves = λ moved. same_either (is_same (place_at programs serves.timer.port run) a) moved (port_moves serves.does moved) (quiet moved) }
 
-  -- one at another port
-  pub none_beside : {old new : LoopState S F D} (serves : ServesPort stores sources old new) (port : ℕ) → port ≢ serves.timer.port → MovesNone (At_port serves) port
-  none_beside serves port n = record {
+  -- one at another place
+  pub none_beside : (serves : ServesPort stores sources old new) (a : Endpoint) → place_at programs serves.timer.port run ≢ a → MovesNone (At_port serves) a
+  none_beside serves a n = record {
     opens = refl;
-    moves = λ moved. ap (λ (b : Bool). if b then port_moves serves.does moved else moved) (false_from_ne_true (serves.timer.port == port) (λ e. n (sym (eqb-true serves.timer.port port e))));
+    moves = λ moved. ap (λ (b : Bool). if b then port_moves serves.does moved else moved) (same_other (place_at programs serves.timer.port run) a n);
   }
 
-  -- a datagram at its own port
-  pub moves_here : {old new : LoopState S F D} (serves : ServesPort stores sources old new) (moved : Moved) → does_move serves.timer.port (At_port serves) moved ≡ port_moves serves.does moved
-  moves_here serves moved = ap (λ (b : Bool). if b then port_moves serves.does moved else moved) (eq-eqb serves.timer.port serves.timer.port refl)
+  -- a datagram at its own place
+  pub moves_here : (serves : ServesPort stores sources old new) (moved : Moved) → does_move programs (place_at programs serves.timer.port run) run (At_port serves) moved ≡ port_moves serves.does moved
+  moves_here serves moved = ap (λ (b : Bool). if b then port_moves serves.does moved else moved) (same_self (place_at programs serves.timer.port run))
 
-  -- a request that opens no transfer
-  pub none_answered : {old new : LoopState S F D} (answers : AnswersRequest stores sources old new) (port : ℕ) → (Contains (opened_by {stores = stores} {sources = sources} {old = old} {new = new} (Request_answered answers)) port → ⊥) →
-      MovesNone {old = old} {new = new} (Request_answered answers) port
-  none_answered answers port n =
-      let none = answer_opens_none answers port n in
+  -- a request that opens no transfer there
+  pub none_answered : (answers : AnswersRequest stores sources old new) (a : Endpoint) → (Contains (placed_by programs run (Request_answered answers)) a → ⊥) → MovesNone (Request_answered answers) a
+  none_answered answers a n =
+      let none = answer_opens_none answers a n in
       record { opens = none; moves = λ moved. ap (λ (o : Option (HeldTransfer F D)). opening_moves o moved) none }

@@ -11,6 +11,7 @@ use Rattle.tftp_machine.proofs.Endpoints.{same_ip, same_self, same_other}
 use Rattle.tftp_machine.proofs.ViewSafe.{shown_apart, shown_safe}
 use Rattle.tftp_network.specs.Hosts.{ClientsAreThere, ServerIsThere, StrangersAreElsewhere}
 use Rattle.tftp_network.specs.Modelled.{AreModelled}
+use Rattle.tftp_network.specs.Openings.{is_ours}
 use Rattle.tftp_network.specs.Order.{Programs, IsStranger}
 use Rattle.tftp_network.specs.Programs.{endpoint, requests_at, ClientProgram, client_at, has_client}
 use Rattle.tftp_network.specs.Promises.{joined, AreShown, KeepPromises}
@@ -22,6 +23,17 @@ at_of client server = if client then At_client else if server then At_server els
 at_address : (client : Bool) → at_of client true ≢ Elsewhere
 at_address true e = cc
 at_address false e = cc
+
+-- who is neither a client nor at the server's address is elsewhere
+elsewhere_by : (client server : Bool) → (if client then true else server) ≡ false → at_of client server ≡ Elsewhere
+elsewhere_by true server e = absurd (let f : true ≡ false = e in cc)
+elsewhere_by false true e = absurd (let f : true ≡ false = e in cc)
+elsewhere_by false false e = refl
+
+neither_by : (client server : Bool) → at_of client server ≡ Elsewhere → (if client then true else server) ≡ false
+neither_by true server e = absurd (let f : At_client ≡ Elsewhere = e in cc)
+neither_by false true e = absurd (let f : At_server ≡ Elsewhere = e in cc)
+neither_by false false e = refl
 
 either_way : (b r : Bool) → r ≡ true → (if b then true else r) ≡ true
 either_way true r e = refl
@@ -86,6 +98,21 @@ module _ {S F D G K : Type 0} {stores : StoreMeaning S D} {sources : SourceMeani
 
   pub strangers_elsewhere : StrangersAreElsewhere programs
   strangers_elsewhere a = (elsewhere_strange a, strange_elsewhere a)
+
+  -- an endpoint that is not ours is a stranger's, and no other is
+  pub strange_if : (a : Endpoint) → is_ours programs a ≡ false → IsStranger stores sources inputs outputs programs a
+  strange_if a e = elsewhere_strange a (elsewhere_by (has a) (is_same_ip a.ip programs.server.ip) e)
+
+  pub not_ours : (a : Endpoint) → IsStranger stores sources inputs outputs programs a → is_ours programs a ≡ false
+  not_ours a h = neither_by (has a) (is_same_ip a.ip programs.server.ip) (strange_elsewhere a h)
+
+  -- no stranger is at a client's endpoint, or at the server's address
+  pub stranger_no_client : (a : Endpoint) (k : ℕ) (client : ClientProgram inputs outputs (requests_at stores sources programs.server)) → slice_get programs.clients k ≡ Some client →
+      a ≡ client_at inputs outputs (requests_at stores sources programs.server) client → IsStranger stores sources inputs outputs programs a → ⊥
+  stranger_no_client a k client found same h = h.clients k client found (sym same)
+
+  pub stranger_no_port : (a : Endpoint) (port : ℕ) → a ≡ endpoint programs.server.ip port → IsStranger stores sources inputs outputs programs a → ⊥
+  stranger_no_port a port same h = h.server (ap (λ (e : Endpoint). e.ip) same)
 
   -- what is shown is safe
   pub promises_kept : (models : AreModelled programs) → AreShown programs models → KeepPromises programs models

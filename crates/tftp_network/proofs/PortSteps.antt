@@ -45,6 +45,7 @@ module _ {S F D G K : Type 0} {stores : StoreMeaning S D} {sources : SourceMeani
   pub stays_by : serves.next.server.config ≡ old.state.server.config → IsKnown programs how new → FilesStay programs how old.state new → ServerStays programs old kept (At_port serves)
   stays_by config known files = record {
     opens = refl;
+    seats = λ port. refl;
     removes = λ port transfer h. h;
     requests = ap (λ (s : LoopState S F D). s.requests) serves.is;
     config = ap (λ (s : ServerState S F D). s.config) server_is ∙ config;

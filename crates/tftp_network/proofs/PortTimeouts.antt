@@ -1,6 +1,6 @@
 -- A timeout that the server delivers to a transfer keeps the invariant.
 use Rattle.std.proofs.Common.{◌≡◌, ℕ, true, false, List, [], ◌∷◌, ◌++◌, Some, None, refl, sym, ap, ◌∙◌, subst, inl, inr}
-use Rattle.std.specs.Prelude.{◌==◌, is_some}
+use Rattle.std.specs.Prelude.{◌⊎◌, ◌==◌, is_some}
 use Rattle.std.proofs.lemmas.Bool.{true≢false, cases_Bool}
 use Rattle.tftp_file.specs.Sink.{Holding, SinkMeaning}
 use Rattle.tftp_file.specs.Source.{SourceMeaning}
@@ -23,16 +23,18 @@ use Rattle.tftp_sockets.specs.Journal.Event.{Elapsed}
 use Rattle.tftp_loop.specs.Serves.{LoopState, ServesPort, At_port, AnswersTimeout}
 use Rattle.tftp_machine.specs.EndShown.{Stands, Goes}
 use Rattle.tftp_machine.specs.KnownFiles.{HasLeft}
+use Rattle.tftp_machine.specs.Machine.{Endpoint}
 use Rattle.tftp_machine.specs.OpenEnds.{OpenEnd, files_of, holding_of, in_state, end_after, open_view}
 use Rattle.tftp_machine.proofs.EndTurns.{timeout_goes}
 use Rattle.tftp_machine.proofs.PhaseMoves.{if_acts}
-use Rattle.tftp_network.specs.Moved.{moved_at}
-use Rattle.tftp_network.specs.Order.{Programs}
+use Rattle.tftp_network.specs.Openings.{moved_at, place_at}
+use Rattle.tftp_network.specs.Order.{Programs, IsStranger}
 use Rattle.tftp_network.specs.Ports.{IsStored}
+use Rattle.tftp_network.specs.Programs.{endpoint}
 use Rattle.tftp_network.specs.Promises.{joined}
 use Rattle.tftp_network.specs.Snapshots.{Snapshot, server_did}
 use Rattle.tftp_network.proofs.ClosedEnds.{closed_timeout_goes}
-use Rattle.tftp_network.proofs.Kept.{How, By_models, By_run, HasStored, TransferKept, IsKept, IsFreshBy}
+use Rattle.tftp_network.proofs.Kept.{How, By_models, By_run, HasStored, TransferKept, IsKept, IsFreshBy, IsStrangers}
 use Rattle.tftp_network.proofs.KeptEvents.{SendsOnly, elapsed_silent}
 use Rattle.tftp_network.proofs.KeptFiles.{left_is, now_is, sink_is, sink_no_source, source_is}
 use Rattle.tftp_network.proofs.MovedSteps.{MovesNone}
@@ -40,7 +42,8 @@ use Rattle.tftp_network.proofs.PortDatagrams.{after_rest}
 use Rattle.tftp_network.proofs.PortSteps.{no_outcome, server_is, stays_by, sends_only}
 use Rattle.tftp_network.proofs.ServerStays.{AllStored, FilesStay, known_if, stay_if, stored_after}
 use Rattle.tftp_network.proofs.StoredFiles.{IsIn}
-use Rattle.tftp_network.proofs.TurnsAtPort.{Becomes, turn_keeps}
+use Rattle.tftp_network.proofs.StrangePeers.{stays_strangers, timeout_stays}
+use Rattle.tftp_network.proofs.TurnsAtPort.{Becomes, IsSeated, turn_keeps}
 
 -- an end that is open after a timeout was open before
 abbrev phase_then : Response → EndState → Phase
@@ -63,9 +66,13 @@ open_before e o = elim (cases_Bool (is_some (outcome_of e.position.phase))) [
 
 module _ {S F D G K : Type 0} {stores : StoreMeaning S D} {sources : SourceMeaning F} {inputs : SourceMeaning G} {outputs : SinkMeaning K}
     (programs : Programs stores sources inputs outputs) {how : How programs} (old : Snapshot programs) (kept : IsKept programs how old) (fresh : IsFreshBy programs old)
-    {new : LoopState S F D} (serves : ServesPort stores sources old.state new) (added : List Event) (events : new.events ≡ added ++ old.state.events) (none : (q : ℕ) → MovesNone (At_port serves) q) where
+    {new : LoopState S F D} (serves : ServesPort stores sources old.state new) (added : List Event) (events : new.events ≡ added ++ old.state.events) (none : (a : Endpoint) → MovesNone programs old.run (At_port serves) a) where
   abbrev port : ℕ
   port = serves.timer.port
+
+  -- where its transfer is
+  abbrev place : Endpoint
+  place = place_at programs port old.run
 
   abbrev now : Snapshot programs
   now = server_did programs old (At_port serves) added
@@ -74,8 +81,8 @@ module _ {S F D G K : Type 0} {stores : StoreMeaning S D} {sources : SourceMeani
     abbrev timed : TimesOutLent port old.state.server.held serves.next.server.held step answers.outgoing
     timed = answers.times_out
 
-    abbrev was : TransferKept programs how kept.views kept.messages old port timed.transfer
-    was = kept.transfers port timed.transfer (inl timed.found)
+    abbrev was : TransferKept programs how kept.views kept.messages old port timed.transfer place
+    was = kept.transfers port timed.transfer place (inl (timed.found, refl))
 
     abbrev x : OpenEnd
     x = was.end
@@ -127,7 +134,7 @@ module _ {S F D G K : Type 0} {stores : StoreMeaning S D} {sources : SourceMeani
           sender = h.sender;
           opened = record { opening = h.opened.opening; opened = h.opened.opened; path = h.opened.path; role = h.opened.role };
           text = h.text;
-          gave = record { beginning = h.gave.beginning; left = λ o. ap (λ (t : List ℕ). (moved_at x.address.port now.run).bytes ++ t) l ∙ h.gave.left (still o) };
+          gave = record { beginning = h.gave.beginning; left = λ o. ap (λ (t : List ℕ). (moved_at programs x.address now.run).bytes ++ t) l ∙ h.gave.left (still o) };
         }
     has_left (By_run pad) (Sink draft) h (Sink held) e still done =
         let n = now_is held (holding_of x) (e ∙ sym (sink_is x h.receiver)) in
@@ -147,7 +154,7 @@ module _ {S F D G K : Type 0} {stores : StoreMeaning S D} {sources : SourceMeani
 
     has : Goes (joined programs) kept.shown.0 kept.views kept.messages was.viewed.index x turn y → HasStored programs how now y timed.transfer.files
     has goes =
-        has_left how timed.transfer.files (stored_after programs how old (At_port serves) added stay x (none x.address.port) timed.transfer.files was.has) (files_of x) refl (open_before x.state)
+        has_left how timed.transfer.files (stored_after programs how old (At_port serves) added stay x (none x.address) timed.transfer.files was.has) (files_of x) refl (open_before x.state)
         (λ r. subst (λ (e : EndState). (end_after x turn (files_of x)).committed ≡ is_complete e.position.phase) (after_rest (in_state (after_turn x.state turn) x) (files_of x)).1
         (goes.kept.committed (ap (λ (e : EndState). is_sender e.role.side) (after_rest (in_state (after_turn x.state turn) x) (files_of x)).1 ∙ r)))
 
@@ -178,8 +185,19 @@ module _ {S F D G K : Type 0} {stores : StoreMeaning S D} {sources : SourceMeani
         subst (λ (e : EndState). SendsOnly port (timeout_turn e).reply added) (sym was.state)
         (sends_only programs old kept serves added events (timeout_turn timed.transfer.end).reply elapsed answers.events (elapsed_silent port old.state.now))
 
+    -- where it stands then
+    seated : (place ≡ endpoint programs.server.ip port) ⊎ IsStrangers programs x.state → IsSeated programs old kept (At_port serves) added port timed.transfer timed.found turn y
+    seated (inl here) = inl here
+    seated (inr s) =
+        let stays = timeout_stays x.state in
+        inr (record {
+          strangers = subst (λ (e : EndState). IsStrangers programs e) (sym (after_rest (in_state (after_turn x.state turn) x) (files_of x)).1) (stays_strangers programs x.state.position.last_sent_to x.state turn s.last_sent_to s stays);
+          replies = λ reply says. inl (subst (λ (a : Endpoint). IsStranger stores sources inputs outputs programs a) (sym (stays.replies reply says)) s.last_sent_to);
+        })
+
     pub timeout_keeps : IsKept programs how now
+    unfolding becomes
     timeout_keeps =
         turn_keeps programs old kept (At_port serves) added port timed.transfer timed.found fresh
         (stays_by programs old kept serves added events (ap (λ (s : ServerState S F D). s.config) answers.rest) (known_if programs how old.state new (ap stores.stored store_is) kept.server.known) stay)
-        x was.address was.side was.viewed.last_sent turn next held (becomes its_turn) only_reply (λ q n. none q)
+        x was.address was.side was.viewed.last_sent turn next held (becomes its_turn) only_reply (seated was.seat) (λ a n. none a)

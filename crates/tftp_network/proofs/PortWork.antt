@@ -21,6 +21,7 @@ use Rattle.tftp_machine.specs.OpenEnds.{OpenEnd, holding_of, open_view}
 use Rattle.tftp_machine.specs.Shows.{EndView, IsShown}
 use Rattle.tftp_machine.proofs.KnownSteps.{content_kept, left_read_ahead}
 use Rattle.tftp_network.specs.Modelled.{AreModelled}
+use Rattle.tftp_network.specs.Openings.{place_at}
 use Rattle.tftp_network.specs.Order.{Programs}
 use Rattle.tftp_network.specs.Promises.{joined}
 use Rattle.tftp_network.specs.Snapshots.{Snapshot, server_did}
@@ -39,13 +40,17 @@ use Rattle.tftp_network.proofs.TransferFiles.{armed, draft_held, FilesLeft}
 
 module _ {S F D G K : Type 0} {stores : StoreMeaning S D} {sources : SourceMeaning F} {inputs : SourceMeaning G} {outputs : SinkMeaning K}
     (programs : Programs stores sources inputs outputs) {how : How programs} (old : Snapshot programs) (kept : IsKept programs how old) (fresh : IsFreshBy programs old) where
+  -- the end of a held transfer
+  abbrev its_end : (port : ℕ) (transfer : HeldTransfer F D) → at port old.state.server.held ≡ Some transfer → TransferKept programs how kept.views kept.messages old port transfer (place_at programs port old.run)
+  its_end port transfer found = kept.transfers port transfer (place_at programs port old.run) (inl (found, refl))
+
   -- the end of a held transfer as it was
   module _ {new : LoopState S F D} (does : Does stores sources old.state new) (stays : ServerStays programs old kept does) (added : List Event) (silent : IsSilent added)
       (port : ℕ) (transfer next : HeldTransfer F D) (found : at port old.state.server.held ≡ Some transfer) (held : new.server.held ≡ with_next port next old.state.server.held)
       (end : next.end ≡ transfer.end) (path : next.path ≡ transfer.path) (request : next.request ≡ transfer.request)
-      (has : HasStored programs how (server_did programs old does added) (kept.transfers port transfer (inl found)).end next.files) (none : (q : ℕ) → MovesNone does q) where
-    abbrev was : TransferKept programs how kept.views kept.messages old port transfer
-    was = kept.transfers port transfer (inl found)
+      (has : HasStored programs how (server_did programs old does added) (its_end port transfer found).end next.files) (none : (a : Endpoint) → MovesNone programs old.run does a) where
+    abbrev was : TransferKept programs how kept.views kept.messages old port transfer (place_at programs port old.run)
+    was = its_end port transfer found
 
     shown : IsShown (joined programs) (set kept.views was.viewed.index (open_view was.end)) (kept.messages ++ [])
     shown =
@@ -60,6 +65,7 @@ module _ {S F D G K : Type 0} {stores : StoreMeaning S D} {sources : SourceMeani
       sends = λ own to bytes c. absurd (silent own to bytes c);
       end = was.end;
       address = was.address;
+      seat = was.seat;
       state = was.state ∙ sym end;
       path = was.path ∙ sym path;
       request = was.request ∙ sym request;
@@ -71,7 +77,7 @@ module _ {S F D G K : Type 0} {stores : StoreMeaning S D} {sources : SourceMeani
     }
 
     pub as_it_was : IsKept programs how (server_did programs old does added)
-    as_it_was = port_keeps programs old kept fresh does stays added port transfer found turns (λ q n. none q)
+    as_it_was = port_keeps programs old kept fresh does stays added port transfer found turns (λ a n. none a)
 
   -- ---- what is known of its file, by the models
   module _ (models : AreModelled programs) (known : IsSome (stores.stored old.state.server.store)) {new : LoopState S F D} (does : Does stores sources old.state new) (added : List Event) (store' : S) (store_is : new.server.store ≡ store') (x : OpenEnd) where
@@ -129,7 +135,7 @@ module _ {S F D G K : Type 0} {stores : StoreMeaning S D} {sources : SourceMeani
     work_left (Sink draft) (Source source') h works = absurd works
 
   -- ---- the steps
-  module _ {new : LoopState S F D} (serves : ServesPort stores sources old.state new) (added : List Event) (events : new.events ≡ added ++ old.state.events) (none : (q : ℕ) → MovesNone (At_port serves) q) where
+  module _ {new : LoopState S F D} (serves : ServesPort stores sources old.state new) (added : List Event) (events : new.events ≡ added ++ old.state.events) (none : (a : Endpoint) → MovesNone programs old.run (At_port serves) a) where
     abbrev port : ℕ
     port = serves.timer.port
 
@@ -150,7 +156,7 @@ module _ {S F D G K : Type 0} {stores : StoreMeaning S D} {sources : SourceMeani
 
     -- what is known then
     record IsLeft (transfer next : HeldTransfer F D) (found : at port old.state.server.held ≡ Some transfer) : Type 0 where
-      has : HasStored programs how now (kept.transfers port transfer (inl found)).end next.files
+      has : HasStored programs how now (its_end port transfer found).end next.files
       known : IsKnown programs how new
       stay : FilesStay programs how old.state new
 
@@ -164,13 +170,13 @@ module _ {S F D G K : Type 0} {stores : StoreMeaning S D} {sources : SourceMeani
 
     -- by the models, and by the run
     models_left : (transfer next : HeldTransfer F D) (found : at port old.state.server.held ≡ Some transfer) (models : AreModelled programs) → how ≡ By_models models →
-        (IsSome (stores.stored old.state.server.store) → HasStored programs (By_models models) old (kept.transfers port transfer (inl found)).end transfer.files →
-        FilesLeft programs models old (At_port serves) added (kept.transfers port transfer (inl found)).end next.files) → IsLeft transfer next found
+        (IsSome (stores.stored old.state.server.store) → HasStored programs (By_models models) old (its_end port transfer found).end transfer.files →
+        FilesLeft programs models old (At_port serves) added (its_end port transfer found).end next.files) → IsLeft transfer next found
     models_left transfer next found models by left =
         let h = left (subst (λ (w : How programs). IsKnown programs w old.state) by kept.server.known)
-        (subst (λ (w : How programs). HasStored programs w old (kept.transfers port transfer (inl found)).end transfer.files) by (kept.transfers port transfer (inl found)).has) in
+        (subst (λ (w : How programs). HasStored programs w old (its_end port transfer found).end transfer.files) by (its_end port transfer found).has) in
         record {
-          has = subst (λ (w : How programs). HasStored programs w now (kept.transfers port transfer (inl found)).end next.files) (sym by) h.has;
+          has = subst (λ (w : How programs). HasStored programs w now (its_end port transfer found).end next.files) (sym by) h.has;
           known = subst (λ (w : How programs). IsKnown programs w new) (sym by) h.known;
           stay = subst (λ (w : How programs). FilesStay programs w old.state new) (sym by) h.stay;
         }
@@ -183,8 +189,8 @@ module _ {S F D G K : Type 0} {stores : StoreMeaning S D} {sources : SourceMeani
 
     run_left : (transfer next : HeldTransfer F D) (found : at port old.state.server.held ≡ Some transfer) (pad : ℕ) → how ≡ By_run pad → AreSame (λ (a b : F). ⊤) (λ (a b : D). ⊤) transfer.files next.files → IsLeft transfer next found
     run_left transfer next found pad by kind =
-        let h = kept.transfers port transfer (inl found) in
-        let has = stored_after programs (By_run pad) old (At_port serves) added tt h.end (none h.end.address.port) transfer.files (subst (λ (w : How programs). HasStored programs w old h.end transfer.files) by h.has) in
+        let h = its_end port transfer found in
+        let has = stored_after programs (By_run pad) old (At_port serves) added tt h.end (none h.end.address) transfer.files (subst (λ (w : How programs). HasStored programs w old h.end transfer.files) by h.has) in
         record {
           has = subst (λ (w : How programs). HasStored programs w now h.end next.files) (sym by) (same_kind pad h.end transfer.files next.files kind has);
           known = subst (λ (w : How programs). IsKnown programs w new) (sym by) tt;
@@ -192,8 +198,8 @@ module _ {S F D G K : Type 0} {stores : StoreMeaning S D} {sources : SourceMeani
         }
 
     left_by_how : (transfer next : HeldTransfer F D) (found : at port old.state.server.held ≡ Some transfer) → AreSame (λ (a b : F). ⊤) (λ (a b : D). ⊤) transfer.files next.files →
-        ((models : AreModelled programs) → IsSome (stores.stored old.state.server.store) → HasStored programs (By_models models) old (kept.transfers port transfer (inl found)).end transfer.files →
-        FilesLeft programs models old (At_port serves) added (kept.transfers port transfer (inl found)).end next.files) → IsLeft transfer next found
+        ((models : AreModelled programs) → IsSome (stores.stored old.state.server.store) → HasStored programs (By_models models) old (its_end port transfer found).end transfer.files →
+        FilesLeft programs models old (At_port serves) added (its_end port transfer found).end next.files) → IsLeft transfer next found
     left_by_how transfer next found kind left = by_case how refl where
       by_case : (w : How programs) → how ≡ w → IsLeft transfer next found
       by_case (By_models models) by = models_left transfer next found models by (left models)
@@ -226,7 +232,7 @@ module _ {S F D G K : Type 0} {stores : StoreMeaning S D} {sources : SourceMeani
           same_end transfer keeps.0 e keeps.2 keeps.1.end keeps.1.path keeps.1.request loses.config silent
           (left_by_how transfer keeps.0 e
           (kept_kind old.state.server.store serves.next.server.store transfer.path keeps.0.path old.state.server.config.overwrite transfer.files keeps.0.files keeps.1.files)
-          (λ models known has. lost_left models known (At_port serves) added serves.next.server.store store_now (kept.transfers port transfer (inl e)).end old.state.server.config.overwrite transfer.path keeps.0.path
+          (λ models known has. lost_left models known (At_port serves) added serves.next.server.store store_now (its_end port transfer e).end old.state.server.config.overwrite transfer.path keeps.0.path
           transfer.files keeps.0.files has keeps.1.stays keeps.1.files))
 
     -- a receive finds nothing or fails, or a timeout finds no open transfer
@@ -244,4 +250,4 @@ module _ {S F D G K : Type 0} {stores : StoreMeaning S D} {sources : SourceMeani
       by_held (Some transfer) e h =
           same_end transfer h.0 e h.2 (ap (λ (t : HeldTransfer F D). t.end) h.1.rest) (ap (λ (t : HeldTransfer F D). t.path) h.1.rest) (ap (λ (t : HeldTransfer F D). t.request) h.1.rest) works.config silent
           (left_by_how transfer h.0 e (work_kind old.state.server.store serves.next.server.store transfer.files h.0.files h.1.files)
-          (λ models known has. work_left models known (At_port serves) added serves.next.server.store store_now (kept.transfers port transfer (inl e)).end transfer.files h.0.files has h.1.files))
+          (λ models known has. work_left models known (At_port serves) added serves.next.server.store store_now (its_end port transfer e).end transfer.files h.0.files has h.1.files))

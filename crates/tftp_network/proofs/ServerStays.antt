@@ -13,11 +13,13 @@ use Rattle.tftp_sockets.specs.Journal.{Event}
 use Rattle.tftp_loop.specs.Serves.{LoopState, Does}
 use Rattle.tftp_machine.specs.Machine.{Endpoint}
 use Rattle.tftp_machine.specs.OpenEnds.{OpenEnd}
-use Rattle.tftp_network.specs.Moved.{Moved, moved_at, opened_at, or_before}
+use Rattle.tftp_network.specs.Moved.{Moved, or_before}
+use Rattle.tftp_network.specs.Openings.{HasClosed, moved_at, opened_at, place_at}
 use Rattle.tftp_network.specs.Order.{Programs}
-use Rattle.tftp_network.specs.Ports.{IsStored, HasClosed, Removes, opened_by, opened_ports}
+use Rattle.tftp_network.specs.Ports.{IsStored, Removes}
 use Rattle.tftp_network.specs.Programs.{requests_at}
 use Rattle.tftp_network.specs.Snapshots.{Snapshot, server_did}
+use Rattle.tftp_network.proofs.RunPlaces.{placed_by, places}
 use Rattle.tftp_network.proofs.Kept.{How, By_models, By_run, HasArrived, IsKnown, IsOpened, GaveSo, TookSo, HasStored, IsKept}
 use Rattle.tftp_network.proofs.MovedSteps.{MovesNone}
 use Rattle.tftp_network.proofs.PortAnswers.{IfKnown}
@@ -84,7 +86,9 @@ module _ {S F D G K : Type 0} {stores : StoreMeaning S D} {sources : SourceMeani
 module _ {S F D G K : Type 0} {stores : StoreMeaning S D} {sources : SourceMeaning F} {inputs : SourceMeaning G} {outputs : SinkMeaning K}
     (programs : Programs stores sources inputs outputs) {how : How programs} where
   pub record ServerStays (old : Snapshot programs) (kept : IsKept programs how old) {new : LoopState S F D} (does : Does stores sources old.state new) : Type 0 where
-    pub opens : opened_by does ≡ []
+    -- it opens no transfer, and each is where it was
+    pub opens : placed_by programs old.run does ≡ []
+    pub seats : (port : ℕ) → place_at programs port (server_did programs old does []).run ≡ place_at programs port old.run
     pub removes : (port : ℕ) (transfer : HeldTransfer F D) → Removes does port transfer → ⊥
     pub requests : new.requests ≡ old.state.requests
     pub config : new.server.config ≡ old.state.server.config
@@ -95,23 +99,23 @@ module _ {S F D G K : Type 0} {stores : StoreMeaning S D} {sources : SourceMeani
 
 module _ {S F D G K : Type 0} {stores : StoreMeaning S D} {sources : SourceMeaning F} {inputs : SourceMeaning G} {outputs : SinkMeaning K}
     (programs : Programs stores sources inputs outputs) where
-  -- the same transfer stands at a port where nothing moves
-  opened_after : (old : Snapshot programs) {new : LoopState S F D} (does : Does stores sources old.state new) (added : List Event) (x : OpenEnd) → MovesNone does x.address.port →
+  -- the same transfer stands at a place where nothing moves
+  opened_after : (old : Snapshot programs) {new : LoopState S F D} (does : Does stores sources old.state new) (added : List Event) (x : OpenEnd) → MovesNone programs old.run does x.address →
       IsOpened programs old x → IsOpened programs (server_did programs old does added) x
   opened_after old does added x none h = record {
     opening = h.opening;
-    opened = ap (λ (o : Option (HeldTransfer F D)). or_before o (opened_at x.address.port old.run)) none.opens ∙ h.opened;
+    opened = ap (λ (o : Option (HeldTransfer F D)). or_before o (opened_at programs x.address old.run)) none.opens ∙ h.opened;
     path = h.path;
     role = h.role;
   }
 
-  moved_after : (old : Snapshot programs) {new : LoopState S F D} (does : Does stores sources old.state new) (added : List Event) (x : OpenEnd) → MovesNone does x.address.port →
-      moved_at x.address.port old.run ≡ moved_at x.address.port (server_did programs old does added).run
-  moved_after old does added x none = sym (none.moves (moved_at x.address.port old.run))
+  moved_after : (old : Snapshot programs) {new : LoopState S F D} (does : Does stores sources old.state new) (added : List Event) (x : OpenEnd) → MovesNone programs old.run does x.address →
+      moved_at programs x.address old.run ≡ moved_at programs x.address (server_did programs old does added).run
+  moved_after old does added x none = sym (none.moves (moved_at programs x.address old.run))
 
   -- what is known of a transfer's file stays known
   pub stored_after : (how : How programs) (old : Snapshot programs) {new : LoopState S F D} (does : Does stores sources old.state new) (added : List Event) → FilesStay programs how old.state new →
-      (x : OpenEnd) → MovesNone does x.address.port → (files : Files F D) → HasStored programs how old x files → HasStored programs how (server_did programs old does added) x files
+      (x : OpenEnd) → MovesNone programs old.run does x.address → (files : Files F D) → HasStored programs how old x files → HasStored programs how (server_did programs old does added) x files
   stored_after (By_models models) old does added stay x none (Source source) h =
       record { sender = h.sender; text = h.text; left = h.left; was = inr h.was; stays = λ o. stay o x.path x.file (h.stays o) }
   stored_after (By_models models) old does added stay x none (Sink draft) h = record { receiver = h.receiver; drafted = h.drafted; stays = λ o c. stay o x.path x.stored (h.stays o c) }
@@ -124,10 +128,10 @@ module _ {S F D G K : Type 0} {stores : StoreMeaning S D} {sources : SourceMeani
     (programs : Programs stores sources inputs outputs) {how : How programs} where
   module _ (old : Snapshot programs) (kept : IsKept programs how old) {new : LoopState S F D} (does : Does stores sources old.state new) (stays : ServerStays programs old kept does) (added : List Event) where
     -- no transfer more was removed
-    pub closed_before : (port : ℕ) (transfer : HeldTransfer F D) → HasClosed (server_did programs old does added).run port transfer → HasClosed old.run port transfer
-    closed_before port transfer (inl removes) = absurd (stays.removes port transfer removes)
-    closed_before port transfer (inr closed) = closed
+    pub closed_before : (port : ℕ) (transfer : HeldTransfer F D) (a : Endpoint) → HasClosed programs (server_did programs old does added).run port transfer a → HasClosed programs old.run port transfer a
+    closed_before port transfer a (inl removes) = absurd (stays.removes port transfer removes.0)
+    closed_before port transfer a (inr closed) = closed
 
-    -- no port more was opened
-    pub opened_still : (port : ℕ) → Contains (opened_ports old.run) port → Contains (opened_ports (server_did programs old does added).run) port
-    opened_still port c = subst (λ (ports : List ℕ). Contains (ports ++ opened_ports old.run) port) (sym stays.opens) c
+    -- each place is one still
+    pub opened_still : (a : Endpoint) → Contains (places programs old.run) a → Contains (places programs (server_did programs old does added).run) a
+    opened_still a c = subst (λ (ps : List Endpoint). Contains (ps ++ places programs old.run) a) (sym stays.opens) c

@@ -22,8 +22,9 @@ use Rattle.tftp_machine.specs.Machine.{Endpoint}
 use Rattle.tftp_machine.specs.OpenEnds.{OpenEnd, has_failed, open_view, peer_of}
 use Rattle.tftp_machine.specs.Shows.{EndView, IsAnswering, IsInService, NoneAnswers}
 use Rattle.tftp_machine.specs.ViewSafety.{IsAmong}
+use Rattle.tftp_network.specs.Openings.{HasClosed}
 use Rattle.tftp_network.specs.Order.{Programs}
-use Rattle.tftp_network.specs.Ports.{HasClosed, Removes}
+use Rattle.tftp_network.specs.Ports.{Removes}
 use Rattle.tftp_network.specs.Promises.{joined}
 use Rattle.tftp_network.specs.Snapshots.{Snapshot, Has_asked}
 use Rattle.tftp_network.proofs.Kept.{How, HasTransferBy, IsKept}
@@ -73,11 +74,6 @@ module _ {S F D : Type 0} {stores : StoreMeaning S D} {sources : SourceMeaning F
   removed_closed {old = old} (Transfer_closed x) port t removes =
       taken_closed t (at x.timer.port old.server.held) x.taken (ap (λ (p : ℕ). at p old.server.held) (sym removes.0) ∙ removes.1) x.is_taken
 
-  pub has_closed : {first last : LoopState S F D} (run : Run (Does stores sources) first last) (port : ℕ) (t : HeldTransfer F D) → HasClosed run port t → is_closed t ≡ true
-  has_closed Start port t h = absurd h
-  has_closed (Then run does) port t (inl removes) = removed_closed does port t removes
-  has_closed (Then run does) port t (inr h) = has_closed run port t h
-
 -- ---- the views
 -- what has closed is over
 over_in : (phase : Phase) → is_some (outcome_of phase) ≡ true → is_complete phase ≡ false → has_failed phase ≡ true
@@ -92,6 +88,12 @@ closed_over x closed busy = true≢false (sym (over_in x.state.position.phase cl
 
 module _ {S F D G K : Type 0} {stores : StoreMeaning S D} {sources : SourceMeaning F} {inputs : SourceMeaning G} {outputs : SinkMeaning K}
     (programs : Programs stores sources inputs outputs) {how : How programs} (old : Snapshot programs) (kept : IsKept programs how old) (from : Endpoint) (packet : WirePacket) where
+  -- a transfer that was removed had closed
+  has_closed : {first last : LoopState S F D} (run : Run (Does stores sources) first last) (port : ℕ) (t : HeldTransfer F D) (b : Endpoint) → HasClosed programs run port t b → is_closed t ≡ true
+  has_closed Start port t b h = absurd h
+  has_closed (Then run does) port t b (inl removes) = removed_closed does port t removes.0
+  has_closed (Then run does) port t b (inr h) = has_closed run port t b h
+
   -- a client answers no request
   not_a_client : (x : OpenEnd) → is_client x.state.role.side ≡ true → IsAnswering (open_view x) from packet → ⊥
   not_a_client x client a = true≢false (sym client ∙ a.serving.0)
@@ -107,12 +109,12 @@ module _ {S F D G K : Type 0} {stores : StoreMeaning S D} {sources : SourceMeani
   closed_answers_none : (x : OpenEnd) (t : HeldTransfer F D) → x.state ≡ t.end → IsAnswering (open_view x) from packet → is_closed t ≡ true → ⊥
   closed_answers_none x t state a closed = closed_over x (ap (λ (e : EndState). is_some (outcome_of e.position.phase)) state ∙ closed) a.serving
 
-  transfer_answers : (port : ℕ) (t : HeldTransfer F D) → HasTransferBy programs old port t → (x : OpenEnd) → x.state ≡ t.end → x.request ≡ t.request → IsAnswering (open_view x) from packet →
+  transfer_answers : (port : ℕ) (t : HeldTransfer F D) (b : Endpoint) → HasTransferBy programs old port t b → (x : OpenEnd) → x.state ≡ t.end → x.request ≡ t.request → IsAnswering (open_view x) from packet →
       AnyRepeats from packet old.state.server.held
-  transfer_answers port t (inr removed) x state request a = absurd (closed_answers_none x t state a (has_closed old.run port t removed))
-  transfer_answers port t (inl found) x state request a = elim (cases_Bool (is_closed t)) [
+  transfer_answers port t b (inr removed) x state request a = absurd (closed_answers_none x t state a (has_closed old.run port t b removed))
+  transfer_answers port t b (inl found) x state request a = elim (cases_Bool (is_closed t)) [
     | inl closed ↦ absurd (closed_answers_none x t state a closed)
-    | inr still ↦ any_at from packet port t old.state.server.held found (repeats_it x t state request a still)
+    | inr still ↦ any_at from packet port t old.state.server.held found.0 (repeats_it x t state request a still)
   ]
 
   -- one that answers it repeats it
@@ -123,9 +125,9 @@ module _ {S F D G K : Type 0} {stores : StoreMeaning S D} {sources : SourceMeani
         let is = view_there (joined programs) kept.views kept.messages c.end view kept.shown c.viewed among (h.address ∙ sym c.address) in
         absurd (not_a_client c.end c.side (subst (λ (v : EndView). IsAnswering v from packet) is a))
     | inr h ↦
-        let t = kept.transfers h.port h.transfer h.is_transfer in
-        let is = view_there (joined programs) kept.views kept.messages t.end view kept.shown t.viewed among (h.address ∙ sym t.address) in
-        transfer_answers h.port h.transfer h.is_transfer t.end t.state t.request (subst (λ (v : EndView). IsAnswering v from packet) is a)
+        let t = kept.transfers h.port h.transfer view.address h.is_transfer in
+        let is = view_there (joined programs) kept.views kept.messages t.end view kept.shown t.viewed among (sym t.address) in
+        transfer_answers h.port h.transfer view.address h.is_transfer t.end t.state t.request (subst (λ (v : EndView). IsAnswering v from packet) is a)
   ]
 
   -- no end answers a request that is new

@@ -1,6 +1,6 @@
 -- The promises of a transfer in the end state of the journals, over any store and any files: what
 -- moved at an end is read off its run.
-use Rattle.std.specs.Prelude.{ℕ, ◌≡◌, ◌⊎◌, List, slice_get, Some}
+use Rattle.std.specs.Prelude.{ℕ, ◌≡◌, ◌⊎◌, true, false, List, slice_get, Option, Some}
 use Rattle.tftp_file.specs.Sink.{SinkMeaning}
 use Rattle.tftp_file.specs.Source.{SourceMeaning}
 use Rattle.tftp_ends.specs.End.{EndState, is_client, is_complete, is_sender, record_of}
@@ -10,7 +10,8 @@ use Rattle.tftp_machine.specs.OpenEnds.{received_text}
 use Rattle.tftp_machine.specs.Safety.{AreSafe, SafetyView}
 use Rattle.tftp_server.specs.State.{HeldTransfer}
 use Rattle.tftp_network.specs.ClientRuns.{moved_in}
-use Rattle.tftp_network.specs.Moved.{Moved, moved_at, opened_at}
+use Rattle.tftp_network.specs.Moved.{Moved}
+use Rattle.tftp_network.specs.Openings.{moved_at, opened_at}
 use Rattle.tftp_network.specs.Order.{Programs, IsStranger}
 use Rattle.tftp_network.specs.Programs.{endpoint, requests_at, ClientProgram, client_at}
 use Rattle.tftp_network.specs.Promises.{HasOpened}
@@ -21,6 +22,10 @@ pub record ProgramEnd : Type 0 where
   pub address : Endpoint
   pub state : EndState
   pub moved : Moved
+
+-- its peer
+abbrev pub peer_of : ProgramEnd → Option Endpoint
+peer_of x = (record_of x.state).peer
 
 -- what a receiver has of its peer's text: what its file was handed, as wire text, and the text held
 -- back
@@ -35,7 +40,7 @@ safety_of x =
       client = is_client x.state.role.side;
       sender = is_sender x.state.role.side;
       mode = x.state.role.mode;
-      peer = (record_of x.state).peer;
+      peer = peer_of x;
       size = (record_of x.state).size;
       complete = is_complete x.state.position.phase;
       sent = x.moved.bytes;
@@ -57,13 +62,13 @@ module _ {S F D G K : Type 0} {stores : StoreMeaning S D} {sources : SourceMeani
         moved = moved_in client.runs;
       }
 
-  -- the end of a transfer of the server
-  abbrev pub transfer_end : ℕ → HeldTransfer F D → ProgramEnd
-  transfer_end port transfer =
+  -- the end of a transfer of the server, at this place
+  abbrev pub transfer_end : HeldTransfer F D → Endpoint → ProgramEnd
+  transfer_end transfer a =
       record {
-        address = endpoint programs.server.ip port;
+        address = a;
         state = transfer.end;
-        moved = moved_at port programs.server.run;
+        moved = moved_at programs a programs.server.run;
       }
 
   -- an end of the programs: that of a client, or of a transfer that the server holds or has closed
@@ -72,17 +77,24 @@ module _ {S F D G K : Type 0} {stores : StoreMeaning S D} {sources : SourceMeani
       ((k : ℕ) × (client : ClientProgram inputs outputs
       (requests_at stores sources programs.server))
       × (slice_get programs.clients k ≡ Some client) × (x ≡ client_end client))
-      ⊎ ((port : ℕ) × (transfer : HeldTransfer F D) × HasOpened programs port transfer
-      × (x ≡ transfer_end port transfer))
+      ⊎ ((port : ℕ) × (transfer : HeldTransfer F D) × (a : Endpoint)
+      × HasOpened programs port transfer a × (x ≡ transfer_end transfer a))
 
   -- the endpoint is no stranger's
   abbrev pub IsOurs : Endpoint → Type 0
   IsOurs a = IsStranger stores sources inputs outputs programs a → ⊥
 
+  -- an end there of the server, with this peer
+  pub record IsServingAt (p a : Endpoint) (y : ProgramEnd) : Type 0 where
+    pub is_end : IsEnd y
+    pub address : y.address ≡ p
+    pub server : is_client y.state.role.side ≡ false
+    pub peer : peer_of y ≡ Some a
+
   -- the server opened the transfer for this path, as its store answered then, and in this role
-  pub record WasOpened (port : ℕ) (transfer : HeldTransfer F D) : Type 0 where
+  pub record WasOpened (transfer : HeldTransfer F D) (a : Endpoint) : Type 0 where
     pub opening : HeldTransfer F D
-    pub opened : opened_at port programs.server.run ≡ Some opening
+    pub opened : opened_at programs a programs.server.run ≡ Some opening
     pub path : opening.path ≡ transfer.path
     pub role : opening.end.role ≡ transfer.end.role
 
@@ -90,6 +102,13 @@ module _ {S F D G K : Type 0} {stores : StoreMeaning S D} {sources : SourceMeani
   pub record KeepAnyFiles : Type 0 where
     -- the transfers are safe: what a receiver was handed is what its peer's file gave
     pub safe : AreSafe safety_of IsEnd IsOurs
+    -- the peer of a client is a transfer of the server, which has the client as its own peer
+    pub served : (x : ProgramEnd) (p : Endpoint) → IsEnd x → is_client x.state.role.side ≡ true →
+        peer_of x ≡ Some p → (y : ProgramEnd) × IsServingAt p x.address y
+    -- a transfer is at its port, unless its peer is a stranger
+    pub at_port : (port : ℕ) (transfer : HeldTransfer F D) (a p : Endpoint) →
+        HasOpened programs port transfer a → peer_of (transfer_end transfer a) ≡ Some p →
+        IsOurs p → a ≡ endpoint programs.server.ip port
     -- what a transfer sends was opened under its path, and what it stores was begun under its path
-    pub opened : (port : ℕ) (transfer : HeldTransfer F D) → HasOpened programs port transfer →
-        WasOpened port transfer
+    pub opened : (port : ℕ) (transfer : HeldTransfer F D) (a : Endpoint) →
+        HasOpened programs port transfer a → WasOpened transfer a

@@ -12,7 +12,7 @@ use Rattle.tftp_machine.specs.OpenEnds.{received_text}
 use Rattle.tftp_machine.specs.Shows.{EndView}
 use Rattle.tftp_server.specs.State.{HeldTransfer}
 use Rattle.tftp_network.specs.Ports.{IsStored, WasStored}
-use Rattle.tftp_network.specs.Programs.{endpoint, ServerProgram, arrived, ClientProgram, client_at}
+use Rattle.tftp_network.specs.Programs.{ServerProgram, arrived, ClientProgram, client_at}
 
 -- the view is of an end in this state at this endpoint
 pub record ViewsEnd (a : Endpoint) (e : EndState) (view : EndView) : Type 0 where
@@ -76,8 +76,8 @@ module _ {S F D : Type 0} (stores : StoreMeaning S D) (sources : SourceMeaning F
   ViewsStored server transfer (Source source) view = SendsStored server transfer view
   ViewsStored server transfer (Sink draft) view = KeepsStored server transfer draft view
 
-  -- the view is of the end of this transfer of the server
-  pub record ViewsTransfer (server : ServerProgram stores sources) (port : ℕ)
-      (transfer : HeldTransfer F D) (view : EndView) : Type 0 where
-    pub end : ViewsEnd (endpoint server.ip port) transfer.end view
+  -- the view is of the end of this transfer of the server, at this place
+  pub record ViewsTransfer (server : ServerProgram stores sources) (transfer : HeldTransfer F D)
+      (a : Endpoint) (view : EndView) : Type 0 where
+    pub end : ViewsEnd a transfer.end view
     pub own : ViewsStored server transfer transfer.files view

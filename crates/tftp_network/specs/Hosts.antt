@@ -5,8 +5,8 @@ use Rattle.tftp_file.specs.Sink.{SinkMeaning}
 use Rattle.tftp_file.specs.Source.{SourceMeaning}
 use Rattle.tftp_store.specs.Store.{StoreMeaning}
 use Rattle.tftp_machine.specs.Machine.{Endpoint, At_server, At_client, Elsewhere}
+use Rattle.tftp_network.specs.Openings.{ArePortsFresh, server_ports}
 use Rattle.tftp_network.specs.Order.{Programs, IsStranger}
-use Rattle.tftp_network.specs.Ports.{ArePortsFresh, server_ports}
 use Rattle.tftp_network.specs.Programs.{endpoint, requests_at, ClientProgram, client_at}
 use Rattle.tftp_network.specs.Promises.{joined}
 
@@ -21,7 +21,7 @@ module _ {S F D G K : Type 0} {stores : StoreMeaning S D} {sources : SourceMeani
       → (joined programs).host_of
       (client_at inputs outputs (requests_at stores sources programs.server) client) ≡ At_client
 
-  -- each port of the server is at the server, if the ports are fresh
+  -- each port of the server that its clients know is at the server, if the ports are fresh
   abbrev pub ServerIsThere : Type 0
   ServerIsThere =
       ArePortsFresh programs → (port : ℕ) → Contains (server_ports programs) port

@@ -5,8 +5,8 @@ use Rattle.tftp_file.specs.Source.{SourceMeaning}
 use Rattle.tftp_store.specs.Store.{StoreMeaning}
 use Rattle.tftp_network.specs.AnyFiles.{KeepAnyFiles}
 use Rattle.tftp_network.specs.Modelled.{AreModelled}
+use Rattle.tftp_network.specs.Openings.{ArePortsFresh}
 use Rattle.tftp_network.specs.Order.{Noted, Programs, IsOrder, IsHonest}
-use Rattle.tftp_network.specs.Ports.{ArePortsFresh}
 use Rattle.tftp_network.specs.Promises.{KeepPromises, AreShown}
 
 module _ {S F D G K : Type 0} (stores : StoreMeaning S D) (sources : SourceMeaning F)

@@ -3,6 +3,7 @@ pub mod ClientRuns
 pub mod Programs
 pub mod Order
 pub mod Ports
+pub mod Openings
 pub mod Modelled
 pub mod Arrived
 pub mod Promises
@@ -10,6 +11,7 @@ pub mod AnyFiles
 pub mod Hosts
 pub mod Journals
 pub mod Joined
+pub mod Alone
 pub mod Snapshots
 pub mod Joint
 pub mod Witness

@@ -20,10 +20,7 @@ use Rattle.tftp_store.specs.Store.{StoreMeaning}
 use Rattle.tftp_server.specs.Draft.{files_in, drafting_sink}
 use Rattle.tftp_server.specs.Request.{Came, Nothing, An_error, A_transfer}
 use Rattle.tftp_server.specs.State.{HeldTransfer}
-use Rattle.tftp_loop.specs.Run.{Run}
-use Rattle.tftp_loop.specs.Run.Run.{Start, Then}
-use Rattle.tftp_loop.specs.Serves.{LoopState, PortState, AtPort, A_datagram, Does, At_port}
-use Rattle.tftp_loop.specs.Serves.{Request_answered}
+use Rattle.tftp_loop.specs.Serves.{PortState, AtPort, A_datagram}
 use Rattle.tftp_client.specs.Converses.{State, HandlesReceived}
 use Rattle.tftp_client.specs.Converses.HandlesReceived.{Answers, Loses}
 
@@ -123,11 +120,11 @@ first_moved e =
     }
 
 module _ {S F D : Type 0} where
-  -- the transfer that opens at the port
-  abbrev pub came_at : ℕ → ℕ → Came S F D → Option (HeldTransfer F D)
-  came_at port tid Nothing = None
-  came_at port tid (An_error reply store) = None
-  came_at port tid (A_transfer held store) = if tid == port then Some held else None
+  -- the transfer that came, if this is its place
+  abbrev pub came_if : Bool → Came S F D → Option (HeldTransfer F D)
+  came_if here Nothing = None
+  came_if here (An_error reply store) = None
+  came_if here (A_transfer held store) = if here then Some held else None
 
 module _ {F D : Type 0} where
   -- the last of both
@@ -136,26 +133,13 @@ module _ {F D : Type 0} where
   or_before (Some now) before = Some now
   or_before None before = before
 
-  -- what has moved after an opening at the port, if there is one
+  -- what has moved after an opening, if there is one
   abbrev pub opening_moves : Option (HeldTransfer F D) → Moved → Moved
   opening_moves (Some held) moved = first_moved held.end
   opening_moves None moved = moved
 
 module _ {S F D : Type 0} {stores : StoreMeaning S D} {sources : SourceMeaning F} where
-  -- the transfer that a step opens at the port, as it opens
-  abbrev pub opens_at : ℕ → {old new : LoopState S F D} → Does stores sources old new
-      → Option (HeldTransfer F D)
-  opens_at port (Request_answered answers) = came_at port answers.tid answers.steps.came
-  opens_at port does = None
-
-  -- the last that the run opened there
-  abbrev pub opened_at : ℕ → {first last : LoopState S F D}
-      → Run (Does stores sources) first last → Option (HeldTransfer F D)
-  opened_at port Start = None
-  opened_at port (Then run does) = or_before (opens_at port does) (opened_at port run)
-
-  -- ---- what has moved there
-  -- after a step at the port of a transfer
+  -- what has moved after a step at the port of a transfer
   abbrev pub port_moves : {now : ℕ} {old new : PortState S F D}
       → AtPort stores sources now old new → Moved → Moved
   port_moves {old = old} {new = new} (A_datagram h) moved =
@@ -166,18 +150,3 @@ module _ {S F D : Type 0} {stores : StoreMeaning S D} {sources : SourceMeaning F
       (files_in new.server.store taken.next.path old.server.config.overwrite taken.next.files)
       taken.takes.steps moved
   port_moves does moved = moved
-
-  -- after a step of the server
-  abbrev pub does_move : ℕ → {old new : LoopState S F D} → Does stores sources old new → Moved
-      → Moved
-  does_move port (At_port serves) moved =
-      if serves.timer.port == port then port_moves serves.does moved else moved
-  does_move port (Request_answered answers) moved =
-      opening_moves (came_at port answers.tid answers.steps.came) moved
-  does_move port does moved = moved
-
-  -- at the transfer that the run opened last there
-  abbrev pub moved_at : ℕ → {first last : LoopState S F D}
-      → Run (Does stores sources) first last → Moved
-  moved_at port Start = nothing_moved
-  moved_at port (Then run does) = does_move port does (moved_at port run)

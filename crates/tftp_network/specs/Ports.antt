@@ -1,17 +1,13 @@
--- The transfers of a run: their ports, those that have closed, and the files under their paths; and
--- that no two ends ever have one endpoint.
-use Rattle.std.specs.Prelude.{ℕ, ◌≡◌, ◌≢◌, ◌⊎◌, List, [], ◌∷◌, ◌++◌, slice_get, Some}
+-- The transfers of a run: their ports, the one that a step removes, and the files under their
+-- paths.
+use Rattle.std.specs.Prelude.{ℕ, ◌≡◌, ◌⊎◌, List, [], ◌++◌, slice_get, Some}
 use Rattle.std.specs.Prelude.{option_to_list}
-use Rattle.std.specs.List.{Contains}
-use Rattle.tftp_file.specs.Sink.{SinkMeaning}
 use Rattle.tftp_file.specs.Source.{SourceMeaning}
 use Rattle.tftp_store.specs.Store.{StoreMeaning, FileList, file_at, files_of}
 use Rattle.tftp_server.specs.State.{HeldTransfer, at}
 use Rattle.tftp_loop.specs.Run.{Run}
 use Rattle.tftp_loop.specs.Run.Run.{Start, Then}
 use Rattle.tftp_loop.specs.Serves.{LoopState, Does, Request_answered, Transfer_closed}
-use Rattle.tftp_network.specs.Order.{Programs}
-use Rattle.tftp_network.specs.Programs.{endpoint, requests_at, client_at, ClientProgram}
 
 -- the file is under the path in the server's store
 abbrev pub IsStored : {S F D : Type 0} → StoreMeaning S D → LoopState S F D → List ℕ → List ℕ
@@ -39,14 +35,7 @@ module _ {S F D : Type 0} {stores : StoreMeaning S D} {sources : SourceMeaning F
       (port ≡ closes.timer.port) × (at port old.server.held ≡ Some transfer)
   Removes does port transfer = ⊥
 
-  -- a step of the run did
-  abbrev pub HasClosed : {first last : LoopState S F D} → Run (Does stores sources) first last → ℕ
-      → HeldTransfer F D → Type 0
-  HasClosed Start port transfer = ⊥
-  HasClosed (Then run does) port transfer =
-      Removes does port transfer ⊎ HasClosed run port transfer
-
-  -- it was at some time of the run
+  -- the file was under the path at some time of the run
   abbrev pub WasStored : {first last : LoopState S F D} → Run (Does stores sources) first last
       → List ℕ → List ℕ → Type 0
   WasStored {first} Start path file = IsStored stores first path file
@@ -57,24 +46,3 @@ module _ {S F D : Type 0} {stores : StoreMeaning S D} {sources : SourceMeaning F
 abbrev pub AreDistinct : List ℕ → Type 0
 AreDistinct ports = (j k port : ℕ) → slice_get ports j ≡ Some port → slice_get ports k ≡ Some port
     → j ≡ k
-
-module _ {S F D G K : Type 0} {stores : StoreMeaning S D} {sources : SourceMeaning F}
-    {inputs : SourceMeaning G} {outputs : SinkMeaning K}
-    (programs : Programs stores sources inputs outputs) where
-  -- the ports of the server: that of its requests, and those of all its transfers
-  abbrev pub server_ports : List ℕ
-  server_ports = programs.server.start.requests ∷ opened_ports programs.server.run
-
-  -- no two ends ever have one endpoint, and none has the request port
-  pub record ArePortsFresh : Type 0 where
-    pub server : AreDistinct server_ports
-    pub clients : (j k : ℕ)
-        (x y : ClientProgram inputs outputs (requests_at stores sources programs.server)) →
-        slice_get programs.clients j ≡ Some x → slice_get programs.clients k ≡ Some y →
-        client_at inputs outputs (requests_at stores sources programs.server) x
-        ≡ client_at inputs outputs (requests_at stores sources programs.server) y → j ≡ k
-    pub apart : (k port : ℕ)
-        (x : ClientProgram inputs outputs (requests_at stores sources programs.server)) →
-        slice_get programs.clients k ≡ Some x → Contains server_ports port →
-        client_at inputs outputs (requests_at stores sources programs.server) x
-        ≢ endpoint programs.server.ip port

@@ -3,14 +3,14 @@ use Rattle.std.specs.Prelude.{ℕ, ◌≡◌, ◌⊎◌, List, slice_get, Some}
 use Rattle.tftp_file.specs.Sink.{SinkMeaning}
 use Rattle.tftp_file.specs.Source.{SourceMeaning}
 use Rattle.tftp_store.specs.Store.{StoreMeaning}
-use Rattle.tftp_machine.specs.Machine.{Message, Network}
+use Rattle.tftp_machine.specs.Machine.{Endpoint, Message, Network}
 use Rattle.tftp_machine.specs.Shows.{AreApart, EndView, IsShown}
 use Rattle.tftp_machine.specs.ViewSafety.{IsAmong, IsSafeViews}
 use Rattle.tftp_server.specs.State.{HeldTransfer, at}
 use Rattle.tftp_network.specs.Arrived.{ViewsClient, ViewsTransfer}
 use Rattle.tftp_network.specs.Modelled.{AreModelled}
+use Rattle.tftp_network.specs.Openings.{HasClosed, place_at}
 use Rattle.tftp_network.specs.Order.{Programs}
-use Rattle.tftp_network.specs.Ports.{HasClosed}
 use Rattle.tftp_network.specs.Programs.{requests_at, arrived, ClientProgram, network_of}
 
 module _ {S F D G K : Type 0} {stores : StoreMeaning S D} {sources : SourceMeaning F}
@@ -20,17 +20,18 @@ module _ {S F D G K : Type 0} {stores : StoreMeaning S D} {sources : SourceMeani
   abbrev pub joined : Network
   joined = network_of inputs outputs (requests_at stores sources programs.server) programs.clients
 
-  -- one of the views is of this transfer of the server
-  abbrev pub HasTransfer : List EndView → ℕ → HeldTransfer F D → Type 0
-  HasTransfer views port transfer =
+  -- one of the views is of this transfer of the server, at this place
+  abbrev pub HasTransfer : List EndView → HeldTransfer F D → Endpoint → Type 0
+  HasTransfer views transfer a =
       (view : EndView) × IsAmong views view
-      × ViewsTransfer stores sources programs.server port transfer view
+      × ViewsTransfer stores sources programs.server transfer a view
 
-  -- the server holds the transfer, or has closed it
-  abbrev pub HasOpened : ℕ → HeldTransfer F D → Type 0
-  HasOpened port transfer =
-      (at port (arrived stores sources programs.server).server.held ≡ Some transfer)
-      ⊎ HasClosed programs.server.run port transfer
+  -- the server holds the transfer, which is at this place, or has closed it
+  abbrev pub HasOpened : ℕ → HeldTransfer F D → Endpoint → Type 0
+  HasOpened port transfer a =
+      ((at port (arrived stores sources programs.server).server.held ≡ Some transfer)
+      × (a ≡ place_at programs port programs.server.run))
+      ⊎ HasClosed programs programs.server.run port transfer a
 
   module _ (models : AreModelled programs) where
     -- one of the views is of the end of this client
@@ -49,16 +50,17 @@ module _ {S F D G K : Type 0} {stores : StoreMeaning S D} {sources : SourceMeani
         × (slice_get programs.clients k ≡ Some client)
         × ViewsClient inputs outputs (requests_at stores sources programs.server) client
         (models.file_of client) view)
-        ⊎ ((port : ℕ) × (transfer : HeldTransfer F D) × HasOpened port transfer
-        × ViewsTransfer stores sources programs.server port transfer view)
+        ⊎ ((port : ℕ) × (transfer : HeldTransfer F D) × (a : Endpoint)
+        × HasOpened port transfer a
+        × ViewsTransfer stores sources programs.server transfer a view)
 
     -- the views are those of all clients and of all transfers that the server opened, and no others
     pub record AreViewed (views : List EndView) : Type 0 where
       pub clients : (k : ℕ)
           (client : ClientProgram inputs outputs (requests_at stores sources programs.server)) →
           slice_get programs.clients k ≡ Some client → HasClient views client
-      pub transfers : (port : ℕ) (transfer : HeldTransfer F D) → HasOpened port transfer →
-          HasTransfer views port transfer
+      pub transfers : (port : ℕ) (transfer : HeldTransfer F D) (a : Endpoint) →
+          HasOpened port transfer a → HasTransfer views transfer a
       pub only : (view : EndView) → IsAmong views view → IsOfSome view
 
     -- no two of them are at one endpoint, and their transfers are safe

@@ -2,7 +2,8 @@
 -- a file in blocks of 8 bytes: the OACK is acknowledged, the acknowledgement of the last block is
 -- lost, the block is sent again after a timeout, and the transfer ends. Meanwhile another client
 -- writes a file, which is committed, and a stranger sends a datagram to the port of the first
--- transfer (RFC 1350, sections 2, 4 and 6; RFC 2347).
+-- transfer; once that has closed, another program reads the file at the same port, which may be a
+-- stranger or a client (RFC 1350, sections 2, 4 and 6; RFC 2347).
 use Rattle.std.specs.Prelude.{ℕ, ◌≡◌, true, List, [], ◌∷◌, reverse, slice_get, Some, None}
 use Rattle.tftp_wire.specs.Spelling.{canonical}
 use Rattle.tftp_wire.specs.declared.mode.Mode.TheVariants.{Octet}
@@ -28,10 +29,12 @@ use Rattle.tftp_machine.specs.Machine.{Endpoint}
 use Rattle.tftp_server.specs.State.{HeldTransfer}
 use Rattle.tftp_sockets.specs.Journal.Event.{Received, Sent, Watched, Elapsed, Printed, Quiet}
 use Rattle.tftp_sockets.specs.Journal.QuietEvent.{Empty, Slept, Woke}
+use Rattle.tftp_network.specs.Alone.{IsServed, alone}
 use Rattle.tftp_network.specs.Joined.{AreJoined}
 use Rattle.tftp_network.specs.Modelled.{AreModelled}
+use Rattle.tftp_network.specs.Openings.{HasClosed, our_ports}
 use Rattle.tftp_network.specs.Order.{Noted, Programs}
-use Rattle.tftp_network.specs.Ports.{IsStored, HasClosed}
+use Rattle.tftp_network.specs.Ports.{IsStored, opened_ports}
 use Rattle.tftp_network.specs.Programs.{endpoint, arrived, requests_at, ClientProgram}
 
 -- ---- the addresses and ports
@@ -57,8 +60,15 @@ reader = endpoint client_ip 5000
 abbrev pub writer : Endpoint
 writer = endpoint client_ip 5001
 
+abbrev pub other_ip : List ℕ
+other_ip = 10 ∷ 0 ∷ 0 ∷ 3 ∷ []
+
 abbrev pub stranger : Endpoint
-stranger = endpoint (10 ∷ 0 ∷ 0 ∷ 3 ∷ []) 7000
+stranger = endpoint other_ip 7000
+
+-- it reads at a port that was another's
+abbrev pub latecomer : Endpoint
+latecomer = endpoint other_ip 7001
 
 -- ---- the files and the requests
 abbrev pub read_name : List ℕ
@@ -119,10 +129,12 @@ exchange =
     ∷ (1, Quiet (Slept 1000)) ∷ (1, Received 5000 read_port (data_bytes 1 read_file))
     ∷ (1, Watched 1010) ∷ (1, Sent 5000 read_port (ack_bytes 1))
     ∷ (0, Received 1024 reader (ack_bytes 1))
-    ∷ (0, Printed (line_text (Closed 1024 5000 outcomes.Complete))) ∷ []
+    ∷ (0, Printed (line_text (Closed 1024 5000 outcomes.Complete)))
+    -- another reads at the same port
+    ∷ (0, Received 69 latecomer read_request) ∷ (0, Sent 1024 latecomer (oack_bytes agreed)) ∷ []
 
--- these programs noted it; both clients are complete, the read has closed as complete, and each
--- file is where it went
+-- these programs noted it, and the latecomer is a stranger; both clients are complete, the read has
+-- closed as complete, each file is where it went, and two transfers had one port
 pub record HasExchanged
     (programs : Programs memory_meaning memory_source memory_source memory_sink) : Type 0 where
   pub joined : AreJoined memory_meaning memory_source memory_source memory_sink programs
@@ -144,11 +156,35 @@ pub record HasExchanged
       (arrived memory_meaning memory_source programs.server)
       written_name written_file
   pub transfer : HeldTransfer (List ℕ) Drafted
-  pub has_closed : HasClosed programs.server.run 1024 transfer
+  pub has_closed : HasClosed programs programs.server.run 1024 transfer read_port
   pub ended : is_complete transfer.end.position.phase ≡ true
+  pub opened : opened_ports programs.server.run ≡ 1024 ∷ 1025 ∷ 1024 ∷ []
+
+-- the same with the latecomer's request, which it sends first of all, the newest event first
+abbrev pub late_exchange : List Noted
+late_exchange = reverse ((3, Sent 7001 requests read_request) ∷ exchange)
+
+-- these programs noted it, of which the latecomer is one: the transfers of two clients had one port
+pub record HasServed
+    (programs : Programs memory_meaning memory_source memory_source memory_sink) : Type 0 where
+  pub reads : ClientProgram memory_source memory_sink
+      (requests_at memory_meaning memory_source programs.server)
+  pub is_reader : slice_get programs.clients 0 ≡ Some reads
+  pub reader_served : IsServed programs late_exchange 0 reads
+  pub asks : ClientProgram memory_source memory_sink
+      (requests_at memory_meaning memory_source programs.server)
+  pub is_latecomer : slice_get programs.clients 2 ≡ Some asks
+  pub latecomer_served : IsServed programs late_exchange 2 asks
+  pub own : our_ports (alone programs reads) programs.server.run ≡ 1024 ∷ []
+  pub later : our_ports (alone programs asks) programs.server.run ≡ 1024 ∷ []
 
 -- there are such programs
 abbrev pub SomeAreJoined : Type 0
 SomeAreJoined =
     (programs : Programs memory_meaning memory_source memory_source memory_sink)
     × HasExchanged programs
+
+abbrev pub SomeAreServed : Type 0
+SomeAreServed =
+    (programs : Programs memory_meaning memory_source memory_source memory_sink)
+    × HasServed programs

@@ -2,6 +2,7 @@
 //! types: those of a store, and of the clients' sources and sinks.
 
 ghost use Rattle.tftp_machine.specs.Machine.{Endpoint};
+ghost use Rattle.tftp_network.specs.Alone.{EachIsJoined, EachKeepsAnyFiles, EachKeepsPromises};
 ghost use Rattle.tftp_network.specs.ClientRuns.{ClientsAreRuns};
 ghost use Rattle.tftp_network.specs.Hosts.{ClientsAreThere, ServerIsThere, StrangersAreElsewhere};
 ghost use Rattle.tftp_network.specs.Joined.{ProgramsAreShown, ProgramsKeepAnyFiles};
@@ -9,10 +10,11 @@ ghost use Rattle.tftp_network.specs.Joined.{ProgramsKeepPromises};
 ghost use Rattle.tftp_network.specs.Joint.{JournalsAreJoint};
 ghost use Rattle.tftp_network.specs.Journals.{AsksFirst};
 ghost use Rattle.tftp_network.specs.Lines.{EachLineIsAClose};
+ghost use Rattle.tftp_network.specs.Openings.{FreshPortsDo};
 ghost use Rattle.tftp_network.specs.Order.{Programs};
 ghost use Rattle.tftp_network.specs.Programs.{ClientProgram, ServersAreRuns};
 ghost use Rattle.tftp_network.specs.Timers.{EachHasOneTimer};
-ghost use Rattle.tftp_network.specs.Witness.{SomeAreJoined};
+ghost use Rattle.tftp_network.specs.Witness.{SomeAreJoined, SomeAreServed};
 
 use tftp_file::{Sink, Source};
 use tftp_store::Store;
@@ -29,6 +31,22 @@ pub fn programs_keep_promises<T: Store, G: Source, K: Sink>()
     ensures shown { ProgramsAreShown T.meaning T.Source.meaning G.meaning K.meaning }
 {}
 
+/// The server and each of its clients keep the promises, whatever ports the transfers of other
+/// clients have, before and after: for these two programs the others are strangers, if they are at
+/// other addresses than the server's and none has the client's endpoint (RFC 1350, section 4).
+pub fn each_client_keeps_promises<T: Store, G: Source, K: Sink>()
+    ensures joined { EachIsJoined T.meaning T.Source.meaning G.meaning K.meaning }
+    ensures any_files { EachKeepsAnyFiles T.meaning T.Source.meaning G.meaning K.meaning }
+    ensures promises { EachKeepsPromises T.meaning T.Source.meaning G.meaning K.meaning }
+{}
+
+/// If no two ends of the run ever have one endpoint, the ports are fresh as the promises need them:
+/// they ask it of the clients of the network and of their transfers only.
+pub fn ports_that_all_differ_are_fresh<T: Store, G: Source, K: Sink>()
+    ensures { (programs : Programs T.meaning T.Source.meaning G.meaning K.meaning)
+        → FreshPortsDo programs }
+{}
+
 /// The programs of a network reach the end state of their journals by whole steps, one at a time,
 /// and each step receives only what was sent in the steps before it, or what is a stranger's (RFC
 /// 1350, sections 2 and 4).
@@ -36,9 +54,9 @@ pub fn journals_are_joint<T: Store, G: Source, K: Sink>()
     ensures { JournalsAreJoint T.meaning T.Source.meaning G.meaning K.meaning }
 {}
 
-/// In the network of the programs each client is at a client's endpoint, each port of the server at
-/// the server, and only strangers are elsewhere. The rules that open ends need the first two, and by
-/// the third what is claimed of peers has no other exception.
+/// In the network of the programs each client is at a client's endpoint, each port of the server
+/// that its clients know at the server, and only strangers are elsewhere. The rules that open ends
+/// need the first two, and by the third what is claimed of peers has no other exception.
 pub fn programs_are_in_their_network<T: Store, G: Source, K: Sink>()
     ensures clients { (programs : Programs T.meaning T.Source.meaning G.meaning K.meaning)
         → ClientsAreThere programs }
@@ -54,8 +72,8 @@ pub fn a_client_is_one_run<G: Source, K: Sink>()
     ensures { ClientsAreRuns G.meaning K.meaning }
 {}
 
-/// What `tftp_loop` proves of a server is the run of a server here, from its start or from any later
-/// time at which it holds no transfer and no datagram is pending.
+/// What `tftp_loop` proves of a server is the run of a server here, from its start or from any
+/// later time at which it holds no transfer and no datagram is pending.
 pub fn a_server_is_one_run<T: Store>()
     ensures { ServersAreRuns T.meaning T.Source.meaning }
 {}
@@ -66,11 +84,14 @@ pub fn a_client_asks_first<G: Source, K: Sink>()
     ensures { (to : Endpoint) (client : ClientProgram G.meaning K.meaning to) → AsksFirst client }
 {}
 
-/// The premises of the law over both ends can be met, by a real exchange: a client reads a file by
+/// The premises of the laws over both ends can be met, by a real exchange: a client reads a file by
 /// an OACK, and its last acknowledgement is lost, so that the block is sent again; another writes a
-/// file, which is committed; a stranger sends a datagram between (RFC 1350, sections 2, 4 and 6).
+/// file, which is committed; a stranger sends a datagram between. At the end another program reads
+/// at the port that the first client's transfer had: a stranger, and for the law over each client
+/// apart a client (RFC 1350, sections 2, 4 and 6).
 pub fn some_programs_are_joined()
-    ensures { SomeAreJoined }
+    ensures joined { SomeAreJoined }
+    ensures served { SomeAreServed }
 {}
 
 /// At each time of a run each transfer that the server holds has one timer, at its port, and no
