@@ -55,6 +55,9 @@ HEADLINES = [
       "HasClosed": "the run closed this transfer of this port, which was at this place",
       "server_ports": "the port of a server's requests, and those of the transfers that its run opened for clients of the "
                       "network",
+      "QuietEvent": "what a program learns of its sockets without a datagram: that a receive found nothing or failed, that "
+                    "a wait began or ended, that no socket could be bound",
+      "at": "the transfer at an identifier", "goes_on": "neither complete nor closed",
       "SourceMeaning": "the model of a source, which may say nothing",
       "SinkMeaning": "the model of a sink, which may say nothing",
       "StoreMeaning": "the model of a store, which may say nothing"}),
