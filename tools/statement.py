@@ -58,6 +58,7 @@ HEADLINES = [
       "QuietEvent": "what a program learns of its sockets without a datagram: that a receive found nothing or failed, that "
                     "a wait began or ended, that no socket could be bound",
       "at": "the transfer at an identifier", "goes_on": "neither complete nor closed",
+      "wire_text": "the bytes as they are sent: in netascii a line end as CR LF, a CR as CR NUL",
       "SourceMeaning": "the model of a source, which may say nothing",
       "SinkMeaning": "the model of a sink, which may say nothing",
       "StoreMeaning": "the model of a store, which may say nothing"}),
