@@ -21,12 +21,14 @@ length-block text n size =
     rw (f, length-take, length-drop)
 
 -- a block that is shorter is the last one
-pub last_block : (text : List ℕ) (n size : ℕ) → length (block text size (n + 1)) < size → take (n * size) text ++ block text size (n + 1) ≡ text
+pub last_block : (text : List ℕ) (n size : ℕ) → length (block text size (n + 1)) < size →
+    take (n * size) text ++ block text size (n + 1) ≡ text
 last_block text n size h =
     let l = length-block text n size in
     take-block text n size ∙ take_all ((n + 1) * size) text (omega arith)
 
-pub full_block : (text : List ℕ) (n size : ℕ) → 0 < size → n * size ≤ length text → size ≤ length (block text size (n + 1)) → (n + 1) * size ≤ length text
+pub full_block : (text : List ℕ) (n size : ℕ) → 0 < size → n * size ≤ length text →
+    size ≤ length (block text size (n + 1)) → (n + 1) * size ≤ length text
 full_block text n size p r h =
     let l = length-block text n size in omega arith
 

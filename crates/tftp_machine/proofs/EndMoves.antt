@@ -1,5 +1,6 @@
 -- The answers of an open end that touch no file: ERRORs, retransmissions, acknowledgements.
-use Rattle.std.proofs.Common.{◌≡◌, ℕ, ◌-◌, Bool, true, false, List, [], ◌∷◌, ◌++◌, length, set, Option, Some, sym, refl, ap, ◌∙◌, subst, arith, inl}
+use Rattle.std.proofs.Common.{◌≡◌, ℕ, ◌-◌, Bool, true, false, List, [], ◌∷◌, ◌++◌, length, set, Option, Some, sym, refl}
+use Rattle.std.proofs.Common.{ap, ◌∙◌, subst, arith, inl}
 use Rattle.std.specs.Prelude.{◌==◌, if◌then◌else◌, not, nat_le, is_some}
 use Rattle.std.specs.List.{Contains}
 use Rattle.std.proofs.lemmas.Bool.{true≢false, leb-true, eq-eqb}
@@ -13,13 +14,17 @@ use Rattle.tftp_file.specs.Block.{IsBeginningOf}
 use Rattle.tftp_file.specs.Netascii.{wire_text}
 use Rattle.tftp_file.specs.Sink.{Holding}
 use Rattle.tftp_ends.specs.declared.error_reply.ErrorReply.{ErrorReply}
-use Rattle.tftp_ends.specs.declared.error_reply.ErrorReply.TheVariants.{FileTooLarge, ServerBusy, FileChanged, NotNetascii, FileNotFound, AccessViolation, DiskFull, IllegalOperation, UnknownTransferId, FileExists, OptionRefused}
+use Rattle.tftp_ends.specs.declared.error_reply.ErrorReply.TheVariants.{FileTooLarge, ServerBusy, FileChanged}
+use Rattle.tftp_ends.specs.declared.error_reply.ErrorReply.TheVariants.{NotNetascii, FileNotFound, AccessViolation}
+use Rattle.tftp_ends.specs.declared.error_reply.ErrorReply.TheVariants.{DiskFull, IllegalOperation, UnknownTransferId}
+use Rattle.tftp_ends.specs.declared.error_reply.ErrorReply.TheVariants.{FileExists, OptionRefused}
 use Rattle.tftp_ends.specs.declared.outcome.Outcome.{Outcome}
 use Rattle.tftp_ends.specs.declared.phase.Phase.{Phase}
 use Rattle.tftp_ends.specs.declared.phase.Phase.TheVariants.{Waiting, Sending, Receiving, Dallying, Closed}
 use Rattle.tftp_ends.specs.declared.phase.Terms.{Terms}
 use Rattle.tftp_ends.specs.declared.action.Response.{Response}
-use Rattle.tftp_ends.specs.declared.action.Response.TheVariants.{Ignore, Stranger, ResendReply, Retransmit, Close, Refuse}
+use Rattle.tftp_ends.specs.declared.action.Response.TheVariants.{Ignore, Stranger, ResendReply, Retransmit, Close}
+use Rattle.tftp_ends.specs.declared.action.Response.TheVariants.{Refuse}
 use Rattle.tftp_ends.specs.End.{is_sender, terms_of, is_complete, outcome_of}
 use Rattle.tftp_ends.specs.ErrorReply.{code_of, text_of, error_packet}
 use Rattle.tftp_ends.specs.Step.{Turn, response_turn, after, with_position}
@@ -27,7 +32,8 @@ use Rattle.tftp_machine.specs.Machine.{Endpoint, Error, Message, Network}
 use Rattle.tftp_machine.specs.Rules.{Rule, Says_error, Repeats, message}
 use Rattle.tftp_machine.specs.Said.{said}
 use Rattle.tftp_machine.specs.Shows.{EndView, IsShownWithin}
-use Rattle.tftp_machine.specs.OpenEnds.{OpenEnd, files_of, holding_of, with_files, in_state, end_after, goes_on, has_failed, text_of as text_of_end, open_view}
+use Rattle.tftp_machine.specs.OpenEnds.{OpenEnd, files_of, holding_of, with_files, in_state, end_after, goes_on}
+use Rattle.tftp_machine.specs.OpenEnds.{has_failed, text_of as text_of_end, open_view}
 use Rattle.tftp_machine.specs.EndKept.{EndKept, PhaseKept}
 use Rattle.tftp_machine.specs.EndShown.{Stands, Replies, IsThere, Goes}
 use Rattle.tftp_machine.proofs.Actions.{goes, closes, refuses}
@@ -92,11 +98,16 @@ is_short OptionRefused = refl
 -- each ERROR can be spelled
 pub valid_error : (r : ErrorReply) → IsValid (error_packet r)
 valid_error r =
-    let c = leb-true (code_of r) 8 (code_fits r) in
-    (omega (arith, c), text_from (text_of r) (text_is r), leb-true (length (canonical (error_packet r))) MAX_REQUEST (is_short r))
+    let c = leb-true (code_of r) 8 (code_fits r) in (
+      omega (arith, c),
+      text_from (text_of r) (text_is r),
+      leb-true (length (canonical (error_packet r))) MAX_REQUEST
+          (is_short r),
+    )
 
 -- an ERROR
-pub error_says : (r : ErrorReply) (from to : Endpoint) → Replies from (Some (record { to = to; bytes = canonical (error_packet r) })) (message from to Error ∷ [])
+pub error_says : (r : ErrorReply) (from to : Endpoint) →
+    Replies from (Some (record { to = to; bytes = canonical (error_packet r) })) (message from to Error ∷ [])
 error_says r from to = (error_packet r, spells_own (error_packet r) (valid_error r), refl)
 
 pub open_live : (phase : Phase) → is_some (outcome_of phase) ≡ false → has_failed phase ≡ false
@@ -121,7 +132,12 @@ text_sent false g f w h e = absurd (true≢false (sym e))
 
 -- an end that gave up
 pub failed_view : (e : EndView) (t : List ℕ) (b : Bool) (p : Option Endpoint) (size : ℕ) → b ≡ false →
-    record e { peer = p; size = size; failed = true; text = t } ≡ record e { peer = p; size = size; failed = not b; text = t }
+    record e { peer = p; size = size; failed = true; text = t } ≡ record e {
+      peer = p;
+      size = size;
+      failed = not b;
+      text = t;
+    }
 failed_view e t b p size z = ap (λ (c : Bool). record e { peer = p; size = size; failed = not c; text = t }) (sym z)
 
 pub going_live : (phase : Phase) → goes_on phase ≡ true → (is_complete phase ≡ false) × (has_failed phase ≡ false)
@@ -133,18 +149,24 @@ going_live (Closed terms number complete outcome) e = absurd (true≢false (sym 
 
 module _ (network : Network) where
   -- a response, which touches no file
-  pub from_response : (first : List Rule) (views : List EndView) (messages : List Message) (k : ℕ) (x : OpenEnd) (response : Response) (from : Endpoint) (turn : Turn) (held : Files (List ℕ) Holding) →
-      Goes network first views messages k x (response_turn response from x.state) (in_state (with_position (after response from x.state) x.state) x) →
-      (turn ≡ response_turn response from x.state) × (held ≡ files_of x) → Goes network first views messages k x turn (end_after x turn held)
+  pub from_response : (first : List Rule) (views : List EndView) (messages : List Message) (k : ℕ) (x : OpenEnd)
+      (response : Response) (from : Endpoint) (turn : Turn) (held : Files (List ℕ) Holding) →
+      Goes network first views messages k x (response_turn response from x.state)
+      (in_state (with_position (after response from x.state) x.state) x) →
+      (turn ≡ response_turn response from x.state) × (held ≡ files_of x) →
+      Goes network first views messages k x turn (end_after x turn held)
   from_response first views messages k x response from turn held g h =
       let y = in_state (with_position (after response from x.state) x.state) x in
       let same : with_files y (files_of x) ≡ y = same_files (is_sender x.state.role.side) y in
       subst (λ (t : Turn). Goes network first views messages k x t (end_after x t held)) (sym h.0)
-      (subst (λ (f : Files (List ℕ) Holding). Goes network first views messages k x (response_turn response from x.state) (with_files y f)) (sym h.1)
-      (subst (λ (z : OpenEnd). Goes network first views messages k x (response_turn response from x.state) z) (sym same) g))
+      (subst (λ (f : Files (List ℕ) Holding). Goes network first views messages k x
+      (response_turn response from x.state) (with_files y f)) (sym h.1)
+      (subst (λ (z : OpenEnd). Goes network first views messages k x (response_turn response from x.state) z)
+      (sym same) g))
 
   -- the retries that are left do not matter
-  phase_retries : (phase : Phase) (x : OpenEnd) (r : ℕ) → PhaseKept network x phase → PhaseKept network (in_state (with_position (record x.state.position { retries_left = r }) x.state) x) phase
+  phase_retries : (phase : Phase) (x : OpenEnd) (r : ℕ) → PhaseKept network x phase →
+      PhaseKept network (in_state (with_position (record x.state.position { retries_left = r }) x.state) x) phase
   phase_retries (Waiting asked limit) x r h = h
   phase_retries (Sending terms number) x r h = record {
     sender = h.sender;
@@ -160,12 +182,15 @@ module _ (network : Network) where
   phase_retries (Dallying terms number dally) x r h = h
   phase_retries (Closed terms number complete outcome) x r h = tt
 
-  module _ (first : List Rule) (views : List EndView) (messages : List Message) (k : ℕ) (x : OpenEnd) (s : Stands network first views messages k (open_view x)) (kept : EndKept network x) where
+  module _ (first : List Rule) (views : List EndView) (messages : List Message) (k : ℕ) (x : OpenEnd)
+      (s : Stands network first views messages k (open_view x)) (kept : EndKept network x) where
     -- nothing changes
-    pub ignores : (from : Endpoint) → is_some (outcome_of x.state.position.phase) ≡ false → Goes network first views messages k x (response_turn Ignore from x.state) x
+    pub ignores : (from : Endpoint) → is_some (outcome_of x.state.position.phase) ≡ false →
+        Goes network first views messages k x (response_turn Ignore from x.state) x
     ignores from o = record {
       said_now = [];
-      shown = goes network first views messages k (open_view x) s [] (omega arith) (open_live x.state.position.phase o) tt;
+      shown =
+          goes network first views messages k (open_view x) s [] (omega arith) (open_live x.state.position.phase o) tt;
       replies = refl;
       kept = kept;
       side = refl;
@@ -174,10 +199,13 @@ module _ (network : Network) where
     }
 
     -- an ERROR is sent to a stranger
-    pub answers_stranger : (from : Endpoint) → is_some (outcome_of x.state.position.phase) ≡ false → Goes network first views messages k x (response_turn Stranger from x.state) x
+    pub answers_stranger : (from : Endpoint) → is_some (outcome_of x.state.position.phase) ≡ false →
+        Goes network first views messages k x (response_turn Stranger from x.state) x
     answers_stranger from o = record {
       said_now = message x.address from Error ∷ [];
-      shown = goes network first views messages k (open_view x) s (Says_error x.address from ∷ []) (omega arith) (open_live x.state.position.phase o) (refl, tt, tt);
+      shown =
+          goes network first views messages k (open_view x) s (Says_error x.address from ∷ []) (omega arith)
+          (open_live x.state.position.phase o) (refl, tt, tt);
       replies = error_says UnknownTransferId x.address from;
       kept = kept;
       side = refl;
@@ -186,13 +214,20 @@ module _ (network : Network) where
     }
 
     -- the last datagram is retransmitted
-    pub answers_again : (from : Endpoint) → is_some (outcome_of x.state.position.phase) ≡ false → from ≡ x.state.position.last_sent_to →
-        IsThere messages x.address x.state.position.last_sent_to x.state.position.last_sent → Goes network first views messages k x (response_turn ResendReply from x.state) x
+    pub answers_again : (from : Endpoint) → is_some (outcome_of x.state.position.phase) ≡ false →
+        from ≡ x.state.position.last_sent_to →
+        IsThere messages x.address x.state.position.last_sent_to x.state.position.last_sent →
+        Goes network first views messages k x (response_turn ResendReply from x.state) x
     answers_again from o same old =
         let m = message x.address from (said old.0) in record {
           said_now = m ∷ [];
-          shown = goes network first views messages k (open_view x) s (Repeats m ∷ []) (omega arith) (open_live x.state.position.phase o)
-              (refl, subst (λ (to : Endpoint). Contains messages (message x.address to (said old.0))) (sym same) old.2, tt);
+          shown =
+              goes network first views messages k (open_view x) s (Repeats m ∷ []) (omega arith)
+              (open_live x.state.position.phase o) (
+                refl,
+                subst (λ (to : Endpoint). Contains messages (message x.address to (said old.0))) (sym same) old.2,
+                tt,
+              );
           replies = (old.0, old.1, refl);
           kept = kept;
           side = refl;
@@ -203,13 +238,21 @@ module _ (network : Network) where
     -- a timeout: the last datagram is retransmitted, for one retry
     pub retries : (from : Endpoint) → is_some (outcome_of x.state.position.phase) ≡ false →
         IsThere messages x.address x.state.position.last_sent_to x.state.position.last_sent →
-        Goes network first views messages k x (response_turn Retransmit from x.state) (in_state (with_position (after Retransmit from x.state) x.state) x)
+        Goes network first views messages k x (response_turn Retransmit from x.state)
+        (in_state (with_position (after Retransmit from x.state) x.state) x)
     retries from o old =
         let m = message x.address x.state.position.last_sent_to (said old.0) in record {
           said_now = m ∷ [];
-          shown = goes network first views messages k (open_view x) s (Repeats m ∷ []) (omega arith) (open_live x.state.position.phase o) (refl, old.2, tt);
+          shown =
+              goes network first views messages k (open_view x) s (Repeats m ∷ []) (omega arith)
+              (open_live x.state.position.phase o) (refl, old.2, tt);
           replies = (old.0, old.1, refl);
-          kept = record { phase = phase_retries x.state.position.phase x (x.state.position.retries_left - 1) kept.phase; held = kept.held; committed = kept.committed };
+          kept =
+              record {
+                phase = phase_retries x.state.position.phase x (x.state.position.retries_left - 1) kept.phase;
+                held = kept.held;
+                committed = kept.committed;
+              };
           side = refl;
           last_sent = inl (refl, refl);
           stored = λ _. refl;
@@ -217,25 +260,32 @@ module _ (network : Network) where
 
     -- an end that has given up is kept
     closed_kept : (terms : Option Terms) (outcome : Outcome) →
-        EndKept network (in_state (with_position (after (Refuse terms UnknownTransferId outcome) x.address x.state) x.state) x)
+        EndKept network (in_state (with_position (after (Refuse terms UnknownTransferId outcome) x.address x.state)
+        x.state) x)
     closed_kept terms outcome = record { phase = tt; held = kept.held; committed = kept.committed }
 
     -- it closes without a reply
     pub gives_up : (outcome : Outcome) (from : Endpoint) → goes_on x.state.position.phase ≡ true →
-        Goes network first views messages k x (response_turn (Close outcome) from x.state) (in_state (with_position (after (Close outcome) from x.state) x.state) x)
+        Goes network first views messages k x (response_turn (Close outcome) from x.state)
+        (in_state (with_position (after (Close outcome) from x.state) x.state) x)
     gives_up outcome from going =
         let y = in_state (with_position (after (Close outcome) from x.state) x.state) x in
         let live = going_live x.state.position.phase going in
         let b = is_sender x.state.role.side in
         let f = x.text in
         let w = wire_text x.state.role.mode x.stored in
-        let shown_now = closes network first views messages k (open_view x) s (text_of_end y) live (text_cut b (goes_on x.state.position.phase) f w x.state.position.held)
+        let shown_now =
+        closes network first views messages k (open_view x) s (text_of_end y) live
+        (text_cut b (goes_on x.state.position.phase) f w x.state.position.held)
         (text_sent b (goes_on x.state.position.phase) f w x.state.position.held) in
         record {
           said_now = [];
-          shown = subst (λ (ms : List Message). IsShownWithin network 3 first (set views k (open_view y)) ms) (sym (append-nil messages))
+          shown =
+              subst (λ (ms : List Message). IsShownWithin network 3 first (set views k (open_view y)) ms)
+              (sym (append-nil messages))
               (subst (λ (v : EndView). IsShownWithin network 3 first (set views k v) messages)
-              (failed_view (open_view x) (text_of_end y) (is_complete x.state.position.phase) (open_view x).peer (open_view x).size live.0) shown_now);
+              (failed_view (open_view x) (text_of_end y) (is_complete x.state.position.phase) (open_view x).peer
+              (open_view x).size live.0) shown_now);
           replies = refl;
           kept = closed_kept (terms_of x.state.position.phase) outcome;
           side = refl;
@@ -244,20 +294,30 @@ module _ (network : Network) where
         }
 
     -- it gives up, and sends an ERROR
-    pub refuses_now : (reply : ErrorReply) (outcome : Outcome) (from : Endpoint) → goes_on x.state.position.phase ≡ true →
-        Goes network first views messages k x (response_turn (Refuse (terms_of x.state.position.phase) reply outcome) from x.state) (in_state (with_position (after (Refuse (terms_of x.state.position.phase) reply outcome) from x.state) x.state) x)
+    pub refuses_now : (reply : ErrorReply) (outcome : Outcome) (from : Endpoint) →
+        goes_on x.state.position.phase ≡ true →
+        Goes network first views messages k x (response_turn (Refuse (terms_of x.state.position.phase) reply outcome)
+        from x.state) (in_state (with_position (after (Refuse (terms_of x.state.position.phase) reply outcome) from
+        x.state) x.state) x)
     refuses_now reply outcome from going =
-        let y = in_state (with_position (after (Refuse (terms_of x.state.position.phase) reply outcome) from x.state) x.state) x in
+        let y =
+        in_state (with_position (after (Refuse (terms_of x.state.position.phase) reply outcome) from x.state)
+        x.state) x in
         let live = going_live x.state.position.phase going in
         let b = is_sender x.state.role.side in
         let f = x.text in
         let w = wire_text x.state.role.mode x.stored in
-        let shown_now = refuses network first views messages k (open_view x) s from (text_of_end y) live (text_cut b (goes_on x.state.position.phase) f w x.state.position.held)
+        let shown_now =
+        refuses network first views messages k (open_view x) s from (text_of_end y) live
+        (text_cut b (goes_on x.state.position.phase) f w x.state.position.held)
         (text_sent b (goes_on x.state.position.phase) f w x.state.position.held) in
         record {
           said_now = message x.address from Error ∷ [];
-          shown = subst (λ (v : EndView). IsShownWithin network 3 first (set views k v) (messages ++ message x.address from Error ∷ []))
-              (failed_view (open_view x) (text_of_end y) (is_complete x.state.position.phase) (open_view x).peer (open_view x).size live.0) shown_now;
+          shown =
+              subst (λ (v : EndView). IsShownWithin network 3 first (set views k v)
+              (messages ++ message x.address from Error ∷ []))
+              (failed_view (open_view x) (text_of_end y) (is_complete x.state.position.phase) (open_view x).peer
+              (open_view x).size live.0) shown_now;
           replies = error_says reply x.address from;
           kept = closed_kept (terms_of x.state.position.phase) outcome;
           side = refl;

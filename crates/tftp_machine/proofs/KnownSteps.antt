@@ -1,9 +1,11 @@
 -- A step over files whose content is known is a step over that content.
-use Rattle.std.specs.Prelude.{ℕ, ◌≡◌, ◌≢◌, ◌⊎◌, Bool, true, false, List, [], ◌∷◌, Option, Some, None, Result, Ok, Err, IfErr, is_some, drop}
+use Rattle.std.specs.Prelude.{ℕ, ◌≡◌, ◌≢◌, ◌⊎◌, Bool, true, false, List, [], ◌∷◌, Option, Some, None, Result, Ok, Err}
+use Rattle.std.specs.Prelude.{IfErr, is_some, drop}
 use Rattle.std.proofs.Common.{refl, sym, ap, subst, ◌∙◌, inl, inr}
 use Rattle.std.proofs.lemmas.Bool.{true≢false}
 use Rattle.tftp_file.specs.Source.{SourceMeaning, Fills, ReadsAhead, StaysKnown}
-use Rattle.tftp_file.specs.Sink.{Holding, SinkMeaning, Appends, Commits, UnlessArmed, AppendsFreely, CommitsFreely, WritesBehind}
+use Rattle.tftp_file.specs.Sink.{Holding, SinkMeaning, Appends, Commits, UnlessArmed, AppendsFreely, CommitsFreely}
+use Rattle.tftp_file.specs.Sink.{WritesBehind}
 use Rattle.tftp_file.specs.Sink.{disarmed, with_piece, as_committed}
 use Rattle.tftp_file.specs.declared.fault.FileFault.{FileFault}
 use Rattle.tftp_file.specs.declared.fault.FileFault.TheVariants as file_faults
@@ -17,7 +19,8 @@ use Rattle.tftp_ends.specs.declared.endpoint.Endpoint.{Endpoint}
 use Rattle.tftp_ends.specs.declared.phase.Terms.{Terms}
 use Rattle.tftp_ends.specs.End.{EndState, outcome_of}
 use Rattle.tftp_ends.specs.Files.{KeepsFiles, KeepsHolding}
-use Rattle.tftp_ends.specs.Step.{Done, Turn, Sends, Appended, Committed, GoesOn, Stores, StoresIn, SendsFrom, Acts, DatagramStep, filled_turn, block_length, holding}
+use Rattle.tftp_ends.specs.Step.{Done, Turn, Sends, Appended, Committed, GoesOn, Stores, StoresIn, SendsFrom, Acts}
+use Rattle.tftp_ends.specs.Step.{DatagramStep, filled_turn, block_length, holding}
 use Rattle.tftp_machine.specs.KnownFiles.{known_source, known_sink, HasLeft, HaveContent}
 
 -- a fault that anything may return
@@ -27,7 +30,8 @@ any_fault (Err fault) P f = f fault
 
 -- ---- a sink
 -- a sink is known after an append
-append_known : (refuses : Bool) (before : Holding) (after : Option Holding) (piece : List ℕ) (answer : Result Done StoreFault) →
+append_known : (refuses : Bool) (before : Holding) (after : Option Holding) (piece : List ℕ)
+    (answer : Result Done StoreFault) →
     UnlessArmed refuses before after answer (AppendsFreely before after piece answer) → (h : Holding) × after ≡ Some h
 append_known true before after piece answer h = (disarmed before, h.leaves)
 append_known false before after piece (Ok done) h = (with_piece before piece, h)
@@ -51,11 +55,14 @@ module _ {K : Type 0} (sinks : SinkMeaning K) where
     pub known : sinks.held k' ≡ Some after
     pub appended : Appended known_sink bytes before after answer
 
-  pub appended_known : (bytes : List ℕ) (k k' : K) (before : Holding) (answer : Result Done StoreFault) → sinks.held k ≡ Some before →
+  pub appended_known : (bytes : List ℕ) (k k' : K) (before : Holding) (answer : Result Done StoreFault) →
+      sinks.held k ≡ Some before →
       Appended sinks bytes k k' answer → AppendedTo bytes before k' answer
-  appended_known [] k k' before answer p h = record { after = before; known = ap sinks.held h.1 ∙ p; appended = (h.0, refl) }
+  appended_known [] k k' before answer p h =
+      record { after = before; known = ap sinks.held h.1 ∙ p; appended = (h.0, refl) }
   appended_known (b ∷ bytes) k k' before answer p h =
-      let appends : Appends (Some before) (sinks.held k') (b ∷ bytes) answer = subst (λ (o : Option Holding). Appends o (sinks.held k') (b ∷ bytes) answer) p h.0 in
+      let appends : Appends (Some before) (sinks.held k') (b ∷ bytes) answer =
+      subst (λ (o : Option Holding). Appends o (sinks.held k') (b ∷ bytes) answer) p h.0 in
       let after = append_known before.refuses before (sinks.held k') (b ∷ bytes) answer appends in
       record {
         after = after.0;
@@ -74,11 +81,13 @@ module _ {K : Type 0} (sinks : SinkMeaning K) where
     pub known : sinks.held k' ≡ Some after
     pub steps : P after
 
-  committed_known : (terms : Terms) (number : ℕ) (from : Endpoint) (e : EndState) (k : K) (before : Holding) (turn : Turn) (k' : K) → sinks.held k ≡ Some before →
+  committed_known : (terms : Terms) (number : ℕ) (from : Endpoint) (e : EndState) (k : K) (before : Holding)
+      (turn : Turn) (k' : K) → sinks.held k ≡ Some before →
       Committed sinks terms number from e k turn k' →
       KnownAfter before k' (Committed known_sink terms number from e before turn)
   committed_known terms number from e k before turn k' p h =
-      let commits : Commits (Some before) (sinks.held k') h.answer = subst (λ (o : Option Holding). Commits o (sinks.held k') h.answer) p h.commits in
+      let commits : Commits (Some before) (sinks.held k') h.answer =
+      subst (λ (o : Option Holding). Commits o (sinks.held k') h.answer) p h.commits in
       let after = commit_known before.refuses before (sinks.held k') h.answer commits in
       record {
         after = after.0;
@@ -94,21 +103,28 @@ module _ {K : Type 0} (sinks : SinkMeaning K) where
             };
       }
 
-  goes_on_known : (terms : Terms) (number : ℕ) (from : Endpoint) (e : EndState) (last : Bool) (text : List ℕ) (k : K) (before : Holding)
+  goes_on_known : (terms : Terms) (number : ℕ) (from : Endpoint) (e : EndState) (last : Bool) (text : List ℕ) (k : K)
+      (before : Holding)
       (answer : Result Done StoreFault) (turn : Turn) (k' : K) → sinks.held k ≡ Some before →
       GoesOn sinks terms number from e last text k answer turn k' →
       KnownAfter before k' (GoesOn known_sink terms number from e last text before answer turn)
-  goes_on_known terms number from e true text k before (Err fault) turn k' p h = record { after = before; known = ap sinks.held h.1 ∙ p; steps = (h.0, refl) }
-  goes_on_known terms number from e false text k before (Err fault) turn k' p h = record { after = before; known = ap sinks.held h.1 ∙ p; steps = (h.0, refl) }
-  goes_on_known terms number from e true text k before (Ok done) turn k' p h = committed_known terms number from (holding text e) k before turn k' p h
-  goes_on_known terms number from e false text k before (Ok done) turn k' p h = record { after = before; known = ap sinks.held h.1 ∙ p; steps = (h.0, refl) }
+  goes_on_known terms number from e true text k before (Err fault) turn k' p h =
+      record { after = before; known = ap sinks.held h.1 ∙ p; steps = (h.0, refl) }
+  goes_on_known terms number from e false text k before (Err fault) turn k' p h =
+      record { after = before; known = ap sinks.held h.1 ∙ p; steps = (h.0, refl) }
+  goes_on_known terms number from e true text k before (Ok done) turn k' p h =
+      committed_known terms number from (holding text e) k before turn k' p h
+  goes_on_known terms number from e false text k before (Ok done) turn k' p h =
+      record { after = before; known = ap sinks.held h.1 ∙ p; steps = (h.0, refl) }
 
-  stores_known : (terms : Terms) (number : ℕ) (from : Endpoint) (piece : List ℕ) (e : EndState) (k : K) (before : Holding) (turn : Turn) (k' : K) →
+  stores_known : (terms : Terms) (number : ℕ) (from : Endpoint) (piece : List ℕ) (e : EndState) (k : K)
+      (before : Holding) (turn : Turn) (k' : K) →
       sinks.held k ≡ Some before → Stores sinks terms number from piece e k turn k' →
       KnownAfter before k' (Stores known_sink terms number from piece e before turn)
   stores_known terms number from piece e k before turn k' p h =
       let appended = appended_known h.bytes k h.mid before h.answer p h.appended in
-      let rest = goes_on_known terms number from e _ h.after h.mid appended.after h.answer turn k' appended.known h.rest in
+      let rest =
+      goes_on_known terms number from e _ h.after h.mid appended.after h.answer turn k' appended.known h.rest in
       record {
         after = rest.after;
         known = rest.known;
@@ -141,18 +157,21 @@ module _ {S : Type 0} (sources : SourceMeaning S) where
     pub steps : P left
 
   -- a turn after a failed read closes
-  closes : (terms : Terms) (number : ℕ) (from : Endpoint) (piece : List ℕ) (e : EndState) (fault : FileFault) (turn : Turn) →
+  closes : (terms : Terms) (number : ℕ) (from : Endpoint) (piece : List ℕ) (e : EndState) (fault : FileFault)
+      (turn : Turn) →
       turn ≡ filled_turn terms number from piece e (Err fault) → is_some (outcome_of turn.position.phase) ≡ true
   closes terms number from piece e fault turn h = ap (λ (t : Turn). is_some (outcome_of t.position.phase)) h
 
   -- after a failed read
-  sends_failed : (terms : Terms) (number : ℕ) (from : Endpoint) (e : EndState) (left : List ℕ) (turn : Turn) (s' : S) (piece : List ℕ) → piece ≡ [] →
+  sends_failed : (terms : Terms) (number : ℕ) (from : Endpoint) (e : EndState) (left : List ℕ) (turn : Turn) (s' : S)
+      (piece : List ℕ) → piece ≡ [] →
       turn ≡ filled_turn terms number from piece e (Err file_faults.Read) →
       LeftAfter turn s' (Sends known_source terms number from e left turn)
   sends_failed terms number from e left turn s' piece none answers =
       record {
         left = left;
-        known = λ still. absurd (true≢false (sym (closes terms number from piece e file_faults.Read turn answers) ∙ still));
+        known =
+            λ still. absurd (true≢false (sym (closes terms number from piece e file_faults.Read turn answers) ∙ still));
         steps =
             record {
               answer = Err file_faults.Read;
@@ -162,7 +181,8 @@ module _ {S : Type 0} (sources : SourceMeaning S) where
             };
       }
 
-  sends_known : (terms : Terms) (number : ℕ) (from : Endpoint) (e : EndState) (s : S) (left : List ℕ) (turn : Turn) (s' : S) → HasLeft sources s left →
+  sends_known : (terms : Terms) (number : ℕ) (from : Endpoint) (e : EndState) (s : S) (left : List ℕ) (turn : Turn)
+      (s' : S) → HasLeft sources s left →
       Sends sources terms number from e s turn s' →
       LeftAfter turn s' (Sends known_source terms number from e left turn)
   sends_known terms number from e s left turn s' (inr fails) h =
@@ -170,23 +190,28 @@ module _ {S : Type 0} (sources : SourceMeaning S) where
         want : ℕ
         want = block_length e.role.length terms.size number
 
-        none_read : (before : Option (List ℕ)) → Fills before (sources.left s') want [] h.piece (Err file_faults.Read) → h.piece ≡ []
+        none_read : (before : Option (List ℕ)) → Fills before (sources.left s') want [] h.piece (Err file_faults.Read) →
+            h.piece ≡ []
         none_read (Some text) f = f
         none_read None f = f
 
-        must_fail : (answer : Result ℕ FileFault) (before : Option (List ℕ)) → Fills before (sources.left s') want [] h.piece answer → answer ≡ Err file_faults.Read →
+        must_fail : (answer : Result ℕ FileFault) (before : Option (List ℕ)) →
+            Fills before (sources.left s') want [] h.piece answer → answer ≡ Err file_faults.Read →
             turn ≡ filled_turn terms number from h.piece e answer →
             LeftAfter turn s' (Sends known_source terms number from e left turn)
         must_fail answer before f is a =
             sends_failed terms number from e left turn s' h.piece
-            (none_read before (subst (λ (r : Result ℕ FileFault). Fills before (sources.left s') want [] h.piece r) is f))
+            (none_read before (subst (λ (r : Result ℕ FileFault). Fills before (sources.left s') want [] h.piece r) is
+            f))
             (subst (λ (r : Result ℕ FileFault). turn ≡ filled_turn terms number from h.piece e r) is a)
   sends_known terms number from e s left turn s' (inl p) h =
-      by_answer h.answer (subst (λ (o : Option (List ℕ)). Fills o (sources.left s') want [] h.piece h.answer) p h.reads.fills) h.reads.memory h.answers where
+      by_answer h.answer (subst (λ (o : Option (List ℕ)). Fills o (sources.left s') want [] h.piece h.answer) p
+      h.reads.fills) h.reads.memory h.answers where
         want : ℕ
         want = block_length e.role.length terms.size number
 
-        by_answer : (answer : Result ℕ FileFault) → Fills (Some left) (sources.left s') want [] h.piece answer → answer ≢ Err file_faults.Memory →
+        by_answer : (answer : Result ℕ FileFault) → Fills (Some left) (sources.left s') want [] h.piece answer →
+            answer ≢ Err file_faults.Memory →
             turn ≡ filled_turn terms number from h.piece e answer →
             LeftAfter turn s' (Sends known_source terms number from e left turn)
         by_answer (Ok k) f m a =
@@ -197,7 +222,13 @@ module _ {S : Type 0} (sources : SourceMeaning S) where
                   record {
                     answer = Ok k;
                     piece = h.piece;
-                    reads = record { fills = record { count = f.count; given = f.given; rest = refl }; read = λ q. tt; fails = λ q. absurd q; memory = m };
+                    reads =
+                        record {
+                          fills = record { count = f.count; given = f.given; rest = refl };
+                          read = λ q. tt;
+                          fails = λ q. absurd q;
+                          memory = m;
+                        };
                     answers = a;
                   };
             }
@@ -220,14 +251,16 @@ module _ {S K : Type 0} (sources : SourceMeaning S) (sinks : SinkMeaning K) wher
     pub steps : P content
 
   -- files of known content
-  stay_known : (turn : Turn) (files : Files S K) (content : Files (List ℕ) Holding) → HaveContent sources sinks files content →
+  stay_known : (turn : Turn) (files : Files S K) (content : Files (List ℕ) Holding) →
+      HaveContent sources sinks files content →
       HaveContentAfter turn files content
   stay_known turn (Source s) (Source left) h = λ still. h
   stay_known turn (Sink k) (Sink holding) h = h
   stay_known turn (Source s) (Sink holding) h = h
   stay_known turn (Sink k) (Source left) h = h
 
-  sends_from_known : (terms : Terms) (number : ℕ) (from : Endpoint) (e : EndState) (files : Files S K) (content : Files (List ℕ) Holding) (turn : Turn) (files' : Files S K) →
+  sends_from_known : (terms : Terms) (number : ℕ) (from : Endpoint) (e : EndState) (files : Files S K)
+      (content : Files (List ℕ) Holding) (turn : Turn) (files' : Files S K) →
       HaveContent sources sinks files content → SendsFrom sources sinks terms number from e files turn files' →
       StepsOver turn files' (SendsFrom known_source known_sink terms number from e content turn)
   sends_from_known terms number from e (Source s) (Source left) turn (Source s') p h =
@@ -238,7 +271,8 @@ module _ {S K : Type 0} (sources : SourceMeaning S) (sinks : SinkMeaning K) wher
   sends_from_known terms number from e (Sink k) content turn (Source s') p h = absurd h
   sends_from_known terms number from e (Sink k) content turn (Sink k') p h = absurd h
 
-  stores_in_known : (terms : Terms) (number : ℕ) (from : Endpoint) (piece : List ℕ) (e : EndState) (files : Files S K) (content : Files (List ℕ) Holding) (turn : Turn) (files' : Files S K) →
+  stores_in_known : (terms : Terms) (number : ℕ) (from : Endpoint) (piece : List ℕ) (e : EndState) (files : Files S K)
+      (content : Files (List ℕ) Holding) (turn : Turn) (files' : Files S K) →
       HaveContent sources sinks files content → StoresIn sources sinks terms number from piece e files turn files' →
       StepsOver turn files' (StoresIn known_source known_sink terms number from piece e content turn)
   stores_in_known terms number from piece e (Sink k) (Sink before) turn (Sink k') p h =
@@ -249,7 +283,8 @@ module _ {S K : Type 0} (sources : SourceMeaning S) (sinks : SinkMeaning K) wher
   stores_in_known terms number from piece e (Source s) content turn (Source s') p h = absurd h
   stores_in_known terms number from piece e (Source s) content turn (Sink k') p h = absurd h
 
-  acts_known : (action : Action) (from : Endpoint) (bytes : List ℕ) (e : EndState) (files : Files S K) (content : Files (List ℕ) Holding) (turn : Turn) (files' : Files S K) →
+  acts_known : (action : Action) (from : Endpoint) (bytes : List ℕ) (e : EndState) (files : Files S K)
+      (content : Files (List ℕ) Holding) (turn : Turn) (files' : Files S K) →
       HaveContent sources sinks files content → Acts sources sinks action from bytes e files turn files' →
       StepsOver turn files' (Acts known_source known_sink action from bytes e content turn)
   acts_known (Respond response) from bytes e files content turn files' p h =
@@ -258,13 +293,15 @@ module _ {S K : Type 0} (sources : SourceMeaning S) (sinks : SinkMeaning K) wher
         known = subst (λ (f : Files S K). HaveContentAfter turn f content) (sym h.1) (stay_known turn files content p);
         steps = (h.0, refl);
       }
-  acts_known (Send terms number) from bytes e files content turn files' p h = sends_from_known terms number from e files content turn files' p h
+  acts_known (Send terms number) from bytes e files content turn files' p h =
+      sends_from_known terms number from e files content turn files' p h
   acts_known (Store terms number) from bytes e files content turn files' p h =
       let after = stores_in_known terms number from h.0 e files content turn files' p h.2 in
       record { content = after.content; known = after.known; steps = (h.0, h.1, after.steps) }
 
   -- a step over files whose content is known is a step over that content
-  pub step_known : (from : Endpoint) (bytes : List ℕ) (e : EndState) (files : Files S K) (content : Files (List ℕ) Holding) (turn : Turn) (files' : Files S K) →
+  pub step_known : (from : Endpoint) (bytes : List ℕ) (e : EndState) (files : Files S K)
+      (content : Files (List ℕ) Holding) (turn : Turn) (files' : Files S K) →
       HaveContent sources sinks files content → DatagramStep sources sinks from bytes e files turn files' →
       StepsOver turn files' (DatagramStep known_source known_sink from bytes e content turn)
   step_known from bytes e files content turn files' p h =
@@ -277,25 +314,29 @@ module _ {S K : Type 0} (sources : SourceMeaning S) (sinks : SinkMeaning K) wher
 
   -- ---- no step
   -- a sink that is kept holds the same
-  holds_still : (before : Holding) (before_held after_held : Option Holding) → before_held ≡ Some before → KeepsHolding before_held after_held → after_held ≡ Some before
+  holds_still : (before : Holding) (before_held after_held : Option Holding) → before_held ≡ Some before →
+      KeepsHolding before_held after_held → after_held ≡ Some before
   holds_still before (Some h) after_held p keeps = keeps ∙ p
   holds_still before None after_held p keeps = absurd (no_content before p) where
     no_content : (h : Holding) → None ≡ Some h → ⊥
     no_content h q = true≢false (sym (ap is_some q))
 
   -- files that are kept have the same content
-  pub content_kept : (files files' : Files S K) (content : Files (List ℕ) Holding) → HaveContent sources sinks files content →
+  pub content_kept : (files files' : Files S K) (content : Files (List ℕ) Holding) →
+      HaveContent sources sinks files content →
       KeepsFiles sources sinks files files' → HaveContent sources sinks files' content
   content_kept (Source s) (Source s') (Source left) (inl p) keeps = inl (keeps.left ∙ p)
   content_kept (Source s) (Source s') (Source left) (inr fails) keeps = inr (keeps.fails fails)
-  content_kept (Sink k) (Sink k') (Sink before) p keeps = holds_still before (sinks.held k) (sinks.held k') p keeps.holding
+  content_kept (Sink k) (Sink k') (Sink before) p keeps =
+      holds_still before (sinks.held k) (sinks.held k') p keeps.holding
   content_kept (Source s) (Source s') (Sink before) p keeps = absurd p
   content_kept (Sink k) (Sink k') (Source left) p keeps = absurd p
   content_kept (Source s) (Sink k') content p keeps = absurd keeps
   content_kept (Sink k) (Source s') content p keeps = absurd keeps
 
 -- what is known stays known
-stays_known : {A : Type 0} (known : A) (before after : Option A) → before ≡ Some known → StaysKnown before after → after ≡ Some known
+stays_known : {A : Type 0} (known : A) (before after : Option A) → before ≡ Some known → StaysKnown before after →
+    after ≡ Some known
 stays_known known (Some a) after p stays = stays ∙ p
 stays_known known None after p stays = absurd (true≢false (sym (ap is_some p)))
 
@@ -304,11 +345,13 @@ pub left_read_ahead : {S : Type 0} (sources : SourceMeaning S) (before after : S
     HasLeft sources before left → ReadsAhead sources before after → HasLeft sources after left
 left_read_ahead sources before after left (inr fails) ahead = inr (ahead.fails fails)
 left_read_ahead sources before after left (inl p) ahead = by_cases ahead.left where
-  by_cases : StaysKnown (sources.left before) (sources.left after) ⊎ ((want : ℕ) → sources.fails after want) → HasLeft sources after left
+  by_cases : StaysKnown (sources.left before) (sources.left after) ⊎ ((want : ℕ) → sources.fails after want) →
+      HasLeft sources after left
   by_cases (inl stays) = inl (stays_known left (sources.left before) (sources.left after) p stays)
   by_cases (inr fails) = inr fails
 
 -- a sink that is written behind holds the same
 pub held_written_behind : {K : Type 0} (sinks : SinkMeaning K) (before after : K) (holding : Holding) →
     sinks.held before ≡ Some holding → WritesBehind sinks before after → sinks.held after ≡ Some holding
-held_written_behind sinks before after holding p behind = stays_known holding (sinks.held before) (sinks.held after) p behind.held
+held_written_behind sinks before after holding p behind =
+    stays_known holding (sinks.held before) (sinks.held after) p behind.held

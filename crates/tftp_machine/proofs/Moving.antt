@@ -1,5 +1,6 @@
 -- A receiver that stores a block, a sender that sends the next one, an end that fails.
-use Rattle.std.proofs.Common.{◌≡◌, ℕ, ◌+◌, ◌*◌, ◌<◌, ◌≤◌, true, false, List, [], ◌∷◌, ◌++◌, length, take, Some, None, sym, refl, ◌∙◌, subst, arith, inl, inr}
+use Rattle.std.proofs.Common.{◌≡◌, ℕ, ◌+◌, ◌*◌, ◌<◌, ◌≤◌, true, false, List, [], ◌∷◌, ◌++◌, length, take, Some, None}
+use Rattle.std.proofs.Common.{sym, refl, ◌∙◌, subst, arith, inl, inr}
 use Rattle.std.specs.Prelude.{◌≢◌, nat_lt}
 use Rattle.std.specs.List.{Contains}
 use Rattle.std.proofs.lemmas.Bool.{true≢false, cases_Bool, ltb-true, ltb-false}
@@ -13,7 +14,8 @@ use Rattle.tftp_machine.proofs.Steps.{one_sent, own_of, same_size, Moves, IsSoun
 use Rattle.tftp_machine.proofs.Attesting.{attested_at, attested_none}
 
 -- the piece follows the receiver's text
-pub more_text : (x y : Party) (piece : List ℕ) → GoesOn x y piece → x.text ++ piece ≡ take ((x.number + 1) * x.size) y.text
+pub more_text : (x y : Party) (piece : List ℕ) → GoesOn x y piece →
+    x.text ++ piece ≡ take ((x.number + 1) * x.size) y.text
 more_text x y piece q = rw (q.so_far, q.bytes) (take-block y.text x.number x.size)
 
 pub more_beginning : (x y : Party) (piece : List ℕ) → GoesOn x y piece → IsBeginningOf (x.text ++ piece) y.text
@@ -30,7 +32,8 @@ received_more x y piece q = record {
       full_block y.text x.number x.size q.positive q.room (rw q.bytes at full);
 }
 
-pub received_failed : (x y : Party) (piece : List ℕ) → x.done ≡ false → GoesOn x y piece → HasReceived (record x { failed = true; text = x.text ++ piece }) y
+pub received_failed : (x y : Party) (piece : List ℕ) → x.done ≡ false → GoesOn x y piece →
+    HasReceived (record x { failed = true; text = x.text ++ piece }) y
 received_failed x y piece n q = record {
   beginning = more_beginning x y piece q;
   whole = λ d. absurd (true≢false (sym d ∙ n));
@@ -40,10 +43,12 @@ received_failed x y piece n q = record {
 
 module _ (network : Network) where
   -- a receiver becomes x, with this part of its peer's text
-  pub receives : (m : Machine) → Holds network m → (at peer : Endpoint) (bytes : List ℕ) → IsNext m.sent (m.party at) at peer bytes → (x : Party) → Moves (m.party at) x → (m.party at).number ≤ x.number →
+  pub receives : (m : Machine) → Holds network m → (at peer : Endpoint) (bytes : List ℕ) →
+      IsNext m.sent (m.party at) at peer bytes → (x : Party) → Moves (m.party at) x → (m.party at).number ≤ x.number →
       ((y : Party) → GoesOn (m.party at) y bytes → HasReceived x y) →
       (added : List Message) →
-      ((d : Message) → Contains added d → network.host_of d.from ≢ Elsewhere → Attests (with_end m.party at x d.from) d.to d.packet) →
+      ((d : Message) → Contains added d → network.host_of d.from ≢ Elsewhere →
+      Attests (with_end m.party at x d.from) d.to d.packet) →
       Holds network (record { sent = m.sent ++ added; party = with_end m.party at x })
   receives m h at peer bytes g x v up f added attested =
       let old = m.party at in
@@ -71,15 +76,18 @@ module _ (network : Network) where
       let same : peer ≡ p = (let k : Some peer ≡ Some p = sym has ∙ e in cc) in
       let t = h.attested (message peer at (Data (old.number + 1) bytes)) g.3 (rw same o) in
       subst (λ (q : Endpoint). HasReceived x (new q)) same
-      (HasReceived-grows x (m.party peer) (new peer) (all.grows peer t.is_open) t.sender (f (m.party peer) (next_block network m h at peer bytes g (rw same o)))))
+      (HasReceived-grows x (m.party peer) (new peer) (all.grows peer t.is_open) t.sender
+      (f (m.party peer) (next_block network m h at peer bytes g (rw same o)))))
       (λ s d p e o. absurd (true≢false (sym s ∙ receiver))))
       attested
 
   -- a sender with its newest block acknowledged becomes x
-  pub sends : (m : Machine) → Holds network m → (at peer : Endpoint) → IsAcked m.sent (m.party at) at peer → (x : Party) → Moves (m.party at) x → (m.party at).number ≤ x.number → x.text ≡ (m.party at).text →
+  pub sends : (m : Machine) → Holds network m → (at peer : Endpoint) → IsAcked m.sent (m.party at) at peer →
+      (x : Party) → Moves (m.party at) x → (m.party at).number ≤ x.number → x.text ≡ (m.party at).text →
       (x.done ≡ true → network.host_of peer ≢ Elsewhere → (m.party peer).done ≡ true) →
       (added : List Message) →
-      ((d : Message) → Contains added d → network.host_of d.from ≢ Elsewhere → Attests (with_end m.party at x d.from) d.to d.packet) →
+      ((d : Message) → Contains added d → network.host_of d.from ≢ Elsewhere →
+      Attests (with_end m.party at x d.from) d.to d.packet) →
       Holds network (record { sent = m.sent ++ added; party = with_end m.party at x })
   sends m h at peer g x v up t ends added attested =
       let old = m.party at in
@@ -99,8 +107,10 @@ module _ (network : Network) where
       let new = with_end m.party at x in
       let has : x.peer ≡ Some peer = v.peer ∙ g.2 in
       let sender : x.sender ≡ true = v.sender ∙ g.1 in
-      let decoded : network.host_of peer ≢ Elsewhere → Attests (m.party peer) at (Ack old.number) = h.attested (message peer at (Ack old.number)) g.3 in
-      let back : network.host_of peer ≢ Elsewhere → (new peer).peer ≡ Some at = λ o. let k = decoded o in (all.grows peer k.is_open).peer at k.peer in
+      let decoded : network.host_of peer ≢ Elsewhere → Attests (m.party peer) at (Ack old.number) =
+      h.attested (message peer at (Ack old.number)) g.3 in
+      let back : network.host_of peer ≢ Elsewhere → (new peer).peer ≡ Some at =
+      λ o. let k = decoded o in (all.grows peer k.is_open).peer at k.peer in
       kept network m at x added h grows
       (λ _. IsSound-moves network new at old x v (IsSound-grows network m.party new all at old (h.ends at g.0.0))
       (λ e. absurd (let k : Some peer ≡ None = sym has ∙ e in cc))
@@ -114,7 +124,9 @@ module _ (network : Network) where
       attested
 
   -- the peer of a sender whose last block is acknowledged is done
-  pub last_acked : (m : Machine) → Holds network m → (at peer : Endpoint) → IsAcked m.sent (m.party at) at peer → (m.party at).number ≡ block_count (m.party at).text (m.party at).size → network.host_of peer ≢ Elsewhere → (m.party peer).done ≡ true
+  pub last_acked : (m : Machine) → Holds network m → (at peer : Endpoint) → IsAcked m.sent (m.party at) at peer →
+      (m.party at).number ≡ block_count (m.party at).text (m.party at).size → network.host_of peer ≢ Elsewhere →
+      (m.party peer).done ≡ true
   last_acked m h at peer g n o =
       let x = m.party at in
       let y = m.party peer in
@@ -129,11 +141,21 @@ module _ (network : Network) where
       ]
 
   -- an end that is neither done nor failed fails
-  pub fails : (m : Machine) → Holds network m → (at : Endpoint) → IsLive (m.party at) → Holds network (after network (Fails at) m)
+  pub fails : (m : Machine) → Holds network m → (at : Endpoint) → IsLive (m.party at) →
+      Holds network (after network (Fails at) m)
   fails m h at g =
       let old = m.party at in
       let x = record old { failed = true } in
-      let v : Moves old x = record { is_open = refl; client = refl; sender = refl; plain = refl; mode = refl; peer = refl; size = refl } in
+      let v : Moves old x =
+      record {
+        is_open = refl;
+        client = refl;
+        sender = refl;
+        plain = refl;
+        mode = refl;
+        peer = refl;
+        size = refl;
+      } in
       let grows : old.is_open ≡ true → Grows old x = λ o. record {
         is_open = o;
         client = refl;
@@ -151,15 +173,24 @@ module _ (network : Network) where
       let s = IsSound-grows network m.party new all at old (h.ends at g.0) in
       kept network m at x [] h grows
       (λ _. IsSound-moves network new at old x v s s.no_peer s.begun
-      (λ e p b o. let r = s.received e p b o in record { beginning = r.beginning; whole = r.whole; so_far = λ _ f. absurd (true≢false f); room = r.room })
+      (λ e p b o. let r = s.received e p b o in record {
+        beginning = r.beginning;
+        whole = r.whole;
+        so_far = λ _ f. absurd (true≢false f);
+        room = r.room;
+      })
       s.ended)
       (attested_none network new)
 
   -- only the datagrams sent change
-  pub says : (m : Machine) → Holds network m → (d : Message) → (network.host_of d.from ≢ Elsewhere → Attests (m.party d.from) d.to d.packet) → Holds network (record { sent = m.sent ++ d ∷ []; party = with_end m.party d.from (m.party d.from) })
+  pub says : (m : Machine) → Holds network m → (d : Message) →
+      (network.host_of d.from ≢ Elsewhere → Attests (m.party d.from) d.to d.packet) →
+      Holds network (record { sent = m.sent ++ d ∷ []; party = with_end m.party d.from (m.party d.from) })
   says m h d t =
       let at = d.from in
       let x = m.party at in
       let all = AllGrow-with m.party at x (Grows-same x) in
-      kept network m at x (d ∷ []) h (Grows-same x) (λ o. IsSound-grows network m.party (with_end m.party at x) all at x (h.ends at o))
-      (one_sent (λ e. network.host_of e.from ≢ Elsewhere → Attests (with_end m.party at x e.from) e.to e.packet) d (λ o. attested_at m.party at x d.to d.packet (t o)))
+      kept network m at x (d ∷ []) h (Grows-same x) (λ o. IsSound-grows network m.party (with_end m.party at x) all at x
+      (h.ends at o))
+      (one_sent (λ e. network.host_of e.from ≢ Elsewhere → Attests (with_end m.party at x e.from) e.to e.packet) d
+      (λ o. attested_at m.party at x d.to d.packet (t o)))

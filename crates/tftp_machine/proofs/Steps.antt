@@ -1,10 +1,12 @@
 -- Small facts on rules: whose datagram one is, and the hosts.
-use Rattle.std.proofs.Common.{◌≡◌, ℕ, ◌+◌, ◌*◌, ◌<◌, ◌≤◌, Bool, true, false, not, List, [], ◌∷◌, length, take, Some, None, sym, refl, ap, ◌∙◌, subst, arith, inl, inr}
+use Rattle.std.proofs.Common.{◌≡◌, ℕ, ◌+◌, ◌*◌, ◌<◌, ◌≤◌, Bool, true, false, not, List, [], ◌∷◌, length, take, Some}
+use Rattle.std.proofs.Common.{None, sym, refl, ap, ◌∙◌, subst, arith, inl, inr}
 use Rattle.std.specs.Prelude.{◌≢◌}
 use Rattle.std.specs.List.{Contains}
 use Rattle.std.proofs.lemmas.Bool.{true≢false, cases_Bool}
 use Rattle.tftp_file.specs.Block.{block}
-use Rattle.tftp_machine.specs.Machine.{Endpoint, At_server, At_client, Elsewhere, Data, Message, Party, Machine, Network}
+use Rattle.tftp_machine.specs.Machine.{Endpoint, At_server, At_client, Elsewhere, Data, Message, Party, Machine}
+use Rattle.tftp_machine.specs.Machine.{Network}
 use Rattle.tftp_machine.specs.Rules.{message, IsNext}
 use Rattle.tftp_machine.specs.Facts.{home, HasReceived, IsSoundParty, Holds}
 use Rattle.tftp_machine.specs.MachineSafety.{Established}
@@ -66,15 +68,18 @@ module _ (network : Network) where
   home_client a true h s = let k : At_client ≡ At_server = sym h ∙ s in cc
   home_client a false h s = refl
 
-  pub own_of : (m : Machine) → Holds network m → (a : Endpoint) → (m.party a).is_open ≡ true → network.host_of a ≢ Elsewhere
+  pub own_of : (m : Machine) → Holds network m → (a : Endpoint) → (m.party a).is_open ≡ true →
+      network.host_of a ≢ Elsewhere
   own_of m h a o = home_own a (m.party a).client (h.ends a o).at_home
 
   -- an open end at the server's address is a server's end
-  pub server_end : (m : Machine) → Holds network m → (a : Endpoint) → (m.party a).is_open ≡ true → network.host_of a ≡ At_server → (m.party a).client ≡ false
+  pub server_end : (m : Machine) → Holds network m → (a : Endpoint) → (m.party a).is_open ≡ true →
+      network.host_of a ≡ At_server → (m.party a).client ≡ false
   server_end m h a o s = home_client a (m.party a).client (h.ends a o).at_home s
 
   -- two ends that have each other as peers have one size
-  pub same_size : (m : Machine) → Holds network m → (x y : Endpoint) → Established m.party x y → (m.party x).size ≡ (m.party y).size
+  pub same_size : (m : Machine) → Holds network m → (x y : Endpoint) → Established m.party x y →
+      (m.party x).size ≡ (m.party y).size
   same_size m h x y e = elim (cases_Bool (m.party x).client) [
     | inl c ↦ sym (((h.ends x e.0).serving c y e.2).1.size)
     | inr c ↦ let p = peer_of network m.party x (m.party x) (h.ends x e.0) y e.2 (own_of m h y e.1) in
@@ -82,18 +87,30 @@ module _ (network : Network) where
         (((h.ends y e.1).serving d x e.3).1.size)
   ]
 
-  pub IsSound-moves : (ends : Endpoint → Party) (a : Endpoint) (x y : Party) → Moves x y → IsSoundParty network ends a x →
+  pub IsSound-moves : (ends : Endpoint → Party) (a : Endpoint) (x y : Party) → Moves x y →
+      IsSoundParty network ends a x →
       (y.peer ≡ None → (y.number ≡ 0) × (y.done ≡ false) × (y.sender ≡ false → y.text ≡ [])) →
-      (y.client ≡ false → y.sender ≡ true → y.plain ≡ false → 1 ≤ y.number → (p : Endpoint) → y.peer ≡ Some p → network.host_of p ≢ Elsewhere → (ends p).peer ≡ Some a) →
+      (y.client ≡ false → y.sender ≡ true → y.plain ≡ false → 1 ≤ y.number → (p : Endpoint) → y.peer ≡ Some p →
+      network.host_of p ≢ Elsewhere → (ends p).peer ≡ Some a) →
       (y.sender ≡ false → (p : Endpoint) → y.peer ≡ Some p → network.host_of p ≢ Elsewhere → HasReceived y (ends p)) →
-      (y.sender ≡ true → y.done ≡ true → (p : Endpoint) → y.peer ≡ Some p → network.host_of p ≢ Elsewhere → ((ends p).peer ≡ Some a) × ((ends p).done ≡ true)) →
+      (y.sender ≡ true → y.done ≡ true → (p : Endpoint) → y.peer ≡ Some p → network.host_of p ≢ Elsewhere →
+      ((ends p).peer ≡ Some a) × ((ends p).done ≡ true)) →
       IsSoundParty network ends a y
   IsSound-moves ends a x y v h n b r d = record {
     at_home = rw v.client h.at_home;
     positive = rw v.size h.positive;
     no_peer = n;
-    serving = λ c p e. let s = h.serving (sym v.client ∙ c) p (sym v.peer ∙ e) in
-        (s.0, record { is_open = s.1.is_open; client = s.1.client; peer = s.1.peer; size = s.1.size ∙ sym v.size; mode = s.1.mode ∙ sym v.mode; sender = rw v.sender s.1.sender });
+    serving = λ c p e. let s = h.serving (sym v.client ∙ c) p (sym v.peer ∙ e) in (
+      s.0,
+      record {
+        is_open = s.1.is_open;
+        client = s.1.client;
+        peer = s.1.peer;
+        size = s.1.size ∙ sym v.size;
+        mode = s.1.mode ∙ sym v.mode;
+        sender = rw v.sender s.1.sender;
+      },
+    );
     has_peer = λ c. let s = h.has_peer (sym v.client ∙ c) in (s.0, v.peer ∙ s.1);
     asked = λ c p e o. let s = h.asked (sym v.client ∙ c) p (sym v.peer ∙ e) o in
         record { is_open = s.is_open; client = s.client; mode = s.mode ∙ sym v.mode; sender = rw v.sender s.sender };
@@ -103,7 +120,9 @@ module _ (network : Network) where
     ended = d;
   }
 
-  pub next_block : (m : Machine) → Holds network m → (at peer : Endpoint) (bytes : List ℕ) → IsNext m.sent (m.party at) at peer bytes → network.host_of peer ≢ Elsewhere → GoesOn (m.party at) (m.party peer) bytes
+  pub next_block : (m : Machine) → Holds network m → (at peer : Endpoint) (bytes : List ℕ) →
+      IsNext m.sent (m.party at) at peer bytes → network.host_of peer ≢ Elsewhere →
+      GoesOn (m.party at) (m.party peer) bytes
   next_block m h at peer bytes g o =
       let x = m.party at in
       let t = h.attested (message peer at (Data (x.number + 1) bytes)) g.3 o in

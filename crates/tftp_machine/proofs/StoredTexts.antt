@@ -6,7 +6,8 @@ use Rattle.tftp_wire.specs.declared.mode.Mode.TheVariants.{Octet, Netascii}
 use Rattle.tftp_file.specs.Block.{IsBeginningOf}
 use Rattle.tftp_file.specs.Netascii.{wire_byte, wire_text}
 
-pub wire_text-append : (mode : Mode) (xs ys : List ℕ) → wire_text mode (xs ++ ys) ≡ wire_text mode xs ++ wire_text mode ys
+pub wire_text-append : (mode : Mode) (xs ys : List ℕ) →
+    wire_text mode (xs ++ ys) ≡ wire_text mode xs ++ wire_text mode ys
 wire_text-append Octet xs ys = refl
 wire_text-append Netascii xs ys = flat_map-append wire_byte xs ys
 
@@ -15,10 +16,12 @@ pub stored_more : (mode : Mode) (stored held bytes more after : List ℕ) → he
     (wire_text mode stored ++ held) ++ bytes ≡ wire_text mode (stored ++ more) ++ after
 stored_more mode stored held bytes more after e =
     append_assoc (wire_text mode stored) held bytes ∙ (ap (λ (zs : List ℕ). wire_text mode stored ++ zs) e
-    ∙ (sym (append_assoc (wire_text mode stored) (wire_text mode more) after) ∙ ap (λ (zs : List ℕ). zs ++ after) (sym (wire_text-append mode stored more))))
+    ∙ (sym (append_assoc (wire_text mode stored) (wire_text mode more) after) ∙ ap (λ (zs : List ℕ). zs ++ after)
+    (sym (wire_text-append mode stored more))))
 
 -- a beginning of what was to be stored is a beginning on the wire
-pub stored_some : (mode : Mode) (stored kept more : List ℕ) → IsBeginningOf kept more → IsBeginningOf (wire_text mode (stored ++ kept)) (wire_text mode (stored ++ more))
+pub stored_some : (mode : Mode) (stored kept more : List ℕ) → IsBeginningOf kept more →
+    IsBeginningOf (wire_text mode (stored ++ kept)) (wire_text mode (stored ++ more))
 stored_some mode stored kept more b = (
   wire_text mode b.0,
   sym (wire_text-append mode (stored ++ kept) b.0)

@@ -6,7 +6,8 @@ use Rattle.std.proofs.lemmas.Bool.{true≢false}
 use Rattle.tftp_wire.specs.declared.packet.Request.{Request as WireRequest}
 use Rattle.tftp_machine.specs.Hosts.{client_ip, server_ip, host_of, two_hosts}
 use Rattle.tftp_machine.specs.Machine.{Endpoint, is_same, nobody, At_server, At_client, start}
-use Rattle.tftp_machine.specs.Rules.{Rule, Asks, Opens_with, Takes_oack, Sends_next, Appends, Completes, IsLegal, IsOpenedBy, AreOver, asking, after}
+use Rattle.tftp_machine.specs.Rules.{Rule, Asks, Opens_with, Takes_oack, Sends_next, Appends, Completes, IsLegal}
+use Rattle.tftp_machine.specs.Rules.{IsOpenedBy, AreOver, asking, after}
 use Rattle.tftp_machine.proofs.laws.some_run_completes.Goals as goal
 
 -- the client's end
@@ -29,7 +30,9 @@ abbrev request : WireRequest
 request = record { name = 97 ∷ []; mode = Octet; options = [] }
 
 abbrev rules_of : List Rule
-rules_of = Asks c false request [] ∷ Opens_with s c false request (65 ∷ []) 8 ∷ Takes_oack c s 8 ∷ Sends_next s c ∷ Appends c s (65 ∷ []) ∷ Completes s c ∷ []
+rules_of =
+    Asks c false request [] ∷ Opens_with s c false request (65 ∷ []) 8 ∷ Takes_oack c s 8 ∷ Sends_next s c ∷ Appends c s
+    (65 ∷ []) ∷ Completes s c ∷ []
 
 -- the request opened no end before
 no_end : (b : Bool) → IsOpenedBy (if b then asking false request [] else nobody) c false request → ⊥
@@ -63,4 +66,16 @@ legal = (
 )
 
 pub returns : goal.returns
-returns g = (rules_of, s, c, legal, record { established = (refl, refl, refl, refl); sent = refl; received = refl; same = refl; some = λ e. cc })
+returns g = (
+  rules_of,
+  s,
+  c,
+  legal,
+  record {
+    established = (refl, refl, refl, refl);
+    sent = refl;
+    received = refl;
+    same = refl;
+    some = λ e. cc;
+  },
+)
