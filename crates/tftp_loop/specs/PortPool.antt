@@ -30,7 +30,8 @@ pub record IsPool (ip : List ℕ) (order : Option PortOrder)
   pub ports : IfSome order HasPorts
   pub socket : IfSome spare (IsOfPool (pool_state ip order))
 
--- from one journal to the other no socket could be bound to a port, one of the range, if there is one
+-- from one journal to the other no socket could be bound to a port, one of the range, if there is
+-- one
 pub record TriesPort (range : Option PortRange) (before after : List Event) : Type 0 where
   pub port : ℕ
   pub within : IsOneOf range port

@@ -36,9 +36,9 @@ pub fn a_server_handles_before_it_sleeps<T: Store>()
 {}
 
 /// A transfer that makes no progress is closed in time, whatever is sent to its port. At each wait
-/// later than an interval, and an interval and a second for each retry, its line was printed: a round
-/// reads the clock once, which advances the time by a second at most. If nothing came to the port, it
-/// was not complete, unless it was before (RFC 1350, section 2).
+/// later than an interval, and an interval and a second for each retry, its line was printed: in a
+/// round the clock is read once, which advances the time by a second at most. If nothing came to the
+/// port, it was not complete, unless it was before (RFC 1350, section 2).
 pub fn a_server_closes_what_makes_no_progress<T: Store>()
     ensures closes { ClosesWithoutProgress T.meaning T.Source.meaning }
     ensures silent { TimesOutInSilence T.meaning T.Source.meaning }

@@ -1,12 +1,13 @@
 //! **Trusted by reading**: UDP sockets, waits, the clock and the printer, with notes in a [`Journal`].
 //!
 //! Review alone shows that a note is true: the sockets, the clock and the printer of std and `mio`
-//! have no model. Each datagram, wait, receive without a datagram, failed bind of a transfer's port,
-//! reading of the clock and printed line has one note: what was passed to the system or returned by
-//! it, and for a receive or a datagram the port that the socket is bound to. That a port stays empty,
-//! once a receive found nothing there, until a wait reports it, is trusted too. Once they have their
-//! command line, `tftp` and `tftpd` call no socket and print no line of standard output elsewhere, and
-//! read the clock elsewhere only to start their watch. Help and versions are printed before that.
+//! have no model. Each datagram, wait, receive without a datagram, failed bind of a transfer's
+//! port, reading of the clock and printed line has one note: what was passed to the system or
+//! returned by it, and for a receive or a datagram the port that the socket is bound to. That a port
+//! stays empty, once a receive found nothing there, until a wait reports it, is trusted too. Once
+//! they have their command line, `tftp` and `tftpd` call no socket and print no line of standard
+//! output elsewhere, and read the clock elsewhere only to start their watch. Help and versions are
+//! printed before that.
 //!
 //! A failed send counts as a lost datagram; the server's says why. A look that takes no time and
 //! finds no port is no event.
