@@ -1,9 +1,7 @@
 -- What each call of a store leaves of it is left by a run.
-use Rattle.std.proofs.Common.{◌≡◌, ◌⊎◌, ℕ, Bool, true, false, List, [], ◌∷◌, Option, Some, None, refl, sym, ap, subst}
+use Rattle.std.proofs.Common.{◌≡◌, ℕ, Bool, true, false, List, [], ◌∷◌, Option, Some, None, sym, ap, subst}
 use Rattle.std.proofs.Common.{inl, inr}
 use Rattle.std.specs.Prelude.{Result, Ok, Err, ⊤}
-use Rattle.tftp_wire.specs.declared.mode.Mode.{Mode}
-use Rattle.tftp_negotiate.specs.declared.known.Known.{Known}
 use Rattle.tftp_file.specs.Source.{SourceMeaning}
 use Rattle.tftp_file.specs.declared.fault.StoreFault.{StoreFault}
 use Rattle.tftp_file.specs.declared.files.Files.{Files}
@@ -13,18 +11,17 @@ use Rattle.tftp_ends.specs.Files.{AreSame}
 use Rattle.tftp_ends.specs.Step.{Acts, Appended, Done, GoesOn, Turn}
 use Rattle.tftp_ends.specs.declared.action.Action.{Action}
 use Rattle.tftp_ends.specs.declared.action.Action.TheVariants.{Respond, Send, Store}
-use Rattle.tftp_ends.specs.declared.action.Response.{Response}
 use Rattle.tftp_ends.specs.declared.endpoint.Endpoint.{Endpoint}
 use Rattle.tftp_ends.specs.declared.phase.Terms.{Terms}
 use Rattle.tftp_store.specs.Store.{StoreMeaning}
 use Rattle.tftp_store.specs.declared.store.Opening.{Opening}
 use Rattle.tftp_server.specs.Draft.{Drafting, KeepsDraft, KeepsStore, drafting_sink, files_in}
 use Rattle.tftp_server.specs.Port.{Ask, Ignores, Refuses, Reads, Writes, Service, Silent, Refused, Sends, Takes}
-use Rattle.tftp_server.specs.Request.{A_transfer, An_error, Came, Goes, Left, Nothing, Sent, Taken, left_by}
+use Rattle.tftp_server.specs.Request.{Came, Goes, Left, Sent, Taken, left_by}
 use Rattle.tftp_server.specs.State.{HeldTransfer, ServerState}
 use Rattle.tftp_server.specs.Steps.{KeepsHeld, StepIn}
 use Rattle.tftp_server.specs.Work.{FilesWork, WorksAt}
-use Rattle.tftp_loop.specs.Run.{Run, Start, Then}
+use Rattle.tftp_loop.specs.Run.{Start, Then}
 use Rattle.tftp_loop.specs.Serves.{AtPort, Does, LoopState, PortState}
 use Rattle.tftp_loop.specs.Serves.AtPort.{A_datagram, A_lost_datagram, Nothing_found, A_failed_receive, A_timeout}
 use Rattle.tftp_loop.specs.Serves.AtPort.{A_missed_timeout, Work}
