@@ -2,7 +2,7 @@
 use Rattle.std.proofs.Common.{◌≡◌, ℕ, Bool, true, false, List, ◌∷◌, Option, Some, None, Result, Ok}
 use Rattle.std.proofs.Common.{Err, IsErrOf, IsSome, ◌↔◌, inl, inr, refl, sym, ap, subst, ◌∙◌}
 use Rattle.std.proofs.Common.{option_map}
-use Rattle.std.specs.Prelude.{◌==◌, ◌-◌, max, min, if◌then◌else◌}
+use Rattle.std.specs.Prelude.{◌==◌, if◌then◌else◌}
 use Rattle.std.proofs.lemmas.Bool.{true≢false}
 use Rattle.tftp_wire.specs.declared.packet.Packet.{Packet}
 use Rattle.tftp_file.specs.Sink.{SinkMeaning}
@@ -25,17 +25,15 @@ use Rattle.tftp_ends.specs.declared.phase.Phase.{Phase}
 use Rattle.tftp_ends.specs.declared.phase.Phase.TheVariants as phases
 use Rattle.tftp_ends.specs.declared.phase.Terms.{Terms}
 use Rattle.tftp_host.specs.Watch.{deadline_of}
-use Rattle.tftp_host.specs.declared.watch.TheConstants.{LONGEST_WAIT}
 use Rattle.tftp_client.specs.declared.transfer.Job.{Job}
 use Rattle.tftp_client.specs.Converses.{Converses, HandlesReceived, IsLost, IsOpen, MayElapse}
-use Rattle.tftp_client.specs.Converses.{State, deadline_at, wait_at}
+use Rattle.tftp_client.specs.Converses.{State, deadline_at}
 use Rattle.tftp_client.specs.Converses.HandlesReceived.{Answers, Loses}
 use Rattle.tftp_client.specs.Converses.MayElapse.{Stays, Elapses}
 use Rattle.tftp_client.specs.Converses.Converses.{Begins, Receives, Waits, Times, Rests}
 use Rattle.tftp_client.specs.Runs.{begun, opens}
 use Rattle.tftp_sockets.specs.Journal.{Event, answered, replied}
-use Rattle.tftp_sockets.specs.Journal.Event.{Elapsed, Quiet, Sent}
-use Rattle.tftp_sockets.specs.Journal.QuietEvent.{Slept}
+use Rattle.tftp_sockets.specs.Journal.Event.{Elapsed, Sent}
 use Rattle.tftp_sockets.specs.Quiet.{waits}
 
 -- the answer that a call lends was sent to its destination
@@ -104,12 +102,6 @@ timeout_terms e = response_terms e.position.retries_left e.position.phase e.posi
 -- once a timeout was delivered, another wait for one begins
 pub due_elapsed : (s : State) → deadline_at s.now s.end ≡ deadline_at s.now (after_turn s.end (timeout_turn s.end))
 due_elapsed s = ap (λ (t : Option Terms). deadline_of s.now (interval_of t)) (sym (timeout_terms s.end))
-
--- the event after a wait of this length
-pub slept : {wait : ℕ} (s : State) (event : Event) → wait ≡ min (s.due - s.now) LONGEST_WAIT
-    → ◌≡◌ {A = List Event} (event ∷ Quiet (Slept (max wait 1)) ∷ s.events)
-    (event ∷ Quiet (Slept (wait_at s)) ∷ s.events)
-slept s event is = ap (λ (n : ℕ). event ∷ Quiet (Slept (max n 1)) ∷ s.events) is
 
 -- an answer is no wait
 waits_answered : (port : ℕ) (reply : Option Reply) (events : List Event)

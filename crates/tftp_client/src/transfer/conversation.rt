@@ -2,12 +2,15 @@
 //! open, no longer than to its deadline and never longer than a second. A wait that ends behind the
 //! deadline without progress is followed by the timeout (RFC 1350, section 2).
 
-ghost use Rattle.std.specs.Prelude.{◌≡◌, ◌≤◌, ◌+◌, ◌-◌, min, true, false, length, take};
+ghost use Rattle.std.specs.Prelude.{◌≡◌, ◌≤◌, ◌+◌, ◌-◌, ◌∷◌, max, min, true, false, length, take};
 ghost use Rattle.std.specs.Prelude.{Some, None, IfSome, IfNone, IfOk, IfErr, OnOk};
 ghost use Rattle.tftp_ends.specs.End.{is_complete, outcome_of};
 ghost use Rattle.tftp_ends.specs.Files.{AreFilesOf};
+ghost use Rattle.tftp_sockets.specs.Journal.Event.{Quiet};
+ghost use Rattle.tftp_sockets.specs.Journal.QuietEvent.{Slept};
 ghost use Rattle.tftp_sockets.specs.Journal.{replied};
 ghost use Rattle.tftp_sockets.specs.Quiet.{waits};
+ghost use Rattle.tftp_sockets.specs.Receipt.{Fits, receive_event};
 ghost use Rattle.tftp_client.specs.Converses.{Converses, HandlesReceived, MayElapse, WorksOnFile};
 ghost use Rattle.tftp_client.specs.Converses.{EndsBy, IsOpen, deadline_at, due_after};
 
@@ -197,10 +200,13 @@ impl Conversation {
             → self.new.due ≡ deadline_at self.new.watch.now self.new.end }
         ensures waits { waits journal.new.events ≡ 1 + waits journal.old.events }
     {
-        let wait = time_to_wait(self.watch.now, self.due);
-        let received = self
-            .socket
-            .receive(journal, wait, self.buffer.as_mut_slice());
+        let received = receive_until(
+            &mut self.socket,
+            journal,
+            self.watch.now,
+            self.due,
+            self.buffer.as_mut_slice(),
+        );
         read_watch(clock, journal, &mut self.watch);
         match received {
             Receipt::Datagram(from, count) => self.take_datagram(journal, files, from, count),
@@ -350,12 +356,21 @@ fn ended(end: &End) -> Option<Result<(), Outcome>>
     record.outcome.map(Err)
 }
 
-/// How long a client waits for a datagram, in milliseconds: until it is due for a timeout, at most
-/// a second.
-fn time_to_wait(now: u64, due: u64) -> u64
-    ensures { result ≡ min (due - now) LONGEST_WAIT }
+/// Waits for a datagram until `due`, at most a second.
+fn receive_until(
+    socket: &mut ClientSocket,
+    journal: &mut Journal,
+    now: u64,
+    due: u64,
+    buffer: &mut [u8],
+) -> Receipt
+    ensures port { socket.new.port ≡ socket.old.port }
+    ensures noted { journal.new.events ≡ receive_event socket.old.port buffer.new result
+        ∷ Quiet (Slept (max (min (due - now) LONGEST_WAIT) 1)) ∷ journal.old.events }
+    ensures fits { Fits buffer.new result }
 {
-    due.saturating_sub(now).min(LONGEST_WAIT)
+    let wait = due.saturating_sub(now).min(LONGEST_WAIT);
+    socket.receive(journal, wait, buffer)
 }
 
 /// The datagram of so many bytes that was received into the buffer.

@@ -5,9 +5,9 @@ use Rattle.tftp_client.specs.Conversation.{state_of}
 use Rattle.tftp_client.specs.Converses.{Converses, HandlesReceived, MayWait, State}
 use Rattle.tftp_client.specs.Converses.Converses.{Begins, Receives, Waits}
 use Rattle.tftp_sockets.specs.Journal.{Event, QuietEvent}
-use Rattle.tftp_sockets.specs.Journal.Event.{Quiet, Received, Watched}
+use Rattle.tftp_sockets.specs.Journal.Event.{Watched}
 use Rattle.tftp_sockets.specs.Journal.QuietEvent.{Empty, Failed}
-use Rattle.tftp_client.proofs.Conversing.{slept, state_is}
+use Rattle.tftp_client.proofs.Conversing.{state_is}
 use Rattle.tftp_client.proofs.transfer.conversation.Conversation.take_received.Goals as goal
 
 pub returns-in-Datagram-clause-converses : goal.returns-in-Datagram-clause-converses
@@ -26,17 +26,15 @@ returns-in-Datagram-clause-converses g c =
       due = s.due;
       events = c.read_watch.new.journal.events;
     } in
-    let At : State → Type 0 = λ t. handles c.receive-received.new.buffer port t in
-    let Of : ℕ → Type 0 = λ p. handles c.receive-received.new.buffer p t in
-    let Over : List ℕ → Type 0 = λ b. handles b c.receive-received.new.self.port t in
-    let whole = with_items_is c.args.self.now.buffer c.receive-received.new.buffer (search (rules, places)) in
-    let wait = c.time_to_wait-wait.ensures in
-    let noted = c.read_watch.ensures.noted ∙ ap (λ (es : List Event). Watched time ∷ es) (c.in-Datagram.ensures.noted
-    ∙ slept s (Received port from (take c.in-Datagram.count c.receive-received.new.buffer)) wait) in
+    let At : State → Type 0 = λ t. handles c.receive_until-received.new.buffer port t in
+    let Of : ℕ → Type 0 = λ p. handles c.receive_until-received.new.buffer p t in
+    let Over : List ℕ → Type 0 = λ b. handles b c.receive_until-received.new.socket.port t in
+    let whole = with_items_is c.args.self.now.buffer c.receive_until-received.new.buffer (search (rules, places)) in
+    let noted = c.read_watch.ensures.noted ∙ ap (λ (es : List Event). Watched time ∷ es) c.in-Datagram.ensures.noted in
     let may : MayWait s = record { not_closed = c.requires.not_closed; due = c.requires.ready c.requires.not_closed } in
     Receives Begins may c.read_watch.ensures.forward
     (subst At (state_is refl c.read_watch.ensures.time refl noted)
-    (subst Of c.receive-received.ensures.port (subst Over whole c.take_datagram.ensures.handles)))
+    (subst Of c.receive_until-received.ensures.port (subst Over whole c.take_datagram.ensures.handles)))
 
 pub returns-in-Nothing-clause-converses : goal.returns-in-Nothing-clause-converses
 returns-in-Nothing-clause-converses g c =
@@ -45,9 +43,8 @@ returns-in-Nothing-clause-converses g c =
     c.args.files.now t c.args.files.now in
     let may : MayWait s = record { not_closed = c.requires.not_closed; due = c.requires.ready c.requires.not_closed } in
     let event : QuietEvent = Empty c.args.self.now.socket.port in
-    let wait = c.time_to_wait-wait.ensures in
     let noted = c.read_watch.ensures.noted ∙ ap (λ (es : List Event). Watched c.read_watch.result ∷ es)
-    (c.in-Nothing.ensures.noted ∙ slept s (Quiet event) wait) in
+    c.in-Nothing.ensures.noted in
     subst At (sym (state_is refl c.read_watch.ensures.time refl noted))
     (Waits {event = event} Begins may (inl refl) c.read_watch.ensures.forward)
 
@@ -58,8 +55,7 @@ returns-in-Failed-clause-converses g c =
     c.args.files.now t c.args.files.now in
     let may : MayWait s = record { not_closed = c.requires.not_closed; due = c.requires.ready c.requires.not_closed } in
     let event : QuietEvent = Failed c.args.self.now.socket.port in
-    let wait = c.time_to_wait-wait.ensures in
     let noted = c.read_watch.ensures.noted ∙ ap (λ (es : List Event). Watched c.read_watch.result ∷ es)
-    (c.in-Failed.ensures.noted ∙ slept s (Quiet event) wait) in
+    c.in-Failed.ensures.noted in
     subst At (sym (state_is refl c.read_watch.ensures.time refl noted))
     (Waits {event = event} Begins may (inr refl) c.read_watch.ensures.forward)
