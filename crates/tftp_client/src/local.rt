@@ -49,8 +49,8 @@ pub(crate) struct Outbound<F: Read + Drop> {
 
 impl<F: Read + Seek + OpenFile + Drop> Outbound<F> {
     /// Opens a regular file to send. Any other kind is refused before it is opened, since opening a
-    /// FIFO would block. The length is that of the open file; a file that states none and has a byte
-    /// is refused, as many of `/proc` are.
+    /// FIFO would block. The length is that of the open file; a file that states none and has a
+    /// byte is refused, as many of `/proc` are.
     pub(crate) fn open<R: Files<File = F>>(
         files: &R,
         alloc: Global,

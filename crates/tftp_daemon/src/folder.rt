@@ -34,8 +34,8 @@ const ENOTDIR: i32 = 20;
 ///
 /// A name opens only a regular file within the folder. Links are followed if their target is within
 /// the folder. A new file is written as a draft, `.tftp-PORT` in the folder or in the one that
-/// takes all uploads. At the commit it gets its name by a hard link, or by a rename if it replaces a
-/// file.
+/// takes all uploads. At the commit it gets its name by a hard link, or by a rename if it replaces
+/// a file.
 #[derive(Drop)]
 pub struct FolderStore<R: Files + Drop> {
     pub(crate) files: R,
@@ -95,8 +95,8 @@ impl<R: Files + Drop> FolderStore<R> {
     /// Refuses every later write but those below this folder of the root, which is named as a
     /// client names a file. Drafts are made there.
     ///
-    /// It fails with `NotFound` also if no client can name the folder, with `NotADirectory` if it is
-    /// no folder or a link, with the system's error, or when out of memory.
+    /// It fails with `NotFound` also if no client can name the folder, with `NotADirectory` if it
+    /// is no folder or a link, with the system's error, or when out of memory.
     pub fn admit_uploads(&mut self, alloc: Global, folder: &str) -> io::Result<()>
         ensures ok { IfOk result (λ _. (path : List ℕ) × (path_of_name folder.now ≡ Ok path)
             × (self.new.uploads ≡ Some path)
@@ -305,8 +305,8 @@ impl<R: Files + Drop> Store for FolderStore<R> {
     }
 
     /// It follows no link, creates no folder and replaces only regular files that the server's user
-    /// may write. A store that refuses writes, or a path that is not below the folder of all uploads,
-    /// returns `Io` without any file access.
+    /// may write. A store that refuses writes, or a path that is not below the folder of all
+    /// uploads, returns `Io` without any file access.
     fn begin(
         &mut self,
         alloc: Global,

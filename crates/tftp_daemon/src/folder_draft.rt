@@ -12,8 +12,8 @@ use tftp_host::BlockWriter;
 /// few that those that come meanwhile do not wait long.
 const SYNC_AT: u64 = 1 << 20;
 
-/// The number of unsynced bytes at which a draft is synced though others wait: its commit, for which
-/// they wait too, would have more to sync.
+/// The number of unsynced bytes at which a draft is synced though others wait: its commit, for
+/// which they wait too, would have more to sync.
 const MOST_UNSYNCED: u64 = 16 << 20;
 
 /// A file that is being written to a [`FolderStore`](crate::FolderStore).
