@@ -1,5 +1,7 @@
 -- The bytes that pairs of digits decode to, by arithmetic on the codes of the digits.
-use Rattle.std.proofs.Common.{ℕ, suc, ◌≡◌, ◌≢◌, ◌+◌, ◌-◌, ◌*◌, ◌/◌, ◌%◌, ◌<◌, ◌≤◌, Bool, true, false, cond, eqb, leb, ◌&&◌, ◌||◌, refl, ap, sym, ◌∙◌, arith, append_assoc, append-nil, length-set, List, [], ◌∷◌, ◌++◌, length, get_or, take, drop, set, Option, Some, None, eqb-true}
+use Rattle.std.proofs.Common.{ℕ, suc, ◌≡◌, ◌≢◌, ◌+◌, ◌-◌, ◌*◌, ◌/◌, ◌%◌, ◌<◌, ◌≤◌, Bool, true, false, cond, eqb, leb}
+use Rattle.std.proofs.Common.{◌&&◌, ◌||◌, refl, ap, sym, ◌∙◌, arith, append_assoc, append-nil, length-set, List, []}
+use Rattle.std.proofs.Common.{◌∷◌, ◌++◌, length, get_or, take, drop, set, Option, Some, None, eqb-true}
 use Rattle.std.specs.declared.result.Result.{Result}
 use Rattle.std.specs.declared.result.Result.TheVariants.{Ok, Err}
 use Rattle.std.specs.Prelude.{IfSome, IfOk, is_ok, is_some}
@@ -20,7 +22,8 @@ by_test false holds fails = fails refl
 
 -- ---- a digit
 
-in_three : (a b c : Bool) (x y z : ℕ) → ((c || a) || b) ≡ is_some (cond a (Some x) (cond b (Some y) (cond c (Some z) None)))
+in_three : (a b c : Bool) (x y z : ℕ) →
+    ((c || a) || b) ≡ is_some (cond a (Some x) (cond b (Some y) (cond c (Some z) None)))
 in_three true true true x y z = refl
 in_three true true false x y z = refl
 in_three true false true x y z = refl
@@ -48,7 +51,9 @@ both false b h = absurd (cc)
 abbrev IsValueOf : ℕ → Option ℕ → Type 0
 IsValueOf c o = IfSome o (λ v. (v < 16) × (v ≡ value_of c))
 
-value_in : (c least most base : ℕ) (other : Option ℕ) → ((least ≤ c) → (c ≤ most) → (c - base < 16) × (c - base ≡ value_of c)) → IsValueOf c other → IsValueOf c (cond (leb least c && leb c most) (Some (c - base)) other)
+value_in : (c least most base : ℕ) (other : Option ℕ) →
+    ((least ≤ c) → (c ≤ most) → (c - base < 16) × (c - base ≡ value_of c)) → IsValueOf c other →
+    IsValueOf c (cond (leb least c && leb c most) (Some (c - base)) other)
 value_in c least most base other inside outside =
     either (IsValueOf c) (leb least c && leb c most) (Some (c - base)) other
     (λ h. let k = both (leb least c) (leb c most) h in inside (leb-true least c k.0) (leb-true c most k.1))
@@ -62,7 +67,9 @@ digit_is c =
 
 -- ---- whether digits decode
 
-ok_step : (high low i : ℕ) (a b : Option ℕ) (r : Result (List ℕ) FromHexError) → is_ok ((digit_or_error high i a >>= (λ h. digit_or_error low (i + 1) b >>= (λ l. Ok (h * 16 + l)))) >>= (λ byte. r >>= (λ bytes. Ok (byte ∷ bytes)))) ≡ (is_some a && (is_some b && is_ok r))
+ok_step : (high low i : ℕ) (a b : Option ℕ) (r : Result (List ℕ) FromHexError) →
+    is_ok ((digit_or_error high i a >>= (λ h. digit_or_error low (i + 1) b >>= (λ l. Ok (h * 16 + l)))) >>=
+    (λ byte. r >>= (λ bytes. Ok (byte ∷ bytes)))) ≡ (is_some a && (is_some b && is_ok r))
 ok_step high low i None b r = refl
 ok_step high low i (Some v) None r = refl
 ok_step high low i (Some v) (Some w) (Ok xs) = refl
@@ -93,10 +100,13 @@ even_if_ok ds h =
 -- ---- the loop over digits
 
 -- after a digit
-pub all_go_on : (ds : List ℕ) (i : ℕ) (all is_digit : Bool) → i < length ds → (all && list_all is_hex_digit (drop i ds)) ≡ list_all is_hex_digit ds → is_digit ≡ is_hex_digit (get_or ds i 0) → ((all && is_digit) && list_all is_hex_digit (drop (i + 1) ds)) ≡ list_all is_hex_digit ds
+pub all_go_on : (ds : List ℕ) (i : ℕ) (all is_digit : Bool) → i < length ds →
+    (all && list_all is_hex_digit (drop i ds)) ≡ list_all is_hex_digit ds → is_digit ≡ is_hex_digit (get_or ds i 0) →
+    ((all && is_digit) && list_all is_hex_digit (drop (i + 1) ds)) ≡ list_all is_hex_digit ds
 all_go_on ds i all is_digit l h e =
     let next : suc i ≡ i + 1 = omega arith in
-    let left : drop i ds ≡ get_or ds i 0 ∷ drop (i + 1) ds = drop-cons ds i 0 l ∙ ap (λ k. get_or ds i 0 ∷ drop k ds) next in
+    let left : drop i ds ≡ get_or ds i 0 ∷ drop (i + 1) ds =
+    drop-cons ds i 0 l ∙ ap (λ k. get_or ds i 0 ∷ drop k ds) next in
     and_assoc all is_digit _
     ∙ ap (λ b. all && (b && list_all is_hex_digit (drop (i + 1) ds))) e
     ∙ ap (λ xs. all && list_all is_hex_digit xs) (sym left)
@@ -107,13 +117,17 @@ and_true true = refl
 and_true false = refl
 
 -- after the last digit
-pub all_end : (ds : List ℕ) (i : ℕ) (all : Bool) → length ds ≤ i → (all && list_all is_hex_digit (drop i ds)) ≡ list_all is_hex_digit ds → all ≡ list_all is_hex_digit ds
+pub all_end : (ds : List ℕ) (i : ℕ) (all : Bool) → length ds ≤ i →
+    (all && list_all is_hex_digit (drop i ds)) ≡ list_all is_hex_digit ds → all ≡ list_all is_hex_digit ds
 all_end ds i all l h =
     and_true all ∙ ap (λ xs. all && list_all is_hex_digit xs) (sym (drop_of_length-le ds l)) ∙ h
 
 -- ---- the bytes
 
-byte_step : (high low i : ℕ) (a b : Option ℕ) (r : Result (List ℕ) FromHexError) (bs : List ℕ) → IsValueOf high a → IsValueOf low b → IfOk r (λ xs. xs ≡ bs) → IfOk ((digit_or_error high i a >>= (λ h. digit_or_error low (i + 1) b >>= (λ l. Ok (h * 16 + l)))) >>= (λ byte. r >>= (λ bytes. Ok (byte ∷ bytes)))) (λ xs. xs ≡ pair_value high low ∷ bs)
+byte_step : (high low i : ℕ) (a b : Option ℕ) (r : Result (List ℕ) FromHexError) (bs : List ℕ) → IsValueOf high a →
+    IsValueOf low b → IfOk r (λ xs. xs ≡ bs) →
+    IfOk ((digit_or_error high i a >>= (λ h. digit_or_error low (i + 1) b >>= (λ l. Ok (h * 16 + l)))) >>=
+    (λ byte. r >>= (λ bytes. Ok (byte ∷ bytes)))) (λ xs. xs ≡ pair_value high low ∷ bs)
 byte_step high low i None b r bs x y h = tt
 byte_step high low i (Some v) None r bs x y h = tt
 byte_step high low i (Some v) (Some w) (Err e) bs x y h = tt
@@ -126,7 +140,8 @@ unfolding decode_pairs
 pairs_bytes i [] = refl
 pairs_bytes i (d ∷ []) = tt
 pairs_bytes i (high ∷ low ∷ rest) =
-    byte_step high low i (hex_digit_value high) (hex_digit_value low) (decode_pairs (i + 2) rest) (bytes_of rest) (digit_is high) (digit_is low) (pairs_bytes (i + 2) rest)
+    byte_step high low i (hex_digit_value high) (hex_digit_value low) (decode_pairs (i + 2) rest) (bytes_of rest)
+    (digit_is high) (digit_is low) (pairs_bytes (i + 2) rest)
 
 the_bytes : (r : Result (List ℕ) FromHexError) (bs : List ℕ) → is_ok r ≡ true → IfOk r (λ xs. xs ≡ bs) → r ≡ Ok bs
 the_bytes (Ok xs) bs h e = ap Ok e
@@ -146,7 +161,8 @@ bytes_length (high ∷ low ∷ rest) = omega (arith, bytes_length rest)
 
 -- ---- the loop over pairs
 
-pairs_left : (ds : List ℕ) (i : ℕ) → 2 * i + 1 < length ds → drop (2 * i) ds ≡ get_or ds (2 * i) 0 ∷ get_or ds (2 * i + 1) 0 ∷ drop (2 * (i + 1)) ds
+pairs_left : (ds : List ℕ) (i : ℕ) → 2 * i + 1 < length ds →
+    drop (2 * i) ds ≡ get_or ds (2 * i) 0 ∷ get_or ds (2 * i + 1) 0 ∷ drop (2 * (i + 1)) ds
 pairs_left ds i h =
     let next : suc (2 * i) ≡ 2 * i + 1 = omega arith in
     let after : suc (2 * i + 1) ≡ 2 * (i + 1) = omega arith in
@@ -166,7 +182,8 @@ pub pairs_begin : (ds bytes : List ℕ) → length ds ≡ 2 * length bytes → P
 pairs_begin ds bytes e = record { size = e; within = omega arith; made = refl }
 
 -- after a pair
-pub pairs_go_on : (ds bytes : List ℕ) (i byte : ℕ) → i < length bytes → PairsSoFar ds bytes i → byte ≡ pair_value (get_or ds (2 * i) 0) (get_or ds (2 * i + 1) 0) → PairsSoFar ds (set bytes i byte) (i + 1)
+pub pairs_go_on : (ds bytes : List ℕ) (i byte : ℕ) → i < length bytes → PairsSoFar ds bytes i →
+    byte ≡ pair_value (get_or ds (2 * i) 0) (get_or ds (2 * i + 1) 0) → PairsSoFar ds (set bytes i byte) (i + 1)
 pairs_go_on ds bytes i byte in_range g b =
     let left = pairs_left ds i (omega (arith, g.size)) in
     let rest = drop (2 * (i + 1)) ds in
@@ -175,7 +192,9 @@ pairs_go_on ds bytes i byte in_range g b =
     record {
       size = g.size ∙ ap (λ n. 2 * n) (sym (length-set bytes i byte));
       within = omega (arith, length-set bytes i byte);
-      made = ap (λ b. b ++ bytes_of rest) made ∙ append_assoc (take i bytes) (byte ∷ []) (bytes_of rest) ∙ ap (λ b. take i bytes ++ b) pairs ∙ g.made;
+      made =
+          ap (λ b. b ++ bytes_of rest) made ∙ append_assoc (take i bytes) (byte ∷ []) (bytes_of rest)
+          ∙ ap (λ b. take i bytes ++ b) pairs ∙ g.made;
     }
 
 -- after the last pair
@@ -186,6 +205,8 @@ pairs_end ds bytes i e g =
     sym (append-nil bytes) ∙ ap (λ b. b ++ []) (sym all) ∙ ap (λ r. take i bytes ++ bytes_of r) (sym none) ∙ g.made
 
 -- bytes that were written over others of the same length
-pub written : (new old : List ℕ) (n : ℕ) → n ≡ length new → length old ≡ length new → take n (new ++ drop (length new) old) ≡ new
+pub written : (new old : List ℕ) (n : ℕ) → n ≡ length new → length old ≡ length new →
+    take n (new ++ drop (length new) old) ≡ new
 written new old n e l =
-    ap (λ rest. take n (new ++ rest)) (drop_of_length-le old (omega arith)) ∙ ap (take n) (append-nil new) ∙ take_all n new (omega arith)
+    ap (λ rest. take n (new ++ rest)) (drop_of_length-le old (omega arith)) ∙ ap (take n) (append-nil new)
+    ∙ take_all n new (omega arith)

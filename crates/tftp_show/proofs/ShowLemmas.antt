@@ -1,5 +1,6 @@
 -- The lines of an input, one by one, and what is printed for them.
-use Rattle.std.proofs.Common.{ℕ, suc, ◌≡◌, ◌<◌, ◌-◌, Bool, true, false, cond, ◌&&◌, eqb, refl, ap, sym, subst, ◌∙◌, arith, lt-ltb, List, [], ◌∷◌, ◌++◌, length, append_assoc, Option, Some, None}
+use Rattle.std.proofs.Common.{ℕ, suc, ◌≡◌, ◌<◌, ◌-◌, Bool, true, false, cond, ◌&&◌, eqb, refl, ap, sym, subst, ◌∙◌}
+use Rattle.std.proofs.Common.{arith, lt-ltb, List, [], ◌∷◌, ◌++◌, length, append_assoc, Option, Some, None}
 use Rattle.std.specs.Prelude.{⊤, MatchResult, IfOk, IsErrAnd, IfSome}
 use Rattle.std.proofs.Math.Bool.{and_assoc}
 use Rattle.std.specs.declared.result.Result.{Result}
@@ -16,7 +17,8 @@ by_test false holds fails = fails refl
 -- ---- a line
 
 -- another error instead of one
-pub kept_ok : {E D : Type 0} (r : Result Bool E) (s : Result Bool D) (Q : E → D → Type 0) (P : Bool → Type 0) → MatchResult r (λ x. s ≡ Ok x) (λ e. IsErrAnd s (Q e)) → IfOk r P → IfOk s P
+pub kept_ok : {E D : Type 0} (r : Result Bool E) (s : Result Bool D) (Q : E → D → Type 0) (P : Bool → Type 0) →
+    MatchResult r (λ x. s ≡ Ok x) (λ e. IsErrAnd s (Q e)) → IfOk r P → IfOk s P
 kept_ok (Ok x) s Q P h p = subst (λ t. IfOk t P) (sym h) p
 kept_ok (Err e) (Ok x) Q P h p = absurd h
 kept_ok (Err e) (Err d) Q P h p = tt
@@ -38,7 +40,12 @@ one_less n = omega arith
 -- a byte before it keeps the end of a line
 strip_cons : (x y : ℕ) (t : List ℕ) → strip_last 10 (x ∷ y ∷ t) ≡ x ∷ strip_last 10 (y ∷ t)
 strip_cons x y t =
-    rw (lt-ltb 0 (suc (suc (length t))) (omega arith), lt-ltb 0 (suc (length t)) (omega arith), one_less (suc (length t)), one_less (length t)) (cons_cond _ _ _ _)
+    rw (
+      lt-ltb 0 (suc (suc (length t))) (omega arith),
+      lt-ltb 0 (suc (length t)) (omega arith),
+      one_less (suc (length t)),
+      one_less (length t),
+    ) (cons_cond _ _ _ _)
 
 strip_kept : (x : ℕ) (t : List ℕ) → eqb x 10 ≡ false → strip_last 10 (x ∷ t) ≡ x ∷ strip_last 10 t
 strip_kept x [] h = rw h refl
@@ -47,15 +54,19 @@ strip_kept x (y ∷ t) h = strip_cons x y t
 -- a line that is read, without its end
 stripped : (bs : List ℕ) → strip_last 10 (take_through 10 bs) ≡ before_feed bs
 stripped [] = refl
-stripped (b ∷ bs) = by_test (eqb b 10) (λ e. rw e (rw e refl)) (λ e. rw e (strip_kept b (take_through 10 bs) e ∙ ap (λ l. b ∷ l) (stripped bs)))
+stripped (b ∷ bs) =
+    by_test (eqb b 10) (λ e. rw e (rw e refl))
+    (λ e. rw e (strip_kept b (take_through 10 bs) e ∙ ap (λ l. b ∷ l) (stripped bs)))
 
 first_line_before : (bs : List ℕ) → 0 < length bs → lines_of bs ≡ before_feed bs ∷ lines_of (drop_through 10 bs)
 first_line_before [] l = absurd (omega arith)
 first_line_before (b ∷ []) l = by_test (eqb b 10) (λ e. rw e refl) (λ e. rw e refl)
-first_line_before (b ∷ c ∷ bs) l = by_test (eqb b 10) (λ e. rw e refl) (λ e. rw e (ap (onto_first b) (first_line_before (c ∷ bs) (omega arith))))
+first_line_before (b ∷ c ∷ bs) l =
+    by_test (eqb b 10) (λ e. rw e refl) (λ e. rw e (ap (onto_first b) (first_line_before (c ∷ bs) (omega arith))))
 
 -- the first line is what is read up to a line feed, without it
-lines_first : (bs : List ℕ) → 0 < length bs → lines_of bs ≡ strip_last 10 (take_through 10 bs) ∷ lines_of (drop_through 10 bs)
+lines_first : (bs : List ℕ) → 0 < length bs →
+    lines_of bs ≡ strip_last 10 (take_through 10 bs) ∷ lines_of (drop_through 10 bs)
 lines_first bs l = first_line_before bs l ∙ ap (λ f. f ∷ lines_of (drop_through 10 bs)) (sym (stripped bs))
 
 -- ---- the loop
@@ -70,20 +81,27 @@ Owes (Some start) (Some now) left all = now ++ input_shown left ≡ start ++ inp
 abbrev pub GoesOn : Option (List ℕ) → Option (List ℕ) → Option (List ℕ) → Option (List ℕ) → Bool → Type 0
 GoesOn None left start now packets = ⊤
 GoesOn (Some all) None start now packets = ⊥
-GoesOn (Some all) (Some left) start now packets = ((packets && are_packets left) ≡ are_packets all) × Owes start now left all
+GoesOn (Some all) (Some left) start now packets =
+    ((packets && are_packets left) ≡ are_packets all) × Owes start now left all
 
 -- what was read of some bytes is a line only if there are some
 some_left : (left : List ℕ) → 0 < length (take_through 10 left) → 0 < length left
 some_left [] h = h
 some_left (b ∷ left) h = omega arith
 
-packets_first : (left : List ℕ) → 0 < length (take_through 10 left) → are_packets left ≡ (spells_packet (decode_of (strip_last 10 (take_through 10 left))) && are_packets (drop_through 10 left))
+packets_first : (left : List ℕ) → 0 < length (take_through 10 left) →
+    are_packets left ≡ (spells_packet (decode_of (strip_last 10 (take_through 10 left)))
+    && are_packets (drop_through 10 left))
 packets_first left h = rw (lines_first left (some_left left h)) refl
 
-shown_first : (left : List ℕ) → 0 < length (take_through 10 left) → input_shown left ≡ (line_shown (strip_last 10 (take_through 10 left)) ++ 10 ∷ []) ++ input_shown (drop_through 10 left)
+shown_first : (left : List ℕ) → 0 < length (take_through 10 left) →
+    input_shown left ≡ (line_shown (strip_last 10 (take_through 10 left)) ++ 10 ∷ [])
+    ++ input_shown (drop_through 10 left)
 shown_first left h = rw (lines_first left (some_left left h)) refl
 
-owed_after : (start now now' : Option (List ℕ)) (left all text : List ℕ) → 0 < length (take_through 10 left) → text ≡ line_shown (strip_last 10 (take_through 10 left)) ++ 10 ∷ [] → Owes start now left all → Appends now now' text → Owes start now' (drop_through 10 left) all
+owed_after : (start now now' : Option (List ℕ)) (left all text : List ℕ) → 0 < length (take_through 10 left) →
+    text ≡ line_shown (strip_last 10 (take_through 10 left)) ++ 10 ∷ [] → Owes start now left all →
+    Appends now now' text → Owes start now' (drop_through 10 left) all
 owed_after None now now' left all text h e o a = tt
 owed_after (Some start) None now' left all text h e o a = absurd o
 owed_after (Some start) (Some now) None left all text h e o a = absurd a
@@ -94,14 +112,19 @@ owed_after (Some start) (Some now) (Some now') left all text h e o a =
     ∙ o
 
 -- after a line
-pub goes_on : (input left left' start now now' : Option (List ℕ)) (packets is_packet : Bool) (read text : List ℕ) → GoesOn input left start now packets → DropsThrough left left' 10 → IfSome left (λ bytes. read ≡ take_through 10 bytes) → 0 < length read → is_packet ≡ spells_packet (decode_of (strip_last 10 read)) → text ≡ line_shown (strip_last 10 read) ++ 10 ∷ [] → Appends now now' text → GoesOn input left' start now' (packets && is_packet)
+pub goes_on : (input left left' start now now' : Option (List ℕ)) (packets is_packet : Bool) (read text : List ℕ) →
+    GoesOn input left start now packets → DropsThrough left left' 10 →
+    IfSome left (λ bytes. read ≡ take_through 10 bytes) → 0 < length read →
+    is_packet ≡ spells_packet (decode_of (strip_last 10 read)) → text ≡ line_shown (strip_last 10 read) ++ 10 ∷ [] →
+    Appends now now' text → GoesOn input left' start now' (packets && is_packet)
 goes_on None left left' start now now' packets is_packet read text g d r h i e a = tt
 goes_on (Some all) None left' start now now' packets is_packet read text g d r h i e a = absurd g
 goes_on (Some all) (Some left) left' start now now' packets is_packet read text g d r h i e a =
     let h' = subst (λ l. 0 < length l) r h in
     subst (λ l. GoesOn (Some all) l start now' (packets && is_packet)) (sym d) (
       and_assoc packets is_packet _
-          ∙ ap (λ b. packets && (b && are_packets (drop_through 10 left))) (i ∙ ap (λ l. spells_packet (decode_of (strip_last 10 l))) r)
+          ∙ ap (λ b. packets && (b && are_packets (drop_through 10 left)))
+          (i ∙ ap (λ l. spells_packet (decode_of (strip_last 10 l))) r)
           ∙ ap (λ b. packets && b) (sym (packets_first left h'))
           ∙ g.0,
       owed_after start now now' left all text h' (e ∙ ap (λ l. line_shown (strip_last 10 l) ++ 10 ∷ []) r) g.1 a,

@@ -18,11 +18,14 @@ returns-clause-is_packet c =
     kept_ok {E = PacketFault} {D = AllocError} c.show_datagram.result c.map_err-2.result _
     (λ b. b ≡ spells_packet (decode_of c.args.digits.now))
     c.map_err-2.ensures.cases
-    (subst (λ d. IfOk c.show_datagram.result (λ b. b ≡ spells_packet d)) (sym (decodes c)) c.show_datagram.ensures.is_packet)
+    (subst (λ d. IfOk c.show_datagram.result (λ b. b ≡ spells_packet d)) (sym (decodes c))
+    c.show_datagram.ensures.is_packet)
 
 pub returns-clause-appended : goal.returns-clause-appended
 returns-clause-appended c =
     kept_ok {E = PacketFault} {D = AllocError} c.show_datagram.result c.map_err-2.result _
-    (λ b. string_bytes c.show_datagram.new.out ≡ string_bytes c.args.text.now ++ decoded_shown (decode_of c.args.digits.now))
+    (λ b. string_bytes c.show_datagram.new.out ≡ string_bytes c.args.text.now
+    ++ decoded_shown (decode_of c.args.digits.now))
     c.map_err-2.ensures.cases
-    (subst (λ d. OnOk c.show_datagram.result (string_bytes c.show_datagram.new.out ≡ string_bytes c.args.text.now ++ decoded_shown d)) (sym (decodes c)) c.show_datagram.ensures.appended)
+    (subst (λ d. OnOk c.show_datagram.result (string_bytes c.show_datagram.new.out ≡ string_bytes c.args.text.now
+    ++ decoded_shown d)) (sym (decodes c)) c.show_datagram.ensures.appended)

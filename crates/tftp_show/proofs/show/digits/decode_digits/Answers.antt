@@ -7,4 +7,5 @@ use Rattle.tftp_show.proofs.show.digits.decode_digits.Goals as goal
 pub returns : goal.returns
 returns c =
     decodes _ c.requires ∙ ap Ok (sym c.decode_pairs.ensures)
-    ∙ ap Ok (sym (written c.decode_pairs.new.bytes c.resize.new.self.items c.resize.new.self.len (omega (arith, c.decode_pairs.auto.bytes, c.resize.new.self.ok.0)) (omega (arith, c.decode_pairs.auto.bytes))))
+    ∙ ap Ok (sym (written c.decode_pairs.new.bytes c.resize.new.self.items c.resize.new.self.len
+    (omega (arith, c.decode_pairs.auto.bytes, c.resize.new.self.ok.0)) (omega (arith, c.decode_pairs.auto.bytes))))
