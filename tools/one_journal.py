@@ -8,7 +8,7 @@ TOP = Path(__file__).resolve().parent.parent
 MADE = re.compile(r"\bJournal\s*::\s*new\b")
 # another name for it, under which one could be made
 RENAMED = re.compile(r"\bJournal\s+as\b|\btype\b[^;]*\bJournal\b")
-PLACES = {"crates/tftp_client/src/arguments.rt": 1, "crates/tftp_daemon/src/arguments.rt": 1}
+PLACES = {"crates/tftp_client/src/program.rt": 1, "crates/tftp_daemon/src/program.rt": 1}
 # each is a program of its own
 PROGRAMS = ("crates/serve_memory/",)
 

@@ -3,12 +3,12 @@
 //! Begin with [`tftp_words`].
 #![tactic(auto)]
 
-mod arguments;
 mod client_udp;
 mod command_line;
 pub mod laws;
 mod local;
+mod program;
 mod taken;
 mod transfer;
 
-pub use arguments::{tftp_command, tftp_noted, tftp_words};
+pub use program::{tftp_command, tftp_with_journal, tftp_words};

@@ -46,14 +46,14 @@ pub fn tftp_words<R: Runtime + AllocGlobal + Net, S: AsStr, E: IsTerminal>(
 ) -> u8
     ensures { result ≤ 2 }
 {
-    tftp_noted(rt, words, errors, &mut Journal::new())
+    tftp_with_journal(rt, words, errors, &mut Journal::new())
 }
 
 /// As [`tftp_words`], with a journal of what it does over UDP: nothing, as for `--help`, or the job
 /// that the words name: its direction, its endpoint, its names, its mode and its options.
 /// With a status of 0 that job is complete; with another one it failed, or its line could not be
 /// printed.
-pub fn tftp_noted<R: Runtime + AllocGlobal + Net, S: AsStr, E: IsTerminal>(
+pub fn tftp_with_journal<R: Runtime + AllocGlobal + Net, S: AsStr, E: IsTerminal>(
     rt: &R,
     words: &[S],
     errors: &E,

@@ -3,7 +3,6 @@
 //! Begin with [`tftpd_words`] and [`FolderStore`].
 #![tactic(auto)]
 
-mod arguments;
 mod command_line;
 mod daemon;
 mod finding;
@@ -12,10 +11,11 @@ mod folder_draft;
 mod folder_source;
 pub mod laws;
 mod naming;
+mod program;
 mod wire_lengths;
 
-pub use arguments::{tftpd_command, tftpd_noted, tftpd_words};
 pub use folder::FolderStore;
 pub use folder_draft::FolderDraft;
 pub use folder_source::FolderSource;
+pub use program::{tftpd_command, tftpd_with_journal, tftpd_words};
 pub use tftp_loop::ServedStore;

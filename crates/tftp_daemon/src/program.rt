@@ -45,14 +45,14 @@ pub fn tftpd_words<R: Runtime + AllocGlobal + Net + RandomSource, S: AsStr>(
 ) -> u8
     ensures { result ≤ 2 }
 {
-    let (status, _journal) = tftpd_noted(rt, words, Journal::new());
+    let (status, _journal) = tftpd_with_journal(rt, words, Journal::new());
     status
 }
 
 /// As [`tftpd_words`], with a journal of what it does over UDP: nothing, as for `--help`, or a run
 /// of one server with the configuration that the words name. With a status of 0 after anything was
 /// done, that server served to its end.
-pub fn tftpd_noted<R: Runtime + AllocGlobal + Net + RandomSource, S: AsStr>(
+pub fn tftpd_with_journal<R: Runtime + AllocGlobal + Net + RandomSource, S: AsStr>(
     rt: &R,
     words: &[S],
     journal: Journal,

@@ -5,7 +5,7 @@ use Rattle.tftp_client.specs.Converses.Converses.{Begins}
 use Rattle.tftp_client.specs.Runs.{printed}
 use Rattle.tftp_client.proofs.Conversing.{state_is}
 use Rattle.tftp_client.proofs.Running.{goes_on}
-use Rattle.tftp_client.proofs.arguments.conclude.Goals as goal
+use Rattle.tftp_client.proofs.program.conclude.Goals as goal
 
 pub returns-then-not-order-clause-goes : goal.returns-then-not-order-clause-goes
 returns-then-not-order-clause-goes g c =

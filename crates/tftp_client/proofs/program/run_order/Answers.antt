@@ -2,7 +2,7 @@
 use Rattle.std.proofs.Common.{inl, inr, refl}
 use Rattle.tftp_client.specs.Conversation.{state_of}
 use Rattle.tftp_client.proofs.Committing.{is_committed}
-use Rattle.tftp_client.proofs.arguments.run_order.Goals as goal
+use Rattle.tftp_client.proofs.program.run_order.Goals as goal
 
 pub returns-in-Ok-clause-runs : goal.returns-in-Ok-clause-runs
 returns-in-Ok-clause-runs g c =

@@ -1,7 +1,7 @@
 -- An order was run, or there is none and nothing was done.
 use Rattle.std.proofs.Common.{map}
 use Rattle.tftp_client.proofs.Running.{runs_words}
-use Rattle.tftp_client.proofs.arguments.transfer_texts.Goals as goal
+use Rattle.tftp_client.proofs.program.transfer_texts.Goals as goal
 
 pub returns-in-Ok-clause-runs : goal.returns-in-Ok-clause-runs
 returns-in-Ok-clause-runs g c = runs_words _ _ (map g.S.AsStr.text c.args.words.now) c.in-Ok.ordered

@@ -1,7 +1,7 @@
 use Rattle.std.proofs.Common.{sym}
 use Rattle.tftp_daemon.proofs.ConfiguredLemmas.{with_status}
-use Rattle.tftp_daemon.proofs.arguments.serve_config.Goals as goal
+use Rattle.tftp_daemon.proofs.program.serve_config.Goals as goal
 
--- src/arguments.rt:132:1
+-- src/program.rt:132:1
 pub returns-clause-runs : goal.returns-clause-runs
 returns-clause-runs g c = with_status (sym c.report.ensures) c.serve-served.ensures.runs

@@ -1,7 +1,7 @@
 -- A server ran, or there is no configuration and nothing was done.
 use Rattle.std.proofs.Common.{map}
 use Rattle.tftp_daemon.proofs.ConfiguredLemmas.{serves_words}
-use Rattle.tftp_daemon.proofs.arguments.serve_texts.Goals as goal
+use Rattle.tftp_daemon.proofs.program.serve_texts.Goals as goal
 
 pub returns-in-Ok-clause-runs : goal.returns-in-Ok-clause-runs
 returns-in-Ok-clause-runs g c =
