@@ -13,13 +13,12 @@ use Rattle.tftp_server.specs.declared.opened.Opened.{Opened}
 use Rattle.tftp_sockets.specs.Journal.{Event, replied}
 use Rattle.tftp_sockets.specs.Journal.Event.{Received}
 use Rattle.tftp_loop.specs.PortOrder.{IsOneOf}
-use Rattle.tftp_loop.specs.PortPool.{Tries, TriesInVain, TriesPorts}
+use Rattle.tftp_loop.specs.PortPool.{TriesInVain, TriesPorts}
 use Rattle.tftp_loop.specs.Run.{Run}
 use Rattle.tftp_loop.specs.Run.Run.{Start, Then}
 use Rattle.tftp_loop.specs.Serves.{LoopState, AnswersRequest, FindsNoPort, IsSet, LosesRequest, MayOpen, OpensNone, RequestLoss}
 use Rattle.tftp_loop.specs.Serves.{No_memory, No_port, SetsStore, answering_port, with_timer}
 use Rattle.tftp_loop.specs.Serves.Does.{No_port_found, Request_received, Request_answered, Request_lost, Store_set}
-use Rattle.tftp_loop.specs.declared.port_order.PortRange.{PortRange}
 use Rattle.tftp_loop.specs.Served.{IsAdmission, Work_by}
 use Rattle.tftp_loop.specs.Tended.{Concludes}
 use Rattle.tftp_loop.proofs.RunLemmas.{idle, once, onward}

@@ -1,4 +1,4 @@
-use Rattle.std.proofs.Common.{arith, map, refl, ap, subst, sym, rules, ◌≡◌, length, vec_len, vec_capacity}
+use Rattle.std.proofs.Common.{arith, map, refl, ap, subst, rules, ◌≡◌, length, vec_len, vec_capacity}
 use Rattle.std.specs.Prelude.{None, Some}
 use Rattle.std.proofs.lemmas.List.{length-map}
 use Rattle.tftp_loop.specs.declared.sockets.Sockets.{Sockets}
