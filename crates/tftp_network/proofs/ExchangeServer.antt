@@ -453,7 +453,7 @@ stores_block = record {
       mid = record { store = before_write; draft = appended; path = written_name; replace = false };
       answer = Ok done;
       decoded = (refl, refl);
-      appended = (refl, tt, record { path = refl; replace = refl; files = refl }, record { refused = λ e. absurd (true≢false (sym e)); cleared = refl });
+      appended = (refl, tt, record { path = refl; replace = refl; files = refl }, record { refused = λ e. absurd (true≢false (sym e)); cleared = refl }, λ e. absurd (cc));
       memory = λ e. absurd (cc);
       rest = record {
         answer = Ok done;

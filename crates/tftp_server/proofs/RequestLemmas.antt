@@ -34,12 +34,11 @@ use Rattle.tftp_server.specs.declared.opened.Opened.{Opened}
 use Rattle.tftp_server.specs.declared.server.request.PortAction.{PortAction}
 use Rattle.tftp_server.specs.declared.server.request.Decision.{Decision}
 use Rattle.tftp_server.specs.declared.server.request.Decision.TheVariants.{Refuse, Open}
-use Rattle.tftp_store.specs.declared.store.Opening.{Opening}
-use Rattle.tftp_server.specs.Port.{Ask, Ignores, Refuses, asks, by_packet, by_repeat, by_name, by_options, by_kind, by_file, begin_reply}
-use Rattle.tftp_server.specs.Request.{Acts, Admits, CarriesOut, Came, Nothing, An_error, A_transfer, IsRequest, AsksToRead, AsksToWrite, Goes, RequestStep, Sent, Left, ask_of, came_to, decided_bytes, left_by}
+use Rattle.tftp_server.specs.Port.{Ask, Ignores, Refuses, asks, by_packet, by_repeat, by_name, by_options, by_kind, begin_reply}
+use Rattle.tftp_server.specs.Request.{Acts, Admits, CarriesOut, Came, Nothing, An_error, A_transfer, IsRequest, AsksToWrite, Goes, RequestStep, Left, ask_of, came_to, decided_bytes, left_by}
 use Rattle.tftp_server.specs.Shortage.{NamesAPath}
 use Rattle.tftp_server.specs.State.{HeldTransfer, ServerState, IsRepeated, with_new}
-use Rattle.tftp_store.specs.Store.{StoreMeaning, Opens, Begins, FailsIf, RefusedIf}
+use Rattle.tftp_store.specs.Store.{StoreMeaning, Begins}
 
 -- what was appended is truncated
 cut_back : (before sent all cut : List ℕ) (start : ℕ) → start ≡ length before → all ≡ before ++ sent → cut ≡ take start all → cut ≡ before
@@ -155,15 +154,6 @@ module _ {S F D : Type 0} (old : ServerState S F D) (from : Endpoint) (bytes : L
       }
 
 module _ {S F D : Type 0} (meaning : StoreMeaning S D) (sources : SourceMeaning F) (old : ServerState S F D) (from : Endpoint) (bytes : List ℕ) where
-  -- the file was opened, and this was decided
-  pub asks_to_read : {E : Type 0} (path : List ℕ) (mode : Mode) (options : List RawOption) (file : Opening F) (r : Result (Decision F D) E) → Opens sources (meaning.stored old.store) path mode (Ok file) →
-      RefusedIf {A = Opening F} (meaning.must_refuse_open old.store path) (Ok file) → FailsIf sources (meaning.must_fail old.store path) (Ok file) →
-      IfOk r (λ d. Sent meaning sources old from bytes (by_file old.config.limits path mode options (Ok file.length)) (Ok file) (came_to d old.store)) →
-      IfOk r (λ d. AsksToRead meaning sources old from bytes path mode options (came_to d old.store))
-  asks_to_read path mode options file (Ok d) o must reads h =
-      record { file = Ok file; opens = o; refused = tt; must = must; reads = reads; memory = λ e. cc; goes_on = h }
-  asks_to_read path mode options file (Err e) o must reads h = tt
-
   -- a draft was begun
   pub asks_to_write : (path : List ℕ) (mode : Mode) (agreed : List Known) (store : S) (draft : D) (end : EndState) (request : List ℕ) (held : HeldTransfer F D) → Begins meaning.drafted (meaning.stored old.store) (meaning.stored store) path old.config.overwrite (Ok draft) →
       meaning.begun old.store store None →
