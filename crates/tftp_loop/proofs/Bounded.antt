@@ -15,7 +15,7 @@ use Rattle.tftp_ends.specs.declared.endpoint.Endpoint.{Endpoint}
 use Rattle.tftp_store.specs.Store.{StoreMeaning}
 use Rattle.tftp_store.specs.declared.store.Opening.{Opening}
 use Rattle.tftp_server.specs.Port.{Ask, Ignores, Refuses, Reads, Writes, Service, Silent, Refused, Sends, Takes}
-use Rattle.tftp_server.specs.Request.{Came, Goes, Left, Nothing, An_error, A_transfer, Sent, Taken, left_by}
+use Rattle.tftp_server.specs.Request.{Came, Goes, Left, Nothing, Error_reply, A_transfer, Sent, Taken, left_by}
 use Rattle.tftp_server.specs.State.{HeldTransfer, ServerState, at, with_new, without}
 use Rattle.tftp_server.specs.declared.config.Config.{Config}
 use Rattle.tftp_loop.specs.Run.{Run}
@@ -42,7 +42,7 @@ some_at (Some x) h = (x, refl)
 module _ {S F D : Type 0} where
   abbrev opened_end : Came S F D → Option EndState
   opened_end Nothing = None
-  opened_end (An_error reply store) = None
+  opened_end (Error_reply reply store) = None
   opened_end (A_transfer transfer store) = Some transfer.end
 
 abbrev LimitIn : ℕ → Option EndState → Type 0
@@ -80,13 +80,13 @@ module _ {S F D : Type 0} (meaning : StoreMeaning S D) (sources : SourceMeaning 
       → InCame old.config.retries came
   sent_limit old from bytes Silent file came sent = absurd sent
   sent_limit old from bytes (Refused reply) file came sent =
-      in_came old.config.retries came (An_error reply old.store) sent tt
+      in_came old.config.retries came (Error_reply reply old.store) sent tt
   sent_limit old from bytes (Sends path mode length agreed) (Ok file) came (inl serves) =
       in_came old.config.retries came (A_transfer _ old.store) serves.opens
       (serves_limit sources agreed from mode length old.config.retries file.source serves.rest serves.end
       serves.serves)
   sent_limit old from bytes (Sends path mode length agreed) (Ok file) came (inr changed) =
-      in_came old.config.retries came (An_error _ old.store) changed.2 tt
+      in_came old.config.retries came (Error_reply _ old.store) changed.2 tt
   sent_limit old from bytes (Sends path mode length agreed) (Err fault) came sent = absurd sent
   sent_limit old from bytes (Takes path mode agreed) file came sent = absurd sent
 
@@ -96,7 +96,7 @@ module _ {S F D : Type 0} (meaning : StoreMeaning S D) (sources : SourceMeaning 
       → InCame old.config.retries came
   taken_limit old from bytes Silent draft store came taken = absurd taken
   taken_limit old from bytes (Refused reply) draft store came taken =
-      in_came old.config.retries came (An_error reply store) taken tt
+      in_came old.config.retries came (Error_reply reply store) taken tt
   taken_limit old from bytes (Sends path mode length agreed) draft store came taken = absurd taken
   taken_limit old from bytes (Takes path mode agreed) (Ok draft) store came taken =
       in_came old.config.retries came (A_transfer _ store) taken (write_limit agreed from mode old.config.retries)
@@ -106,7 +106,7 @@ module _ {S F D : Type 0} (meaning : StoreMeaning S D) (sources : SourceMeaning 
       → Goes meaning sources old from bytes ask came → InCame old.config.retries came
   goes_limit old from bytes Ignores came goes = in_came old.config.retries came Nothing goes tt
   goes_limit old from bytes (Refuses reply) came goes =
-      in_came old.config.retries came (An_error reply old.store) goes tt
+      in_came old.config.retries came (Error_reply reply old.store) goes tt
   goes_limit old from bytes (Reads path mode options) came goes =
       sent_limit old from bytes _ goes.file came goes.goes_on
   goes_limit old from bytes (Writes path mode agreed) came goes =
@@ -166,7 +166,7 @@ module _ {S F D : Type 0} (meaning : StoreMeaning S D) (sources : SourceMeaning 
       → All (IsBounded old now) timers → All (IsBounded (left_by came old from tid).new now)
       (with_timer now from (left_by came old from tid).opened.tid (left_by came old from tid).new.held timers)
   opened_bounded now from tid old timers Nothing free limit kept bounded = bounded
-  opened_bounded now from tid old timers (An_error reply store) free limit kept bounded =
+  opened_bounded now from tid old timers (Error_reply reply store) free limit kept bounded =
       λ k d h. same_bounded old (record old { store = store }) now (slice_index_or timers k d) refl refl
       (bounded k d h)
   opened_bounded now from tid old timers (A_transfer transfer store) free limit kept bounded =

@@ -15,7 +15,7 @@ use Rattle.tftp_ends.specs.End.{EndState, is_complete, outcome_of, record_of}
 use Rattle.tftp_ends.specs.Step.{after_turn, timeout_turn}
 use Rattle.tftp_store.specs.Store.{StoreMeaning}
 use Rattle.tftp_server.specs.State.{HeldTransfer, at, draft_of, is_closed, taken_of, with_new}
-use Rattle.tftp_server.specs.Request.{Came, Left, Nothing, An_error, A_transfer, left_by}
+use Rattle.tftp_server.specs.Request.{Came, Left, Nothing, Error_reply, A_transfer, left_by}
 use Rattle.tftp_host.specs.Watch.{deadline_of, last_moment}
 use Rattle.tftp_host.specs.declared.watch.TheConstants.{LONGEST_WAIT}
 use Rattle.tftp_host.specs.Printed.{line_text}
@@ -327,7 +327,7 @@ module _ {S F D : Type 0} (meaning : StoreMeaning S D) (sources : SourceMeaning 
       })
   opens_lasts Quiet More since from tid s es Nothing free kept fewer adds lasts =
       same_lasts Quiet More since s _ fewer adds refl refl lasts
-  opens_lasts Quiet More since from tid s es (An_error reply store) free kept fewer adds lasts =
+  opens_lasts Quiet More since from tid s es (Error_reply reply store) free kept fewer adds lasts =
       same_lasts Quiet More since s _ fewer adds refl refl lasts
   opens_lasts Quiet More since from tid s es (A_transfer transfer store) free kept fewer adds lasts =
       let opened = started s.now tid from (interval_at (at tid (with_new tid transfer s.server.held))) in

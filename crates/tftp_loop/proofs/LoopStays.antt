@@ -7,7 +7,7 @@ use Rattle.tftp_file.specs.Source.{SourceMeaning}
 use Rattle.tftp_ends.specs.declared.endpoint.Endpoint.{Endpoint}
 use Rattle.tftp_store.specs.Store.{StoreMeaning}
 use Rattle.tftp_server.specs.State.{HeldTransfer, ServerState, at, with_new, without}
-use Rattle.tftp_server.specs.Request.{Came, Left, Nothing, An_error, A_transfer, left_by}
+use Rattle.tftp_server.specs.Request.{Came, Left, Nothing, Error_reply, A_transfer, left_by}
 use Rattle.tftp_sockets.specs.Journal.{Event, replied}
 use Rattle.tftp_sockets.specs.Quiet.{was_tried}
 use Rattle.tftp_loop.specs.Run.{Run}
@@ -198,7 +198,7 @@ module _ {S F D : Type 0} (meaning : StoreMeaning S D) (sources : SourceMeaning 
   answered_kept : (now : ℕ) (from : Endpoint) (tid : ℕ) (old : ServerState S F D) (timers : List Timer) (came : Came S F D) → at tid old.held ≡ None → AreKept old.held timers
       → AreKept (left_by came old from tid).new.held (with_timer now from (left_by came old from tid).opened.tid (left_by came old from tid).new.held timers)
   answered_kept now from tid old timers Nothing free kept = kept
-  answered_kept now from tid old timers (An_error reply store) free kept = kept
+  answered_kept now from tid old timers (Error_reply reply store) free kept = kept
   answered_kept now from tid old timers (A_transfer transfer store) free kept =
       opened_kept old.held timers (started now tid from (interval_at (at tid (with_new tid transfer old.held)))) transfer free
       (looks_first now (interval_at (at tid (with_new tid transfer old.held)))) kept
@@ -206,7 +206,7 @@ module _ {S F D : Type 0} (meaning : StoreMeaning S D) (sources : SourceMeaning 
   answered_read : (now : ℕ) (from : Endpoint) (tid : ℕ) (old : ServerState S F D) (timers : List Timer) (came : Came S F D) (es fs : List Event) → KeepsTries es fs
       → All (IsRead es) timers → All (IsRead fs) (with_timer now from (left_by came old from tid).opened.tid (left_by came old from tid).new.held timers)
   answered_read now from tid old timers Nothing es fs tries read = λ k d h. other_read es fs (slice_index_or timers k d) tries (read k d h)
-  answered_read now from tid old timers (An_error reply store) es fs tries read = λ k d h. other_read es fs (slice_index_or timers k d) tries (read k d h)
+  answered_read now from tid old timers (Error_reply reply store) es fs tries read = λ k d h. other_read es fs (slice_index_or timers k d) tries (read k d h)
   answered_read now from tid old timers (A_transfer transfer store) es fs tries read =
       let R = IsRead fs in
       all_appended R timers (started now tid from (interval_at (at tid (with_new tid transfer old.held))))

@@ -11,7 +11,7 @@ use Rattle.tftp_ends.specs.Opening.{ServesRead, serving_write}
 use Rattle.tftp_store.specs.declared.store.Opening.{Opening}
 use Rattle.tftp_store.specs.Store.{StoreMeaning}
 use Rattle.tftp_server.specs.State.{HeldTransfer, ServerState, at, draft_of, is_closed, taken_of, with_new}
-use Rattle.tftp_server.specs.Request.{Came, Left, Nothing, An_error, A_transfer, Goes, Sent, Taken, Serves, left_by}
+use Rattle.tftp_server.specs.Request.{Came, Left, Nothing, Error_reply, A_transfer, Goes, Sent, Taken, Serves, left_by}
 use Rattle.tftp_server.specs.Port.{Ask, Ignores, Refuses, Reads, Writes, Service, Silent, Refused, Sends, Takes}
 use Rattle.tftp_loop.specs.Run.{Run}
 use Rattle.tftp_loop.specs.Run.Run.{Start, Then}
@@ -51,7 +51,7 @@ module _ {S F D : Type 0} (meaning : StoreMeaning S D) (sources : SourceMeaning 
   sent_open : (service : Service) (file : Result (Opening F) StoreFault) (transfer : HeldTransfer F D) (store : S)
       → Sent meaning sources old from bytes service file (A_transfer transfer store) → is_closed transfer ≡ false
   sent_open Silent file transfer store h = absurd h
-  sent_open (Refused reply) file transfer store h = absurd (let e : A_transfer transfer store ≡ An_error reply old.store = h in cc)
+  sent_open (Refused reply) file transfer store h = absurd (let e : A_transfer transfer store ≡ Error_reply reply old.store = h in cc)
   sent_open (Sends path mode length agreed) (Err fault) transfer store h = absurd h
   sent_open (Sends path mode length agreed) (Ok file) transfer store (inl s) = serves_open path mode length agreed file.source transfer store s
   sent_open (Sends path mode length agreed) (Ok file) transfer store (inr x) = absurd (let e = x.2 in cc)
@@ -60,7 +60,7 @@ module _ {S F D : Type 0} (meaning : StoreMeaning S D) (sources : SourceMeaning 
   taken_open : (service : Service) (draft : Result D StoreFault) (begun : S) (transfer : HeldTransfer F D) (store : S)
       → Taken meaning sources old from bytes service draft begun (A_transfer transfer store) → is_closed transfer ≡ false
   taken_open Silent draft begun transfer store h = absurd h
-  taken_open (Refused reply) draft begun transfer store h = absurd (let e : A_transfer transfer store ≡ An_error reply begun = h in cc)
+  taken_open (Refused reply) draft begun transfer store h = absurd (let e : A_transfer transfer store ≡ Error_reply reply begun = h in cc)
   taken_open (Sends path mode length agreed) draft begun transfer store h = absurd h
   taken_open (Takes path mode agreed) (Err fault) begun transfer store h = absurd h
   taken_open (Takes path mode agreed) (Ok draft) begun transfer store h =
@@ -68,7 +68,7 @@ module _ {S F D : Type 0} (meaning : StoreMeaning S D) (sources : SourceMeaning 
 
   opens_open : (ask : Ask) (transfer : HeldTransfer F D) (store : S) → Goes meaning sources old from bytes ask (A_transfer transfer store) → is_closed transfer ≡ false
   opens_open Ignores transfer store h = absurd (let e : A_transfer transfer store ≡ Nothing = h in cc)
-  opens_open (Refuses reply) transfer store h = absurd (let e : A_transfer transfer store ≡ An_error reply old.store = h in cc)
+  opens_open (Refuses reply) transfer store h = absurd (let e : A_transfer transfer store ≡ Error_reply reply old.store = h in cc)
   opens_open (Reads path mode options) transfer store h = sent_open _ h.file transfer store h.goes_on
   opens_open (Writes path mode agreed) transfer store h = taken_open _ h.draft h.store transfer store h.goes_on
 
@@ -76,7 +76,7 @@ module _ {S F D : Type 0} (meaning : StoreMeaning S D) (sources : SourceMeaning 
   answered_open : (now tid : ℕ) (timers : List Timer) (ask : Ask) (came : Came S F D) → at tid old.held ≡ None → AreKept old.held timers → All (IsOpen old.held) timers → Goes meaning sources old from bytes ask came
       → All (IsOpen (left_by came old from tid).new.held) (with_timer now from (left_by came old from tid).opened.tid (left_by came old from tid).new.held timers)
   answered_open now tid timers ask Nothing free kept unclosed goes = unclosed
-  answered_open now tid timers ask (An_error reply store) free kept unclosed goes = unclosed
+  answered_open now tid timers ask (Error_reply reply store) free kept unclosed goes = unclosed
   answered_open now tid timers ask (A_transfer transfer store) free kept unclosed goes =
       let held = with_new tid transfer old.held in
       all_appended (IsOpen held) timers (started now tid from (interval_at (at tid held)))

@@ -7,7 +7,7 @@ use Rattle.tftp_store.specs.Store.{StoreMeaning}
 use Rattle.tftp_sockets.specs.Journal.Event.{Received, Quiet}
 use Rattle.tftp_sockets.specs.Journal.QuietEvent.{Empty, Failed}
 use Rattle.tftp_sockets.specs.Quiet.{was_tried}
-use Rattle.tftp_loop.specs.declared.daemon.Daemon.{Daemon}
+use Rattle.tftp_loop.specs.declared.server_loop.ServerLoop.{ServerLoop}
 use Rattle.tftp_loop.specs.Serves.{LoopState, Timer}
 use Rattle.tftp_loop.specs.Serves.Does.{No_request_found, Request_not_received}
 use Rattle.tftp_loop.specs.Served.{WorksRound, Work_by, loop_state, pending_in, state_of, timer_of}
@@ -40,19 +40,19 @@ take_least {X = X} (suc n) (x ∷ xs) = ap (λ (m : ℕ). take m (x ∷ xs)) (mo
 
 module _ {S F D : Type 0} where
   -- whether the datagram is pending does not depend on the buffer
-  pub to_state : (buffer : List ℕ) (d : Daemon S F D) → HasTriedRequests d → AreTried (state_of buffer d)
+  pub to_state : (buffer : List ℕ) (d : ServerLoop S F D) → HasTriedRequests d → AreTried (state_of buffer d)
   to_state buffer d h m = h (ap (λ (b : Bool). d.sockets.is_ready || b) (sym (pending_same d.pending buffer)) ∙ m)
 
-  pub from_state : (buffer : List ℕ) (d : Daemon S F D) → AreTried (state_of buffer d) → HasTriedRequests d
+  pub from_state : (buffer : List ℕ) (d : ServerLoop S F D) → AreTried (state_of buffer d) → HasTriedRequests d
   from_state buffer d h m = h (ap (λ (b : Bool). d.sockets.is_ready || b) (pending_same d.pending buffer) ∙ m)
 
   -- no datagram is pending
-  none_pending : (buffer : List ℕ) (d : Daemon S F D) → d.pending ≡ None → state_of buffer d ≡ loop_state None d
+  none_pending : (buffer : List ℕ) (d : ServerLoop S F D) → d.pending ≡ None → state_of buffer d ≡ loop_state None d
   none_pending buffer d e = ap (λ (p : Option (Endpoint × ℕ)). loop_state (pending_in p buffer) d) e
 
 module _ {S F D : Type 0} (meaning : StoreMeaning S D) (sources : SourceMeaning F) where
   -- the pending datagram was answered or lost
-  pub answered_run : (buffer bytes : List ℕ) (old middle : Daemon S F D) (from : Endpoint) (count : ℕ) → old.pending ≡ Some (from, count) → bytes ≡ take (min count (length buffer)) buffer
+  pub answered_run : (buffer bytes : List ℕ) (old middle : ServerLoop S F D) (from : Endpoint) (count : ℕ) → old.pending ≡ Some (from, count) → bytes ≡ take (min count (length buffer)) buffer
       → AnswersPending meaning sources from bytes old middle → Runs meaning sources (state_of buffer old) (loop_state None middle)
   answered_run buffer bytes old middle from count pending same answers =
       let whole : bytes ≡ take count buffer = same ∙ take_least count buffer in
@@ -61,12 +61,12 @@ module _ {S F D : Type 0} (meaning : StoreMeaning S D) (sources : SourceMeaning 
       subst (λ (s : LoopState S F D). Runs meaning sources s (loop_state None middle)) (sym begins)
       (concludes_run meaning sources (loop_state (Some (from, bytes)) old) (loop_state None middle) answers)
 
-  pub answered_settled : (bytes : List ℕ) (old middle : Daemon S F D) (from : Endpoint) → AnswersPending meaning sources from bytes old middle → IsSettled old → IsSettled middle
+  pub answered_settled : (bytes : List ℕ) (old middle : ServerLoop S F D) (from : Endpoint) → AnswersPending meaning sources from bytes old middle → IsSettled old → IsSettled middle
   answered_settled bytes old middle from answers settled =
       concludes_settled meaning sources (loop_state (Some (from, bytes)) old) (loop_state None middle) answers settled
 
   -- ---- a datagram was received
-  module _ (before buffer : List ℕ) (old noted new : Daemon S F D) (from : Endpoint) (count : ℕ) (none : old.pending ≡ None) (marked : old.sockets.is_ready ≡ true)
+  module _ (before buffer : List ℕ) (old noted new : ServerLoop S F D) (from : Endpoint) (count : ℕ) (none : old.pending ≡ None) (marked : old.sockets.is_ready ≡ true)
       (is : noted ≡ record old { journal = noted.journal }) (events : noted.journal.events ≡ Received old.sockets.requests.port from (take count buffer) ∷ old.journal.events) where
     abbrev received : LoopState S F D
     received = loop_state (Some (from, take count buffer)) noted
@@ -77,20 +77,20 @@ module _ {S F D : Type 0} (meaning : StoreMeaning S D) (sources : SourceMeaning 
         (receives_as meaning sources (loop_state None old) received from (take count buffer) refl
         (same_state received
         (record (loop_state None old) { pending = Some (from, take count buffer); marked = true; events = Received old.sockets.requests.port from (take count buffer) ∷ old.journal.events })
-        (ap (λ (d : Daemon S F D). d.sockets.requests.port) is) (ap (λ (d : Daemon S F D). d.sockets.pool.range) is)
-        (ap (λ (d : Daemon S F D). d.server) is) refl (ap (λ (d : Daemon S F D). (loop_state None d).timers) is)
-        (ap (λ (d : Daemon S F D). d.sockets.watch.now) is) (ap (λ (d : Daemon S F D). d.sockets.is_ready) is ∙ marked) (ap (λ (d : Daemon S F D). d.left) is)
-        (ap (λ (d : Daemon S F D). d.rounds) is) events))
+        (ap (λ (d : ServerLoop S F D). d.sockets.requests.port) is) (ap (λ (d : ServerLoop S F D). d.sockets.pool.range) is)
+        (ap (λ (d : ServerLoop S F D). d.server) is) refl (ap (λ (d : ServerLoop S F D). (loop_state None d).timers) is)
+        (ap (λ (d : ServerLoop S F D). d.sockets.watch.now) is) (ap (λ (d : ServerLoop S F D). d.sockets.is_ready) is ∙ marked) (ap (λ (d : ServerLoop S F D). d.left) is)
+        (ap (λ (d : ServerLoop S F D). d.rounds) is) events))
 
     received_is_tried : AreTried received
     received_is_tried m =
-        subst (λ (p : ℕ). was_tried p noted.journal.events ≡ true) (sym (ap (λ (d : Daemon S F D). d.sockets.requests.port) is))
+        subst (λ (p : ℕ). was_tried p noted.journal.events ≡ true) (sym (ap (λ (d : ServerLoop S F D). d.sockets.requests.port) is))
         (received_tried old.sockets.requests.port from (take count buffer) old.journal.events noted.journal.events noted.journal.events events (λ q h. h))
 
     then_run : HandlesReceived meaning sources from count buffer noted new → Runs meaning sources received (state_of buffer new)
     then_run (Concluded answers pending) =
         subst (λ (s : LoopState S F D). Runs meaning sources received s) (sym (none_pending buffer new pending)) (concludes_run meaning sources received (loop_state None new) answers)
-    then_run (Kept e) = idle (ap (λ (d : Daemon S F D). state_of buffer d) e)
+    then_run (Kept e) = idle (ap (λ (d : ServerLoop S F D). state_of buffer d) e)
 
     pub handled_run : HandlesReceived meaning sources from count buffer noted new → WorksRound meaning sources before old buffer new
     handled_run handles = onward received_run (then_run handles)
@@ -99,42 +99,42 @@ module _ {S F D : Type 0} (meaning : StoreMeaning S D) (sources : SourceMeaning 
     handled_tried handles = from_state buffer new ((work_keeps meaning sources received (state_of buffer new) (then_run handles)).tried received_is_tried)
 
     noted_settled : IsSettled old → IsSettled noted
-    noted_settled settled = subst (λ (d : Daemon S F D). IsSettled d) (sym is) settled
+    noted_settled settled = subst (λ (d : ServerLoop S F D). IsSettled d) (sym is) settled
 
     then_settled : HandlesReceived meaning sources from count buffer noted new → IsSettled noted → IsSettled new
     then_settled (Concluded answers pending) settled = answered_settled (take count buffer) noted new from answers settled
-    then_settled (Kept e) settled = subst (λ (d : Daemon S F D). IsSettled d) (sym e) settled
+    then_settled (Kept e) settled = subst (λ (d : ServerLoop S F D). IsSettled d) (sym e) settled
 
     pub handled_settled : HandlesReceived meaning sources from count buffer noted new → IsSettled old → IsSettled new
     handled_settled handles settled = then_settled handles (noted_settled settled)
 
   -- ---- a receive found nothing, or failed
-  pub finds_none : (before after : List ℕ) (old new : Daemon S F D) → old.pending ≡ None → new ≡ record old { sockets = record old.sockets { is_ready = false }; journal = new.journal }
+  pub finds_none : (before after : List ℕ) (old new : ServerLoop S F D) → old.pending ≡ None → new ≡ record old { sockets = record old.sockets { is_ready = false }; journal = new.journal }
       → new.journal.events ≡ Quiet (Empty old.sockets.requests.port) ∷ old.journal.events → WorksRound meaning sources before old after new
   finds_none before after old new none is events =
       once (Work_by (No_request_found (record {
         none = ap (λ (p : Option (Endpoint × ℕ)). pending_in p before) none;
         is =
             same_state (state_of after new) (record (state_of before old) { marked = false; events = Quiet (Empty old.sockets.requests.port) ∷ old.journal.events })
-            (ap (λ (d : Daemon S F D). d.sockets.requests.port) is)
-            (ap (λ (d : Daemon S F D). d.sockets.pool.range) is) (ap (λ (d : Daemon S F D). d.server) is)
-            (ap (λ (d : Daemon S F D). pending_in d.pending after) is ∙ (ap (λ (p : Option (Endpoint × ℕ)). pending_in p after) none ∙ sym (ap (λ (p : Option (Endpoint × ℕ)). pending_in p before) none)))
-            (ap (λ (d : Daemon S F D). (loop_state None d).timers) is) (ap (λ (d : Daemon S F D). d.sockets.watch.now) is) (ap (λ (d : Daemon S F D). d.sockets.is_ready) is)
-            (ap (λ (d : Daemon S F D). d.left) is) (ap (λ (d : Daemon S F D). d.rounds) is) events;
+            (ap (λ (d : ServerLoop S F D). d.sockets.requests.port) is)
+            (ap (λ (d : ServerLoop S F D). d.sockets.pool.range) is) (ap (λ (d : ServerLoop S F D). d.server) is)
+            (ap (λ (d : ServerLoop S F D). pending_in d.pending after) is ∙ (ap (λ (p : Option (Endpoint × ℕ)). pending_in p after) none ∙ sym (ap (λ (p : Option (Endpoint × ℕ)). pending_in p before) none)))
+            (ap (λ (d : ServerLoop S F D). (loop_state None d).timers) is) (ap (λ (d : ServerLoop S F D). d.sockets.watch.now) is) (ap (λ (d : ServerLoop S F D). d.sockets.is_ready) is)
+            (ap (λ (d : ServerLoop S F D). d.left) is) (ap (λ (d : ServerLoop S F D). d.rounds) is) events;
       })) tt)
 
-  pub fails_to_find : (before after : List ℕ) (old new : Daemon S F D) → old.pending ≡ None → old.sockets.is_ready ≡ true → new ≡ record old { journal = new.journal }
+  pub fails_to_find : (before after : List ℕ) (old new : ServerLoop S F D) → old.pending ≡ None → old.sockets.is_ready ≡ true → new ≡ record old { journal = new.journal }
       → new.journal.events ≡ Quiet (Failed old.sockets.requests.port) ∷ old.journal.events → WorksRound meaning sources before old after new
   fails_to_find before after old new none marked is events =
       once (Work_by (Request_not_received (record {
         none = ap (λ (p : Option (Endpoint × ℕ)). pending_in p before) none;
         is =
             same_state (state_of after new) (record (state_of before old) { marked = true; events = Quiet (Failed old.sockets.requests.port) ∷ old.journal.events })
-            (ap (λ (d : Daemon S F D). d.sockets.requests.port) is)
-            (ap (λ (d : Daemon S F D). d.sockets.pool.range) is) (ap (λ (d : Daemon S F D). d.server) is)
-            (ap (λ (d : Daemon S F D). pending_in d.pending after) is ∙ (ap (λ (p : Option (Endpoint × ℕ)). pending_in p after) none ∙ sym (ap (λ (p : Option (Endpoint × ℕ)). pending_in p before) none)))
-            (ap (λ (d : Daemon S F D). (loop_state None d).timers) is) (ap (λ (d : Daemon S F D). d.sockets.watch.now) is) (ap (λ (d : Daemon S F D). d.sockets.is_ready) is ∙ marked)
-            (ap (λ (d : Daemon S F D). d.left) is) (ap (λ (d : Daemon S F D). d.rounds) is) events;
+            (ap (λ (d : ServerLoop S F D). d.sockets.requests.port) is)
+            (ap (λ (d : ServerLoop S F D). d.sockets.pool.range) is) (ap (λ (d : ServerLoop S F D). d.server) is)
+            (ap (λ (d : ServerLoop S F D). pending_in d.pending after) is ∙ (ap (λ (p : Option (Endpoint × ℕ)). pending_in p after) none ∙ sym (ap (λ (p : Option (Endpoint × ℕ)). pending_in p before) none)))
+            (ap (λ (d : ServerLoop S F D). (loop_state None d).timers) is) (ap (λ (d : ServerLoop S F D). d.sockets.watch.now) is) (ap (λ (d : ServerLoop S F D). d.sockets.is_ready) is ∙ marked)
+            (ap (λ (d : ServerLoop S F D). d.left) is) (ap (λ (d : ServerLoop S F D). d.rounds) is) events;
       })) tt)
 
 -- what holds of a success
@@ -143,7 +143,7 @@ on_ok_weaker (Ok x) P Q f h = f h
 on_ok_weaker (Err e) P Q f h = h
 
 -- a server without transfers
-pub starts_settled : {S F D : Type 0} (d : Daemon S F D) → d.ports.items ≡ [] → IsSettled d
+pub starts_settled : {S F D : Type 0} (d : ServerLoop S F D) → d.ports.items ≡ [] → IsSettled d
 starts_settled d none =
     subst (λ (ts : List Timer). AreSettled d.server.held ts) (sym (ap (map timer_of) none)) (record {
       kept = record {

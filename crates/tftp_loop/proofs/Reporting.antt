@@ -8,7 +8,7 @@ use Rattle.tftp_file.specs.Source.{SourceMeaning}
 use Rattle.tftp_ends.specs.declared.endpoint.Endpoint.{Endpoint}
 use Rattle.tftp_store.specs.Store.{StoreMeaning}
 use Rattle.tftp_server.specs.State.{HeldTransfer, ServerState, at, taken_of, with_new}
-use Rattle.tftp_server.specs.Request.{Came, Left, Nothing, An_error, A_transfer, left_by}
+use Rattle.tftp_server.specs.Request.{Came, Left, Nothing, Error_reply, A_transfer, left_by}
 use Rattle.tftp_sockets.specs.Journal.{Event, replied}
 use Rattle.tftp_sockets.specs.Journal.Event.{Received, Quiet}
 use Rattle.tftp_sockets.specs.Journal.QuietEvent.{Empty, Failed}
@@ -133,7 +133,7 @@ module _ {S F D : Type 0} (meaning : StoreMeaning S D) (sources : SourceMeaning 
         events = es;
       })
   opens_due port now from tid s es Nothing free kept due = same_due port s _ refl refl due
-  opens_due port now from tid s es (An_error reply store) free kept due = same_due port s _ refl refl due
+  opens_due port now from tid s es (Error_reply reply store) free kept due = same_due port s _ refl refl due
   opens_due port now from tid s es (A_transfer transfer store) free kept due =
       let held = with_new tid transfer s.server.held in
       let timer = started now tid from (interval_at (at tid held)) in

@@ -16,9 +16,9 @@ use Rattle.tftp_host.specs.declared.server.port.Port.{Port}
 use Rattle.tftp_loop.specs.declared.transfer_port.TransferSocket.{TransferSocket}
 use Rattle.tftp_loop.specs.Serves.{Timer, PortState, LoopState, Closes, WorksAtPort}
 use Rattle.tftp_loop.specs.Serves.Does.{Transfer_closed}
-use Rattle.tftp_loop.specs.declared.daemon.Daemon.{Daemon}
-use Rattle.tftp_loop.specs.declared.daemon.Turn.{Turn}
-use Rattle.tftp_loop.specs.declared.daemon.Turn.TheVariants as turns
+use Rattle.tftp_loop.specs.declared.server_loop.ServerLoop.{ServerLoop}
+use Rattle.tftp_loop.specs.declared.server_loop.Turn.{Turn}
+use Rattle.tftp_loop.specs.declared.server_loop.Turn.TheVariants as turns
 use Rattle.tftp_loop.specs.Served.{OnlyWorks, Work_by, close_reported, state_of, timer_of}
 use Rattle.tftp_loop.specs.Tended.{AllFrom, AreKept, AreRead, AreSettled, AreTimed, Finishes, Goes, HaveTurned, Stays, IsOpen, IsRead, IsSettled, IsTimed, KeepsTries, TakesTurn, leaves_by, leaves_read, leaves_timed, timers_of}
 use Rattle.tftp_loop.proofs.ListLemmas.{map_is, map_removed, map_set, map_within, set_long}
@@ -29,7 +29,7 @@ use Rattle.tftp_loop.proofs.PortStays.{StaysAt, stays_along, works_held}
 use Rattle.tftp_loop.proofs.RunLemmas.{idle, once, onward}
 use Rattle.tftp_loop.proofs.Tables.{any_default, removed_apart, set_other, set_own}
 
-module _ {S F D : Type 0} (meaning : StoreMeaning S D) (sources : SourceMeaning F) {leaves : PortState S F D → ℕ → Type 0} {index : ℕ} {old middle new : Daemon S F D}
+module _ {S F D : Type 0} (meaning : StoreMeaning S D) (sources : SourceMeaning F) {leaves : PortState S F D → ℕ → Type 0} {index : ℕ} {old middle new : ServerLoop S F D}
     (turns : TakesTurn meaning sources leaves index old middle) (finishes : Finishes meaning sources index middle new) where
   abbrev next : Timer
   next = timer_of turns.next
@@ -59,7 +59,7 @@ module _ {S F D : Type 0} (meaning : StoreMeaning S D) (sources : SourceMeaning 
   stays = stays_along meaning sources old.sockets.watch.now start end turns.serves
 
   now_same : middle.sockets.watch.now ≡ old.sockets.watch.now
-  now_same = ap (λ (d : Daemon S F D). d.sockets.watch.now) turns.rest
+  now_same = ap (λ (d : ServerLoop S F D). d.sockets.watch.now) turns.rest
 
   kept_middle : AreKept old.server.held (timers_of old) → AreKept middle.server.held put
   kept_middle = set_kept meaning sources (state_of [] old) index was end within is_timer stays
@@ -111,8 +111,8 @@ module _ {S F D : Type 0} (meaning : StoreMeaning S D) (sources : SourceMeaning 
       ap (λ (o : Option (HeldTransfer F D)). taken_of o) (removed_apart closes.timer.port t.port middle.server.held other) ∙ others_open settled k d h apart)
       closes same k d (omega arith) h
 
-  settled_by : (d : Daemon S F D) → new ≡ d → IsSettled d → IsSettled new
-  settled_by d e h = subst (λ (n : Daemon S F D). IsSettled n) (sym e) h
+  settled_by : (d : ServerLoop S F D) → new ≡ d → IsSettled d → IsSettled new
+  settled_by d e h = subst (λ (n : ServerLoop S F D). IsSettled n) (sym e) h
 
   pub visit_settled : IsSettled old → IsSettled new
   visit_settled settled = elim finishes [
@@ -139,13 +139,13 @@ module _ {S F D : Type 0} (meaning : StoreMeaning S D) (sources : SourceMeaning 
 
   pub tries_after : KeepsTries middle.journal.events new.journal.events
   tries_after = elim finishes [
-    | Stays e unclosed ↦ subst (λ (n : Daemon S F D). KeepsTries middle.journal.events n.journal.events) (sym e) (λ q h. h)
+    | Stays e unclosed ↦ subst (λ (n : ServerLoop S F D). KeepsTries middle.journal.events n.journal.events) (sym e) (λ q h. h)
     | Goes each ↦ subst (λ (s : LoopState S F D). KeepsTries middle.journal.events s.events) (sym (each []).0.is) (λ q h. h)
   ]
 
   now_after : new.sockets.watch.now ≡ old.sockets.watch.now
   now_after = elim finishes [
-    | Stays e unclosed ↦ ap (λ (n : Daemon S F D). n.sockets.watch.now) e ∙ now_same
+    | Stays e unclosed ↦ ap (λ (n : ServerLoop S F D). n.sockets.watch.now) e ∙ now_same
     | Goes each ↦ ap (λ (s : LoopState S F D). s.now) (each []).0.is ∙ now_same
   ]
 
@@ -155,27 +155,27 @@ module _ {S F D : Type 0} (meaning : StoreMeaning S D) (sources : SourceMeaning 
   after P later own =
       let rest : (k : ℕ) (d : Timer) → index ≤ k → k < length (timers_of old) → (k ≡ index → ⊥) → P (slice_index_or (timers_of old) k d) = λ k d l h apart. later k d (omega (arith, l, apart)) h in
       elim finishes [
-        | Stays e unclosed ↦ subst (λ (n : Daemon S F D). AllFrom P index (timers_of n)) (sym e) (after_stay P index rest (own (own_open unclosed)))
+        | Stays e unclosed ↦ subst (λ (n : ServerLoop S F D). AllFrom P index (timers_of n)) (sym e) (after_stay P index rest (own (own_open unclosed)))
         | Goes each ↦ after_close P index (omega arith) rest (each []).0 (each []).1
       ]
 
   turn_runs : (buffer : List ℕ) → Runs meaning sources (state_of buffer old) (state_of buffer middle)
   turn_runs buffer =
       let At : List (Port TransferSocket) → Type 0 = λ ps. Runs meaning sources (state_of buffer old) (record (state_of buffer old) { server = middle.server; timers = map timer_of ps; events = middle.journal.events }) in
-      subst (λ (d : Daemon S F D). Runs meaning sources (state_of buffer old) (state_of buffer d)) (sym turns.rest)
+      subst (λ (d : ServerLoop S F D). Runs meaning sources (state_of buffer old) (state_of buffer d)) (sym turns.rest)
       (subst At (sym turns.items)
       (at_place meaning sources (state_of buffer old) old.ports.items index turns.port turns.next middle.server middle.journal.events refl turns.within turns.is_port turns.serves))
 
   finish_runs : (buffer : List ℕ) → Runs meaning sources (state_of buffer middle) (state_of buffer new)
   finish_runs buffer = elim finishes [
-    | Stays e unclosed ↦ idle (ap (λ (d : Daemon S F D). state_of buffer d) e)
+    | Stays e unclosed ↦ idle (ap (λ (d : ServerLoop S F D). state_of buffer d) e)
     | Goes each ↦ once (Work_by (Transfer_closed (each buffer).0) tt)
   ]
 
   pub works_after : OnlyWorks meaning sources old new
   works_after buffer = onward (turn_runs buffer) (finish_runs buffer)
 
-module _ {S F D : Type 0} (meaning : StoreMeaning S D) (sources : SourceMeaning F) {index : ℕ} {old middle new : Daemon S F D} where
+module _ {S F D : Type 0} (meaning : StoreMeaning S D) (sources : SourceMeaning F) {index : ℕ} {old middle new : ServerLoop S F D} where
   -- the ports from this one on were read
   pub read_after : TakesTurn meaning sources leaves_read index old middle → Finishes meaning sources index middle new → AreRead (index + 1) old → AreRead index new
   read_after turns finishes read =
@@ -215,7 +215,7 @@ module _ {S F D : Type 0} (meaning : StoreMeaning S D) (sources : SourceMeaning 
       ∙ ap (λ (b : Bool). if b then Some (record_of next.end, draft_of next.files) else None) (same ∙ still)
 
   -- and all others
-  pub works_settled : (old new : Daemon S F D) (index : ℕ) (port : Port TransferSocket) → index < length old.ports.items → port ≡ slice_index_or old.ports.items index port
+  pub works_settled : (old new : ServerLoop S F D) (index : ℕ) (port : Port TransferSocket) → index < length old.ports.items → port ≡ slice_index_or old.ports.items index port
       → WorksAtPort meaning sources port.socket.udp.port old.server new.server → new ≡ record old { server = new.server } → IsSettled old → IsSettled new
   works_settled old new index port inside is_port works rest settled =
       let was = timer_of port in
@@ -223,7 +223,7 @@ module _ {S F D : Type 0} (meaning : StoreMeaning S D) (sources : SourceMeaning 
       let is_timer : was ≡ slice_index_or (timers_of old) index was = map_is timer_of old.ports.items index port is_port in
       let held = works_held meaning sources was.port (at was.port old.server.held) old.server new.server works.works in
       let AtTimers : List Timer → Type 0 = λ ts. AreSettled new.server.held ts in
-      subst AtTimers (sym (ap (λ (d : Daemon S F D). timers_of d) rest)) (record {
+      subst AtTimers (sym (ap (λ (d : ServerLoop S F D). timers_of d) rest)) (record {
         kept = record {
           apart = settled.kept.apart;
           each = λ k d h.
@@ -240,7 +240,7 @@ module _ {S F D : Type 0} (meaning : StoreMeaning S D) (sources : SourceMeaning 
             ];
       })
 
-module _ {S F D : Type 0} (meaning : StoreMeaning S D) (sources : SourceMeaning F) (old new : Daemon S F D) (index : ℕ) (port : Port TransferSocket) (tid : ℕ) (closed : Option Record)
+module _ {S F D : Type 0} (meaning : StoreMeaning S D) (sources : SourceMeaning F) (old new : ServerLoop S F D) (index : ℕ) (port : Port TransferSocket) (tid : ℕ) (closed : Option Record)
     (inside : index < length old.ports.items) (is_port : port ≡ slice_index_or old.ports.items index port) (same : tid ≡ port.socket.udp.port)
     (found : closed ≡ option_map (λ (t : Record × Option D). t.0) (taken_of (at tid old.server.held)))
     (held : new.server.held ≡ (if is_some closed then without tid old.server.held else old.server.held)) (rest : new.server ≡ record old.server { held = new.server.held }) where
@@ -269,7 +269,7 @@ module _ {S F D : Type 0} (meaning : StoreMeaning S D) (sources : SourceMeaning 
       let s = state_of buffer old in
       let At : LoopState S F D → Type 0 = λ t. (closes : Closes meaning sources s t) × (closes.index ≡ index) in
       let AtTimers : List Timer → Type 0 = λ ts. At (record s { server = new.server; timers = ts; left = s.left - 1; events = new.journal.events }) in
-      subst At (sym (ap (λ (d : Daemon S F D). state_of buffer d) is))
+      subst At (sym (ap (λ (d : ServerLoop S F D). state_of buffer d) is))
       (subst AtTimers (sym timers)
       (closes meaning sources s index (timer_of port) tid closed new.server new.journal.events left (map_within timer_of old.ports.items index inside)
       (map_is timer_of old.ports.items index port is_port) same found some held rest events)))

@@ -14,7 +14,7 @@ use Rattle.tftp_sockets.specs.Journal.Event.{Watched, Quiet}
 use Rattle.tftp_sockets.specs.Journal.QuietEvent.{Slept, Woke}
 use Rattle.tftp_sockets.specs.Quiet.{is_among}
 use Rattle.tftp_loop.specs.declared.transfer_port.TransferSocket.{TransferSocket}
-use Rattle.tftp_loop.specs.declared.daemon.Daemon.{Daemon}
+use Rattle.tftp_loop.specs.declared.server_loop.ServerLoop.{ServerLoop}
 use Rattle.tftp_loop.specs.Run.{Run}
 use Rattle.tftp_loop.specs.Run.Run.{Start, Then}
 use Rattle.tftp_loop.specs.Serves.{Timer, LoopState, Does, MayWait, IsServed, marked_by, most_millis, until_look}
@@ -46,14 +46,14 @@ shortest_by m n e (inl h) = inl (e ∙ h)
 shortest_by m n e (inr h) = inr h
 
 module _ {S F D : Type 0} where
-  pub millis_same : (buffer : List ℕ) (d : Daemon S F D) → most_millis (state_of buffer d) ≡ millis_of d
+  pub millis_same : (buffer : List ℕ) (d : ServerLoop S F D) → most_millis (state_of buffer d) ≡ millis_of d
   millis_same buffer d =
       ap (λ (p : Bool). cond (d.sockets.is_ready || (p || list_any (λ (timer : Timer). timer.marked) (timers_of d))) 0 (until_look d.sockets.watch.now (timers_of d))) (pending_same d.pending buffer)
       ∙ (ap (λ (a : Bool). cond (d.sockets.is_ready || (is_some d.pending || a)) 0 (until_look d.sockets.watch.now (timers_of d))) (any_mapped d.ports.items)
       ∙ ap (λ (n : ℕ). cond (d.sockets.is_ready || (is_some d.pending || list_any (λ (port : Port TransferSocket). port.is_ready) d.ports.items)) 0 n) (looks_mapped d.sockets.watch.now d.ports.items))
 
   -- all is done that is to be done
-  served : (buffer : List ℕ) (d : Daemon S F D) → IsTended d → All (IsServed (state_of buffer d)) (timers_of d)
+  served : (buffer : List ℕ) (d : ServerLoop S F D) → IsTended d → All (IsServed (state_of buffer d)) (timers_of d)
   served buffer d tended k t h =
       let timed = tended.timed k t (omega arith) h in
       record {
@@ -63,7 +63,7 @@ module _ {S F D : Type 0} where
         not_closed = tended.settled.none_closed k t h;
       }
 
-  pub may_wait : (buffer : List ℕ) (d : Daemon S F D) (millis : ℕ) (ports : List ℕ) → IsTended d → 1 ≤ d.left → 1 ≤ d.rounds → millis ≤ millis_of d → (millis ≡ 0 → (millis_of d ≡ 0) ⊎ (ports ≢ []))
+  pub may_wait : (buffer : List ℕ) (d : ServerLoop S F D) (millis : ℕ) (ports : List ℕ) → IsTended d → 1 ≤ d.left → 1 ≤ d.rounds → millis ≤ millis_of d → (millis ≡ 0 → (millis_of d ≡ 0) ⊎ (ports ≢ []))
       → MayWait (state_of buffer d) millis ports
   may_wait buffer d millis ports tended left rounds longest shortest =
       let same = millis_same buffer d in
@@ -124,7 +124,7 @@ module _ {F D : Type 0} (held : List (ℕ × HeldTransfer F D)) (ports : List �
 
 module _ {S F D : Type 0} (meaning : StoreMeaning S D) (sources : SourceMeaning F) where
   -- a wait that was allowed, its marks, and the clock after it
-  pub waits_as : (buffer : List ℕ) (old noted new : Daemon S F D) (millis : ℕ) (ports : List ℕ) → MayWait (state_of buffer old) millis ports
+  pub waits_as : (buffer : List ℕ) (old noted new : ServerLoop S F D) (millis : ℕ) (ports : List ℕ) → MayWait (state_of buffer old) millis ports
       → HasSlept millis ports old noted → HasWoken ports noted new → Run (Does meaning sources) (state_of buffer old) (state_of buffer new)
   waits_as buffer old noted new millis ports may slept woken =
       let requests = slept.requests in
@@ -156,12 +156,12 @@ module _ {S F D : Type 0} (meaning : StoreMeaning S D) (sources : SourceMeaning 
       }))
 
   -- a wait leaves what is settled
-  pub slept_settled : (old noted : Daemon S F D) (millis : ℕ) (ports : List ℕ) → HasSlept millis ports old noted → IsSettled old → IsSettled noted
+  pub slept_settled : (old noted : ServerLoop S F D) (millis : ℕ) (ports : List ℕ) → HasSlept millis ports old noted → IsSettled old → IsSettled noted
   slept_settled old noted millis ports slept settled =
       subst (λ (ts : List Timer). AreSettled noted.server.held ts) (sym slept.timers)
       (subst (λ (s : ServerState S F D). AreSettled s.held (timers_of old)) (sym slept.server) settled)
 
-  pub woken_settled : (noted new : Daemon S F D) (ports : List ℕ) → HasWoken ports noted new → IsSettled noted → IsSettled new
+  pub woken_settled : (noted new : ServerLoop S F D) (ports : List ℕ) → HasWoken ports noted new → IsSettled noted → IsSettled new
   woken_settled noted new ports woken settled =
       subst (λ (ts : List Timer). AreSettled new.server.held ts) (sym woken.timers)
       (subst (λ (s : ServerState S F D). AreSettled s.held (map (marked_by ports) (timers_of noted))) (sym woken.server) (marked_held noted.server.held ports (timers_of noted) settled))

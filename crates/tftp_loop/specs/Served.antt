@@ -17,7 +17,7 @@ use Rattle.tftp_host.specs.declared.server.printed.Printed.TheVariants.{Closed}
 use Rattle.tftp_loop.specs.declared.transfer_port.TransferSocket.{TransferSocket}
 use Rattle.tftp_loop.specs.PortOrder.{IsOneOf}
 use Rattle.tftp_loop.specs.Run.{Run}
-use Rattle.tftp_loop.specs.declared.daemon.Daemon.{Daemon}
+use Rattle.tftp_loop.specs.declared.server_loop.ServerLoop.{ServerLoop}
 use Rattle.tftp_loop.specs.declared.serving.LoopFault.{LoopFault}
 use Rattle.tftp_loop.specs.declared.serving.LoopFault.TheVariants as faults
 use Rattle.tftp_loop.specs.Serves.{Timer, PortState, AtPort, LoopState, Does}
@@ -92,7 +92,7 @@ pending_in (Some pending) buffer = Some (pending.0, take pending.1 buffer)
 
 module _ {S F D : Type 0} where
   -- the state of a daemon with this datagram pending, if there is one
-  abbrev pub loop_state : Option (Endpoint × List ℕ) → Daemon S F D → LoopState S F D
+  abbrev pub loop_state : Option (Endpoint × List ℕ) → ServerLoop S F D → LoopState S F D
   loop_state pending d =
       record {
         requests = d.sockets.requests.port;
@@ -108,7 +108,7 @@ module _ {S F D : Type 0} where
       }
 
   -- the state of a daemon whose pending datagram is in this buffer
-  abbrev pub state_of : List ℕ → Daemon S F D → LoopState S F D
+  abbrev pub state_of : List ℕ → ServerLoop S F D → LoopState S F D
   state_of buffer d = loop_state (pending_in d.pending buffer) d
 
   module _ (meaning : StoreMeaning S D) (sources : SourceMeaning F) where
@@ -122,27 +122,27 @@ module _ {S F D : Type 0} where
       Work_by : (does : Does meaning sources old new) → IsWork does → Works old new
 
     -- from one state of a daemon to another, whatever its buffer has
-    abbrev pub OnlyServes : Daemon S F D → Daemon S F D → Type 0
+    abbrev pub OnlyServes : ServerLoop S F D → ServerLoop S F D → Type 0
     OnlyServes old new =
         (buffer : List ℕ) → Run (Does meaning sources) (state_of buffer old) (state_of buffer new)
 
     -- the same, without a wait
-    abbrev pub OnlyWorks : Daemon S F D → Daemon S F D → Type 0
+    abbrev pub OnlyWorks : ServerLoop S F D → ServerLoop S F D → Type 0
     OnlyWorks old new = (buffer : List ℕ) → Run Works (state_of buffer old) (state_of buffer new)
 
     -- from one state of a daemon and its buffer to another
-    abbrev pub ServesRounds : List ℕ → Daemon S F D → List ℕ → Daemon S F D → Type 0
+    abbrev pub ServesRounds : List ℕ → ServerLoop S F D → List ℕ → ServerLoop S F D → Type 0
     ServesRounds before old after new =
         Run (Does meaning sources) (state_of before old) (state_of after new)
 
     -- the same, without a wait
-    abbrev pub WorksRound : List ℕ → Daemon S F D → List ℕ → Daemon S F D → Type 0
+    abbrev pub WorksRound : List ℕ → ServerLoop S F D → List ℕ → ServerLoop S F D → Type 0
     WorksRound before old after new = Run Works (state_of before old) (state_of after new)
 
   -- the answer to a datagram of the request port was sent, and a transfer that opened has its port,
   -- one of the range, if there is one
   pub record HasAnswered (from : Endpoint) (opened : Opened) (sent : List ℕ)
-      (old new : Daemon S F D) : Type 0 where
+      (old new : ServerLoop S F D) : Type 0 where
     pub requests : new.sockets.requests.port ≡ old.sockets.requests.port
     pub range : new.sockets.pool.range ≡ old.sockets.pool.range
     pub port : IfSome opened.tid (IsOneOf old.sockets.pool.range)

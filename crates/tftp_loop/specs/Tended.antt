@@ -15,9 +15,9 @@ use Rattle.tftp_sockets.specs.Journal.{Event}
 use Rattle.tftp_sockets.specs.Journal.Event.{Quiet, Watched}
 use Rattle.tftp_sockets.specs.Journal.QuietEvent.{Slept, Woke}
 use Rattle.tftp_sockets.specs.Quiet.{is_among, was_tried}
-use Rattle.tftp_loop.specs.declared.daemon.Daemon.{Daemon}
-use Rattle.tftp_loop.specs.declared.daemon.Turn.{Turn}
-use Rattle.tftp_loop.specs.declared.daemon.Turn.TheVariants as turns
+use Rattle.tftp_loop.specs.declared.server_loop.ServerLoop.{ServerLoop}
+use Rattle.tftp_loop.specs.declared.server_loop.Turn.{Turn}
+use Rattle.tftp_loop.specs.declared.server_loop.Turn.TheVariants as turns
 use Rattle.tftp_loop.specs.declared.transfer_port.PortStatus.{PortStatus}
 use Rattle.tftp_loop.specs.declared.transfer_port.PortStatus.TheVariants as statuses
 use Rattle.tftp_loop.specs.declared.transfer_port.TransferSocket.{TransferSocket}
@@ -88,48 +88,48 @@ module _ {S F D : Type 0} where
   abbrev pub AreTried : LoopState S F D → Type 0
   AreTried s = (s.marked || is_some s.pending) ≡ true → was_tried s.requests s.events ≡ true
 
-  -- ---- a daemon
+  -- ---- a loop
 
   -- the timers of a daemon
-  abbrev pub timers_of : Daemon S F D → List Timer
+  abbrev pub timers_of : ServerLoop S F D → List Timer
   timers_of d = map timer_of d.ports.items
 
   -- between two calls: no transfer has closed, and each has a timer
-  abbrev pub IsSettled : Daemon S F D → Type 0
+  abbrev pub IsSettled : ServerLoop S F D → Type 0
   IsSettled d = AreSettled d.server.held (timers_of d)
 
   -- the ports from this index on were read
-  abbrev pub AreRead : ℕ → Daemon S F D → Type 0
+  abbrev pub AreRead : ℕ → ServerLoop S F D → Type 0
   AreRead from d = AllFrom (IsRead d.journal.events) from (timers_of d)
 
   -- the ports from this index on are not due
-  abbrev pub AreTimed : ℕ → Daemon S F D → Type 0
+  abbrev pub AreTimed : ℕ → ServerLoop S F D → Type 0
   AreTimed from d = AllFrom (IsTimed d.sockets.watch.now) from (timers_of d)
 
   -- the port of a timer has had its turn
-  abbrev pub HasTurned : Turn → Daemon S F D → Timer → Type 0
+  abbrev pub HasTurned : Turn → ServerLoop S F D → Timer → Type 0
   HasTurned turns.Ready d = IsRead d.journal.events
   HasTurned turns.Due d = IsTimed d.sockets.watch.now
 
   -- the ports from this index on have had their turn
-  abbrev pub HaveTurned : Turn → ℕ → Daemon S F D → Type 0
+  abbrev pub HaveTurned : Turn → ℕ → ServerLoop S F D → Type 0
   HaveTurned turn from d = AllFrom (HasTurned turn d) from (timers_of d)
 
   -- the request port was read
-  abbrev pub HasTriedRequests : Daemon S F D → Type 0
+  abbrev pub HasTriedRequests : ServerLoop S F D → Type 0
   HasTriedRequests d =
       (d.sockets.is_ready || is_some d.pending) ≡ true
       → was_tried d.sockets.requests.port d.journal.events ≡ true
 
   -- all is done that is to be done before a wait
-  pub record IsTended (d : Daemon S F D) : Type 0 where
+  pub record IsTended (d : ServerLoop S F D) : Type 0 where
     pub settled : IsSettled d
     pub read : AreRead 0 d
     pub timed : AreTimed 0 d
     pub requests : HasTriedRequests d
 
   -- the longest wait of a daemon, in milliseconds
-  abbrev pub millis_of : Daemon S F D → ℕ
+  abbrev pub millis_of : ServerLoop S F D → ℕ
   millis_of d =
       if (d.sockets.is_ready || (is_some d.pending
       || list_any (λ (port : Port TransferSocket). port.is_ready) d.ports.items))
@@ -143,7 +143,7 @@ marked_if reported port =
 
 module _ {S F D : Type 0} where
   -- a wait of so long was noted, which reported these ports
-  pub record HasSlept (millis : ℕ) (ports : List ℕ) (old new : Daemon S F D) : Type 0 where
+  pub record HasSlept (millis : ℕ) (ports : List ℕ) (old new : ServerLoop S F D) : Type 0 where
     pub requests : new.sockets.requests.port ≡ old.sockets.requests.port
     pub range : new.sockets.pool.range ≡ old.sockets.pool.range
     pub server : new.server ≡ old.server
@@ -157,7 +157,7 @@ module _ {S F D : Type 0} where
         ≡ Quiet (Woke ports) ∷ Quiet (Slept millis) ∷ old.journal.events
 
   -- the ports that a wait reported are marked, the wait is counted, and the clock is read
-  pub record HasWoken (ports : List ℕ) (old new : Daemon S F D) : Type 0 where
+  pub record HasWoken (ports : List ℕ) (old new : ServerLoop S F D) : Type 0 where
     pub requests : new.sockets.requests.port ≡ old.sockets.requests.port
     pub range : new.sockets.pool.range ≡ old.sockets.pool.range
     pub server : new.server ≡ old.server
@@ -183,7 +183,7 @@ module _ {S F D : Type 0} where
   leaves_by turns.Due = leaves_timed
 
   -- the port at this index is removed, and the outcome of its transfer is printed
-  pub record ClosesPort (index : ℕ) (closed : Option Record) (old new : Daemon S F D)
+  pub record ClosesPort (index : ℕ) (closed : Option Record) (old new : ServerLoop S F D)
       : Type 0 where
     pub port : Port TransferSocket
     pub is_port : port ≡ slice_index_or old.ports.items index port
@@ -196,7 +196,7 @@ module _ {S F D : Type 0} where
   module _ (meaning : StoreMeaning S D) (sources : SourceMeaning F) where
     -- a turn at the port at this index
     pub record TakesTurn (leaves : PortState S F D → ℕ → Type 0) (index : ℕ)
-        (old new : Daemon S F D) : Type 0 where
+        (old new : ServerLoop S F D) : Type 0 where
       pub port : Port TransferSocket
       pub next : Port TransferSocket
       pub within : index < length old.ports.items
@@ -210,7 +210,7 @@ module _ {S F D : Type 0} where
       pub rest : new ≡ record old { server = new.server; ports = new.ports; journal = new.journal }
 
     -- the transfer at this index is removed if it has closed
-    pub data Finishes (index : ℕ) (old new : Daemon S F D) : Type 0 where
+    pub data Finishes (index : ℕ) (old new : ServerLoop S F D) : Type 0 where
       Stays : new ≡ old
           → ((d : Timer) → IsOpen old.server.held (slice_index_or (timers_of old) index d))
           → Finishes index old new
@@ -219,8 +219,8 @@ module _ {S F D : Type 0} where
           × (closes.index ≡ index)) → Finishes index old new
 
     -- a turn at the port at this index, and then its transfer is removed if it has closed
-    pub record Visits (turn : Turn) (index : ℕ) (old new : Daemon S F D) : Type 0 where
-      pub middle : Daemon S F D
+    pub record Visits (turn : Turn) (index : ℕ) (old new : ServerLoop S F D) : Type 0 where
+      pub middle : ServerLoop S F D
       pub takes : TakesTurn (leaves_by turn) index old middle
       pub finishes : Finishes index middle new
 
@@ -235,13 +235,13 @@ module _ {S F D : Type 0} where
           ⊎ LosesRequest meaning sources middle new
 
     -- the same, from one state of a daemon with this datagram pending to one without
-    abbrev pub AnswersPending : Endpoint → List ℕ → Daemon S F D → Daemon S F D → Type 0
+    abbrev pub AnswersPending : Endpoint → List ℕ → ServerLoop S F D → ServerLoop S F D → Type 0
     AnswersPending from bytes old new =
         Concludes (loop_state (Some (from, bytes)) old) (loop_state None new)
 
     -- a received datagram is answered or lost, or kept
     pub data HandlesReceived (from : Endpoint) (count : ℕ) (buffer : List ℕ)
-        (old new : Daemon S F D) : Type 0 where
+        (old new : ServerLoop S F D) : Type 0 where
       Concluded : AnswersPending from (take count buffer) old new → new.pending ≡ None
           → HandlesReceived from count buffer old new
       Kept : new ≡ record old { pending = Some (from, count) }

@@ -9,7 +9,7 @@
 //! [`Journal`]: tftp_sockets::Journal
 #![tactic(auto)]
 
-mod daemon;
+mod server_loop;
 pub mod laws;
 mod log_entry;
 mod port_order;

@@ -13,7 +13,7 @@ ghost use Rattle.tftp_loop.specs.Served.{HasAnswered, IsAdmission, WorksRound, t
 ghost use Rattle.tftp_loop.specs.Tended.{AnswersPending, HandlesReceived, HasTriedRequests};
 ghost use Rattle.tftp_loop.specs.Tended.{IsSettled};
 
-use crate::daemon::Daemon;
+use crate::server_loop::ServerLoop;
 use crate::log_entry::LogEntry;
 use crate::report::{log_lost, log_unopened, log_unsent_answer};
 use crate::server_udp::ServerUdp;
@@ -31,7 +31,7 @@ const NO_PORT: u16 = 0;
 /// they are sent.
 const MOST_AHEAD: usize = 1 << 20;
 
-impl<S: ServedStore + Drop> Daemon<S> {
+impl<S: ServedStore + Drop> ServerLoop<S> {
     /// Handles the pending datagram of the request port, and then the next one, if there is one. It
     /// is the only one of its round, since an opening asks the store while transfers wait.
     pub(crate) fn take_request<N: ServerUdp + Eprint>(&mut self, rt: &N, request: &mut [u8])
@@ -312,7 +312,7 @@ impl<S: ServedStore + Drop> Daemon<S> {
                 interval,
                 times_out_at,
                 moved_at: self.sockets.watch.now,
-                works_up_to: works_up_to(&self.server, tid),
+                file_work_limit: file_work_limit(&self.server, tid),
                 log_entry,
             },
         }
@@ -367,7 +367,7 @@ fn interval_of<S: Store>(server: &Server<S>, tid: u16) -> u8
 
 /// The number of active transfers up to which this one's file reads ahead: as many as have a block
 /// each in `MOST_AHEAD` bytes. A file that is written has no bound: its writes go on beside others.
-fn works_up_to<S: Store>(server: &Server<S>, tid: u16) -> usize {
+fn file_work_limit<S: Store>(server: &Server<S>, tid: u16) -> usize {
     match server.record(tid) {
         Some(record) if record.side.is_sender() => {
             let block = usize::from(record.size);

@@ -5,7 +5,7 @@ ghost use Rattle.tftp_loop.specs.Served.{FailsToBind, StopsServing};
 ghost use Rattle.tftp_loop.specs.Serves.{Serves, ServesFromIn, ServesIn, ServesToEnd};
 ghost use Rattle.tftp_loop.specs.Serves.{ServesToEndIn, listening};
 
-use crate::daemon::{Buffers, Daemon};
+use crate::server_loop::{Buffers, ServerLoop};
 use crate::port_order::PortRange;
 use crate::server_udp::ServerUdp;
 use crate::sockets::Sockets;
@@ -137,12 +137,12 @@ fn run<N: ServerUdp + Clock + Print + Eprint, S: ServedStore + Drop>(
     let Ok(mut buffers) = Buffers::new(alloc) else {
         return (Err(LoopFault::Memory), journal);
     };
-    let mut daemon = Daemon::new(alloc, server, sockets, config.ending, config.logs, journal);
-    let result = daemon.take_rounds(
+    let mut running = ServerLoop::new(alloc, server, sockets, config.ending, config.logs, journal);
+    let result = running.take_rounds(
         rt,
         &mut buffers.reports,
         buffers.request.as_mut_slice(),
         buffers.datagram.as_mut_slice(),
     );
-    (result, daemon.journal)
+    (result, running.journal)
 }

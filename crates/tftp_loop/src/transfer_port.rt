@@ -61,7 +61,7 @@ pub(crate) struct TransferSocket {
     /// When the transfer was opened or last made progress, in milliseconds.
     pub(crate) moved_at: u64,
     /// The number of active transfers up to which its file reads ahead or is written back.
-    pub(crate) works_up_to: usize,
+    pub(crate) file_work_limit: usize,
     /// The log entry, if there is a log.
     pub(crate) log_entry: Option<LogEntry>,
 }
@@ -324,7 +324,7 @@ fn answer_received<S: Store>(
         return PortStatus::Unfinished;
     };
     note_step(port, now, step.progress);
-    let may_work = active <= port.socket.works_up_to;
+    let may_work = active <= port.socket.file_work_limit;
     work_after(server, port.socket.udp.port(), &step, may_work);
     status_of(&step)
 }
@@ -400,11 +400,11 @@ pub(crate) fn take_due<S: Store>(
     if status == PortStatus::Onward {
         return;
     }
-    take_silence(server, port, journal, now);
+    time_out_if_due(server, port, journal, now);
 }
 
 /// Handles a due port without progress: delivers the timeout if that is due.
-fn take_silence<S: Store>(
+fn time_out_if_due<S: Store>(
     server: &mut Server<S>,
     port: &mut TransferPort,
     journal: &mut Journal,

@@ -10,7 +10,7 @@ use Rattle.tftp_file.specs.Source.{SourceMeaning}
 use Rattle.tftp_ends.specs.ErrorReply.{error_packet}
 use Rattle.tftp_ends.specs.Step.{Reply, error_bytes}
 use Rattle.tftp_store.specs.Store.{StoreMeaning}
-use Rattle.tftp_server.specs.Request.{Came, Nothing, An_error, Left, left_by}
+use Rattle.tftp_server.specs.Request.{Came, Nothing, Error_reply, Left, left_by}
 use Rattle.tftp_server.specs.State.{HeldTransfer, ServerState}
 use Rattle.tftp_sockets.specs.Journal.{Event}
 use Rattle.tftp_sockets.specs.Journal.Event.{Sent}
@@ -97,7 +97,7 @@ module _ {S F D G K : Type 0} {stores : StoreMeaning S D} {sources : SourceMeani
   pub refusal_keeps : (added : List Event) → new.events ≡ added ++ old.state.events → IsRefused stores sources server answers.from answers.bytes (content_by programs how old.state) answers.steps.came →
       IsKept programs how (server_did programs old does added)
   refusal_keeps added noted r =
-      let e = new_is (An_error r.reply r.store) r.is in
+      let e = new_is (Error_reply r.reply r.store) r.is in
       let own = old.state.requests in
       let from = answers.from in
       let bytes = error_bytes r.reply in
@@ -108,7 +108,7 @@ module _ {S F D G K : Type 0} {stores : StoreMeaning S D} {sources : SourceMeani
       (error_packet r.reply, spells_own (error_packet r.reply) (valid_error r.reply), Contains-push kept.messages m) in
       let there : IsThere (kept.messages ++ m ∷ []) (endpoint programs.server.ip own) from bytes =
       subst (λ (n : ℕ). IsThere (kept.messages ++ m ∷ []) (endpoint programs.server.ip n) from bytes) (sym kept.server.requests) said in
-      let stays = stays_so (ap (λ (l : Left S F D). option_to_list l.opened.tid) (left_is (An_error r.reply r.store) r.is)) (ap (λ (s : LoopState S F D). s.requests) e) (ap (λ (s : LoopState S F D). s.server.config) e)
+      let stays = stays_so (ap (λ (l : Left S F D). option_to_list l.opened.tid) (left_is (Error_reply r.reply r.store) r.is)) (ap (λ (s : LoopState S F D). s.requests) e) (ap (λ (s : LoopState S F D). s.server.config) e)
       (same_then programs how server.store r.store new.server.store (ap (λ (s : LoopState S F D). s.server.store) e) (same_if_known programs how old.state r.store kept.server.known r.same)) (ap (λ (s : LoopState S F D). s.pending) e) in
       let shown = says_error (joined programs) kept.shown.0 kept.views kept.messages kept.shown.1 a from in
       says_keeps programs old kept does stays (moves_none stays.opens) (ap (λ (s : LoopState S F D). s.server.held) e) added (m ∷ []) (kept.shown.0 ++ shown.0, shown.2)

@@ -14,7 +14,7 @@ use Rattle.tftp_ends.specs.declared.endpoint.Endpoint.{Endpoint}
 use Rattle.tftp_ends.specs.End.{EndState}
 use Rattle.tftp_ends.specs.Step.{Turn, Acts}
 use Rattle.tftp_store.specs.Store.{StoreMeaning}
-use Rattle.tftp_server.specs.Request.{Came, Nothing, An_error, A_transfer, left_by}
+use Rattle.tftp_server.specs.Request.{Came, Nothing, Error_reply, A_transfer, left_by}
 use Rattle.tftp_server.specs.State.{HeldTransfer}
 use Rattle.tftp_loop.specs.Serves.{LoopState, Does, Waited, At_port, Request_received, No_request_found, Request_not_received, No_port_found, Request_answered, Request_lost, Clock_read, Store_set, Transfer_closed}
 use Rattle.tftp_loop.specs.Serves.{ServesPort, AnswersRequest, AtPort, A_datagram, A_lost_datagram, Nothing_found, A_failed_receive, A_timeout, A_missed_timeout, Work, PortState}
@@ -79,7 +79,7 @@ module _ {S F D : Type 0} where
   -- a transfer that does not come here
   came_none : (here : Bool) (came : Came S F D) → (here ≡ true → (held : HeldTransfer F D) (store : S) → came ≡ A_transfer held store → ⊥) → came_if here came ≡ None
   came_none here Nothing n = refl
-  came_none here (An_error reply store) n = refl
+  came_none here (Error_reply reply store) n = refl
   came_none true (A_transfer held store) n = absurd (n refl held store refl)
   came_none false (A_transfer held store) n = refl
 

@@ -8,7 +8,7 @@ use Rattle.std.proofs.lemmas.Option.{same_Some, slice_get_read}
 use Rattle.tftp_file.specs.Sink.{SinkMeaning}
 use Rattle.tftp_file.specs.Source.{SourceMeaning}
 use Rattle.tftp_store.specs.Store.{StoreMeaning}
-use Rattle.tftp_server.specs.Request.{Came, Nothing, An_error, A_transfer, Left, left_by}
+use Rattle.tftp_server.specs.Request.{Came, Nothing, Error_reply, A_transfer, Left, left_by}
 use Rattle.tftp_sockets.specs.Journal.{Event}
 use Rattle.tftp_loop.specs.Run.{Run}
 use Rattle.tftp_loop.specs.Run.Run.{Start, Then}
@@ -55,7 +55,7 @@ client_most (x ∷ clients) (suc k) client e = let l = client_most clients k cli
 module _ {S F D : Type 0} {stores : StoreMeaning S D} {sources : SourceMeaning F} {old new : LoopState S F D} (answers : AnswersRequest stores sources old new) where
   tid_by : (came : Came S F D) (tid : ℕ) → (left_by came old.server answers.from answers.tid).opened.tid ≡ Some tid → tid ≡ answers.tid
   tid_by Nothing tid e = absurd (let f : None ≡ Some tid = e in cc)
-  tid_by (An_error reply store) tid e = absurd (let f : None ≡ Some tid = e in cc)
+  tid_by (Error_reply reply store) tid e = absurd (let f : None ≡ Some tid = e in cc)
   tid_by (A_transfer held store) tid e = sym (same_Some answers.tid tid e)
 
   pub own_tid : (tid : ℕ) → answers.left.opened.tid ≡ Some tid → tid ≡ answers.tid

@@ -11,7 +11,7 @@ use Rattle.tftp_ends.specs.declared.record.Record.{Record}
 use Rattle.tftp_store.specs.Store.{StoreMeaning}
 use Rattle.tftp_server.specs.State.{HeldTransfer, ServerState, at, taken_of, with_new, without}
 use Rattle.tftp_server.specs.Steps.{KeepsHeld}
-use Rattle.tftp_server.specs.Request.{Came, Left, Nothing, An_error, A_transfer, left_by}
+use Rattle.tftp_server.specs.Request.{Came, Left, Nothing, Error_reply, A_transfer, left_by}
 use Rattle.tftp_server.specs.Work.{WorksAt}
 use Rattle.tftp_sockets.specs.Journal.{Event}
 use Rattle.tftp_loop.specs.Run.{Run}
@@ -137,7 +137,7 @@ module _ {S F D : Type 0} (stores : StoreMeaning S D) (sources : SourceMeaning F
   answers_matched : (now : ℕ) (from : Endpoint) (tid : ℕ) (old : ServerState S F D) (timers : List Timer) (came : Came S F D) → at tid old.held ≡ None → AreMatched timers old.held →
       AreMatched (with_timer now from (left_by came old from tid).opened.tid (left_by came old from tid).new.held timers) (left_by came old from tid).new.held
   answers_matched now from tid old timers Nothing free matched = matched
-  answers_matched now from tid old timers (An_error reply store) free matched = matched
+  answers_matched now from tid old timers (Error_reply reply store) free matched = matched
   answers_matched now from tid old timers (A_transfer transfer store) free matched =
       opens_matched timers old.held (started now tid from (interval_at (at tid (with_new tid transfer old.held)))) transfer free matched
 

@@ -27,7 +27,7 @@ use Rattle.tftp_ends.specs.Step.{block_length}
 use Rattle.tftp_store.specs.Store.{Stored, StoreMeaning, Opens, Begins, file_at, measured, new_draft}
 use Rattle.tftp_store.specs.declared.store.Opening.{Opening}
 use Rattle.tftp_server.specs.Port.{Ask, Ignores, Refuses, Reads, Writes, Service, Sends, Refused, accept_reply, asks, begin_reply, by_draft, by_file, by_length, open_reply}
-use Rattle.tftp_server.specs.Request.{AsksToRead, AsksToWrite, Came, Nothing, An_error, A_transfer, Goes, Left, RequestStep, Sent, Starts, Taken, opened_length}
+use Rattle.tftp_server.specs.Request.{AsksToRead, AsksToWrite, Came, Nothing, Error_reply, A_transfer, Goes, Left, RequestStep, Sent, Starts, Taken, opened_length}
 use Rattle.tftp_server.specs.State.{ServerState}
 use Rattle.tftp_machine.specs.EndOpens.{AreGranted, left_at_first, sending}
 use Rattle.tftp_machine.proofs.FirstSent.{read_opens}
@@ -52,7 +52,7 @@ module _ {S F D : Type 0} (meaning : StoreMeaning S D) (sources : SourceMeaning 
     pub reply : ErrorReply
     pub store : S
     pub same : IfKnown content (λ stored. meaning.stored store ≡ meaning.stored old.store)
-    pub is : came ≡ An_error reply store
+    pub is : came ≡ Error_reply reply store
 
   -- the file under this path is sent
   pub record SendsFile (stored : Stored) (path : List ℕ) (mode : Mode) (agreed : List Known) (measured : ℕ) (piece : List ℕ) (rest : F) : Type 0 where
@@ -107,7 +107,7 @@ module _ {S F D : Type 0} (meaning : StoreMeaning S D) (sources : SourceMeaning 
     by_content None e = tt
     by_content (Some stored) e = f stored e
 
-  refuses : (came : Came S F D) (reply : ErrorReply) → came ≡ An_error reply old.store → IsRefused came
+  refuses : (came : Came S F D) (reply : ErrorReply) → came ≡ Error_reply reply old.store → IsRefused came
   refuses came reply is = record { reply = reply; store = old.store; same = if_known (λ stored. meaning.stored old.store ≡ meaning.stored old.store) (λ stored e. refl); is = is }
 
   module _ (max : IsBlockSize old.config.limits.max_block) (known : (stored : Stored) → content ≡ Some stored → meaning.stored old.store ≡ Some stored) (came : Came S F D) where

@@ -18,7 +18,7 @@ use Rattle.tftp_ends.specs.Step.{Done, Turn, SendsFrom, StoresIn, GoesOn, Acts, 
 use Rattle.tftp_ends.specs.Step.{block_length, result_count_is}
 use Rattle.tftp_store.specs.Store.{StoreMeaning}
 use Rattle.tftp_server.specs.Draft.{files_in, drafting_sink}
-use Rattle.tftp_server.specs.Request.{Came, Nothing, An_error, A_transfer}
+use Rattle.tftp_server.specs.Request.{Came, Nothing, Error_reply, A_transfer}
 use Rattle.tftp_server.specs.State.{HeldTransfer}
 use Rattle.tftp_loop.specs.Serves.{PortState, AtPort, A_datagram}
 use Rattle.tftp_client.specs.Converses.{State, HandlesReceived}
@@ -123,7 +123,7 @@ module _ {S F D : Type 0} where
   -- the transfer that came, if this is its place
   abbrev pub came_if : Bool → Came S F D → Option (HeldTransfer F D)
   came_if here Nothing = None
-  came_if here (An_error reply store) = None
+  came_if here (Error_reply reply store) = None
   came_if here (A_transfer held store) = if here then Some held else None
 
 module _ {F D : Type 0} where

@@ -12,7 +12,7 @@ use Rattle.tftp_player.specs.WorldKept.{HasPorts}
 use Rattle.tftp_player.specs.Effect.{no_effect, said_by, report_by}
 use Rattle.tftp_player.specs.Played.{ends_from, end_at, address_of, AllKept}
 use Rattle.tftp_player.specs.Serving.{PlayedServer, Transfer}
-use Rattle.tftp_player.specs.Stage.{ends_of, world_of, StageDatagramStep, DatagramAt, LostAt, EndTakes}
+use Rattle.tftp_player.specs.Exchange.{ends_of, world_of, StageDatagramStep, DatagramAt, LostAt, EndTakes}
 use Rattle.tftp_player.specs.Arriving.{ArrivalRefuses, StageAsks, StageArrives, StageRefuses}
 use Rattle.tftp_player.specs.World.{WorldState, StoredFile, replied, report_of, no_report, WorldEnd, Open_end}
 use Rattle.tftp_player.specs.World.{Closed_end, end_address, world_after}

@@ -27,7 +27,7 @@ use Rattle.tftp_player.specs.Played.{PlayerKept, end_at, ends_from, records_from
 use Rattle.tftp_player.specs.Requested.{IsRequested, OpensNone, IsAdmitted, new_served, requested_by}
 use Rattle.tftp_player.specs.Requests.{is_transfer, IsRepeated, open_transfers, served, service}
 use Rattle.tftp_player.specs.Serving.{PlayedServer, ServedKept, Transfer}
-use Rattle.tftp_player.specs.Stage.{IsOwned, IsRising, IsStaged, ends_of, world_of}
+use Rattle.tftp_player.specs.Exchange.{IsOwned, IsRising, IsStaged, ends_of, world_of}
 use Rattle.tftp_player.specs.World.{WorldState, datagram, next_port, no_report, said_in, opened_in, sent_report}
 use Rattle.tftp_player.specs.World.{WorldEnd, Open_end}
 use Rattle.tftp_player.specs.WorldSteps.{At_request_port, HasPort, Arrives}
@@ -49,7 +49,7 @@ use Rattle.tftp_player.proofs.PortLemmas.{port_not_opened, service_opens}
 use Rattle.tftp_player.proofs.RepeatedLemmas.{repeated_is}
 use Rattle.tftp_player.proofs.ServerLemmas.{says_something, says_one, IsServerOf, PortAsking, PortLeft, PortDid}
 use Rattle.tftp_player.proofs.ServerLemmas.{request_did}
-use Rattle.tftp_player.proofs.StageLemmas.{by_port, kept_by_port}
+use Rattle.tftp_player.proofs.ExchangeLemmas.{by_port, kept_by_port}
 
 -- two answers to whether it repeats a request are one
 both_or_none : {P : Type 0} (a b : Bool) → (IsTrue a ↔ P) → (IsTrue b ↔ P) → a ≡ b

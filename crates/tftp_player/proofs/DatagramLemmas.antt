@@ -21,7 +21,7 @@ use Rattle.tftp_player.specs.Effect.{no_effect}
 use Rattle.tftp_player.specs.PlayedClient.{PlayedClient}
 use Rattle.tftp_player.specs.Played.{client_end, end_at, PlayerKept, PlayerDatagramStep, has_ended, address_of}
 use Rattle.tftp_player.specs.Serving.{PlayedServer, Transfer, CommitsLast, ServedKept, ServedDatagramStep}
-use Rattle.tftp_player.specs.Stage.{ends_of, IsStaged, LostAt, StageDatagramStep, record_closed, EndTakes}
+use Rattle.tftp_player.specs.Exchange.{ends_of, IsStaged, LostAt, StageDatagramStep, record_closed, EndTakes}
 use Rattle.tftp_player.specs.World.{file_at, in_the_way, is_closed, has_committed, WorldEnd, Open_end, Closed_end}
 use Rattle.tftp_player.specs.World.{end_address}
 use Rattle.tftp_player.specs.WorldSteps.{EndStep, FilesAfter}
@@ -32,8 +32,8 @@ use Rattle.tftp_player.specs.declared.served.Served.{Served}
 use Rattle.tftp_player.proofs.DraftLemmas.{ServedLeaves, served_leaves}
 use Rattle.tftp_player.proofs.ServerTurns.{end_step}
 use Rattle.tftp_player.proofs.TermsKept.{step_has, still_known}
-use Rattle.tftp_player.proofs.StageLemmas.{Stepped, client_files, client_open, held_end, held_files, served_files}
-use Rattle.tftp_player.proofs.StageLemmas.{served_kept, served_steps, same_transfer, keeps_armed}
+use Rattle.tftp_player.proofs.ExchangeLemmas.{Stepped, client_files, client_open, held_end, held_files, served_files}
+use Rattle.tftp_player.proofs.ExchangeLemmas.{served_kept, served_steps, same_transfer, keeps_armed}
 use Rattle.tftp_player.proofs.StepLemmas.{client_files as client_commits}
 use Rattle.tftp_player.proofs.PlayLemmas.{ends_get, kept_at, list_get, turn_ends, turn_staged, closed_is, has_not_ended}
 use Rattle.tftp_player.proofs.PlayLemmas.{address_is}

@@ -40,7 +40,7 @@ use Rattle.tftp_player.specs.WorldSteps.{IsStored, FilesAfter}
 use Rattle.tftp_player.specs.declared.served.Served.{Served}
 use Rattle.tftp_player.proofs.FileLemmas.{stored_so}
 use Rattle.tftp_player.proofs.ServerTurns.{Drafts, seen}
-use Rattle.tftp_player.proofs.StageLemmas.{held_files}
+use Rattle.tftp_player.proofs.ExchangeLemmas.{held_files}
 
 -- ---- a complete end does nothing more: it answers at most
 record Rests (action : Action) (from : Endpoint) (e : EndState) : Type 0 where

@@ -10,7 +10,7 @@ use Rattle.std.specs.Ordering.{nat_cmp, match_ordering, is_eq}
 use Rattle.std.specs.declared.cmp.Ordering.{Ordering}
 use Rattle.std.specs.declared.cmp.Ordering.TheVariants.{Equal, Greater}
 use Rattle.tftp_server.specs.State.{at, with_new, with_next, without}
-use Rattle.tftp_player.specs.Stage.{IsRising}
+use Rattle.tftp_player.specs.Exchange.{IsRising}
 
 -- the test of an identifier passes at that identifier alone
 pub at_same : (tid k : ℕ) → k ≡ tid → is_at (nat_cmp tid) k ≡ true

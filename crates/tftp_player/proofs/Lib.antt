@@ -25,7 +25,7 @@ pub mod WorldRuns
 pub mod WorldSafe
 pub mod RoomLemmas
 pub mod ServingLemmas
-pub mod StageLemmas
+pub mod ExchangeLemmas
 pub mod PlayLemmas
 pub mod DatagramLemmas
 pub mod OpenedLemmas

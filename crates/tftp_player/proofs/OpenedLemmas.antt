@@ -22,7 +22,7 @@ use Rattle.tftp_player.specs.PlayedClient.{PlayedClient}
 use Rattle.tftp_player.specs.Played.{client_end, end_at, ends_from, records_from, PlayerKept}
 use Rattle.tftp_player.specs.Requests.{open_transfers}
 use Rattle.tftp_player.specs.Serving.{PlayedServer}
-use Rattle.tftp_player.specs.Stage.{ends_of, IsStaged, Enters, world_of}
+use Rattle.tftp_player.specs.Exchange.{ends_of, IsStaged, Enters, world_of}
 use Rattle.tftp_player.specs.World.{WorldState, next_port, sent_report, opened_in, WorldEnd, Open_end, end_record}
 use Rattle.tftp_player.specs.World.{standing}
 use Rattle.tftp_player.specs.WorldSteps.{WorldStep, HasPort}
@@ -40,7 +40,7 @@ use Rattle.tftp_player.proofs.OwnedLemmas.{pushed_owned}
 use Rattle.tftp_player.proofs.EndsByPort.{mapped-push, kept-push, transfers-push_other}
 use Rattle.tftp_player.proofs.PlayLemmas.{ends_length, to_kept, from_kept}
 use Rattle.tftp_player.proofs.Standing.{standing_record}
-use Rattle.tftp_player.proofs.StageLemmas.{kept_by_port, no_transfer}
+use Rattle.tftp_player.proofs.ExchangeLemmas.{kept_by_port, no_transfer}
 use Rattle.tftp_player.proofs.StepLemmas.{get_step, put_step}
 
 pub ends_push : (server : PlayedServer) (ps : List Player) (p : Player) →

@@ -27,8 +27,8 @@ use Rattle.tftp_player.specs.Effect.{effect_of, no_effect, said_by, index_after,
 use Rattle.tftp_player.specs.Played.{served_end, end_at, ends_from, records_from, PlayerKept, IsServed, AllKept}
 use Rattle.tftp_player.specs.Played.{PlayerTimeoutStep, has_ended, address_of, client_end}
 use Rattle.tftp_player.specs.Serving.{PlayedServer, Transfer, CommitsLast}
-use Rattle.tftp_player.specs.Stage.{ends_of, IsStaged, SameStore, EndTimesOut, StageTimeoutStep, record_closed}
-use Rattle.tftp_player.specs.Stage.{world_of}
+use Rattle.tftp_player.specs.Exchange.{ends_of, IsStaged, SameStore, EndTimesOut, StageTimeoutStep, record_closed}
+use Rattle.tftp_player.specs.Exchange.{world_of}
 use Rattle.tftp_player.specs.World.{WorldState, WorldEnd, Open_end, Closed_end, end_record, end_address, is_closed}
 use Rattle.tftp_player.specs.World.{standing, replied, added_at, closed_at, world_after, report_of, no_report}
 use Rattle.tftp_player.specs.WorldSteps.{WorldStep, IsAtPort, NoneAt, EventRefuses, WorldRefuses}
@@ -47,9 +47,9 @@ use Rattle.tftp_player.specs.declared.report.Report.{Report}
 use Rattle.tftp_player.proofs.EndsByPort.{mapped-length, mapped-get, mapped-set, Kept_from, kept-get, kept-set}
 use Rattle.tftp_player.proofs.EndsByPort.{transfers-set, transfers-close}
 use Rattle.tftp_player.proofs.Standing.{standing_record, standing_address, standing_closed}
-use Rattle.tftp_player.proofs.StageLemmas.{by_port, kept_by_port, Stepped, same_kind, client_files, client_steps}
-use Rattle.tftp_player.proofs.StageLemmas.{held_end, served_steps, served_kept, served_files, same_transfer}
-use Rattle.tftp_player.proofs.StageLemmas.{same_draft_kind, same_armed}
+use Rattle.tftp_player.proofs.ExchangeLemmas.{by_port, kept_by_port, Stepped, same_kind, client_files, client_steps}
+use Rattle.tftp_player.proofs.ExchangeLemmas.{held_end, served_steps, served_kept, served_files, same_transfer}
+use Rattle.tftp_player.proofs.ExchangeLemmas.{same_draft_kind, same_armed}
 use Rattle.tftp_player.proofs.StepLemmas.{timeout_step, timeout_stays}
 use Rattle.tftp_player.proofs.TermsKept.{still_known, timeout_has}
 

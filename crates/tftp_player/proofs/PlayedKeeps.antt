@@ -5,7 +5,7 @@ use Rattle.std.proofs.lemmas.Bool.{true≢false}
 use Rattle.std.proofs.lemmas.List.{length-append}
 use Rattle.tftp_player.specs.PlayedWorld.{strayed_after}
 use Rattle.tftp_player.specs.World.{WorldState}
-use Rattle.tftp_player.specs.WorldKept.{IsOk}
+use Rattle.tftp_player.specs.WorldKept.{Refines}
 use Rattle.tftp_player.specs.WorldSafety.{HasPeersAtHome}
 use Rattle.tftp_player.specs.WorldSteps.{WorldStep, Settles}
 use Rattle.tftp_player.specs.declared.event.Event.{Event}
@@ -20,7 +20,7 @@ shifted : (from n : ℕ) → from + suc n ≡ (from + 1) + n
 shifted from n = omega arith
 
 -- a world without strangers is also one in which strangers may have sent
-kept_anyway : (w : WorldState) → IsOk false w → IsOk true w
+kept_anyway : (w : WorldState) → Refines false w → Refines true w
 kept_anyway w ok =
     record {
       messages = ok.messages;
@@ -34,8 +34,8 @@ kept_anyway w ok =
     }
 
 -- each event keeps the world, by whether a stray has arrived
-pub played_keeps : (strayed : Bool) (w v : WorldState) (event : Event) (report : Report) → IsOk strayed w →
-    WorldStep w event report v → IsOk (strayed_after strayed event) v
+pub played_keeps : (strayed : Bool) (w v : WorldState) (event : Event) (report : Report) → Refines strayed w →
+    WorldStep w event report v → Refines (strayed_after strayed event) v
 played_keeps true w v event report ok s = step_keeps true w v event report tt ok s
 played_keeps false w v (Get name mode asked) report ok s = step_keeps false w v (Get name mode asked) report tt ok s
 played_keeps false w v (Put name mode asked bytes) report ok s =
@@ -47,8 +47,8 @@ played_keeps false w v (Stray from to bytes) report ok s =
     step_keeps true w v (Stray from to bytes) report tt (kept_anyway w ok) s
 
 -- without strays every peer is at home
-pub home_of : (strayed : Bool) (w : WorldState) → IsOk strayed w → strayed ≡ false → HasPeersAtHome w
-home_of strayed w ok e = ok_at_home w (subst (λ (b : Bool). IsOk b w) e ok)
+pub home_of : (strayed : Bool) (w : WorldState) → Refines strayed w → strayed ≡ false → HasPeersAtHome w
+home_of strayed w ok e = ok_at_home w (subst (λ (b : Bool). Refines b w) e ok)
 
 -- one more delivery
 pub delivered_more : (old mid new : WorldState) (from : ℕ) (reports : List Report) (report : Report) →

@@ -23,7 +23,7 @@ use Rattle.tftp_player.specs.Played.{IsServed, armed_by, armed_served, armed_ser
 use Rattle.tftp_player.specs.PlayedClient.{PlayedClient}
 use Rattle.tftp_player.specs.Requests.{is_transfer, open_transfers}
 use Rattle.tftp_player.specs.Serving.{PlayedServer, Transfer, ServedKept}
-use Rattle.tftp_player.specs.Stage.{ends_of, IsStaged, world_of}
+use Rattle.tftp_player.specs.Exchange.{ends_of, IsStaged, world_of}
 use Rattle.tftp_player.specs.World.{WorldState, is_closed, no_report, WorldEnd, Open_end, Closed_end, end_record}
 use Rattle.tftp_player.specs.World.{standing}
 use Rattle.tftp_player.specs.WorldSteps.{WorldStep, armed_to_refuse, armed_end}
@@ -36,7 +36,7 @@ use Rattle.tftp_player.proofs.OwnedLemmas.{AllOwned, client_owned, same_owned}
 use Rattle.tftp_player.proofs.EndsByPort.{mapped-set, kept-set, transfers-set}
 use Rattle.tftp_player.proofs.PlayLemmas.{ends_get, kept_at, list_get, to_kept, from_kept, records_get, records_set}
 use Rattle.tftp_player.proofs.Standing.{standing_open, standing_closed}
-use Rattle.tftp_player.proofs.StageLemmas.{by_port, kept_by_port}
+use Rattle.tftp_player.proofs.ExchangeLemmas.{by_port, kept_by_port}
 use Rattle.tftp_player.proofs.StepLemmas.{refuse_step}
 
 -- a sender is not set to refuse

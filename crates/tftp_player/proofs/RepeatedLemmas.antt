@@ -19,7 +19,7 @@ use Rattle.tftp_player.specs.Played.{served_end}
 use Rattle.tftp_player.specs.Clients.{left_in}
 use Rattle.tftp_player.specs.Requests.{IsRepeated, Repeats, AnyRepeats}
 use Rattle.tftp_player.specs.Serving.{PlayedServer, Transfer}
-use Rattle.tftp_player.specs.Stage.{IsOwned, IsStaged, ends_of}
+use Rattle.tftp_player.specs.Exchange.{IsOwned, IsStaged, ends_of}
 use Rattle.tftp_player.specs.World.{Open_end, by_outcome}
 use Rattle.tftp_player.specs.declared.player.Player.{Player}
 use Rattle.tftp_player.specs.declared.player.Player.TheVariants.{Client, Server}

@@ -30,7 +30,7 @@ use Rattle.tftp_player.specs.Repeating.{AsksForTransfer, RepeatsOpenNothing, IsN
 use Rattle.tftp_player.specs.Repeating.{RequestsLast}
 use Rattle.tftp_player.specs.Requests.{IsRepeated, WasAskedBy, Repeats, AnyRepeats, served, service}
 use Rattle.tftp_player.specs.World.{WorldState, WorldEnd, Open_end, Closed_end, by_outcome, standing, is_closed}
-use Rattle.tftp_player.specs.WorldKept.{IsOk}
+use Rattle.tftp_player.specs.WorldKept.{Refines}
 use Rattle.tftp_player.specs.WorldSteps.{ServiceStep, Arrives, At_request_port, At_open_end, At_closed_end, At_nobody}
 use Rattle.tftp_player.specs.WorldSteps.{OpeningStep, Stays, Turns, TimeoutStep, armed_end, WorldStep}
 use Rattle.tftp_player.specs.declared.event.Event.{Event}
@@ -43,7 +43,7 @@ use Rattle.tftp_player.proofs.TermsKept.{step_has, timeout_has}
 -- ---- what repeats a request is ignored
 
 -- no end is at the request port
-none_at_port : (strangers : Bool) (w : WorldState) (k : ℕ) (x : OpenEnd) → IsOk strangers w →
+none_at_port : (strangers : Bool) (w : WorldState) (k : ℕ) (x : OpenEnd) → Refines strangers w →
     slice_get w.ends k ≡ Some (Open_end x) → x.address ≡ request_port → ⊥
 none_at_port strangers w k x ok there at =
     let p = ok.ports k (Open_end x) there in
@@ -72,7 +72,7 @@ module _ (old new : WorldState) (from : Endpoint) (packet : Packet) (bytes : Lis
       subst (λ (what : Service). ServiceStep what old from bytes report new) (repeat_silent old bytes packet asks) s
   at_port false same s = absurd (true≢false (sym (same.1 any)))
 
-  stays : (strangers : Bool) (to : Endpoint) → IsOk strangers old → to ≡ request_port →
+  stays : (strangers : Bool) (to : Endpoint) → Refines strangers old → to ≡ request_port →
       Arrives old from to bytes report new → Stays old report new
   stays strangers to ok here (At_request_port _ port decoded says repeated same s) =
       let e = says_one bytes decoded (Some packet) says spells in

@@ -35,7 +35,7 @@ use Rattle.tftp_ends.specs.End.{EndState}
 use Rattle.tftp_ends.specs.Opening.{ServesRead, serving_read, serving_write}
 use Rattle.tftp_ends.specs.Action.{Decodes}
 use Rattle.tftp_ends.specs.Step.{block_length, result_count_is}
-use Rattle.tftp_server.specs.Request.{Came, Nothing, An_error, A_transfer, Goes, Left, RequestStep, Sent, Taken}
+use Rattle.tftp_server.specs.Request.{Came, Nothing, Error_reply, A_transfer, Goes, Left, RequestStep, Sent, Taken}
 use Rattle.tftp_server.specs.Request.{left_by, opened_length}
 use Rattle.tftp_store.specs.Memory.{MayRefuseBegin, MayRefuseOpen, memory_meaning}
 use Rattle.tftp_store.specs.Store.{Stored, Drafted, Opens, Begins, is_taken, measured, new_draft}
@@ -156,7 +156,7 @@ port_left came asking = left_by came asking.old asking.from asking.tid
 -- the port did what the world's service is
 abbrev pub PortDid : WorldState → Service → PortAsking → PortLeft → Type 0
 PortDid w Silent asking result = result ≡ port_left Nothing asking
-PortDid w (Refused reply) asking result = result ≡ port_left (An_error reply asking.old.store) asking
+PortDid w (Refused reply) asking result = result ≡ port_left (Error_reply reply asking.old.store) asking
 PortDid w (Sends path mode count agreed) asking result =
     (file : List ℕ) × (file_at w.files path ≡ Some file)
     × (result
@@ -184,7 +184,7 @@ module _ (w : WorldState) (asking : PortAsking) (came : PortCame) (s : IsServerO
   abbrev Has_sent : Service → Opening (List ℕ) → Type 0
   Has_sent what file = Sent memory_meaning memory_source asking.old asking.from asking.bytes what (Ok file) came
 
-  refused : (reply : ErrorReply) → came ≡ An_error reply asking.old.store → Did (Refused reply)
+  refused : (reply : ErrorReply) → came ≡ Error_reply reply asking.old.store → Did (Refused reply)
   refused reply h = ap (λ (c : PortCame). port_left c asking) h
 
   -- the answer to the options of a read
@@ -309,7 +309,7 @@ module _ (w : WorldState) (asking : PortAsking) (came : PortCame) (s : IsServerO
   by_begun path mode agreed store (Err store_faults.Exists) None taken begins may h =
       absurd (true≢false (sym begins.1 ∙ taken))
   by_begun path mode agreed store (Err store_faults.Exists) (Some file) taken begins may h =
-      refused FileExists (h ∙ ap (λ (st : Stored). An_error FileExists st) (same_Some store asking.old.store begins.0))
+      refused FileExists (h ∙ ap (λ (st : Stored). Error_reply FileExists st) (same_Some store asking.old.store begins.0))
   by_begun path mode agreed store (Err store_faults.Missing) there taken begins may h = absurd may
   by_begun path mode agreed store (Err store_faults.Memory) there taken begins may h = absurd may
   by_begun path mode agreed store (Err store_faults.Full) there taken begins may h = absurd may

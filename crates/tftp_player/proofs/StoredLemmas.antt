@@ -20,7 +20,7 @@ use Rattle.tftp_player.specs.Played.{client_end, draft_or_new, served_end, end_a
 use Rattle.tftp_player.specs.Played.{stored_of, committed_of}
 use Rattle.tftp_player.specs.PlayedClient.{PlayedClient}
 use Rattle.tftp_player.specs.Serving.{PlayedServer, Transfer}
-use Rattle.tftp_player.specs.Stage.{ends_of, IsStaged, world_of, opened_at, stored_in, stored_at, committed_at}
+use Rattle.tftp_player.specs.Exchange.{ends_of, IsStaged, world_of, opened_at, stored_in, stored_at, committed_at}
 use Rattle.tftp_player.specs.World.{WorldState, WorldEnd, end_committed}
 use Rattle.tftp_player.specs.declared.datagram.Datagram.{Datagram}
 use Rattle.tftp_player.specs.declared.player.Player.{Player}
@@ -28,7 +28,7 @@ use Rattle.tftp_player.specs.declared.player.Player.TheVariants.{Client, Server}
 use Rattle.tftp_player.specs.declared.served.Served.{Served}
 use Rattle.tftp_player.proofs.PlayLemmas.{ends_length, ends_get, kept_at, list_get}
 use Rattle.tftp_player.proofs.Standing.{stands_as}
-use Rattle.tftp_player.proofs.StageLemmas.{has_draft}
+use Rattle.tftp_player.proofs.ExchangeLemmas.{has_draft}
 
 client_stores : (c : PlayedClient) (b : Bool) (files : Files (List ℕ) Holding) → AreFilesOf c.end.role.side files →
     is_sender c.end.role.side ≡ b →

@@ -41,7 +41,7 @@ use Rattle.tftp_player.specs.Openings.{reading_client, writing_client, sending_e
 use Rattle.tftp_player.specs.Straight.{IsAccepted, IsThrough, Ends, ReadsStraight, WritesStraight, ReadsComplete}
 use Rattle.tftp_player.specs.Straight.{WritesComplete, read_count, write_count}
 use Rattle.tftp_player.specs.World.{WorldState, StoredFile, file_at, datagram, WorldEnd, Open_end}
-use Rattle.tftp_player.specs.WorldKept.{IsOk}
+use Rattle.tftp_player.specs.WorldKept.{Refines}
 use Rattle.tftp_player.specs.WorldRuns.{MayHappen}
 use Rattle.tftp_player.specs.WorldSteps.{ServiceStep, OpeningStep}
 use Rattle.tftp_player.specs.declared.event.Event.TheVariants.{Get, Put}
@@ -177,7 +177,7 @@ module _ (strangers : Bool) (old new : WorldState) (name : List ℕ) (mode : Mod
   abbrev text : List ℕ
   text = wire_text mode file
 
-  reader_asks : (agreed : List Known) → IsOk strangers old → (h : ReadsStraight old new name mode asked file agreed) →
+  reader_asks : (agreed : List Known) → Refines strangers old → (h : ReadsStraight old new name mode asked file agreed) →
       HasAsked strangers old h.run.asked reader
   reader_asks agreed ok h =
       let s = h.run.asks in
@@ -193,7 +193,7 @@ module _ (strangers : Bool) (old new : WorldState) (name : List ℕ) (mode : Mod
       IsLeft true h.run.asked (length old.sent) new
   read_left agreed h = record { reports = h.run.reports; settles = h.run.settles; taken = tt }
 
-  read_begins : (agreed : List Known) (one other rest : ℕ) → IsOk strangers old →
+  read_begins : (agreed : List Known) (one other rest : ℕ) → Refines strangers old →
       (h : ReadsStraight old new name mode asked file agreed) →
       ((b : HasBegun true strangers old new reader (server_of agreed h)) →
       Reaches new one other (length old.sent + 1) (length b.left.reports) rest) →
@@ -214,7 +214,7 @@ module _ (strangers : Bool) (old new : WorldState) (name : List ℕ) (mode : Mod
       same s.2)
       then_on
 
-  read_plainly : IsOk strangers old → (h : ReadsStraight old new name mode asked file []) →
+  read_plainly : Refines strangers old → (h : ReadsStraight old new name mode asked file []) →
       Ends old new (length h.run.reports) (read_count [] (block_count text DEFAULT_BLOCK))
   read_plainly ok h =
       let x = server_of [] h in
@@ -315,7 +315,7 @@ module _ (strangers : Bool) (old new : WorldState) (name : List ℕ) (mode : Mod
       rest ready_then sender_then receiver_then n.left))
 
   -- by an OACK
-  read_by_oack : (known : Known) (agreed : List Known) → IsOk strangers old →
+  read_by_oack : (known : Known) (agreed : List Known) → Refines strangers old →
       (h : ReadsStraight old new name mode asked file (known ∷ agreed)) →
       Ends old new (length h.run.reports) (read_count (known ∷ agreed) (block_count text (size (known ∷ agreed))))
   read_by_oack known others ok h =
@@ -364,7 +364,7 @@ module _ (strangers : Bool) (old new : WorldState) (name : List ℕ) (mode : Mod
   abbrev written : List ℕ
   written = wire_text mode file
 
-  writer_asks : (agreed : List Known) → IsOk strangers old → (h : WritesStraight old new name mode asked file agreed) →
+  writer_asks : (agreed : List Known) → Refines strangers old → (h : WritesStraight old new name mode asked file agreed) →
       HasAsked strangers old h.run.asked writer
   writer_asks agreed ok h =
       let s = h.run.asks in
@@ -380,7 +380,7 @@ module _ (strangers : Bool) (old new : WorldState) (name : List ℕ) (mode : Mod
       IsLeft false h.run.asked (length old.sent) new
   write_left agreed h = record { reports = h.run.reports; settles = h.run.settles; taken = h.taken }
 
-  write_begins : (agreed : List Known) (one other rest : ℕ) → IsOk strangers old →
+  write_begins : (agreed : List Known) (one other rest : ℕ) → Refines strangers old →
       (h : WritesStraight old new name mode asked file agreed) →
       ((b : HasBegun false strangers old new writer (taker_of agreed h)) →
       Reaches new one other (length old.sent + 1) (length b.left.reports) rest) →
@@ -444,7 +444,7 @@ module _ (strangers : Bool) (old new : WorldState) (name : List ℕ) (mode : Mod
       ap (λ (c : Bool). if c then Send terms 1 else Respond (Refuse None FileTooLarge outcomes.TooLarge))
       (lt-ltb n (65535 * terms.size) few)
 
-  write_plainly : IsOk strangers old → (h : WritesStraight old new name mode asked file []) →
+  write_plainly : Refines strangers old → (h : WritesStraight old new name mode asked file []) →
       Ends old new (length h.run.reports) (write_count (block_count written DEFAULT_BLOCK))
   write_plainly ok h =
       let x = taker_of [] h in
@@ -460,7 +460,7 @@ module _ (strangers : Bool) (old new : WorldState) (name : List ℕ) (mode : Mod
       ∙ begins_now (length written) st h.accepts.fits) refl refl refl))
 
   -- by an OACK
-  write_by_oack : (known : Known) (agreed : List Known) → IsOk strangers old →
+  write_by_oack : (known : Known) (agreed : List Known) → Refines strangers old →
       (h : WritesStraight old new name mode asked file (known ∷ agreed)) →
       Ends old new (length h.run.reports) (write_count (block_count written (size (known ∷ agreed))))
   write_by_oack known others ok h =

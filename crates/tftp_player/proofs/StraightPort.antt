@@ -27,7 +27,7 @@ use Rattle.tftp_player.specs.Requests.{IsRepeated, begun_of, open_transfers, ope
 use Rattle.tftp_player.specs.Straight.{IsAccepted}
 use Rattle.tftp_player.specs.World.{WorldState, file_at, in_the_way, datagram, opened_in, WorldEnd, Open_end}
 use Rattle.tftp_player.specs.World.{Closed_end, end_address}
-use Rattle.tftp_player.specs.WorldKept.{HasPorts, IsOk}
+use Rattle.tftp_player.specs.WorldKept.{HasPorts, Refines}
 use Rattle.tftp_player.specs.WorldRuns.{MayHappen}
 use Rattle.tftp_player.specs.WorldSteps.{ServiceStep, Arrives, At_request_port, At_open_end, At_closed_end, At_nobody}
 use Rattle.tftp_player.specs.WorldSteps.{OpeningStep, WorldStep}
@@ -41,7 +41,7 @@ use Rattle.tftp_player.proofs.WorldRuns.{step_keeps}
 
 -- ---- a client asked
 pub record HasAsked (strangers : Bool) (old w : WorldState) (c : OpenEnd) : Type 0 where
-  pub ok : IsOk strangers w
+  pub ok : Refines strangers w
   pub sent : w.sent ≡ old.sent ++ datagram c.address c.state.position.last_sent_to c.state.position.last_sent ∷ []
   pub newest : slice_get w.sent (length old.sent)
       ≡ Some (datagram c.address c.state.position.last_sent_to c.state.position.last_sent)
@@ -51,7 +51,7 @@ pub record HasAsked (strangers : Bool) (old w : WorldState) (c : OpenEnd) : Type
   pub files : w.files ≡ old.files
 
 pub has_asked : (strangers : Bool) (old w : WorldState) (c : OpenEnd) (event : Event) (report : Report) →
-    MayHappen strangers event → IsOk strangers old → WorldStep old event report w →
+    MayHappen strangers event → Refines strangers old → WorldStep old event report w →
     w ≡ opened_in old c → HasAsked strangers old w c
 has_asked strangers old w c event report may ok s is =
     let d = datagram c.address c.state.position.last_sent_to c.state.position.last_sent in

@@ -29,7 +29,7 @@ use Rattle.tftp_machine.proofs.SourceMoves.{valid_data, number_fits}
 use Rattle.tftp_machine.proofs.SaidLemmas.{spells_own}
 use Rattle.tftp_player.specs.Straight.{TookAll, AllTaken}
 use Rattle.tftp_player.specs.World.{WorldState, datagram, WorldEnd, Open_end}
-use Rattle.tftp_player.specs.WorldKept.{IsOk}
+use Rattle.tftp_player.specs.WorldKept.{Refines}
 use Rattle.tftp_player.specs.WorldRuns.{MayHappen}
 use Rattle.tftp_player.specs.WorldSafety.{IsComplete}
 use Rattle.tftp_player.specs.WorldSteps.{WorldStep, Settles}
@@ -152,7 +152,7 @@ ends_here reads w v one other i over l = by l.reports l.settles where
 
 -- ---- a world in which this datagram is the only one to be delivered
 pub record IsReady (strangers : Bool) (w : WorldState) (i : ℕ) (d : Datagram) : Type 0 where
-  pub ok : IsOk strangers w
+  pub ok : Refines strangers w
   pub newest : slice_get w.sent i ≡ Some d
   pub count : length w.sent ≡ i + 1
 
@@ -239,16 +239,16 @@ module _ (strangers : Bool) (ks kr : ℕ) (apart : kr ≢ ks) (sa ra : Endpoint)
     pub small : st.size ≤ MAX_BLOCK
     pub fits : Fits text st.size
 
-  text_of_sender : (w : WorldState) (n : ℕ) → IsOk strangers w → (s : SendsAt w n) → s.x.text ≡ text
+  text_of_sender : (w : WorldState) (n : ℕ) → Refines strangers w → (s : SendsAt w n) → s.x.text ≡ text
   text_of_sender w n ok s =
       (ok.ends ks (Open_end s.x) s.there).text
       ∙ (ap (λ (m : Mode). wire_text m s.x.file) s.mode_is ∙ ap (wire_text mode) s.file_is)
 
-  under_way : (w : WorldState) (n : ℕ) → IsOk strangers w → (s : SendsAt w n) → IsUnderWay s.x st n
+  under_way : (w : WorldState) (n : ℕ) → Refines strangers w → (s : SendsAt w n) → IsUnderWay s.x st n
   under_way w n ok s =
       subst (λ (p : Phase). PhaseKept two_hosts s.x p) s.phase (ok.ends ks (Open_end s.x) s.there).stands.kept.phase
 
-  pub fit_of : (w : WorldState) (n : ℕ) → IsOk strangers w → SendsAt w n → IsFit
+  pub fit_of : (w : WorldState) (n : ℕ) → Refines strangers w → SendsAt w n → IsFit
   fit_of w n ok s =
       let u = under_way w n ok s in
       record {

@@ -43,7 +43,7 @@ use Rattle.tftp_machine.proofs.StoredTexts.{stored_more}
 use Rattle.tftp_player.specs.Straight.{TookAll}
 use Rattle.tftp_player.specs.World.{WorldState, file_at, in_the_way, is_closed, datagram, replied, closed_at, standing}
 use Rattle.tftp_player.specs.World.{WorldEnd, Open_end, Closed_end, end_address}
-use Rattle.tftp_player.specs.WorldKept.{HasPorts, IsOk}
+use Rattle.tftp_player.specs.WorldKept.{HasPorts, Refines}
 use Rattle.tftp_player.specs.WorldSafety.{IsComplete}
 use Rattle.tftp_player.specs.WorldSteps.{may_refuse_append, may_refuse_commit, EndStep, OnDatagram, Arrives}
 use Rattle.tftp_player.specs.WorldSteps.{At_request_port, At_open_end, At_closed_end, At_nobody, WorldStep, world_sink}
@@ -52,7 +52,7 @@ use Rattle.tftp_player.specs.declared.event.Event.TheVariants.{Deliver}
 use Rattle.tftp_player.specs.declared.report.Report.{Report}
 
 -- the end at index k of a world has port 1024 + k
-pub ports_of : (strangers : Bool) (w : WorldState) → IsOk strangers w → HasPorts w
+pub ports_of : (strangers : Bool) (w : WorldState) → Refines strangers w → HasPorts w
 ports_of strangers w ok = ok.ports
 
 -- a delivery at an open end is this turn of it

@@ -52,7 +52,7 @@ use Rattle.tftp_server.specs.Port.{Ask, Ignores, Refuses, Reads, Service, Refuse
 use Rattle.tftp_server.specs.Port.{by_file, by_length, by_name, by_options, by_packet, by_repeat}
 use Rattle.tftp_player.specs.Requests.{IsRepeated, open_transfers, opened_of, begun_of, served, service}
 use Rattle.tftp_player.specs.WorldSteps.{Stays, ServiceStep, OpeningStep}
-use Rattle.tftp_player.specs.WorldKept.{IsOkBy, IsOkAt, IsOkWithin}
+use Rattle.tftp_player.specs.WorldKept.{RefinesBy, RefinesAt, RefinesWithin}
 use Rattle.tftp_player.specs.declared.report.Report.{Report}
 use Rattle.tftp_machine.proofs.Shown.{shown_still, shown_within}
 use Rattle.tftp_player.proofs.UnansweredLemmas.{none_answers}
@@ -66,7 +66,7 @@ at_client : (a : Endpoint) → a.ip ≡ client_ip → host_of a ≢ Elsewhere
 at_client a e f = let h = sym (host_client a e) ∙ f in cc
 
 -- no end has the next port
-none_at_next : (first : List Rule) (strangers : Bool) (w : WorldState) → IsOkAt first strangers w → (a : Endpoint) →
+none_at_next : (first : List Rule) (strangers : Bool) (w : WorldState) → RefinesAt first strangers w → (a : Endpoint) →
     a.port ≡ 1024 + length w.ends → NoneAt (map view_of_end w.ends) a
 none_at_next first strangers w ok a port k e i same =
     let h = viewed_at w.ends k e i in
@@ -83,8 +83,8 @@ none_more first views messages shown =
 
 -- a world is kept by how it is shown
 unfoldable pub shown_as :
-    (P Q : List EndView → List Message → Type 0) (strangers : Bool) (w : WorldState) (ok : IsOkBy P strangers w) →
-    Q (map view_of_end w.ends) ok.messages → IsOkBy Q strangers w
+    (P Q : List EndView → List Message → Type 0) (strangers : Bool) (w : WorldState) (ok : RefinesBy P strangers w) →
+    Q (map view_of_end w.ends) ok.messages → RefinesBy Q strangers w
 shown_as P Q strangers w ok shown = record {
   messages = ok.messages;
   shown = shown;
@@ -96,18 +96,18 @@ shown_as P Q strangers w ok shown = record {
   ends = ok.ends;
 }
 
-pub stays_ok : (first : List Rule) (strangers : Bool) (w v : WorldState) (report : Report) → IsOkAt first strangers w →
-    Stays w report v → IsOkWithin 3 first strangers v
+pub stays_ok : (first : List Rule) (strangers : Bool) (w v : WorldState) (report : Report) → RefinesAt first strangers w →
+    Stays w report v → RefinesWithin 3 first strangers v
 stays_ok first strangers w v report ok s =
-    subst (λ (z : WorldState). IsOkWithin 3 first strangers z) (sym s.is)
+    subst (λ (z : WorldState). RefinesWithin 3 first strangers z) (sym s.is)
     (shown_as (IsShownAt two_hosts first) (IsShownWithin two_hosts 3 first) strangers w ok
     (none_more first (map view_of_end w.ends) ok.messages ok.shown))
 
 -- a client opens
 pub reading_keeps :
     (first : List Rule) (strangers : Bool) (w v : WorldState) (name : List ℕ) (mode : Mode) (asked : Asked)
-    (report : Report) → IsOkAt first strangers w → MayGet name mode asked →
-    OpeningStep w (reading_client w name mode asked) report v → IsOkWithin 3 first strangers v
+    (report : Report) → RefinesAt first strangers w → MayGet name mode asked →
+    OpeningStep w (reading_client w name mode asked) report v → RefinesWithin 3 first strangers v
 reading_keeps first strangers w v name mode asked report ok may o =
     let x = reading_client w name mode asked in
     let p = Read (request_of name mode asked) in
@@ -125,9 +125,9 @@ reading_keeps first strangers w v name mode asked report ok may o =
 
 pub writing_keeps :
     (first : List Rule) (strangers : Bool) (w v : WorldState) (name : List ℕ) (mode : Mode) (asked : Asked)
-    (file : List ℕ) (report : Report) → IsOkAt first strangers w →
+    (file : List ℕ) (report : Report) → RefinesAt first strangers w →
     MayPut name mode asked (length (wire_text mode file)) →
-    OpeningStep w (writing_client w name mode asked file) report v → IsOkWithin 3 first strangers v
+    OpeningStep w (writing_client w name mode asked file) report v → RefinesWithin 3 first strangers v
 writing_keeps first strangers w v name mode asked file report ok may o =
     let x = writing_client w name mode asked file in
     let p = Write (request_of name mode asked) in
@@ -158,10 +158,10 @@ spells_at bytes p valid is = subst (λ (b : List ℕ). Spells p b) (sym is) (spe
 -- a read is served
 sending_keeps :
     (first : List Rule) (strangers : Bool) (w v : WorldState) (from : Endpoint) (bytes : List ℕ) (request : Request)
-    (path file : List ℕ) (agreed : List Known) (report : Report) (ok : IsOkAt first strangers w) →
+    (path file : List ℕ) (agreed : List Known) (report : Report) (ok : RefinesAt first strangers w) →
     IsNewly two_hosts (map view_of_end w.ends) ok.messages from bytes false request → AreGranted agreed →
     Fits (wire_text request.mode file) (size agreed) →
-    OpeningStep w (sending_end w from bytes request.mode path file agreed) report v → IsOkWithin 3 first strangers v
+    OpeningStep w (sending_end w from bytes request.mode path file agreed) report v → RefinesWithin 3 first strangers v
 sending_keeps first strangers w v from bytes request path file [] report ok come granted fits o =
     let x = sending_end w from bytes request.mode path file [] in
     let opens =
@@ -184,9 +184,9 @@ sending_keeps first strangers w v from bytes request path file (known ∷ agreed
 -- a write is served
 taking_keeps :
     (first : List Rule) (strangers : Bool) (w v : WorldState) (from : Endpoint) (bytes : List ℕ) (request : Request)
-    (path : List ℕ) (agreed : List Known) (report : Report) (ok : IsOkAt first strangers w) →
+    (path : List ℕ) (agreed : List Known) (report : Report) (ok : RefinesAt first strangers w) →
     IsNewly two_hosts (map view_of_end w.ends) ok.messages from bytes true request → AreGranted agreed →
-    OpeningStep w (receiving_end w from bytes request.mode path agreed) report v → IsOkWithin 3 first strangers v
+    OpeningStep w (receiving_end w from bytes request.mode path agreed) report v → RefinesWithin 3 first strangers v
 taking_keeps first strangers w v from bytes request path [] report ok come granted o =
     let x = receiving_end w from bytes request.mode path [] in
     let opens =
@@ -207,10 +207,10 @@ taking_keeps first strangers w v from bytes request path (known ∷ agreed) repo
 
 -- the request port refuses
 refusing_keeps : (first : List Rule) (strangers : Bool) (w v : WorldState) (from : Endpoint) (reply : ErrorReply) →
-    IsOkAt first strangers w → v ≡ said_in w (datagram request_port from (error_bytes reply)) →
-    IsOkWithin 3 first strangers v
+    RefinesAt first strangers w → v ≡ said_in w (datagram request_port from (error_bytes reply)) →
+    RefinesWithin 3 first strangers v
 refusing_keeps first strangers w v from reply ok e =
-    subst (λ (z : WorldState). IsOkWithin 3 first strangers z) (sym e)
+    subst (λ (z : WorldState). RefinesWithin 3 first strangers z) (sym e)
     (saying_keeps first strangers w ok request_port from (error_bytes reply) (error_packet reply)
     (spells_own (error_packet reply) (valid_error reply))
     (says_error two_hosts first (map view_of_end w.ends) ok.messages ok.shown request_port from)
@@ -260,9 +260,9 @@ asked_so messages ends from bytes repeated decoded come spelled same false r e n
 )
 
 module _ (first : List Rule) (strangers : Bool) (w v : WorldState) (from : Endpoint) (bytes : List ℕ) (report : Report)
-    (ok : IsOkAt first strangers w) where
+    (ok : RefinesAt first strangers w) where
   abbrev Kept_by : Service → Type 0
-  Kept_by service = ServiceStep service w from bytes report v → IsOkWithin 3 first strangers v
+  Kept_by service = ServiceStep service w from bytes report v → RefinesWithin 3 first strangers v
 
   refused : (reply : ErrorReply) → Kept_by (Refused reply)
   refused reply h = refusing_keeps first strangers w v from reply ok h.1
@@ -284,7 +284,7 @@ module _ (first : List Rule) (strangers : Bool) (w v : WorldState) (from : Endpo
       let same : o.0 ≡ file = same_Some o.0 file (sym o.1 ∙ there) in
       subst
       (λ (n : Mode). Fits (wire_text n file) (size agreed) →
-      OpeningStep w (sending_end w from bytes n path file agreed) report v → IsOkWithin 3 first strangers v) come.1
+      OpeningStep w (sending_end w from bytes n path file agreed) report v → RefinesWithin 3 first strangers v) come.1
       (sending_keeps first strangers w v from bytes come.0 path file agreed report ok come.2
       (answer_granted options kinds.Read mode m w.limits agreed (omega (arith, small)) ok.max_block e)) fits
       (subst (λ (g : List ℕ). OpeningStep w (sending_end w from bytes mode path g agreed) report v) same o.2))
@@ -304,7 +304,7 @@ module _ (first : List Rule) (strangers : Bool) (w v : WorldState) (from : Endpo
       answer options kinds.Write mode 0 w.limits ≡ Ok agreed → Kept_by (by_draft path mode agreed (begun_of there))
   taking_served path mode options None agreed come e =
       subst
-      (λ (n : Mode). OpeningStep w (receiving_end w from bytes n path agreed) report v → IsOkWithin 3 first strangers v)
+      (λ (n : Mode). OpeningStep w (receiving_end w from bytes n path agreed) report v → RefinesWithin 3 first strangers v)
       come.1
       (taking_keeps first strangers w v from bytes come.0 path agreed report ok come.2
       (answer_granted options kinds.Write mode 0 w.limits agreed (omega arith) ok.max_block e))

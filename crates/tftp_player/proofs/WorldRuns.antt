@@ -33,7 +33,7 @@ use Rattle.tftp_player.specs.World.{WorldState, WorldEnd, Open_end, Closed_end, 
 use Rattle.tftp_player.specs.World.{datagram, new_world, view_of_end}
 use Rattle.tftp_player.specs.WorldSteps.{may_refuse_commit, OnDatagram, Arrives, At_request_port, At_open_end}
 use Rattle.tftp_player.specs.WorldSteps.{At_closed_end, At_nobody, TimeoutStep, armed_end, WorldStep}
-use Rattle.tftp_player.specs.WorldKept.{IsKeptIn, IsOkAt, IsOkWithin, IsOk}
+use Rattle.tftp_player.specs.WorldKept.{IsKeptIn, RefinesAt, RefinesWithin, Refines}
 use Rattle.tftp_player.specs.WorldRuns.{PlaysAll, MayHappen, MayAllHappen, StepsKeep, StepsAreRules, most_rules}
 use Rattle.tftp_player.specs.WorldSafety.{HasPeersAtHome}
 use Rattle.tftp_player.specs.declared.datagram.Datagram.{Datagram}
@@ -61,7 +61,7 @@ set_same {X = X} (y ∷ ys) zero x e = ap (λ (z : X). z ∷ ys) (sym (same_Some
 set_same {X = X} (y ∷ ys) (suc k) x e = ap (λ (zs : List X). y ∷ zs) (set_same ys k x e)
 
 -- what a datagram of the list says is there
-pub come_from : (first : List Rule) (strangers : Bool) (w : WorldState) (ok : IsOkAt first strangers w) (d : Datagram) →
+pub come_from : (first : List Rule) (strangers : Bool) (w : WorldState) (ok : RefinesAt first strangers w) (d : Datagram) →
     Contains w.sent d → (p : WirePacket) → Spells p d.bytes → Contains ok.messages (message d.from d.to (said p))
 come_from first strangers w ok d i p s =
     let h = ok.sent d i in
@@ -70,13 +70,13 @@ come_from first strangers w ok d i p s =
     (subst (λ (m : Message). Contains ok.messages m) h.1.says h.2)
 
 there_now :
-    (first : List Rule) (strangers : Bool) (w : WorldState) (ok : IsOkAt first strangers w) (from to : Endpoint)
+    (first : List Rule) (strangers : Bool) (w : WorldState) (ok : RefinesAt first strangers w) (from to : Endpoint)
     (bytes : List ℕ) → Contains w.sent (datagram from to bytes) → IsThere ok.messages from to bytes
 there_now first strangers w ok from to bytes i =
     let h = ok.sent (datagram from to bytes) i in
     (h.1.packet, h.1.spells, subst (λ (m : Message). Contains ok.messages m) h.1.says h.2)
 
-module _ (first : List Rule) (strangers : Bool) (w v : WorldState) (ok : IsOkAt first strangers w)
+module _ (first : List Rule) (strangers : Bool) (w v : WorldState) (ok : RefinesAt first strangers w)
     (report : Report) where
   -- an open end is among all that is shown
   stands : (k : ℕ) (x : OpenEnd) → slice_get w.ends k ≡ Some (Open_end x) →
@@ -105,7 +105,7 @@ module _ (first : List Rule) (strangers : Bool) (w v : WorldState) (ok : IsOkAt 
   -- how an end handled a datagram keeps the world
   datagram_keeps : (k : ℕ) (x : OpenEnd) (from : Endpoint) (bytes : List ℕ) → slice_get w.ends k ≡ Some (Open_end x) →
       ((p : WirePacket) → Spells p bytes → Contains ok.messages (message from x.address (said p))) →
-      OnDatagram w k x from bytes report v → IsOkWithin 3 first strangers v
+      OnDatagram w k x from bytes report v → RefinesWithin 3 first strangers v
   datagram_keeps k x from bytes at come h =
       let may_commit =
       may_refuse_commit (is_client x.state.role.side) (in_the_way w.overwrite (file_at w.files x.path)) in
@@ -118,7 +118,7 @@ module _ (first : List Rule) (strangers : Bool) (w v : WorldState) (ok : IsOkAt 
   -- a datagram that arrived keeps the world
   pub arrives_keeps : (from to : Endpoint) (bytes : List ℕ) →
       ((p : WirePacket) → Spells p bytes → Contains ok.messages (message from to (said p))) →
-      Arrives w from to bytes report v → IsOkWithin 3 first strangers v
+      Arrives w from to bytes report v → RefinesWithin 3 first strangers v
   arrives_keeps from to bytes come (At_request_port here port decoded says repeated same served) =
       let spelled = says_spelled bytes decoded says in
       serving_keeps first strangers w v from bytes report ok repeated decoded
@@ -133,7 +133,7 @@ module _ (first : List Rule) (strangers : Bool) (w v : WorldState) (ok : IsOkAt 
 
   -- a timeout keeps the world
   timeout_keeps : (k : ℕ) (x : WorldEnd) → slice_get w.ends k ≡ Some x → TimeoutStep w k x report v →
-      IsOkWithin 3 first strangers v
+      RefinesWithin 3 first strangers v
   timeout_keeps k (Closed_end x) at s = stays_ok first strangers w v report ok s
   timeout_keeps k (Open_end x) at t =
       turn_keeps first strangers w v ok k x (timeout_turn x.state) (files_of x) report at
@@ -201,9 +201,9 @@ same_kept w ends (Closed_end x) h = record { stands = h.stands; stored = h.store
 
 -- an end that is set to refuse keeps the world
 armed_keeps :
-    (first : List Rule) (strangers : Bool) (w : WorldState) (ok : IsOkAt first strangers w) (k : ℕ) (x : WorldEnd) →
+    (first : List Rule) (strangers : Bool) (w : WorldState) (ok : RefinesAt first strangers w) (k : ℕ) (x : WorldEnd) →
     slice_get w.ends k ≡ Some x →
-    IsOkWithin 3 first strangers (record w { ends = set w.ends k (armed_end x) })
+    RefinesWithin 3 first strangers (record w { ends = set w.ends k (armed_end x) })
 armed_keeps first strangers w ok k x at =
     let y = armed_end x in
     let v = record w { ends = set w.ends k y } in
@@ -228,8 +228,8 @@ armed_keeps first strangers w ok k x at =
     }
 
 -- a stranger has sent
-stray_ok : (first : List Rule) (w : WorldState) (ok : IsOkAt first true w) (from to : Endpoint) (p : WirePacket) →
-    host_of from ≡ Elsewhere → IsOkWithin 1 first true w
+stray_ok : (first : List Rule) (w : WorldState) (ok : RefinesAt first true w) (from to : Endpoint) (p : WirePacket) →
+    host_of from ≡ Elsewhere → RefinesWithin 1 first true w
 stray_ok first w ok from to p far =
     let m = message from to (said p) in
     record {
@@ -250,11 +250,11 @@ stray_ok first w ok from to p far =
 pub record Strayed (first : List Rule) (w : WorldState) (from to : Endpoint) (bytes : List ℕ) : Type 0 where
   pub more : List Rule
   pub few : length more ≤ 1
-  pub ok : IsOkAt (first ++ more) true w
+  pub ok : RefinesAt (first ++ more) true w
   pub come : (p : WirePacket) → Spells p bytes → Contains ok.messages (message from to (said p))
 
 pub with_decoded :
-    (first : List Rule) (w : WorldState) (ok : IsOkAt first true w) (from to : Endpoint) (bytes : List ℕ)
+    (first : List Rule) (w : WorldState) (ok : RefinesAt first true w) (from to : Endpoint) (bytes : List ℕ)
     (decoded : Option WirePacket) → host_of from ≡ Elsewhere → Decodes bytes decoded →
     Strayed first w from to bytes
 unfolding stray_ok shown_as
@@ -270,13 +270,13 @@ with_decoded first w ok from to bytes (Some q) far says =
 with_decoded first w ok from to bytes None far says = record {
   more = [];
   few = omega arith;
-  ok = subst (λ (rs : List Rule). IsOkAt rs true w) (sym (append-nil first)) ok;
+  ok = subst (λ (rs : List Rule). RefinesAt rs true w) (sym (append-nil first)) ok;
   come = λ p s. absurd (let f : None ≡ Some says.0 = sym (spelled_has_no_fault p bytes s) ∙ says.1 in cc);
 }
 
 -- one rule, and a few
 within_four : (first more : List Rule) (strangers : Bool) (v : WorldState) → length more ≤ 1 →
-    IsOkWithin 3 (first ++ more) strangers v → IsOkWithin 4 first strangers v
+    RefinesWithin 3 (first ++ more) strangers v → RefinesWithin 4 first strangers v
 within_four first more strangers v few ok =
     let s = ok.shown in
     let l : length (more ++ s.0) ≤ 4 = (let a = length-append more s.0 in let b = s.1 in omega (arith, a, b, few)) in
@@ -289,15 +289,15 @@ within_four first more strangers v few ok =
     )
 
 -- no more than three are no more than four
-three_or_four : (first : List Rule) (strangers : Bool) (v : WorldState) → IsOkWithin 3 first strangers v →
-    IsOkWithin 4 first strangers v
+three_or_four : (first : List Rule) (strangers : Bool) (v : WorldState) → RefinesWithin 3 first strangers v →
+    RefinesWithin 4 first strangers v
 three_or_four first strangers v ok =
     shown_as (IsShownWithin two_hosts 3 first) (IsShownWithin two_hosts 4 first) strangers v ok
     (shown_within two_hosts 3 4 first (map view_of_end v.ends) ok.messages (omega arith) ok.shown)
 
 pub stray_keeps :
-    (first : List Rule) (w v : WorldState) (ok : IsOkAt first true w) (report : Report) (from to : Endpoint)
-    (bytes : List ℕ) → host_of from ≡ Elsewhere → Arrives w from to bytes report v → IsOkWithin 4 first true v
+    (first : List Rule) (w v : WorldState) (ok : RefinesAt first true w) (report : Report) (from to : Endpoint)
+    (bytes : List ℕ) → host_of from ≡ Elsewhere → Arrives w from to bytes report v → RefinesWithin 4 first true v
 stray_keeps first w v ok report from to bytes far (At_request_port here port decoded says repeated same served) =
     let h = with_decoded first w ok from to bytes decoded far says in
     within_four first h.more true v h.few
@@ -314,8 +314,8 @@ stray_keeps first w v ok report from to bytes far (At_nobody away nobody_there s
 
 -- each step keeps the world, by more rules
 step_after : (first : List Rule) (strangers : Bool) (w v : WorldState) (event : Event) (report : Report) →
-    MayHappen strangers event → IsOkAt first strangers w → WorldStep w event report v →
-    IsOkWithin (most_rules event) first strangers v
+    MayHappen strangers event → RefinesAt first strangers w → WorldStep w event report v →
+    RefinesWithin (most_rules event) first strangers v
 step_after first strangers w v (Get name mode asked) report may ok s =
     reading_keeps first strangers w v name mode asked report ok s.1 s.2
 step_after first strangers w v (Put name mode asked bytes) report may ok s =
@@ -326,7 +326,7 @@ step_after first strangers w v (Deliver i) report may ok s =
 step_after first strangers w v (Timeout port) report may ok s =
     timeout_keeps first strangers w v ok report s.0 s.1 s.2.there s.3
 step_after first strangers w v (RefuseStore port) report may ok s =
-    subst (λ (z : WorldState). IsOkWithin 3 first strangers z) (sym s.4)
+    subst (λ (z : WorldState). RefinesWithin 3 first strangers z) (sym s.4)
     (armed_keeps first strangers w ok s.0 s.1 s.2.there)
 step_after first true w v (Stray from to bytes) report may ok s = stray_keeps first w v ok report from to bytes s.0 s.1
 step_after first false w v (Stray from to bytes) report may ok s = absurd may
@@ -346,14 +346,14 @@ step_keeps strangers w v event report may ok s =
 
 -- so do all of them
 pub run_keeps : (strangers : Bool) (events : List Event) (w v : WorldState) → MayAllHappen strangers events →
-    IsOk strangers w → PlaysAll w events v → IsOk strangers v
-run_keeps strangers [] w v may ok r = subst (λ (z : WorldState). IsOk strangers z) (sym r) ok
+    Refines strangers w → PlaysAll w events v → Refines strangers v
+run_keeps strangers [] w v may ok r = subst (λ (z : WorldState). Refines strangers z) (sym r) ok
 run_keeps strangers (event ∷ events) w v may ok r =
     run_keeps strangers events r.0 v may.1 (step_keeps strangers w r.0 event r.1 may.0 ok r.2) r.3
 
 -- a world begins
 pub new_ok : (strangers : Bool) (files : List StoredFile) (config : Config) → IsBlockSize config.limits.max_block →
-    IsOk strangers (new_world files config)
+    Refines strangers (new_world files config)
 new_ok strangers files config ok = record {
   messages = [];
   shown = shown_start two_hosts;
@@ -370,7 +370,7 @@ any_may [] = tt
 any_may (event ∷ events) = (tt, any_may events)
 
 -- a world without strangers has its peers at home
-pub ok_at_home : (w : WorldState) → IsOk false w → HasPeersAtHome w
+pub ok_at_home : (w : WorldState) → Refines false w → HasPeersAtHome w
 ok_at_home w ok x p i e =
     shown_at_home two_hosts (map view_of_end w.ends) ok.messages ok.shown (λ d c. ok.speakers d c refl) (view_of_end x)
     p (i.0, view_at w.ends i.0 x i.1) e

@@ -24,7 +24,7 @@ use Rattle.tftp_machine.proofs.SourceMoves.{text_if}
 use Rattle.tftp_player.specs.World.{WorldState, WorldEnd, Open_end, Closed_end, end_record, end_address, end_mode}
 use Rattle.tftp_player.specs.World.{end_file, end_stored, end_committed, end_text, end_wire, new_world, view_of_end}
 use Rattle.tftp_player.specs.WorldSafety.{HasPeer, IsIn, IsSafe, endpoint_of_end, safety_of}
-use Rattle.tftp_player.specs.WorldKept.{IsKeptIn, IsOk}
+use Rattle.tftp_player.specs.WorldKept.{IsKeptIn, Refines}
 use Rattle.tftp_player.specs.WorldRuns.{WorldsAreSafe, PeersStayHome, KeptIsSafe}
 use Rattle.tftp_player.proofs.HostBytes.{wire_beginning, wire_same}
 use Rattle.tftp_machine.proofs.Endpoints.{endpoint_from}
@@ -70,7 +70,7 @@ nothing_travels : (mode : Mode) → wire_text mode [] ≡ []
 nothing_travels Octet = refl
 nothing_travels Netascii = refl
 
-module _ (strangers : Bool) (w : WorldState) (ok : IsOk strangers w) where
+module _ (strangers : Bool) (w : WorldState) (ok : Refines strangers w) where
   safe : IsSafeViews two_hosts (map view_of_end w.ends)
   safe = shown_safe two_hosts (map view_of_end w.ends) ok.messages ok.shown
 

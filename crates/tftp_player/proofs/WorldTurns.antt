@@ -31,7 +31,7 @@ use Rattle.tftp_player.specs.World.{WorldState, WorldEnd, Open_end, Closed_end, 
 use Rattle.tftp_player.specs.World.{StoredFile, file_at, in_the_way, datagram, replied, standing, has_committed}
 use Rattle.tftp_player.specs.World.{world_after, opened_in, said_in, view_of_end}
 use Rattle.tftp_player.specs.WorldSteps.{FilesAfter, Turns, OpeningStep}
-use Rattle.tftp_player.specs.WorldKept.{HasPorts, IsOpenIn, StandsIn, IsKeptIn, SaysSo, MaySpeak, IsOkAt, IsOkWithin}
+use Rattle.tftp_player.specs.WorldKept.{HasPorts, IsOpenIn, StandsIn, IsKeptIn, SaysSo, MaySpeak, RefinesAt, RefinesWithin}
 use Rattle.tftp_player.specs.declared.datagram.Datagram.{Datagram}
 use Rattle.tftp_player.specs.declared.report.Report.{Report}
 use Rattle.tftp_machine.proofs.Indices.{slice_get-set_cases, slice_get-push_cases}
@@ -102,12 +102,12 @@ pub viewed_at : (ends : List WorldEnd) (k : ℕ) (e : EndView) → slice_get (ma
 viewed_at ends k e i = viewed e (slice_get ends k) (sym (slice_get-map view_of_end ends k) ∙ i)
 
 -- a machine that keeps its invariant shows a world that keeps its own
-pub world_machine : (first : List Rule) (strangers : Bool) (w : WorldState) (ok : IsOkAt first strangers w) →
+pub world_machine : (first : List Rule) (strangers : Bool) (w : WorldState) (ok : RefinesAt first strangers w) →
     (m : Machine) × Holds two_hosts m × AreRecorded two_hosts m × Shows (map view_of_end w.ends) ok.messages m
 world_machine first strangers w ok = shown_by two_hosts (map view_of_end w.ends) ok.messages (first, ok.shown)
 
 -- each end is at one of the two hosts
-pub at_home : (first : List Rule) (strangers : Bool) (w : WorldState) → IsOkAt first strangers w →
+pub at_home : (first : List Rule) (strangers : Bool) (w : WorldState) → RefinesAt first strangers w →
     (k : ℕ) (x : WorldEnd) → slice_get w.ends k ≡ Some x → host_of (end_address x) ≢ Elsewhere
 at_home first strangers w ok k x e f =
     let by = world_machine first strangers w ok in
@@ -177,7 +177,7 @@ still_kept w v added x more set_same stay h = record {
 }
 
 -- what was sent and what is there, after an answer
-module _ (first : List Rule) (strangers : Bool) (w : WorldState) (ok : IsOkAt first strangers w) (from : Endpoint)
+module _ (first : List Rule) (strangers : Bool) (w : WorldState) (ok : RefinesAt first strangers w) (from : Endpoint)
     (own : host_of from ≢ Elsewhere)
     (reply : Option Reply) (said_now : List Message) (r : Replies from reply said_now) where
   pub sent_then : (d : Datagram) → Contains (w.sent ++ replied from reply) d →
@@ -220,13 +220,13 @@ complete_then false client old_committed new_committed o n c =
 
 -- a turn of an end keeps the world
 pub turn_keeps :
-    (first : List Rule) (strangers : Bool) (w v : WorldState) (ok : IsOkAt first strangers w) (k : ℕ) (x : OpenEnd)
+    (first : List Rule) (strangers : Bool) (w v : WorldState) (ok : RefinesAt first strangers w) (k : ℕ) (x : OpenEnd)
     (turn : Turn) (held : Files (List ℕ) Holding) (report : Report) →
     slice_get w.ends k ≡ Some (Open_end x) →
     Goes two_hosts first (map view_of_end w.ends) ok.messages k x turn (end_after x turn held) →
-    Turns w k x turn held report v → IsOkWithin 3 first strangers v
+    Turns w k x turn held report v → RefinesWithin 3 first strangers v
 turn_keeps first strangers w v ok k x turn held report at g t =
-    subst (λ (z : WorldState). IsOkWithin 3 first strangers z) (sym t.is) later where
+    subst (λ (z : WorldState). RefinesWithin 3 first strangers z) (sym t.is) later where
       was : IsOpenIn w x
       was = (ok.ends k (Open_end x) at).stands
 
@@ -280,7 +280,7 @@ turn_keeps first strangers w v ok k x turn held report at g t =
           ] in
           subst (λ (q : List ℕ). file_at t.files q ≡ Some y.stored) (sym path) under
 
-      later : IsOkWithin 3 first strangers (world_after w k x turn held t.files)
+      later : RefinesWithin 3 first strangers (world_after w k x turn held t.files)
       later =
           let y = end_after x turn held in
           let same_address = (same_end (record x { state = after_turn x.state turn }) held).0 in
@@ -315,7 +315,7 @@ turn_keeps first strangers w v ok k x turn held report at g t =
 
 -- an end that opened keeps the world
 pub opening_keeps :
-    (first : List Rule) (strangers : Bool) (w v : WorldState) (ok : IsOkAt first strangers w) (x : OpenEnd)
+    (first : List Rule) (strangers : Bool) (w v : WorldState) (ok : RefinesAt first strangers w) (x : OpenEnd)
     (report : Report) (p : WirePacket) →
     Spells p x.state.position.last_sent →
     IsShownWithin two_hosts 3 first (map view_of_end w.ends ++ view_of_end (Open_end x) ∷ [])
@@ -323,10 +323,10 @@ pub opening_keeps :
     host_of x.address ≢ Elsewhere → x.address.port ≡ 1024 + length w.ends → outcome_of x.state.position.phase ≡ None →
     EndKept two_hosts x → is_complete x.state.position.phase ≡ false → x.text ≡ wire_text x.state.role.mode x.file →
     OpeningStep w x report v →
-    IsOkWithin 3 first strangers v
+    RefinesWithin 3 first strangers v
 opening_keeps first strangers w v ok x report p spells shown own port still kept incomplete wire o =
-    subst (λ (z : WorldState). IsOkWithin 3 first strangers z) (sym o.is) later where
-      later : IsOkWithin 3 first strangers (opened_in w x)
+    subst (λ (z : WorldState). RefinesWithin 3 first strangers z) (sym o.is) later where
+      later : RefinesWithin 3 first strangers (opened_in w x)
       later =
           let reply : Option Reply =
           Some (record { to = x.state.position.last_sent_to; bytes = x.state.position.last_sent }) in
@@ -360,12 +360,12 @@ opening_keeps first strangers w v ok x report p spells shown own port still kept
 
 -- a datagram that changes no end keeps the world
 pub saying_keeps :
-    (first : List Rule) (strangers : Bool) (w : WorldState) (ok : IsOkAt first strangers w) (from to : Endpoint)
+    (first : List Rule) (strangers : Bool) (w : WorldState) (ok : RefinesAt first strangers w) (from to : Endpoint)
     (bytes : List ℕ) (p : WirePacket) →
     Spells p bytes →
     IsShownWithin two_hosts 3 first (map view_of_end w.ends) (ok.messages ++ message from to (said p) ∷ []) →
     host_of from ≢ Elsewhere →
-    IsOkWithin 3 first strangers (said_in w (datagram from to bytes))
+    RefinesWithin 3 first strangers (said_in w (datagram from to bytes))
 saying_keeps first strangers w ok from to bytes p spells shown own =
     let reply : Option Reply = Some (record { to = to; bytes = bytes }) in
     let m = message from to (said p) in

@@ -5,7 +5,7 @@ use Rattle.tftp_machine.specs.Hosts.{host_of, request_port}
 use Rattle.tftp_machine.specs.Machine.{Endpoint}
 use Rattle.tftp_machine.specs.Machine.{Elsewhere as Far}
 use Rattle.tftp_player.specs.Serving.{PlayedServer}
-use Rattle.tftp_player.specs.Stage.{world_of}
+use Rattle.tftp_player.specs.Exchange.{world_of}
 use Rattle.tftp_player.specs.World.{WorldState}
 use Rattle.tftp_player.specs.WorldSteps.{Arrives, LacksPort}
 use Rattle.tftp_player.specs.declared.datagram.Datagram.{Datagram}

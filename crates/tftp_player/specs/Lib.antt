@@ -14,7 +14,7 @@ pub mod Clients
 pub mod Serving
 pub mod Requested
 pub mod Played
-pub mod Stage
+pub mod Exchange
 pub mod Arriving
 pub mod Settling
 pub mod Strangers

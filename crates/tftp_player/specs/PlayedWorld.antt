@@ -1,7 +1,7 @@
 -- What the struct that plays a world holds.
 use Rattle.std.specs.Prelude.{◌≡◌, ◌≤◌, length, Bool, true, false, ◌||◌}
 use Rattle.tftp_player.specs.World.{WorldState}
-use Rattle.tftp_player.specs.WorldKept.{IsOk}
+use Rattle.tftp_player.specs.WorldKept.{Refines}
 use Rattle.tftp_player.specs.WorldSafety.{HasPeersAtHome}
 use Rattle.tftp_player.specs.declared.event.Event.{Event}
 use Rattle.tftp_player.specs.declared.event.Event.TheVariants.{Stray}
@@ -30,4 +30,4 @@ IsHome w = w.strayed ≡ false → HasPeersAtHome w.state
 
 -- a world that was played: the premise of the laws on worlds
 abbrev pub WasPlayed : PlayedWorld → Type 0
-WasPlayed w = IsOk w.strayed w.state
+WasPlayed w = Refines w.strayed w.state

@@ -7,7 +7,7 @@ use Rattle.tftp_machine.specs.Hosts.{request_port}
 use Rattle.tftp_machine.specs.Machine.{Endpoint}
 use Rattle.tftp_player.specs.Requests.{Repeats, AnyRepeats}
 use Rattle.tftp_player.specs.World.{WorldState, WorldEnd, is_closed, no_report}
-use Rattle.tftp_player.specs.WorldKept.{IsOk}
+use Rattle.tftp_player.specs.WorldKept.{Refines}
 use Rattle.tftp_player.specs.WorldSteps.{Arrives, WorldStep}
 use Rattle.tftp_player.specs.declared.event.Event.{Event}
 use Rattle.tftp_player.specs.declared.report.Report.{Report}
@@ -24,7 +24,7 @@ abbrev pub RepeatsOpenNothing : Type 0
 RepeatsOpenNothing =
     (strangers : Bool) (old new : WorldState) (from : Endpoint) (packet : Packet) (bytes : List ℕ)
     (report : Report) →
-    IsOk strangers old → AsksForTransfer packet → Spells packet bytes →
+    Refines strangers old → AsksForTransfer packet → Spells packet bytes →
     AnyRepeats from packet old.ends →
     Arrives old from request_port bytes report new → (report ≡ no_report) × (new ≡ old)
 

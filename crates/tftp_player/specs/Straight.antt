@@ -21,7 +21,7 @@ use Rattle.tftp_player.specs.Openings.{reading_client, writing_client}
 use Rattle.tftp_player.specs.Requests.{IsRepeated, service}
 use Rattle.tftp_player.specs.Settling.{Settled}
 use Rattle.tftp_player.specs.World.{WorldState, ClosedEnd, WorldEnd, Closed_end, file_at}
-use Rattle.tftp_player.specs.WorldKept.{IsOk}
+use Rattle.tftp_player.specs.WorldKept.{Refines}
 use Rattle.tftp_player.specs.WorldSafety.{IsComplete}
 use Rattle.tftp_player.specs.WorldSteps.{WorldStep, Settles}
 use Rattle.tftp_player.specs.declared.event.Event.{Event}
@@ -134,7 +134,7 @@ abbrev pub ReadsComplete : Type 0
 ReadsComplete =
     (strangers : Bool) (old new : WorldState) (name : List ℕ) (mode : Mode) (asked : Asked)
     (file : List ℕ) (agreed : List Known) →
-    IsOk strangers old → (read : ReadsStraight old new name mode asked file agreed) →
+    Refines strangers old → (read : ReadsStraight old new name mode asked file agreed) →
     Ends old new (length read.run.reports) (read_adds mode file agreed)
 
 -- a write does so, too
@@ -142,7 +142,7 @@ abbrev pub WritesComplete : Type 0
 WritesComplete =
     (strangers : Bool) (old new : WorldState) (name : List ℕ) (mode : Mode) (asked : Asked)
     (file : List ℕ) (agreed : List Known) →
-    IsOk strangers old → (write : WritesStraight old new name mode asked file agreed) →
+    Refines strangers old → (write : WritesStraight old new name mode asked file agreed) →
     Ends old new (length write.run.reports) (write_adds mode file agreed)
 
 -- `settle` with a limit of at least as many deliveries as a read needs makes that many, and
@@ -151,7 +151,7 @@ abbrev pub ReadsSettle : Type 0
 ReadsSettle =
     (strangers : Bool) (old begun new : WorldState) (report : Report) (name : List ℕ) (mode : Mode)
     (asked : Asked) (file : List ℕ) (agreed : List Known) (most made : ℕ) →
-    IsOk strangers old → WorldStep old (Get name mode asked) report begun →
+    Refines strangers old → WorldStep old (Get name mode asked) report begun →
     AcceptsRead old begun name mode asked file agreed →
     Settled begun (length old.sent) most made new → read_adds mode file agreed ≤ most →
     (made ≡ read_adds mode file agreed) × IsThrough old new (read_adds mode file agreed)
@@ -167,7 +167,7 @@ abbrev pub WritesSettle : Type 0
 WritesSettle =
     (strangers : Bool) (old begun new : WorldState) (report : Report) (name : List ℕ) (mode : Mode)
     (asked : Asked) (file : List ℕ) (agreed : List Known) (most made : ℕ) →
-    IsOk strangers old → WorldStep old (Put name mode asked file) report begun →
+    Refines strangers old → WorldStep old (Put name mode asked file) report begun →
     AcceptsWrite old begun name mode asked file agreed →
     Settled begun (length old.sent) most made new → HaveTaken begun new →
     write_adds mode file agreed ≤ most →
@@ -177,12 +177,12 @@ WritesSettle =
 -- the end
 abbrev pub SomeReadIsStraight : Mode → Asked → List ℕ → List Known → Type 0
 SomeReadIsStraight mode asked file agreed =
-    (old : WorldState) × (new : WorldState) × (name : List ℕ) × IsOk false old
+    (old : WorldState) × (new : WorldState) × (name : List ℕ) × Refines false old
     × (read : ReadsStraight old new name mode asked file agreed)
     × (length read.run.reports ≡ read_adds mode file agreed)
 
 abbrev pub SomeWriteIsStraight : Mode → Asked → List ℕ → List Known → Type 0
 SomeWriteIsStraight mode asked file agreed =
-    (old : WorldState) × (new : WorldState) × (name : List ℕ) × IsOk false old
+    (old : WorldState) × (new : WorldState) × (name : List ℕ) × Refines false old
     × (write : WritesStraight old new name mode asked file agreed)
     × (length write.run.reports ≡ write_adds mode file agreed)

@@ -4,7 +4,7 @@ use Rattle.tftp_ends.specs.End.{is_client}
 use Rattle.tftp_machine.specs.Hosts.{host_of}
 use Rattle.tftp_machine.specs.Machine.{Endpoint, At_server, Elsewhere}
 use Rattle.tftp_player.specs.World.{WorldState, WorldEnd, end_record}
-use Rattle.tftp_player.specs.WorldKept.{IsOk}
+use Rattle.tftp_player.specs.WorldKept.{Refines}
 use Rattle.tftp_player.specs.WorldSafety.{IsIn, HasPeer}
 use Rattle.tftp_player.specs.WorldSteps.{WorldStep}
 use Rattle.tftp_player.specs.declared.event.Event.TheVariants.{Stray}
@@ -23,7 +23,7 @@ abbrev pub StraysChangeNoRecord : Type 0
 StraysChangeNoRecord =
     (strangers : Bool) (old new : WorldState) (from to : Endpoint) (bytes : List ℕ)
     (report : Report) (k : ℕ) (x : WorldEnd) →
-    IsOk strangers old → WorldStep old (Stray from to bytes) report new →
+    Refines strangers old → WorldStep old (Stray from to bytes) report new →
     slice_get old.ends k ≡ Some x → HasNoStranger x →
     IsRecordedSo new k x
 
@@ -31,5 +31,5 @@ StraysChangeNoRecord =
 abbrev pub ClientsHaveServers : Type 0
 ClientsHaveServers =
     (strangers : Bool) (w : WorldState) (x : WorldEnd) (p : Endpoint) →
-    IsOk strangers w → IsIn w x → is_client (end_record x).side ≡ true → HasPeer x p →
+    Refines strangers w → IsIn w x → is_client (end_record x).side ≡ true → HasPeer x p →
     host_of p ≡ At_server

@@ -64,7 +64,7 @@ HasPorts w =
 
 -- the world's ends and what was sent refine the guarded machine, as `IsShownSo` says; `strangers`
 -- says that an endpoint at neither host may have sent
-pub record IsOkBy (IsShownSo : List EndView → List Message → Type 0) (strangers : Bool)
+pub record RefinesBy (IsShownSo : List EndView → List Message → Type 0) (strangers : Bool)
     (w : WorldState) : Type 0 where
   pub messages : List Message
   pub shown : IsShownSo (map view_of_end w.ends) messages
@@ -79,13 +79,13 @@ pub record IsOkBy (IsShownSo : List EndView → List Message → Type 0) (strang
   pub ends : (k : ℕ) (x : WorldEnd) → slice_get w.ends k ≡ Some x → IsKeptIn w x
 
 -- they refine the machine after a legal list of rules
-abbrev pub IsOk : Bool → WorldState → Type 0
-IsOk strangers w = IsOkBy (IsShown two_hosts) strangers w
+abbrev pub Refines : Bool → WorldState → Type 0
+Refines strangers w = RefinesBy (IsShown two_hosts) strangers w
 
 -- they refine it after these rules
-abbrev pub IsOkAt : List Rule → Bool → WorldState → Type 0
-IsOkAt rules strangers w = IsOkBy (IsShownAt two_hosts rules) strangers w
+abbrev pub RefinesAt : List Rule → Bool → WorldState → Type 0
+RefinesAt rules strangers w = RefinesBy (IsShownAt two_hosts rules) strangers w
 
 -- they refine it after these and `most` more at most
-abbrev pub IsOkWithin : ℕ → List Rule → Bool → WorldState → Type 0
-IsOkWithin most rules strangers w = IsOkBy (IsShownWithin two_hosts most rules) strangers w
+abbrev pub RefinesWithin : ℕ → List Rule → Bool → WorldState → Type 0
+RefinesWithin most rules strangers w = RefinesBy (IsShownWithin two_hosts most rules) strangers w

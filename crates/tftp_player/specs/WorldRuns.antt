@@ -5,7 +5,7 @@ use Rattle.tftp_negotiate.specs.Ranges.{IsBlockSize}
 use Rattle.tftp_player.specs.World.{WorldState, StoredFile, new_world}
 use Rattle.tftp_player.specs.WorldSteps.{WorldStep}
 use Rattle.tftp_player.specs.WorldSafety.{IsSafe, HasPeersAtHome}
-use Rattle.tftp_player.specs.WorldKept.{IsOk, IsOkWithin}
+use Rattle.tftp_player.specs.WorldKept.{Refines, RefinesWithin}
 use Rattle.tftp_player.specs.declared.event.Event.{Event}
 use Rattle.tftp_player.specs.declared.event.Event.TheVariants.{Stray}
 use Rattle.tftp_player.specs.declared.report.Report.{Report}
@@ -44,14 +44,14 @@ PeersStayHome =
 abbrev pub NewWorldsBegin : Type 0
 NewWorldsBegin =
     (strangers : Bool) (files : List StoredFile) (config : Config) →
-    IsBlockSize config.limits.max_block → IsOk strangers (new_world files config)
+    IsBlockSize config.limits.max_block → Refines strangers (new_world files config)
 
 -- a step preserves the invariant
 abbrev pub StepsKeep : Type 0
 StepsKeep =
     (strangers : Bool) (old new : WorldState) (event : Event) (report : Report) →
-    MayHappen strangers event → IsOk strangers old → WorldStep old event report new →
-    IsOk strangers new
+    MayHappen strangers event → Refines strangers old → WorldStep old event report new →
+    Refines strangers new
 
 -- the most rules of the guarded machine that an event is: a waiting reader learns its peer, stores
 -- a part of DATA 1 and gives up; a stranger sends before
@@ -64,9 +64,9 @@ most_rules event = 3
 abbrev pub StepsAreRules : Type 0
 StepsAreRules =
     (strangers : Bool) (old new : WorldState) (event : Event) (report : Report) →
-    MayHappen strangers event → (ok : IsOk strangers old) → WorldStep old event report new →
-    IsOkWithin (most_rules event) ok.shown.0 strangers new
+    MayHappen strangers event → (ok : Refines strangers old) → WorldStep old event report new →
+    RefinesWithin (most_rules event) ok.shown.0 strangers new
 
 -- the invariant makes a world safe
 abbrev pub KeptIsSafe : Type 0
-KeptIsSafe = (strangers : Bool) (w : WorldState) → IsOk strangers w → IsSafe w
+KeptIsSafe = (strangers : Bool) (w : WorldState) → Refines strangers w → IsSafe w

@@ -16,7 +16,7 @@ use crate::effect::{Effect, effect_of};
 use crate::fault::WorldFault;
 use crate::hosts::{REQUEST_PORT, client_at};
 use crate::room::{answer_room, copied, largest_block, reserved};
-use crate::shelf::Shelf;
+use crate::client_sink::ClientSink;
 use std::alloc::Global;
 use std::marker::Model;
 use tftp_ends::{End, EndConfig, EndFault, Endpoint, OpenFault, Outgoing, Record};
@@ -28,7 +28,7 @@ use tftp_wire::{Bytes, Mode};
 #[derive(Drop)]
 pub(crate) struct Client {
     end: End,
-    files: Files<MemSource, Shelf>,
+    files: Files<MemSource, ClientSink>,
     /// The file that it sends, as its host stores it; empty for one that receives.
     file: SharedBytes,
     /// The largest block size that it may agree to.
@@ -71,7 +71,7 @@ impl Client {
             Ok((end, step)) => Ok((
                 Client {
                     end,
-                    files: Files::Sink(Shelf::new(alloc)),
+                    files: Files::Sink(ClientSink::new(alloc)),
                     file: SharedBytes::new(),
                     max_block: largest_block(asked),
                 },

@@ -5,8 +5,8 @@ mod arriving;
 ghost use Rattle.std.specs.Prelude.{◌≡◌, ◌<◌, ◌+◌, ◌++◌, ◌∷◌, [], true, length, slice_get, ◌≤◌};
 ghost use Rattle.std.specs.Prelude.{◌⊎◌, IfSome, IfNone, IfOk, IfErr, OnOk, OnErr};
 ghost use Rattle.tftp_ends.specs.End.{is_client};
-ghost use Rattle.tftp_player.specs.Stage.{AreConsistent, AreAsBefore, StageTimeoutStep, ends_of};
-ghost use Rattle.tftp_player.specs.Stage.{record_closed};
+ghost use Rattle.tftp_player.specs.Exchange.{AreConsistent, AreAsBefore, StageTimeoutStep, ends_of};
+ghost use Rattle.tftp_player.specs.Exchange.{record_closed};
 ghost use Rattle.tftp_player.specs.declared.player.Player.TheVariants as players;
 
 use crate::client::Client;

@@ -1,6 +1,6 @@
 //! The laws of every run of a world, over the definitions alone.
 //!
-//! The premise `IsOk` of a law holds by the clauses `played` of `World`'s calls.
+//! The premise `Refines` of a law holds by the clauses `played` of `World`'s calls.
 
 ghost use Rattle.std.specs.Prelude.{[], ◌∷◌};
 ghost use Rattle.tftp_wire.specs.declared.mode.Mode.TheVariants.{Octet, Netascii};

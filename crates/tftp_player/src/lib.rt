@@ -19,8 +19,8 @@ mod random;
 mod report;
 mod room;
 mod served;
-mod shelf;
-mod stage;
+mod client_sink;
+mod exchange;
 mod world;
 
 pub use datagram::Datagram;

@@ -8,7 +8,7 @@ ghost use Rattle.tftp_machine.specs.Hosts.{host_of};
 ghost use Rattle.tftp_machine.specs.Machine.{Elsewhere};
 ghost use Rattle.tftp_player.specs.Played.{records_from};
 ghost use Rattle.tftp_player.specs.PlayedWorld.{strayed_after, HasSentEach, IsHome, WasPlayed};
-ghost use Rattle.tftp_player.specs.Stage.{stored_at, committed_at};
+ghost use Rattle.tftp_player.specs.Exchange.{stored_at, committed_at};
 ghost use Rattle.tftp_player.specs.Arriving.{IsPlayable};
 ghost use Rattle.tftp_player.specs.WorldSteps.{WorldStep, WorldRefuses};
 ghost use Rattle.tftp_player.specs.Settling.{Settled, StopsAt};
@@ -19,7 +19,7 @@ use crate::datagram::Datagram;
 use crate::event::Event;
 use crate::fault::WorldFault;
 use crate::report::Report;
-use crate::stage::Stage;
+use crate::exchange::Exchange;
 use std::alloc::Global;
 use std::marker::Model;
 use tftp_ends::{Endpoint, Record};
@@ -40,20 +40,20 @@ use tftp_server::Config;
 /// hold of any `World`.
 #[derive(Drop)]
 pub struct World {
-    stage: Stage,
+    exchange: Exchange,
     /// Whether a datagram of neither host has arrived.
     strayed: bool,
 }
 
 impl Model for World {
     ghost use Rattle.tftp_player.specs.PlayedWorld.{PlayedWorld, HasSentEach};
-    ghost use Rattle.tftp_player.specs.WorldKept.{IsOk};
+    ghost use Rattle.tftp_player.specs.WorldKept.{Refines};
 
     ghost Value = { PlayedWorld };
 
-    ghost view = { λ w. record { state = w.stage; strayed = w.strayed } };
+    ghost view = { λ w. record { state = w.exchange; strayed = w.strayed } };
 
-    ghost invariant = { λ w. IsOk w.strayed w.stage × HasSentEach w.stage };
+    ghost invariant = { λ w. Refines w.strayed w.exchange × HasSentEach w.exchange };
 }
 
 impl World {
@@ -74,9 +74,9 @@ impl World {
         ensures home { IfOk result IsHome }
         ensures played { IfOk result WasPlayed }
     {
-        let stage = Stage::new(alloc, files, config)?;
+        let exchange = Exchange::new(alloc, files, config)?;
         Ok(World {
-            stage,
+            exchange,
             strayed: false,
         })
     }
@@ -100,7 +100,7 @@ impl World {
         ensures sent { result.now ≡ self.now.state.sent }
         ensures each { HasSentEach self.now.state }
     {
-        self.stage.sent()
+        self.exchange.sent()
     }
 
     /// The record of every end that was ever opened, with its port, in order of opening.
@@ -110,28 +110,28 @@ impl World {
         ensures home { IsHome self.now }
         ensures played { WasPlayed self.now }
     {
-        self.stage.records()
+        self.exchange.records()
     }
 
     /// What the receiver at this port has stored, also after it closed. None for a sender.
     pub fn stored(&self, port: u16) -> Option<&[u8]>
         ensures { option_map (λ bytes. bytes.now) result ≡ stored_at self.now.state.ends port }
     {
-        self.stage.stored(port)
+        self.exchange.stored(port)
     }
 
     /// Whether the receiver at this port has committed what it stored.
     pub fn committed(&self, port: u16) -> bool
         ensures { result ≡ committed_at self.now.state.ends port }
     {
-        self.stage.committed(port)
+        self.exchange.committed(port)
     }
 
     /// The server's file of this path, as it is now.
     pub fn file(&self, path: &Path) -> Option<&[u8]>
         ensures { option_map (λ bytes. bytes.now) result ≡ file_at self.now.state.files path.now }
     {
-        self.stage.file(path)
+        self.exchange.file(path)
     }
 
     /// Plays an event. A refused event changes nothing.
@@ -159,7 +159,7 @@ impl World {
         ensures played { WasPlayed self.new }
     {
         let strayed = event.strayed_after(self.strayed);
-        match self.stage.step(event) {
+        match self.exchange.step(event) {
             Ok(report) => {
                 self.strayed = strayed;
                 Ok(report)
@@ -185,7 +185,7 @@ impl World {
         ensures home { IsHome self.new }
         ensures played { WasPlayed self.new }
     {
-        let _ = &self.stage;
+        let _ = &self.exchange;
         let mut count = 0;
         while count < most && count < self.sent().len().saturating_sub(from) {
             match self.apply(Event::Deliver(from + count)) {

@@ -35,7 +35,7 @@ use Rattle.tftp_server.specs.declared.server.request.PortAction.{PortAction}
 use Rattle.tftp_server.specs.declared.server.request.Decision.{Decision}
 use Rattle.tftp_server.specs.declared.server.request.Decision.TheVariants.{Refuse, Open}
 use Rattle.tftp_server.specs.Port.{Ask, Ignores, Refuses, asks, by_packet, by_repeat, by_name, by_options, by_kind, begin_reply}
-use Rattle.tftp_server.specs.Request.{Acts, Admits, CarriesOut, Came, Nothing, An_error, A_transfer, IsRequest, AsksToWrite, Goes, RequestStep, Left, ask_of, came_to, decided_bytes, left_by}
+use Rattle.tftp_server.specs.Request.{Acts, Admits, CarriesOut, Came, Nothing, Error_reply, A_transfer, IsRequest, AsksToWrite, Goes, RequestStep, Left, ask_of, came_to, decided_bytes, left_by}
 use Rattle.tftp_server.specs.Shortage.{NamesAPath}
 use Rattle.tftp_server.specs.State.{HeldTransfer, ServerState, IsRepeated, with_new}
 use Rattle.tftp_store.specs.Store.{StoreMeaning, Begins}
@@ -198,7 +198,7 @@ module _ {S F D : Type 0} (meaning : StoreMeaning S D) (sources : SourceMeaning 
   refuses tid ask reply before after (Ok opened) is opened_is ok = (
     error_bytes reply,
     ok,
-    carries tid ask (Refuses reply) (An_error reply old.store) _ is refl
+    carries tid ask (Refuses reply) (Error_reply reply old.store) _ is refl
         (ap (λ (o : Opened). record { new = old; opened = o; sent = error_bytes reply }) opened_is),
   )
   refuses tid ask reply before after (Err fault) is opened_is ok = tt
@@ -268,9 +268,9 @@ module _ {S F D : Type 0} (meaning : StoreMeaning S D) (sources : SourceMeaning 
     pub write_refused : (tid : ℕ) (was mid out : List ℕ) (d : Decision F D) (reply : ErrorReply) (opened : Opened) → d ≡ Refuse reply → table ≡ held → AsksToWrite meaning sources (before_write none) from bytes path mode agreed (came_to d after.store) → mid ≡ was ++ decided_bytes d →
         opened ≡ record { tid = None; to = Some from } → out ≡ mid ++ error_bytes reply → Written tid was out opened
     write_refused tid was mid out d reply opened is back asks sent opened_is ok = (
-      An_error reply after.store,
+      Error_reply reply after.store,
       error_bytes reply,
-      asked_apart (An_error reply after.store) (subst (λ (x : Decision F D). AsksToWrite meaning sources (before_write none) from bytes path mode agreed (came_to x after.store)) is asks),
+      asked_apart (Error_reply reply after.store) (subst (λ (x : Decision F D). AsksToWrite meaning sources (before_write none) from bytes path mode agreed (came_to x after.store)) is asks),
       ok ∙ ap (λ (x : List ℕ). x ++ error_bytes reply) (nothing_sent was mid d reply is sent),
       rw (config_kept, store_kept, back, opened_is) refl,
     )

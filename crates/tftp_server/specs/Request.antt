@@ -45,7 +45,7 @@ pub data Came (S F D : Type 0) : Type 0 where
   -- nothing
   Nothing : Came S F D
   -- an ERROR is sent, and this is the new store
-  An_error : ErrorReply → S → Came S F D
+  Error_reply : ErrorReply → S → Came S F D
   -- a transfer opens, and this is the new store
   A_transfer : HeldTransfer F D → S → Came S F D
 
@@ -66,7 +66,7 @@ module _ {S F D : Type 0} where
   abbrev pub left_by : Came S F D → ServerState S F D → Endpoint → ℕ → Left S F D
   left_by Nothing old from tid =
       record { new = old; opened = record { tid = None; to = None }; sent = [] }
-  left_by (An_error reply store) old from tid =
+  left_by (Error_reply reply store) old from tid =
       record {
         new = record old { store = store };
         opened = record { tid = None; to = Some from };
@@ -109,11 +109,11 @@ module _ {S F D : Type 0} (meaning : StoreMeaning S D) (sources : SourceMeaning 
   Starts path mode length agreed source came =
       Serves path mode length agreed source came
       ⊎ ((agreed ≡ []) × CannotStart sources length source
-      × (came ≡ An_error FileChanged old.store))
+      × (came ≡ Error_reply FileChanged old.store))
 
   -- the result for a file that was opened, or could not be
   abbrev pub Sent : Service → Result (Opening F) StoreFault → Came S F D → Type 0
-  Sent (Refused reply) file came = came ≡ An_error reply old.store
+  Sent (Refused reply) file came = came ≡ Error_reply reply old.store
   Sent (Sends path mode length agreed) (Ok file) came =
       Starts path mode length agreed file.source came
   Sent service file came = ⊥
@@ -132,7 +132,7 @@ module _ {S F D : Type 0} (meaning : StoreMeaning S D) (sources : SourceMeaning 
 
   -- the result for a draft that was begun, or could not be
   abbrev pub Taken : Service → Result D StoreFault → S → Came S F D → Type 0
-  Taken (Refused reply) draft store came = came ≡ An_error reply store
+  Taken (Refused reply) draft store came = came ≡ Error_reply reply store
   Taken (Takes path mode agreed) (Ok draft) store came =
       came ≡ A_transfer (record {
         end = serving_write agreed from mode old.config.retries;
@@ -157,7 +157,7 @@ module _ {S F D : Type 0} (meaning : StoreMeaning S D) (sources : SourceMeaning 
   -- the result of what the port decided
   abbrev pub Goes : Ask → Came S F D → Type 0
   Goes Ignores came = came ≡ Nothing
-  Goes (Refuses reply) came = came ≡ An_error reply old.store
+  Goes (Refuses reply) came = came ≡ Error_reply reply old.store
   Goes (Reads path mode options) came = AsksToRead path mode options came
   Goes (Writes path mode agreed) came = AsksToWrite path mode agreed came
 
@@ -197,7 +197,7 @@ ask_of (asked.Write path mode agreed) = Writes path mode agreed
 
 -- the result of a decision
 abbrev pub came_to : {S F D : Type 0} → Decision F D → S → Came S F D
-came_to (Refuse reply) store = An_error reply store
+came_to (Refuse reply) store = Error_reply reply store
 came_to (Open held) store = A_transfer held store
 
 -- what was sent before a decision

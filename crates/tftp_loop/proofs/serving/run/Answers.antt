@@ -20,13 +20,13 @@ returns-in_default-clause-serves g c = (
 )
 
 pub take_rounds-result-requires : goal.take_rounds-result-requires
-take_rounds-result-requires g c = starts_settled c.new-daemon.result c.new-daemon.ensures.ports
+take_rounds-result-requires g c = starts_settled c.new-running.result c.new-running.ensures.ports
 
 pub returns-clause-serves : goal.returns-clause-serves
 returns-clause-serves g c =
-    let made = c.new-daemon.ensures in
+    let made = c.new-running.ensures in
     let request = c.as_mut_slice.result.now in
-    let begins = state_of request c.new-daemon.result in (
+    let begins = state_of request c.new-running.result in (
       state_of c.take_rounds-result.new.request c.take_rounds-result.new.self,
       onward
           (idle (same_state begins (at_start_in c.args.config.now.ports c.args.sockets.requests.port
@@ -42,9 +42,9 @@ returns-clause-serves g c =
 
 pub returns-clause-end : goal.returns-clause-end
 returns-clause-end g c =
-    let made = c.new-daemon.ensures in
+    let made = c.new-running.ensures in
     let request = c.as_mut_slice.result.now in
-    let begins = state_of request c.new-daemon.result in
+    let begins = state_of request c.new-running.result in
     on_ok_weaker c.take_rounds-result.result _ _
     (λ end. (
       state_of c.take_rounds-result.new.request c.take_rounds-result.new.self,

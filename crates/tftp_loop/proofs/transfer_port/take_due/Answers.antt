@@ -6,4 +6,4 @@ pub returns-then-not-is_due-clause-serves : goal.returns-then-not-is_due-clause-
 returns-then-not-is_due-clause-serves g c = Start
 
 pub returns-clause-serves : goal.returns-clause-serves
-returns-clause-serves g c = onward c.take_datagrams-status.ensures.serves c.take_silence.ensures.serves
+returns-clause-serves g c = onward c.take_datagrams-status.ensures.serves c.time_out_if_due.ensures.serves

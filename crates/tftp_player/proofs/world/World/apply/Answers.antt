@@ -1,7 +1,7 @@
 -- A world keeps its invariant after an event, and so it is safe.
 use Rattle.std.proofs.Common.{Bool, subst, sym}
 use Rattle.tftp_player.specs.World.{WorldState}
-use Rattle.tftp_player.specs.WorldKept.{IsOk}
+use Rattle.tftp_player.specs.WorldKept.{Refines}
 use Rattle.tftp_player.proofs.SentLemmas.{sends_each}
 use Rattle.tftp_player.proofs.PlayedKeeps.{home_of, played_keeps}
 use Rattle.tftp_player.proofs.WorldSafe.{kept_is_safe}
@@ -9,10 +9,10 @@ use Rattle.tftp_player.proofs.world.World.apply.Goals as goal
 
 pub invariant_of-self : goal.invariant_of-self
 invariant_of-self c = (
-  subst (λ (strayed : Bool). IsOk strayed c.step.new.self) (sym c.strayed_after-strayed.ensures)
-      (played_keeps c.self.inside.strayed c.self.inside.stage c.step.new.self c.args.event c.in-Ok.report
+  subst (λ (strayed : Bool). Refines strayed c.step.new.self) (sym c.strayed_after-strayed.ensures)
+      (played_keeps c.self.inside.strayed c.self.inside.exchange c.step.new.self c.args.event c.in-Ok.report
       c.self.invariant.0 c.in-Ok.ensures.steps),
-  sends_each c.self.inside.stage c.step.new.self c.args.event c.in-Ok.report c.in-Ok.ensures.steps c.self.invariant.1,
+  sends_each c.self.inside.exchange c.step.new.self c.args.event c.in-Ok.report c.in-Ok.ensures.steps c.self.invariant.1,
 )
 
 pub returns-in-Ok-clause-safe : goal.returns-in-Ok-clause-safe
@@ -24,16 +24,16 @@ returns-in-Ok-clause-home c = home_of c.strayed_after-strayed.result c.step.new.
 pub returns-in-Err-clause-safe : goal.returns-in-Err-clause-safe
 returns-in-Err-clause-safe c =
     kept_is_safe c.self.inside.strayed c.step.new.self
-    (subst (λ (w : WorldState). IsOk c.self.inside.strayed w) (sym c.in-Err.ensures.err) c.self.invariant.0)
+    (subst (λ (w : WorldState). Refines c.self.inside.strayed w) (sym c.in-Err.ensures.err) c.self.invariant.0)
 
 pub returns-in-Err-clause-home : goal.returns-in-Err-clause-home
 returns-in-Err-clause-home c =
     home_of c.self.inside.strayed c.step.new.self
-    (subst (λ (w : WorldState). IsOk c.self.inside.strayed w) (sym c.in-Err.ensures.err) c.self.invariant.0)
+    (subst (λ (w : WorldState). Refines c.self.inside.strayed w) (sym c.in-Err.ensures.err) c.self.invariant.0)
 
 pub returns-in-Ok-clause-played : goal.returns-in-Ok-clause-played
 returns-in-Ok-clause-played c = (invariant_of-self c).0
 
 pub returns-in-Err-clause-played : goal.returns-in-Err-clause-played
 returns-in-Err-clause-played c =
-    subst (λ (w : WorldState). IsOk c.self.inside.strayed w) (sym c.in-Err.ensures.err) c.self.invariant.0
+    subst (λ (w : WorldState). Refines c.self.inside.strayed w) (sym c.in-Err.ensures.err) c.self.invariant.0

@@ -3,7 +3,7 @@ use Rattle.std.proofs.Common.{false, subst, sym, arith}
 use Rattle.tftp_store.specs.Memory.{contents, in_path_order}
 use Rattle.tftp_player.specs.World.{WorldState}
 use Rattle.tftp_player.specs.PlayedWorld.{HasSentEach}
-use Rattle.tftp_player.specs.WorldKept.{IsOk}
+use Rattle.tftp_player.specs.WorldKept.{Refines}
 use Rattle.tftp_player.proofs.PlayedKeeps.{home_of}
 use Rattle.tftp_player.proofs.WorldRuns.{new_ok}
 use Rattle.tftp_player.proofs.WorldSafe.{kept_is_safe}
@@ -11,16 +11,16 @@ use Rattle.tftp_player.proofs.world.World.new.Goals as goal
 
 pub invariant_of-result : goal.invariant_of-result
 invariant_of-result c = (
-  subst (λ (w : WorldState). IsOk false w) (sym c.in_ok-stage.ensures.new)
+  subst (λ (w : WorldState). Refines false w) (sym c.in_ok-exchange.ensures.new)
       (new_ok false (in_path_order (contents c.args.files.items)) c.args.config c.requires.config.max_block),
-  subst HasSentEach (sym c.in_ok-stage.ensures.new) (omega arith),
+  subst HasSentEach (sym c.in_ok-exchange.ensures.new) (omega arith),
 )
 
 pub returns-clause-safe : goal.returns-clause-safe
-returns-clause-safe c = kept_is_safe false c.in_ok-stage.stage (invariant_of-result c).0
+returns-clause-safe c = kept_is_safe false c.in_ok-exchange.exchange (invariant_of-result c).0
 
 pub returns-clause-home : goal.returns-clause-home
-returns-clause-home c = home_of false c.in_ok-stage.stage (invariant_of-result c).0
+returns-clause-home c = home_of false c.in_ok-exchange.exchange (invariant_of-result c).0
 
 pub returns-clause-played : goal.returns-clause-played
 returns-clause-played c = (invariant_of-result c).0

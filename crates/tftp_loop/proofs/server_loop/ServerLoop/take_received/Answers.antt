@@ -1,0 +1,14 @@
+use Rattle.std.proofs.Common.{take, refl, inl}
+use Rattle.std.specs.Prelude.{Some}
+use Rattle.tftp_loop.specs.Serves.{No_memory}
+use Rattle.tftp_loop.specs.Served.{loop_state}
+use Rattle.tftp_loop.specs.Tended.{Concluded}
+use Rattle.tftp_loop.proofs.RequestRuns.{loses_as}
+use Rattle.tftp_loop.proofs.server_loop.ServerLoop.take_received.Goals as goal
+
+pub returns-in_default-clause-handles : goal.returns-in_default-clause-handles
+returns-in_default-clause-handles g c =
+    let bytes = take c.args.count c.args.request.now in
+    Concluded
+    (loses_as g.S.Store.meaning g.S.Source.Source.meaning (loop_state (Some (c.args.from, bytes)) c.args.self.now) _ c.args.from bytes refl (No_memory 0 (inl c.in_default.ensures.why)) refl)
+    c.requires.pending

@@ -1,0 +1,5 @@
+use Rattle.tftp_loop.proofs.RunLemmas.{onward}
+use Rattle.tftp_loop.proofs.server_loop.ServerLoop.take_request.Goals as goal
+
+pub returns-clause-works : goal.returns-clause-works
+returns-clause-works g c = onward c.take_pending.ensures.works c.receive_request.ensures.works

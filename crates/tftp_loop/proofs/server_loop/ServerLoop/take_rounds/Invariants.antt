@@ -1,0 +1,15 @@
+use Rattle.std.proofs.Common.{◌≤◌}
+use Rattle.tftp_loop.specs.Served.{ServesRounds}
+use Rattle.tftp_loop.specs.Tended.{IsTended}
+use Rattle.tftp_loop.proofs.server_loop.ServerLoop.take_rounds.Given as goal
+
+-- the run so far, and that a wait may follow
+abbrev pub invariant-loop-self : goal.invariant-loop-self
+invariant-loop-self g l =
+    record {
+      serves : ServesRounds g.S.Store.meaning g.S.Source.Source.meaning l.fn.request l.fn.self l.request l.self;
+      tended : 1 ≤ l.self.left → IsTended l.self;
+    }
+
+abbrev pub decreases-loop-self : goal.decreases-loop-self
+decreases-loop-self g l = l.self.rounds

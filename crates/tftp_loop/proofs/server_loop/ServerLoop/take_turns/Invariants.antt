@@ -1,0 +1,17 @@
+use Rattle.std.proofs.Common.{◌≡◌}
+use Rattle.tftp_loop.specs.Served.{OnlyWorks}
+use Rattle.tftp_loop.specs.Tended.{HaveTurned, IsSettled}
+use Rattle.tftp_loop.proofs.server_loop.ServerLoop.take_turns.Given as goal
+
+-- the ports from the index on had their turn
+abbrev pub invariant-loop-index : goal.invariant-loop-index
+invariant-loop-index g l =
+    record {
+      works : OnlyWorks g.S.Store.meaning g.S.Source.Source.meaning l.initial.self l.self;
+      settled : IsSettled l.self;
+      turns : HaveTurned l.fn.turn l.index l.self;
+      rounds : l.self.rounds ≡ l.initial.self.rounds;
+    }
+
+abbrev pub decreases-loop-index : goal.decreases-loop-index
+decreases-loop-index g l = l.index

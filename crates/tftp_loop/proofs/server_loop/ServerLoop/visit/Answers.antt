@@ -1,0 +1,21 @@
+use Rattle.tftp_loop.specs.Run.Run.{Start}
+use Rattle.tftp_loop.proofs.Visits.{visit_settled, works_after, turned_after}
+use Rattle.tftp_loop.proofs.server_loop.ServerLoop.visit.Goals as goal
+
+pub returns-then-index-len-clause-works : goal.returns-then-index-len-clause-works
+returns-then-index-len-clause-works g c = λ buffer. Start
+
+pub returns-clause-works : goal.returns-clause-works
+returns-clause-works g c =
+    let v = c.serve_port.ensures.visits in
+    works_after g.S.Store.meaning g.S.Source.Source.meaning v.takes v.finishes
+
+pub returns-clause-settled : goal.returns-clause-settled
+returns-clause-settled g c =
+    let v = c.serve_port.ensures.visits in
+    visit_settled g.S.Store.meaning g.S.Source.Source.meaning v.takes v.finishes c.requires.settled
+
+pub returns-clause-turned : goal.returns-clause-turned
+returns-clause-turned g c =
+    let v = c.serve_port.ensures.visits in
+    λ turned. turned_after g.S.Store.meaning g.S.Source.Source.meaning c.args.turn v.takes v.finishes turned

@@ -1,0 +1,467 @@
+//! The loop over the ports of a server, in one thread.
+
+ghost use Rattle.std.specs.Prelude.{◌≡◌, ◌≤◌, ◌<◌, ◌+◌, ◌⊎◌, ◌||◌, IfErr, OnOk, None, is_some, []};
+ghost use Rattle.std.specs.Prelude.{length, map, if◌then◌else◌};
+ghost use Rattle.std.specs.List.{list_any};
+ghost use Rattle.tftp_sockets.specs.Quiet.{is_among};
+ghost use Rattle.tftp_loop.specs.Serves.{marked_by};
+ghost use Rattle.tftp_loop.specs.Served.{FailsToPrint, OnlyWorks, OnlyServes, ServesRounds};
+ghost use Rattle.tftp_loop.specs.Served.{WorksRound};
+ghost use Rattle.tftp_loop.specs.Tended.{ClosesPort, Finishes, HasSlept, HasWoken, HaveTurned};
+ghost use Rattle.tftp_loop.specs.Tended.{IsSettled, IsTended, TakesTurn, Visits, leaves_by};
+ghost use Rattle.tftp_loop.specs.Tended.{leaves_read, leaves_timed, millis_of, timers_of};
+
+use crate::report::{log_unsent, record_of_closed, report_close};
+use crate::server_udp::ServerUdp;
+use crate::serving::{Ending, LoopFault};
+use crate::sockets::Sockets;
+use crate::store::ServedStore;
+use crate::transfer_port::{TransferPort, count_active, mark_all, take_due, take_ready, work_at};
+use std::alloc::{AllocError, Global};
+use std::time::Clock;
+use tftp_ends::{Endpoint, Record};
+use tftp_host::{DATAGRAM_BUFFER, index_of, wait_for};
+use tftp_server::{Server, Store};
+use tftp_sockets::{Journal, Reports, look, read_watch, wait};
+
+/// The most ports that one wait reports.
+const MOST_REPORTS: usize = 128;
+
+/// The number of polls before a wait that may sleep, while several transfers are active: some 25
+/// microseconds. A client that sends to a sleeping server has to wake it, which slows all clients of
+/// one processor.
+const POLLS: u32 = 64;
+
+/// A server with its sockets.
+#[derive(Drop)]
+pub(crate) struct ServerLoop<S: Store + Drop> {
+    pub(crate) server: Server<S>,
+    pub(crate) sockets: Sockets,
+    pub(crate) ports: Vec<TransferPort>,
+    pub(crate) journal: Journal,
+    /// The answer to a datagram of the request port.
+    pub(crate) out: Vec<u8>,
+    /// A datagram of the request port that is to be admitted again: its sender, and its length in
+    /// bytes.
+    pub(crate) pending: Option<(Endpoint, usize)>,
+    /// The number of active transfers, as of the last wait.
+    active: usize,
+    /// The number of transfers that are yet to close.
+    pub(crate) left: u64,
+    /// The number of waits that may still begin.
+    pub(crate) rounds: u64,
+    pub(crate) logs: bool,
+    pub(crate) alloc: Global,
+}
+
+/// What is done at the port of each transfer.
+#[derive(Clone, Copy)]
+pub(crate) enum Turn {
+    /// If the port is marked, its datagrams are handled.
+    Ready,
+    /// If the port is due, its datagrams are handled, or else its timeout.
+    Due,
+}
+
+/// The ports that a wait reports, and buffers for a datagram of the request port and one of a
+/// transfer.
+#[derive(Drop)]
+pub(crate) struct Buffers {
+    pub(crate) reports: Reports,
+    pub(crate) request: Vec<u8>,
+    pub(crate) datagram: Vec<u8>,
+}
+
+impl Buffers {
+    /// Buffers for the longest datagrams.
+    pub(crate) fn new(alloc: Global) -> Result<Buffers, AllocError> {
+        Ok(Buffers {
+            reports: Reports::new(alloc, MOST_REPORTS)?,
+            request: Vec::from_elem(alloc, 0u8, DATAGRAM_BUFFER)?,
+            datagram: Vec::from_elem(alloc, 0u8, DATAGRAM_BUFFER)?,
+        })
+    }
+}
+
+impl<S: ServedStore + Drop> ServerLoop<S> {
+    /// A server without ports of transfers.
+    pub(crate) fn new(
+        alloc: Global,
+        server: Server<S>,
+        sockets: Sockets,
+        ending: Ending,
+        logs: bool,
+        journal: Journal,
+    ) -> ServerLoop<S>
+        ensures server { result.server ≡ server }
+        ensures sockets { result.sockets ≡ sockets }
+        ensures ports { result.ports.items ≡ [] }
+        ensures journal { result.journal ≡ journal }
+        ensures pending { result.pending ≡ None }
+        ensures left { result.left ≡ ending.transfers }
+        ensures rounds { result.rounds ≡ ending.rounds }
+    {
+        ServerLoop {
+            server,
+            sockets,
+            ports: Vec::new(alloc),
+            journal,
+            out: Vec::new(alloc),
+            pending: None,
+            active: 0,
+            left: ending.transfers,
+            rounds: ending.rounds,
+            logs,
+            alloc,
+        }
+    }
+
+    /// Serves, wait by wait, until no transfer is yet to close or no wait may begin.
+    pub(crate) fn take_rounds<N: ServerUdp + Clock + Print + Eprint>(
+        &mut self,
+        rt: &N,
+        reports: &mut Reports,
+        request: &mut [u8],
+        datagram: &mut [u8],
+    ) -> Result<(), LoopFault>
+        requires { IsSettled self.old }
+        ensures serves { ServesRounds S.meaning S.Source.meaning request.old self.old
+            request.new self.new }
+        ensures end { OnOk result ((self.new.left ≡ 0) ⊎ (self.new.rounds ≡ 0)) }
+        ensures fault { IfErr result (λ fault. FailsToPrint fault self.new.journal.events) }
+    {
+        self.take_ports(rt, request, datagram)?;
+        while self.rounds > 0 {
+            if self.left == 0 {
+                return Ok(());
+            }
+            self.wait(rt, reports);
+            self.take_ports(rt, request, datagram)?;
+        }
+        Ok(())
+    }
+
+    /// Handles datagrams and due timeouts, until no transfer is yet to close. Transfers precede a
+    /// request, because an acknowledgement may free the slot that its client's next request needs.
+    fn take_ports<N: ServerUdp + Print + Eprint>(
+        &mut self,
+        rt: &N,
+        request: &mut [u8],
+        datagram: &mut [u8],
+    ) -> Result<(), LoopFault>
+        requires { IsSettled self.old }
+        ensures works { WorksRound S.meaning S.Source.meaning request.old self.old request.new
+            self.new }
+        ensures tended { OnOk result (1 ≤ self.new.left → IsTended self.new) }
+        ensures rounds { self.new.rounds ≡ self.old.rounds }
+        ensures fault { IfErr result (λ fault. FailsToPrint fault self.new.journal.events) }
+    {
+        self.take_turns(rt, Turn::Ready, datagram)?;
+        if self.left == 0 {
+            return Ok(());
+        }
+        self.take_request(rt, request);
+        self.take_turns(rt, Turn::Due, datagram)
+    }
+
+    /// Waits once, until a datagram has arrived or a port is to be read, for at most a second. A
+    /// draft that is to be synced is synced before, if no datagram has arrived: all other transfers
+    /// wait for it.
+    fn wait<C: Clock>(&mut self, clock: &C, reports: &mut Reports)
+        requires tended { IsTended self.old }
+        requires left { 1 ≤ self.old.left }
+        requires rounds { 1 ≤ self.old.rounds }
+        ensures serves { OnlyServes S.meaning S.Source.meaning self.old self.new }
+        ensures settled { IsSettled self.new }
+        ensures rounds { self.new.rounds + 1 ≡ self.old.rounds }
+    {
+        let millis = self.millis_to_wait();
+        if millis > 0 {
+            if let Some(tid) = self.server.store().take_unsynced() {
+                self.sync_and_wait(clock, reports, tid);
+                return;
+            }
+        }
+        self.sleep(clock, reports);
+    }
+
+    /// Looks, and syncs the draft of a transfer and waits if no datagram has arrived.
+    fn sync_and_wait<C: Clock>(&mut self, clock: &C, reports: &mut Reports, tid: u16)
+        requires tended { IsTended self.old }
+        requires left { 1 ≤ self.old.left }
+        requires rounds { 1 ≤ self.old.rounds }
+        ensures serves { OnlyServes S.meaning S.Source.meaning self.old self.new }
+        ensures settled { IsSettled self.new }
+        ensures rounds { self.new.rounds + 1 ≡ self.old.rounds }
+    {
+        if look(&mut self.sockets.poll, reports, &mut self.journal) {
+            self.wake(clock, reports);
+            return;
+        }
+        self.sync(tid);
+        self.sleep(clock, reports);
+    }
+
+    /// Syncs the draft of a transfer.
+    fn sync(&mut self, tid: u16)
+        ensures works { OnlyWorks S.meaning S.Source.meaning self.old self.new }
+        ensures settled { IsSettled self.old → IsSettled self.new }
+        ensures rest { self.new ≡ record self.old { server = self.new.server } }
+    {
+        let Some(index) = index_of(tid, self.ports.as_slice()) else {
+            return;
+        };
+        if index >= self.ports.len() {
+            return;
+        }
+        let port = &self.ports[index];
+        self.server.store().let_sync();
+        work_at(&mut self.server, port);
+    }
+
+    /// Waits until a datagram has arrived or a port is to be read, for at most a second.
+    fn sleep<C: Clock>(&mut self, clock: &C, reports: &mut Reports)
+        requires tended { IsTended self.old }
+        requires left { 1 ≤ self.old.left }
+        requires rounds { 1 ≤ self.old.rounds }
+        ensures serves { OnlyServes S.meaning S.Source.meaning self.old self.new }
+        ensures settled { IsSettled self.new }
+        ensures rounds { self.new.rounds + 1 ≡ self.old.rounds }
+    {
+        self.active = count_active(self.sockets.watch.now, self.ports.as_slice());
+        self.wait_for_ports(reports);
+        self.wake(clock, reports);
+    }
+
+    /// Waits until a datagram has arrived, as long as is allowed.
+    fn wait_for_ports(&mut self, reports: &mut Reports)
+        ensures { HasSlept (millis_of self.old) reports.new.ports.items self.old self.new }
+    {
+        let millis = self.millis_to_wait();
+        let polls = polls_before(millis, self.active);
+        wait(
+            &mut self.sockets.poll,
+            reports,
+            &mut self.journal,
+            millis,
+            polls,
+        );
+    }
+
+    /// Marks the ports that a wait reported, counts the wait, and reads the clock.
+    fn wake<C: Clock>(&mut self, clock: &C, reports: &Reports)
+        ensures { HasWoken reports.now.ports.items self.old self.new }
+    {
+        self.mark(reports.ports());
+        self.rounds = self.rounds.saturating_sub(1);
+        read_watch(clock, &mut self.journal, &mut self.sockets.watch);
+    }
+
+    /// Marks the ports that a wait reported.
+    fn mark(&mut self, reported: &[u16])
+        ensures requests { self.new.sockets ≡ record self.old.sockets {
+          is_ready = self.old.sockets.is_ready
+              || is_among self.old.sockets.requests.port reported.now;
+        } }
+        ensures transfers { timers_of self.new ≡ map (marked_by reported.now)
+            (timers_of self.old) }
+        ensures rest { self.new
+            ≡ record self.old { sockets = self.new.sockets; ports = self.new.ports } }
+    {
+        mark_all(self.ports.as_mut_slice(), reported);
+        self.sockets.mark(reported);
+    }
+
+    /// The longest wait, in milliseconds: none if a port is marked or a datagram is pending, and
+    /// else until the nearest time at which a port is read, at most a second.
+    fn millis_to_wait(&self) -> u64
+        ensures { result ≡ millis_of self.now }
+    {
+        if self.is_busy() {
+            return 0;
+        }
+        wait_for(self.sockets.watch.now, self.ports.as_slice())
+    }
+
+    /// Whether a port is marked or a datagram is pending.
+    fn is_busy(&self) -> bool
+        ensures { result ≡ (self.now.sockets.is_ready || (is_some self.now.pending
+            || list_any (λ port. port.is_ready) self.now.ports.items)) }
+    {
+        if self.sockets.is_ready {
+            return true;
+        }
+        if self.pending.is_some() {
+            return true;
+        }
+        is_any_ready(self.ports.as_slice())
+    }
+
+    /// Takes a turn at the port of each transfer.
+    fn take_turns<P: Print + Eprint>(
+        &mut self,
+        rt: &P,
+        turn: Turn,
+        buffer: &mut [u8],
+    ) -> Result<(), LoopFault>
+        requires { IsSettled self.old }
+        ensures works { OnlyWorks S.meaning S.Source.meaning self.old self.new }
+        ensures settled { IsSettled self.new }
+        ensures turned { OnOk result (1 ≤ self.new.left → HaveTurned turn 0 self.new) }
+        ensures rounds { self.new.rounds ≡ self.old.rounds }
+        ensures fault { IfErr result (λ fault. FailsToPrint fault self.new.journal.events) }
+    {
+        // In reverse order, because a close moves the last port to the freed index.
+        let mut index = self.ports.len();
+        while index > 0 {
+            if self.left == 0 {
+                return Ok(());
+            }
+            index -= 1;
+            self.visit(rt, turn, index, buffer)?;
+        }
+        Ok(())
+    }
+
+    /// Takes a turn at the port at this index, if there is one, and removes its transfer if that
+    /// closes.
+    fn visit<P: Print + Eprint>(
+        &mut self,
+        rt: &P,
+        turn: Turn,
+        index: usize,
+        buffer: &mut [u8],
+    ) -> Result<(), LoopFault>
+        requires left { 1 ≤ self.old.left }
+        requires settled { IsSettled self.old }
+        ensures works { OnlyWorks S.meaning S.Source.meaning self.old self.new }
+        ensures settled { IsSettled self.new }
+        ensures turned { HaveTurned turn (index + 1) self.old → HaveTurned turn index self.new }
+        ensures rounds { self.new.rounds ≡ self.old.rounds }
+        ensures fault { IfErr result (λ fault. FailsToPrint fault self.new.journal.events) }
+    {
+        if index >= self.ports.len() {
+            return Ok(());
+        }
+        self.serve_port(rt, turn, index, buffer)
+    }
+
+    /// Takes a turn at the port at this index, and removes its transfer if that closes.
+    fn serve_port<P: Print + Eprint>(
+        &mut self,
+        rt: &P,
+        turn: Turn,
+        index: usize,
+        buffer: &mut [u8],
+    ) -> Result<(), LoopFault>
+        requires left { 1 ≤ self.old.left }
+        requires within { index < length self.old.ports.items }
+        requires settled { IsSettled self.old }
+        ensures visits { Visits S.meaning S.Source.meaning turn index self.old self.new }
+        ensures rounds { self.new.rounds ≡ self.old.rounds }
+        ensures fault { IfErr result (λ fault. FailsToPrint fault self.new.journal.events) }
+    {
+        self.take_turn(turn, index, buffer);
+        self.finish(rt, index)
+    }
+
+    /// Takes a turn at the port at this index.
+    fn take_turn(&mut self, turn: Turn, index: usize, buffer: &mut [u8])
+        requires within { index < length self.old.ports.items }
+        requires settled { IsSettled self.old }
+        ensures { TakesTurn S.meaning S.Source.meaning (leaves_by turn) index self.old self.new }
+    {
+        match turn {
+            Turn::Ready => self.turn_ready(index, buffer),
+            Turn::Due => self.turn_due(index, buffer),
+        }
+    }
+
+    /// Handles the datagrams at the port of a transfer, if it is marked.
+    fn turn_ready(&mut self, index: usize, buffer: &mut [u8])
+        requires { index < length self.old.ports.items }
+        ensures { TakesTurn S.meaning S.Source.meaning leaves_read index self.old self.new }
+    {
+        let now = self.sockets.watch.now;
+        let active = self.active;
+        let port = &mut self.ports[index];
+        take_ready(
+            &mut self.server,
+            port,
+            &mut self.journal,
+            now,
+            active,
+            buffer,
+        );
+    }
+
+    /// Handles the datagrams at a port, or else its timeout, if it is due.
+    fn turn_due(&mut self, index: usize, buffer: &mut [u8])
+        requires within { index < length self.old.ports.items }
+        requires settled { IsSettled self.old }
+        ensures { TakesTurn S.meaning S.Source.meaning leaves_timed index self.old self.new }
+    {
+        let now = self.sockets.watch.now;
+        let active = self.active;
+        let port = &mut self.ports[index];
+        take_due(
+            &mut self.server,
+            port,
+            &mut self.journal,
+            now,
+            active,
+            buffer,
+        );
+    }
+
+    /// Logs what the transfer at this index could not send. If it has closed, removes it with its
+    /// port, and prints its outcome: it is one less to close.
+    fn finish<P: Print + Eprint>(&mut self, rt: &P, index: usize) -> Result<(), LoopFault>
+        requires left { 1 ≤ self.old.left }
+        requires within { index < length self.old.ports.items }
+        ensures finishes { Finishes S.meaning S.Source.meaning index self.old self.new }
+        ensures rounds { self.new.rounds ≡ self.old.rounds }
+        ensures fault { IfErr result (λ fault. FailsToPrint fault self.new.journal.events) }
+    {
+        let port = &self.ports[index];
+        log_unsent(rt, port);
+        let closed = record_of_closed(&mut self.server, port.socket.udp.port());
+        if closed.is_none() {
+            return Ok(());
+        }
+        self.close_port(rt, index, closed)
+    }
+
+    /// Removes the port at this index, and prints the outcome of its transfer: it is one less to
+    /// close.
+    fn close_port<P: Print + Eprint>(
+        &mut self,
+        rt: &P,
+        index: usize,
+        closed: Option<Record>,
+    ) -> Result<(), LoopFault>
+        requires left { 1 ≤ self.old.left }
+        requires within { index < length self.old.ports.items }
+        ensures closes { ClosesPort index closed self.old self.new }
+        ensures fault { IfErr result (λ fault. FailsToPrint fault self.new.journal.events) }
+    {
+        self.left -= 1;
+        let port = self.ports.swap_remove(index);
+        let reason = self.server.store().take_reason();
+        let reading = self.sockets.watch.reading;
+        report_close(rt, &mut self.journal, &port, closed, reading, reason)
+    }
+}
+
+/// The number of polls before a wait of at most `millis` milliseconds, with this number of active
+/// transfers.
+fn polls_before(millis: u64, active: usize) -> u32 {
+    if millis > 0 && active > 1 { POLLS } else { 0 }
+}
+
+/// Whether a port is marked.
+fn is_any_ready(ports: &[TransferPort]) -> bool
+    ensures { result ≡ list_any (λ port. port.is_ready) ports.now }
+{
+    ports.iter().any(|port| port.is_ready)
+}
