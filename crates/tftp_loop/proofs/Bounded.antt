@@ -22,7 +22,8 @@ use Rattle.tftp_loop.specs.Run.{Run}
 use Rattle.tftp_loop.specs.Run.Run.{Start, Then}
 use Rattle.tftp_loop.specs.Serves.{Timer, PortState, LoopState, AtPort, Does, interval_at, marked_by}
 use Rattle.tftp_loop.specs.Serves.{port_state, started, with_timer}
-use Rattle.tftp_loop.specs.Serves.Does.{Waited, At_port, Request_received, No_request_found, Request_not_received, No_port_found}
+use Rattle.tftp_loop.specs.Serves.Does.{Waited, At_port, Request_received, No_request_found, Request_not_received}
+use Rattle.tftp_loop.specs.Serves.Does.{No_port_found}
 use Rattle.tftp_loop.specs.Serves.Does.{Request_answered, Request_lost, Clock_read, Store_set, Transfer_closed}
 use Rattle.tftp_loop.specs.Expiry.{IsIdleAt, ReceivesNoneAt}
 use Rattle.tftp_loop.specs.Tended.{AreKept}

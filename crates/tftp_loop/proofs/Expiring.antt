@@ -26,7 +26,8 @@ use Rattle.tftp_loop.specs.Run.{Run}
 use Rattle.tftp_loop.specs.Serves.{Timer, PortState, LoopState, AtPort, Does, Waits, answering_port}
 use Rattle.tftp_loop.specs.Serves.{interval_at, marked_by, port_state, started, timer_after}
 use Rattle.tftp_loop.specs.Serves.{with_timer}
-use Rattle.tftp_loop.specs.Serves.Does.{Waited, At_port, Request_received, No_request_found, Request_not_received, No_port_found}
+use Rattle.tftp_loop.specs.Serves.Does.{Waited, At_port, Request_received, No_request_found, Request_not_received}
+use Rattle.tftp_loop.specs.Serves.Does.{No_port_found}
 use Rattle.tftp_loop.specs.Serves.Does.{Request_answered, Request_lost, Clock_read, Store_set, Transfer_closed}
 use Rattle.tftp_loop.specs.Reported.{IsNoWait}
 use Rattle.tftp_loop.specs.Expiry.{After, At_first, ClosesInSilence, Idles, IsIdle, IsIdleAt, NoneReceived}

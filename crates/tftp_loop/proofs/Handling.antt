@@ -18,7 +18,8 @@ use Rattle.tftp_loop.specs.Serves.{Timer, PortState, LoopState, AtPort, Does, Wa
 use Rattle.tftp_loop.specs.Serves.{until_look}
 use Rattle.tftp_loop.specs.Serves.AtPort.{A_datagram, A_lost_datagram, Nothing_found, A_failed_receive, A_timeout}
 use Rattle.tftp_loop.specs.Serves.AtPort.{A_missed_timeout, Work}
-use Rattle.tftp_loop.specs.Serves.Does.{Waited, At_port, Request_received, No_request_found, Request_not_received, No_port_found}
+use Rattle.tftp_loop.specs.Serves.Does.{Waited, At_port, Request_received, No_request_found, Request_not_received}
+use Rattle.tftp_loop.specs.Serves.Does.{No_port_found}
 use Rattle.tftp_loop.specs.Serves.Does.{Request_answered, Request_lost, Clock_read, Store_set, Transfer_closed}
 use Rattle.tftp_loop.specs.Reported.{GoesOn, Goes_by, IsNoWait}
 use Rattle.tftp_loop.specs.Handled.{By_answer, By_loss, IsResolved}

@@ -26,7 +26,8 @@ module _ {A B : Type 0} (f : A → B) where
       let n = length xs - 1 in
       sym (take-map f n (slice_set xs i (slice_index_or xs n x)))
       ∙ ap (take n) (map-set f xs i (slice_index_or xs n x) ∙ ap (slice_set (map f xs) i) (sym (map_at xs n x)))
-      ∙ ap (λ (m : ℕ). take (m - 1) (slice_set (map f xs) i (slice_index_or (map f xs) (m - 1) (f x)))) (sym (length-map xs f))
+      ∙ ap (λ (m : ℕ). take (m - 1) (slice_set (map f xs) i (slice_index_or (map f xs) (m - 1) (f x))))
+      (sym (length-map xs f))
 
 module _ {A : Type 0} where
   -- the element at an index, set there again
@@ -54,7 +55,8 @@ module _ {A : Type 0} where
   set_within xs i j x h = let e = set_long xs i x in omega (arith, e, h)
 
 -- an index within the list has an element
-pub one_at : {A : Type 0} (xs : List A) (i : ℕ) (x y : A) → i < length xs → x ≡ slice_index_or xs i x → y ≡ slice_index_or xs i y → x ≡ y
+pub one_at : {A : Type 0} (xs : List A) (i : ℕ) (x y : A) → i < length xs → x ≡ slice_index_or xs i x →
+    y ≡ slice_index_or xs i y → x ≡ y
 one_at [] i x y h e f = absurd (omega (arith, h))
 one_at (z ∷ xs) zero x y h e f = e ∙ sym f
 one_at (z ∷ xs) (suc i) x y h e f = one_at xs i x y (omega (arith, h)) e f

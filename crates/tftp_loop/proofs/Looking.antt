@@ -17,7 +17,8 @@ use Rattle.tftp_loop.specs.Serves.{Timer, PortState, LoopState, AtPort, Does, an
 use Rattle.tftp_loop.specs.Serves.{marked_by, next_look, port_state, restarted, started, timer_after, with_timer}
 use Rattle.tftp_loop.specs.Serves.AtPort.{A_datagram, A_lost_datagram, Nothing_found, A_failed_receive, A_timeout}
 use Rattle.tftp_loop.specs.Serves.AtPort.{A_missed_timeout, Work}
-use Rattle.tftp_loop.specs.Serves.Does.{Waited, At_port, Request_received, No_request_found, Request_not_received, No_port_found}
+use Rattle.tftp_loop.specs.Serves.Does.{Waited, At_port, Request_received, No_request_found, Request_not_received}
+use Rattle.tftp_loop.specs.Serves.Does.{No_port_found}
 use Rattle.tftp_loop.specs.Serves.Does.{Request_answered, Request_lost, Clock_read, Store_set, Transfer_closed}
 use Rattle.tftp_loop.specs.Tended.{AreApart}
 use Rattle.tftp_loop.proofs.Drained.{answered_drained, either_drained, other_drained, port_drained, replied_drained}

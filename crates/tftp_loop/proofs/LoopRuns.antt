@@ -1,5 +1,6 @@
 -- What happens at all ports, call by call.
-use Rattle.std.proofs.Common.{◌≡◌, ◌≤◌, ◌<◌, ◌-◌, ℕ, false, List, map, length, Option, Some, None, IsSome, refl, sym, ap, subst, ◌∙◌}
+use Rattle.std.proofs.Common.{◌≡◌, ◌≤◌, ◌<◌, ◌-◌, ℕ, false, List, map, length, Option, Some, None, IsSome, refl, sym}
+use Rattle.std.proofs.Common.{ap, subst, ◌∙◌}
 use Rattle.std.specs.Prelude.{slice_set, slice_index_or, option_map, is_some, if◌then◌else◌}
 use Rattle.std.specs.List.{swap_remove}
 use Rattle.std.proofs.lemmas.Bool.{false≢true}
@@ -41,18 +42,21 @@ same_state {S} {F} {D} s t a r b c d e f g h k = λ i. record {
 }
 
 -- a transfer that was taken has an outcome
-outcome_taken : {F D : Type 0} (o : Option (HeldTransfer F D)) (t : Record × Option D) → taken_of o ≡ Some t → IsSome t.0.outcome
+outcome_taken : {F D : Type 0} (o : Option (HeldTransfer F D)) (t : Record × Option D) → taken_of o ≡ Some t →
+    IsSome t.0.outcome
 outcome_taken None t e = absurd (none-some t e)
 outcome_taken {F} {D} (Some held) t e =
     let both = cond_some (is_closed held) (record_of held.end, draft_of held.files) t e in
     ap (λ (p : Record × Option D). is_some p.0.outcome) (sym both.1) ∙ both.0
 
-some_mapped : {D : Type 0} (o : Option (Record × Option D)) → IsSome (option_map (λ (t : Record × Option D). t.0) o) → IsSome o
+some_mapped : {D : Type 0} (o : Option (Record × Option D)) → IsSome (option_map (λ (t : Record × Option D). t.0) o) →
+    IsSome o
 some_mapped None h = h
 some_mapped (Some t) h = refl
 
 -- what was not taken stays
-pub none_taken : {D : Type 0} (closed : Option Record) (o : Option (Record × Option D)) → closed ≡ option_map (λ (t : Record × Option D). t.0) o → is_some closed ≡ false → o ≡ None
+pub none_taken : {D : Type 0} (closed : Option Record) (o : Option (Record × Option D)) →
+    closed ≡ option_map (λ (t : Record × Option D). t.0) o → is_some closed ≡ false → o ≡ None
 none_taken closed None e h = refl
 none_taken closed (Some t) e h = absurd (false≢true (sym h ∙ ap (λ (c : Option Record). is_some c) e))
 
@@ -70,9 +74,11 @@ module _ {S F D : Type 0} (meaning : StoreMeaning S D) (sources : SourceMeaning 
   with_port s index p = record s { server = p.server; timers = slice_set s.timers index p.timer; events = p.events }
 
   -- what happens at one port happens at all
-  pub lifted : (s : LoopState S F D) (index : ℕ) (timer : Timer) (p : PortState S F D) → index < length s.timers → timer ≡ slice_index_or s.timers index timer
+  pub lifted : (s : LoopState S F D) (index : ℕ) (timer : Timer) (p : PortState S F D) → index < length s.timers →
+      timer ≡ slice_index_or s.timers index timer
       → Run (AtPort meaning sources s.now) (port_state s timer) p → Runs s (with_port s index p)
-  lifted s index timer p within is Start = idle (ap (λ (ts : List Timer). record s { timers = ts }) (set_itself s.timers index timer is))
+  lifted s index timer p within is Start =
+      idle (ap (λ (ts : List Timer). record s { timers = ts }) (set_itself s.timers index timer is))
   lifted s index timer p within is (Then {middle} q d) =
       Then (lifted s index timer middle within is q)
       (Work_by (At_port (record {
@@ -82,13 +88,17 @@ module _ {S F D : Type 0} (meaning : StoreMeaning S D) (sources : SourceMeaning 
         is_timer = set_is s.timers index middle.timer;
         next = p;
         does = d;
-        is = ap (λ (ts : List Timer). record s { server = p.server; timers = ts; events = p.events }) (sym (set_again s.timers index middle.timer p.timer));
+        is =
+            ap (λ (ts : List Timer). record s { server = p.server; timers = ts; events = p.events })
+            (sym (set_again s.timers index middle.timer p.timer));
       })) tt)
 
   -- the same, for a list of ports
-  pub at_place : (s : LoopState S F D) (ports : List (Port TransferSocket)) (index : ℕ) (port port' : Port TransferSocket) (server : ServerState S F D) (es : List Event)
+  pub at_place : (s : LoopState S F D) (ports : List (Port TransferSocket)) (index : ℕ)
+      (port port' : Port TransferSocket) (server : ServerState S F D) (es : List Event)
       → s.timers ≡ map timer_of ports → index < length ports → port ≡ slice_index_or ports index port
-      → Run (AtPort meaning sources s.now) (here meaning sources s.now s.server (timer_of port) s.events) (here meaning sources s.now server (timer_of port') es)
+      → Run (AtPort meaning sources s.now) (here meaning sources s.now s.server (timer_of port) s.events)
+      (here meaning sources s.now server (timer_of port') es)
       → Runs s (record s { server = server; timers = map timer_of (slice_set ports index port'); events = es })
   at_place s ports index port port' server es listed within is r =
       let At : List Timer → Type 0 = λ ts. Runs s (record s { server = server; timers = ts; events = es }) in
@@ -97,10 +107,12 @@ module _ {S F D : Type 0} (meaning : StoreMeaning S D) (sources : SourceMeaning 
       subst At timers
       (lifted s index (timer_of port) (here meaning sources s.now server (timer_of port') es)
       (subst (λ (ts : List Timer). index < length ts) (sym listed) (map_within timer_of ports index within))
-      (map_is timer_of ports index port is ∙ ap (λ (ts : List Timer). slice_index_or ts index (timer_of port)) (sym listed)) r)
+      (map_is timer_of ports index port is ∙ ap (λ (ts : List Timer). slice_index_or ts index (timer_of port))
+      (sym listed)) r)
 
   -- the file of a transfer worked
-  pub works : (s : LoopState S F D) (index : ℕ) (timer : Timer) (server : ServerState S F D) → index < length s.timers → timer ≡ slice_index_or s.timers index timer
+  pub works : (s : LoopState S F D) (index : ℕ) (timer : Timer) (server : ServerState S F D) → index < length s.timers →
+      timer ≡ slice_index_or s.timers index timer
       → WorksAtPort meaning sources timer.port s.server server → Runs s (record s { server = server })
   works s index timer server within is w =
       let At : List Timer → Type 0 = λ ts. Runs s (record s { server = server; timers = ts }) in
@@ -109,13 +121,18 @@ module _ {S F D : Type 0} (meaning : StoreMeaning S D) (sources : SourceMeaning 
       (once (Work (record { works = w; timer = refl; events = refl }))))
 
   -- a transfer was taken that had an outcome
-  closes_with : (s : LoopState S F D) (index : ℕ) (timer : Timer) (t : Record × Option D) (outcome : Option Outcome) (server : ServerState S F D) (es : List Event)
+  closes_with : (s : LoopState S F D) (index : ℕ) (timer : Timer) (t : Record × Option D) (outcome : Option Outcome)
+      (server : ServerState S F D) (es : List Event)
       → 1 ≤ s.left → index < length s.timers → timer ≡ slice_index_or s.timers index timer
       → taken_of (at timer.port s.server.held) ≡ Some t → t.0.outcome ≡ outcome → IsSome outcome
       → server.held ≡ without timer.port s.server.held
       → server ≡ record s.server { held = server.held } → es ≡ close_printed timer.port timer.peer outcome s.events
-      → (closes : Closes meaning sources s (record s { server = server; timers = swap_remove s.timers index timer; left = s.left - 1; events = es })) × (closes.index ≡ index)
-  closes_with s index timer t None server es some_left within is taken has some held rest printed = absurd (false≢true some)
+      →
+      (closes : Closes meaning sources s
+      (record s { server = server; timers = swap_remove s.timers index timer; left = s.left - 1; events = es }))
+      × (closes.index ≡ index)
+  closes_with s index timer t None server es some_left within is taken has some held rest printed =
+      absurd (false≢true some)
   closes_with s index timer t (Some outcome) server es some_left within is taken has some held rest printed = (
     record {
       index = index;
@@ -128,7 +145,12 @@ module _ {S F D : Type 0} (meaning : StoreMeaning S D) (sources : SourceMeaning 
       has_outcome = has;
       left = some_left;
       is =
-          same_state (record s { server = server; timers = swap_remove s.timers index timer; left = s.left - 1; events = es })
+          same_state (record s {
+            server = server;
+            timers = swap_remove s.timers index timer;
+            left = s.left - 1;
+            events = es;
+          })
           (record s {
             server = record s.server { held = without timer.port s.server.held };
             timers = swap_remove s.timers index timer;
@@ -141,25 +163,37 @@ module _ {S F D : Type 0} (meaning : StoreMeaning S D) (sources : SourceMeaning 
   )
 
   -- a transfer was taken
-  closes_by : (s : LoopState S F D) (index : ℕ) (timer : Timer) (o : Option (Record × Option D)) (server : ServerState S F D) (es : List Event)
+  closes_by : (s : LoopState S F D) (index : ℕ) (timer : Timer) (o : Option (Record × Option D))
+      (server : ServerState S F D) (es : List Event)
       → 1 ≤ s.left → index < length s.timers → timer ≡ slice_index_or s.timers index timer
       → taken_of (at timer.port s.server.held) ≡ o → IsSome o
-      → server.held ≡ (if is_some (option_map (λ (t : Record × Option D). t.0) o) then without timer.port s.server.held else s.server.held)
-      → server ≡ record s.server { held = server.held } → es ≡ close_reported timer.port timer.peer (option_map (λ (t : Record × Option D). t.0) o) s.events
-      → (closes : Closes meaning sources s (record s { server = server; timers = swap_remove s.timers index timer; left = s.left - 1; events = es })) × (closes.index ≡ index)
+      → server.held ≡ (if is_some (option_map (λ (t : Record × Option D). t.0) o) then without timer.port s.server.held
+      else s.server.held)
+      → server ≡ record s.server { held = server.held } →
+      es ≡ close_reported timer.port timer.peer (option_map (λ (t : Record × Option D). t.0) o) s.events
+      →
+      (closes : Closes meaning sources s
+      (record s { server = server; timers = swap_remove s.timers index timer; left = s.left - 1; events = es }))
+      × (closes.index ≡ index)
   closes_by s index timer None server es some_left within is taken some held rest printed = absurd (false≢true some)
   closes_by s index timer (Some t) server es some_left within is taken some held rest printed =
-      closes_with s index timer t t.0.outcome server es some_left within is taken refl (outcome_taken (at timer.port s.server.held) t taken) held rest printed
+      closes_with s index timer t t.0.outcome server es some_left within is taken refl
+      (outcome_taken (at timer.port s.server.held) t taken) held rest printed
 
-  pub closes : (s : LoopState S F D) (index : ℕ) (timer : Timer) (tid : ℕ) (closed : Option Record) (server : ServerState S F D) (es : List Event)
+  pub closes : (s : LoopState S F D) (index : ℕ) (timer : Timer) (tid : ℕ) (closed : Option Record)
+      (server : ServerState S F D) (es : List Event)
       → 1 ≤ s.left → index < length s.timers → timer ≡ slice_index_or s.timers index timer → tid ≡ timer.port
       → closed ≡ option_map (λ (t : Record × Option D). t.0) (taken_of (at tid s.server.held)) → IsSome closed
       → server.held ≡ (if is_some closed then without tid s.server.held else s.server.held)
       → server ≡ record s.server { held = server.held } → es ≡ close_reported timer.port timer.peer closed s.events
-      → (closes : Closes meaning sources s (record s { server = server; timers = swap_remove s.timers index timer; left = s.left - 1; events = es })) × (closes.index ≡ index)
+      →
+      (closes : Closes meaning sources s
+      (record s { server = server; timers = swap_remove s.timers index timer; left = s.left - 1; events = es }))
+      × (closes.index ≡ index)
   closes s index timer tid closed server es some_left within is same found some held rest printed =
       let o = taken_of (at timer.port s.server.held) in
-      let found' : closed ≡ option_map (λ (t : Record × Option D). t.0) o = found ∙ ap (λ (p : ℕ). option_map (λ (t : Record × Option D). t.0) (taken_of (at p s.server.held))) same in
+      let found' : closed ≡ option_map (λ (t : Record × Option D). t.0) o =
+      found ∙ ap (λ (p : ℕ). option_map (λ (t : Record × Option D). t.0) (taken_of (at p s.server.held))) same in
       closes_by s index timer o server es some_left within is refl
       (some_mapped o (subst (λ (c : Option Record). IsSome c) found' some))
       (held ∙ ap (λ (p : ℕ). if is_some closed then without p s.server.held else s.server.held) same

@@ -1,5 +1,6 @@
 -- What work keeps: each transfer has its own timer, and what was read stays so.
-use Rattle.std.proofs.Common.{arith, ◌≡◌, ◌<◌, ◌≤◌, ◌-◌, ◌==◌, ◌||◌, ◌⊎◌, ℕ, Bool, true, false, List, [], ◌∷◌, ◌++◌, length, Option, None, IsSome, refl, sym, ap, subst, ◌∙◌, inl, inr}
+use Rattle.std.proofs.Common.{arith, ◌≡◌, ◌<◌, ◌≤◌, ◌-◌, ◌==◌, ◌||◌, ◌⊎◌, ℕ, Bool, true, false, List, [], ◌∷◌, ◌++◌}
+use Rattle.std.proofs.Common.{length, Option, None, IsSome, refl, sym, ap, subst, ◌∙◌, inl, inr}
 use Rattle.std.specs.Prelude.{slice_set, slice_index_or, is_some, All}
 use Rattle.std.specs.List.{swap_remove}
 use Rattle.std.proofs.lemmas.Bool.{cases_eq}
@@ -12,13 +13,17 @@ use Rattle.tftp_sockets.specs.Journal.{Event, replied}
 use Rattle.tftp_sockets.specs.Quiet.{was_tried}
 use Rattle.tftp_loop.specs.Run.{Run}
 use Rattle.tftp_loop.specs.Run.Run.{Start, Then}
-use Rattle.tftp_loop.specs.Serves.{Timer, PortState, LoopState, Does, answering_port, interval_at, port_state, started, with_timer}
-use Rattle.tftp_loop.specs.Serves.Does.{Waited, At_port, Request_received, No_request_found, Request_not_received, No_port_found, Request_answered, Request_lost, Clock_read, Store_set, Transfer_closed}
+use Rattle.tftp_loop.specs.Serves.{Timer, PortState, LoopState, Does, answering_port, interval_at, port_state, started}
+use Rattle.tftp_loop.specs.Serves.{with_timer}
+use Rattle.tftp_loop.specs.Serves.Does.{Waited, At_port, Request_received, No_request_found, Request_not_received}
+use Rattle.tftp_loop.specs.Serves.Does.{No_port_found, Request_answered, Request_lost, Clock_read, Store_set}
+use Rattle.tftp_loop.specs.Serves.Does.{Transfer_closed}
 use Rattle.tftp_loop.specs.Served.{IsWork, Works, Work_by}
 use Rattle.tftp_loop.specs.Tended.{AreApart, AreKept, AreTried, IsHeld, IsRead, KeepsTries}
 use Rattle.tftp_loop.proofs.ListLemmas.{set_long}
 use Rattle.tftp_loop.proofs.PortStays.{StaysAt, or_right, own_receive, looks_first, replied_tries, stays_at}
-use Rattle.tftp_loop.proofs.Tables.{set_other, set_own, appended_at, appended_last, appended_long, removed_long, was_at, any_default, inserted_apart, inserted_own, removed_apart}
+use Rattle.tftp_loop.proofs.Tables.{set_other, set_own, appended_at, appended_last, appended_long, removed_long, was_at}
+use Rattle.tftp_loop.proofs.Tables.{any_default, inserted_apart, inserted_own, removed_apart}
 
 -- ---- the timers of a list that changed
 
@@ -27,43 +32,58 @@ abbrev port_at : List Timer → ℕ → Timer → ℕ
 port_at timers k d = (slice_index_or timers k d).port
 
 -- a timer was replaced by one at its port
-set_ports : (timers : List Timer) (i : ℕ) (timer next : Timer) → i < length timers → timer ≡ slice_index_or timers i timer → next.port ≡ timer.port
+set_ports : (timers : List Timer) (i : ℕ) (timer next : Timer) → i < length timers →
+    timer ≡ slice_index_or timers i timer → next.port ≡ timer.port
     → (k : ℕ) (d : Timer) → k < length timers → port_at (slice_set timers i next) k d ≡ port_at timers k d
 set_ports timers i timer next within is same k d h =
     elim (cases_eq k i) [
       | inl e ↦
-          ap (λ (j : ℕ). port_at (slice_set timers i next) j d) e ∙ (ap (λ (t : Timer). t.port) (set_own timers i next d within)
-          ∙ (same ∙ (ap (λ (t : Timer). t.port) (is ∙ any_default timers i timer d within) ∙ ap (λ (j : ℕ). port_at timers j d) (sym e))))
+          ap (λ (j : ℕ). port_at (slice_set timers i next) j d) e
+          ∙ (ap (λ (t : Timer). t.port) (set_own timers i next d within)
+          ∙ (same ∙ (ap (λ (t : Timer). t.port) (is ∙ any_default timers i timer d within)
+          ∙ ap (λ (j : ℕ). port_at timers j d) (sym e))))
       | inr apart ↦ ap (λ (t : Timer). t.port) (set_other timers i next k d apart)
     ]
 
-pub set_apart : (timers : List Timer) (i : ℕ) (timer next : Timer) → i < length timers → timer ≡ slice_index_or timers i timer → next.port ≡ timer.port → AreApart timers → AreApart (slice_set timers i next)
+pub set_apart : (timers : List Timer) (i : ℕ) (timer next : Timer) → i < length timers →
+    timer ≡ slice_index_or timers i timer → next.port ≡ timer.port → AreApart timers →
+    AreApart (slice_set timers i next)
 set_apart timers i timer next within is same apart j k d e hj hk h =
     let long = set_long timers i next in
     let hj' : j < length timers = omega (arith, long, hj) in
     let hk' : k < length timers = omega (arith, long, hk) in
-    apart j k d e hj' hk' (sym (set_ports timers i timer next within is same j d hj') ∙ (h ∙ set_ports timers i timer next within is same k e hk'))
+    apart j k d e hj' hk' (sym (set_ports timers i timer next within is same j d hj')
+    ∙ (h ∙ set_ports timers i timer next within is same k e hk'))
 
 -- two timers at two indices have two ports
-pub other_port : (timers : List Timer) (i : ℕ) (timer : Timer) (k : ℕ) (d : Timer) → AreApart timers → i < length timers → timer ≡ slice_index_or timers i timer → k < length timers
+pub other_port : (timers : List Timer) (i : ℕ) (timer : Timer) (k : ℕ) (d : Timer) → AreApart timers →
+    i < length timers → timer ≡ slice_index_or timers i timer → k < length timers
     → (k ≡ i → ⊥) → port_at timers k d ≡ timer.port → ⊥
-other_port timers i timer k d apart within is h other same = other (apart k i d timer h within (same ∙ ap (λ (t : Timer). t.port) is))
+other_port timers i timer k d apart within is h other same =
+    other (apart k i d timer h within (same ∙ ap (λ (t : Timer). t.port) is))
 
-which_same : (n a b j k i : ℕ) → j < n → k < n → ((j ≡ i) × (a ≡ n)) ⊎ ((j ≡ i → ⊥) × (a ≡ j)) → ((k ≡ i) × (b ≡ n)) ⊎ ((k ≡ i → ⊥) × (b ≡ k)) → a ≡ b → j ≡ k
+which_same : (n a b j k i : ℕ) → j < n → k < n → ((j ≡ i) × (a ≡ n)) ⊎ ((j ≡ i → ⊥) × (a ≡ j)) →
+    ((k ≡ i) × (b ≡ n)) ⊎ ((k ≡ i → ⊥) × (b ≡ k)) → a ≡ b → j ≡ k
 which_same n a b j k i hj hk (inl x) (inl y) e = x.0 ∙ sym y.0
 which_same n a b j k i hj hk (inl x) (inr y) e = let f = x.1 in let g = y.1 in absurd (omega (arith, f, g, e, hk))
 which_same n a b j k i hj hk (inr x) (inl y) e = let f = x.1 in let g = y.1 in absurd (omega (arith, f, g, e, hj))
 which_same n a b j k i hj hk (inr x) (inr y) e = sym x.1 ∙ (e ∙ y.1)
 
-pub removed_apart_timers : (timers : List Timer) (i : ℕ) (timer : Timer) → i < length timers → AreApart timers → AreApart (swap_remove timers i timer)
+pub removed_apart_timers : (timers : List Timer) (i : ℕ) (timer : Timer) → i < length timers → AreApart timers →
+    AreApart (swap_remove timers i timer)
 removed_apart_timers timers i timer within apart j k d e hj hk h =
     let a = was_at timers i timer j d within hj in
     let b = was_at timers i timer k e within hk in
-    let same : a.place ≡ b.place = apart a.place b.place d e a.within b.within (ap (λ (t : Timer). t.port) (sym (a.is d)) ∙ (h ∙ ap (λ (t : Timer). t.port) (b.is e))) in
+    let same : a.place ≡ b.place =
+    apart a.place b.place d e a.within b.within (ap (λ (t : Timer). t.port) (sym (a.is d))
+    ∙ (h ∙ ap (λ (t : Timer). t.port) (b.is e))) in
     let long = removed_long timers i timer in
-    which_same (length timers - 1) a.place b.place j k i (omega (arith, long, hj)) (omega (arith, long, hk)) a.which b.which same
+    which_same (length timers - 1) a.place b.place j k i (omega (arith, long, hj)) (omega (arith, long, hk)) a.which
+    b.which same
 
-pub appended_apart : (timers : List Timer) (timer : Timer) → ((k : ℕ) (d : Timer) → k < length timers → port_at timers k d ≡ timer.port → ⊥) → AreApart timers → AreApart (timers ++ timer ∷ [])
+pub appended_apart : (timers : List Timer) (timer : Timer) →
+    ((k : ℕ) (d : Timer) → k < length timers → port_at timers k d ≡ timer.port → ⊥) → AreApart timers →
+    AreApart (timers ++ timer ∷ [])
 appended_apart timers timer fresh apart j k d e hj hk h =
     let long = appended_long timers timer in
     elim (cases_eq j (length timers)) [
@@ -71,20 +91,25 @@ appended_apart timers timer fresh apart j k d e hj hk h =
         | inl ks ↦ js ∙ sym ks
         | inr ko ↦
             let hk' : k < length timers = omega (arith, long, hk, ko) in
-            absurd (fresh k e hk' (ap (λ (t : Timer). t.port) (sym (appended_at timers timer k e hk')) ∙ (sym h ∙ ap (λ (t : Timer). t.port) (appended_last timers timer j d js))))
+            absurd (fresh k e hk' (ap (λ (t : Timer). t.port) (sym (appended_at timers timer k e hk'))
+            ∙ (sym h ∙ ap (λ (t : Timer). t.port) (appended_last timers timer j d js))))
       ]
       | inr jo ↦
           let hj' : j < length timers = omega (arith, long, hj, jo) in
           elim (cases_eq k (length timers)) [
-            | inl ks ↦ absurd (fresh j d hj' (ap (λ (t : Timer). t.port) (sym (appended_at timers timer j d hj')) ∙ (h ∙ ap (λ (t : Timer). t.port) (appended_last timers timer k e ks))))
+            | inl ks ↦
+                absurd (fresh j d hj' (ap (λ (t : Timer). t.port) (sym (appended_at timers timer j d hj'))
+                ∙ (h ∙ ap (λ (t : Timer). t.port) (appended_last timers timer k e ks))))
             | inr ko ↦
                 let hk' : k < length timers = omega (arith, long, hk, ko) in
-                apart j k d e hj' hk' (ap (λ (t : Timer). t.port) (sym (appended_at timers timer j d hj')) ∙ (h ∙ ap (λ (t : Timer). t.port) (appended_at timers timer k e hk')))
+                apart j k d e hj' hk' (ap (λ (t : Timer). t.port) (sym (appended_at timers timer j d hj'))
+                ∙ (h ∙ ap (λ (t : Timer). t.port) (appended_at timers timer k e hk')))
           ]
     ]
 
 -- ---- what holds of each timer, after one was replaced, removed or added
-later : (low i k place n : ℕ) → i < n → low ≤ i → low ≤ k → ((k ≡ i) × (place ≡ n - 1)) ⊎ ((k ≡ i → ⊥) × (place ≡ k)) → low ≤ place
+later : (low i k place n : ℕ) → i < n → low ≤ i → low ≤ k → ((k ≡ i) × (place ≡ n - 1)) ⊎ ((k ≡ i → ⊥) × (place ≡ k)) →
+    low ≤ place
 later low i k place n within first hl (inl x) = let e = x.1 in omega (arith, e, within, first)
 later low i k place n within first hl (inr x) = let e = x.1 in omega (arith, e, hl)
 
@@ -92,23 +117,31 @@ pub some_none : {T : Type 0} (o : Option T) → IsSome o → o ≡ None → ⊥
 some_none o h e = let f : is_some o ≡ false = ap is_some e in (let g : true ≡ false = sym h ∙ f in cc)
 
 module _ (Q : Timer → Type 0) (timers : List Timer) where
-  pub all_set : (low i : ℕ) (next : Timer) → i < length timers → ((k : ℕ) (d : Timer) → low ≤ k → k < length timers → (k ≡ i → ⊥) → Q (slice_index_or timers k d)) → Q next
-      → (k : ℕ) (d : Timer) → low ≤ k → k < length (slice_set timers i next) → Q (slice_index_or (slice_set timers i next) k d)
+  pub all_set : (low i : ℕ) (next : Timer) → i < length timers →
+      ((k : ℕ) (d : Timer) → low ≤ k → k < length timers → (k ≡ i → ⊥) → Q (slice_index_or timers k d)) → Q next
+      → (k : ℕ) (d : Timer) → low ≤ k → k < length (slice_set timers i next) →
+      Q (slice_index_or (slice_set timers i next) k d)
   all_set low i next within rest own k d hl h =
       let long = set_long timers i next in
       let h' : k < length timers = omega (arith, long, h) in
       elim (cases_eq k i) [
-        | inl e ↦ subst Q (sym (ap (λ (j : ℕ). slice_index_or (slice_set timers i next) j d) e ∙ set_own timers i next d within)) own
+        | inl e ↦
+            subst Q (sym (ap (λ (j : ℕ). slice_index_or (slice_set timers i next) j d) e
+            ∙ set_own timers i next d within)) own
         | inr apart ↦ subst Q (sym (set_other timers i next k d apart)) (rest k d hl h' apart)
       ]
 
-  pub all_removed : (low i : ℕ) (timer : Timer) → low ≤ i → i < length timers → ((k : ℕ) (d : Timer) → low ≤ k → k < length timers → (k ≡ i → ⊥) → Q (slice_index_or timers k d))
-      → (k : ℕ) (d : Timer) → low ≤ k → k < length (swap_remove timers i timer) → Q (slice_index_or (swap_remove timers i timer) k d)
+  pub all_removed : (low i : ℕ) (timer : Timer) → low ≤ i → i < length timers →
+      ((k : ℕ) (d : Timer) → low ≤ k → k < length timers → (k ≡ i → ⊥) → Q (slice_index_or timers k d))
+      → (k : ℕ) (d : Timer) → low ≤ k → k < length (swap_remove timers i timer) →
+      Q (slice_index_or (swap_remove timers i timer) k d)
   all_removed low i timer first within rest k d hl h =
       let w = was_at timers i timer k d within h in
-      subst Q (sym (w.is d)) (rest w.place d (later low i k w.place (length timers) within first hl w.which) w.within w.other)
+      subst Q (sym (w.is d)) (rest w.place d (later low i k w.place (length timers) within first hl w.which) w.within
+      w.other)
 
-  pub all_appended : (timer : Timer) → ((k : ℕ) (d : Timer) → k < length timers → Q (slice_index_or timers k d)) → Q timer
+  pub all_appended : (timer : Timer) → ((k : ℕ) (d : Timer) → k < length timers → Q (slice_index_or timers k d)) →
+      Q timer
       → (k : ℕ) (d : Timer) → k < length (timers ++ timer ∷ []) → Q (slice_index_or (timers ++ timer ∷ []) k d)
   all_appended timer rest own k d h =
       let long = appended_long timers timer in
@@ -128,28 +161,33 @@ module _ {S F D : Type 0} (meaning : StoreMeaning S D) (sources : SourceMeaning 
     pub tried : AreTried s → AreTried t
 
   -- another transfer is held still
-  pub other_held : (old new : List (ℕ × HeldTransfer F D)) (timer : Timer) → (IsSome (at timer.port old) → IsSome (at timer.port new)) → IsHeld old timer → IsHeld new timer
+  pub other_held : (old new : List (ℕ × HeldTransfer F D)) (timer : Timer) →
+      (IsSome (at timer.port old) → IsSome (at timer.port new)) → IsHeld old timer → IsHeld new timer
   other_held old new timer there h = record { there = there h.there; look = h.look }
 
   pub other_read : (es fs : List Event) (timer : Timer) → KeepsTries es fs → IsRead es timer → IsRead fs timer
   other_read es fs timer tries h marked = tries timer.port (h marked)
 
   -- a step at a port
-  module _ (s : LoopState S F D) (index : ℕ) (timer : Timer) (next : PortState S F D) (within : index < length s.timers) (is : timer ≡ slice_index_or s.timers index timer)
+  module _ (s : LoopState S F D) (index : ℕ) (timer : Timer) (next : PortState S F D) (within : index < length s.timers)
+      (is : timer ≡ slice_index_or s.timers index timer)
       (stays : StaysAt meaning sources (port_state s timer) next) where
     pub set_kept : AreKept s.server.held s.timers → AreKept next.server.held (slice_set s.timers index next.timer)
     set_kept kept =
         let H = IsHeld next.server.held in
         let own : IsHeld s.server.held timer = subst (IsHeld s.server.held) (sym is) (kept.each index timer within) in
         let own_next : IsHeld next.server.held next.timer = record {
-          there = subst (λ (p : ℕ). IsSome (at p next.server.held)) (sym stays.port) (stays.held.there timer.port own.there);
+          there =
+              subst (λ (p : ℕ). IsSome (at p next.server.held)) (sym stays.port)
+              (stays.held.there timer.port own.there);
           look = stays.look own.look;
         } in
         record {
           apart = set_apart s.timers index timer next.timer within is stays.port kept.apart;
           each = λ k d h.
               all_set H s.timers 0 index next.timer within
-              (λ k d l h apart. other_held s.server.held next.server.held (slice_index_or s.timers k d) (stays.held.there (slice_index_or s.timers k d).port) (kept.each k d h))
+              (λ k d l h apart. other_held s.server.held next.server.held (slice_index_or s.timers k d)
+              (stays.held.there (slice_index_or s.timers k d).port) (kept.each k d h))
               own_next k d (omega arith) h;
         }
 
@@ -162,7 +200,8 @@ module _ {S F D : Type 0} (meaning : StoreMeaning S D) (sources : SourceMeaning 
         (stays.read (subst (IsRead s.events) (sym is) (read index timer within))) k d (omega arith) h
 
   -- a transfer that closed is removed
-  pub removed_held : (held : List (ℕ × HeldTransfer F D)) (timers : List Timer) (index : ℕ) (timer : Timer) → index < length timers → timer ≡ slice_index_or timers index timer
+  pub removed_held : (held : List (ℕ × HeldTransfer F D)) (timers : List Timer) (index : ℕ) (timer : Timer) →
+      index < length timers → timer ≡ slice_index_or timers index timer
       → AreKept held timers → AreKept (without timer.port held) (swap_remove timers index timer)
   removed_held held timers index timer within is kept =
       let H = IsHeld (without timer.port held) in
@@ -173,17 +212,20 @@ module _ {S F D : Type 0} (meaning : StoreMeaning S D) (sources : SourceMeaning 
             (λ k d l h apart.
             let t = slice_index_or timers k d in
             other_held held (without timer.port held) t
-            (λ some. ap is_some (removed_apart timer.port t.port held (other_port timers index timer k d kept.apart within is h apart)) ∙ some)
+            (λ some. ap is_some (removed_apart timer.port t.port held
+            (other_port timers index timer k d kept.apart within is h apart)) ∙ some)
             (kept.each k d h)) k d (omega arith) h;
       }
 
   -- a transfer opens
-  opened_kept : (held : List (ℕ × HeldTransfer F D)) (timers : List Timer) (timer : Timer) (transfer : HeldTransfer F D) → at timer.port held ≡ None → timer.look_at ≤ timer.deadline
+  opened_kept : (held : List (ℕ × HeldTransfer F D)) (timers : List Timer) (timer : Timer)
+      (transfer : HeldTransfer F D) → at timer.port held ≡ None → timer.look_at ≤ timer.deadline
       → AreKept held timers → AreKept (with_new timer.port transfer held) (timers ++ timer ∷ [])
   opened_kept held timers timer transfer free look kept =
       let H = IsHeld (with_new timer.port transfer held) in
       let fresh : (k : ℕ) (d : Timer) → k < length timers → port_at timers k d ≡ timer.port → ⊥ =
-      λ k d h e. some_none (at (slice_index_or timers k d).port held) (kept.each k d h).there (ap (λ (p : ℕ). at p held) e ∙ free) in
+      λ k d h e. some_none (at (slice_index_or timers k d).port held) (kept.each k d h).there
+      (ap (λ (p : ℕ). at p held) e ∙ free) in
       record {
         apart = appended_apart timers timer fresh kept.apart;
         each =
@@ -191,26 +233,36 @@ module _ {S F D : Type 0} (meaning : StoreMeaning S D) (sources : SourceMeaning 
             (λ k d h.
             let t = slice_index_or timers k d in
             other_held held (with_new timer.port transfer held) t
-            (λ some. ap is_some (inserted_apart timer.port t.port transfer held (fresh k d h)) ∙ some) (kept.each k d h))
+            (λ some. ap is_some (inserted_apart timer.port t.port transfer held (fresh k d h)) ∙ some)
+            (kept.each k d h))
             (record { there = ap is_some (inserted_own timer.port transfer held); look = look });
       }
 
-  answered_kept : (now : ℕ) (from : Endpoint) (tid : ℕ) (old : ServerState S F D) (timers : List Timer) (came : Came S F D) → at tid old.held ≡ None → AreKept old.held timers
-      → AreKept (left_by came old from tid).new.held (with_timer now from (left_by came old from tid).opened.tid (left_by came old from tid).new.held timers)
+  answered_kept : (now : ℕ) (from : Endpoint) (tid : ℕ) (old : ServerState S F D) (timers : List Timer)
+      (came : Came S F D) → at tid old.held ≡ None → AreKept old.held timers
+      → AreKept (left_by came old from tid).new.held (with_timer now from (left_by came old from tid).opened.tid
+      (left_by came old from tid).new.held timers)
   answered_kept now from tid old timers Nothing free kept = kept
   answered_kept now from tid old timers (Error_reply reply store) free kept = kept
   answered_kept now from tid old timers (A_transfer transfer store) free kept =
-      opened_kept old.held timers (started now tid from (interval_at (at tid (with_new tid transfer old.held)))) transfer free
+      opened_kept old.held timers (started now tid from (interval_at (at tid (with_new tid transfer old.held))))
+      transfer free
       (looks_first now (interval_at (at tid (with_new tid transfer old.held)))) kept
 
-  answered_read : (now : ℕ) (from : Endpoint) (tid : ℕ) (old : ServerState S F D) (timers : List Timer) (came : Came S F D) (es fs : List Event) → KeepsTries es fs
-      → All (IsRead es) timers → All (IsRead fs) (with_timer now from (left_by came old from tid).opened.tid (left_by came old from tid).new.held timers)
-  answered_read now from tid old timers Nothing es fs tries read = λ k d h. other_read es fs (slice_index_or timers k d) tries (read k d h)
-  answered_read now from tid old timers (Error_reply reply store) es fs tries read = λ k d h. other_read es fs (slice_index_or timers k d) tries (read k d h)
+  answered_read : (now : ℕ) (from : Endpoint) (tid : ℕ) (old : ServerState S F D) (timers : List Timer)
+      (came : Came S F D) (es fs : List Event) → KeepsTries es fs
+      → All (IsRead es) timers →
+      All (IsRead fs) (with_timer now from (left_by came old from tid).opened.tid
+      (left_by came old from tid).new.held timers)
+  answered_read now from tid old timers Nothing es fs tries read =
+      λ k d h. other_read es fs (slice_index_or timers k d) tries (read k d h)
+  answered_read now from tid old timers (Error_reply reply store) es fs tries read =
+      λ k d h. other_read es fs (slice_index_or timers k d) tries (read k d h)
   answered_read now from tid old timers (A_transfer transfer store) es fs tries read =
       let R = IsRead fs in
       all_appended R timers (started now tid from (interval_at (at tid (with_new tid transfer old.held))))
-      (λ k d h. other_read es fs (slice_index_or timers k d) tries (read k d h)) (λ marked. absurd (let f : false ≡ true = marked in cc))
+      (λ k d h. other_read es fs (slice_index_or timers k d) tries (read k d h))
+      (λ marked. absurd (let f : false ≡ true = marked in cc))
 
   -- a request port whose datagram is handled
   still_tried : (marked pending : Bool) (P : Type 0) → ((marked || pending) ≡ true → P) → (marked || false) ≡ true → P
@@ -232,21 +284,27 @@ module _ {S F D : Type 0} (meaning : StoreMeaning S D) (sources : SourceMeaning 
       subst (Keeps s) (sym d.is) (record {
         tries = λ q h. or_right (s.requests == q) (was_tried q s.events) h;
         kept = λ h. h;
-        read = λ h k e l m. or_right (s.requests == (slice_index_or s.timers k e).port) (was_tried (slice_index_or s.timers k e).port s.events) (h k e l m);
+        read =
+            λ h k e l m. or_right (s.requests == (slice_index_or s.timers k e).port)
+            (was_tried (slice_index_or s.timers k e).port s.events) (h k e l m);
         tried = λ h m. own_receive s.requests (was_tried s.requests s.events);
       })
   step_keeps s t (No_request_found d) work =
       subst (Keeps s) (sym d.is) (record {
         tries = λ q h. or_right (s.requests == q) (was_tried q s.events) h;
         kept = λ h. h;
-        read = λ h k e l m. or_right (s.requests == (slice_index_or s.timers k e).port) (was_tried (slice_index_or s.timers k e).port s.events) (h k e l m);
+        read =
+            λ h k e l m. or_right (s.requests == (slice_index_or s.timers k e).port)
+            (was_tried (slice_index_or s.timers k e).port s.events) (h k e l m);
         tried = λ h m. own_receive s.requests (was_tried s.requests s.events);
       })
   step_keeps s t (Request_not_received d) work =
       subst (Keeps s) (sym d.is) (record {
         tries = λ q h. or_right (s.requests == q) (was_tried q s.events) h;
         kept = λ h. h;
-        read = λ h k e l m. or_right (s.requests == (slice_index_or s.timers k e).port) (was_tried (slice_index_or s.timers k e).port s.events) (h k e l m);
+        read =
+            λ h k e l m. or_right (s.requests == (slice_index_or s.timers k e).port)
+            (was_tried (slice_index_or s.timers k e).port s.events) (h k e l m);
         tried = λ h m. own_receive s.requests (was_tried s.requests s.events);
       })
   step_keeps s t (No_port_found d) work =
@@ -258,17 +316,22 @@ module _ {S F D : Type 0} (meaning : StoreMeaning S D) (sources : SourceMeaning 
       })
   step_keeps s t (Request_answered d) work =
       let fs = replied (answering_port s.requests d.left.opened.tid) d.left.opened.to d.left.sent s.events in
-      let tries : KeepsTries s.events fs = replied_tries (answering_port s.requests d.left.opened.tid) d.left.opened.to d.left.sent s.events in
+      let tries : KeepsTries s.events fs =
+      replied_tries (answering_port s.requests d.left.opened.tid) d.left.opened.to d.left.sent s.events in
       let L = left_by d.steps.came s.server d.from d.tid in
       subst (Keeps s) (sym d.is) (record {
         tries = tries;
         kept = λ h.
-            subst (λ (left : Left S F D). AreKept left.new.held (with_timer s.now d.from left.opened.tid left.new.held s.timers)) (sym d.steps.left)
+            subst (λ (left : Left S F D). AreKept left.new.held
+            (with_timer s.now d.from left.opened.tid left.new.held s.timers)) (sym d.steps.left)
             (answered_kept s.now d.from d.tid s.server s.timers d.steps.came d.free h);
         read = λ h.
-            subst (λ (left : Left S F D). All (IsRead fs) (with_timer s.now d.from left.opened.tid left.new.held s.timers)) (sym d.steps.left)
+            subst (λ (left : Left S F D). All (IsRead fs)
+            (with_timer s.now d.from left.opened.tid left.new.held s.timers)) (sym d.steps.left)
             (answered_read s.now d.from d.tid s.server s.timers d.steps.came s.events fs tries h);
-        tried = λ h m. tries s.requests (still_tried s.marked (is_some s.pending) (was_tried s.requests s.events ≡ true) h m);
+        tried =
+            λ h m. tries s.requests (still_tried s.marked (is_some s.pending) (was_tried s.requests s.events ≡ true) h
+            m);
       })
   step_keeps s t (Request_lost d) work =
       subst (Keeps s) (sym d.is) (record {
@@ -290,7 +353,8 @@ module _ {S F D : Type 0} (meaning : StoreMeaning S D) (sources : SourceMeaning 
         kept = removed_held s.server.held s.timers d.index d.timer d.within d.is_timer;
         read = λ read.
             let R = IsRead s.events in
-            λ k e h. all_removed R s.timers 0 d.index d.timer (omega arith) d.within (λ k e l h apart. read k e h) k e (omega arith) h;
+            λ k e h. all_removed R s.timers 0 d.index d.timer (omega arith) d.within (λ k e l h apart. read k e h) k e
+            (omega arith) h;
         tried = λ h. h;
       })
 

@@ -1,5 +1,6 @@
 -- A transfer that opens has not closed.
-use Rattle.std.proofs.Common.{◌≡◌, ◌⊎◌, ℕ, Bool, false, List, [], ◌∷◌, length, Option, Some, None, refl, sym, ap, subst, ◌∙◌, inl, inr}
+use Rattle.std.proofs.Common.{◌≡◌, ◌⊎◌, ℕ, Bool, false, List, [], ◌∷◌, length, Option, Some, None, refl, sym, ap, subst}
+use Rattle.std.proofs.Common.{◌∙◌, inl, inr}
 use Rattle.std.specs.Prelude.{Result, Ok, Err, slice_index_or, is_some, All, if◌then◌else◌}
 use Rattle.tftp_wire.specs.declared.mode.Mode.{Mode}
 use Rattle.tftp_negotiate.specs.declared.known.Known.{Known}
@@ -15,35 +16,43 @@ use Rattle.tftp_server.specs.Request.{Came, Left, Nothing, Error_reply, A_transf
 use Rattle.tftp_server.specs.Port.{Ask, Ignores, Refuses, Reads, Writes, Service, Silent, Refused, Sends, Takes}
 use Rattle.tftp_loop.specs.Run.{Run}
 use Rattle.tftp_loop.specs.Run.Run.{Start, Then}
-use Rattle.tftp_loop.specs.Serves.{Timer, LoopState, AnswersRequest, FindsNoPort, LosesRequest, SetsStore, interval_at, started, with_timer}
+use Rattle.tftp_loop.specs.Serves.{Timer, LoopState, AnswersRequest, FindsNoPort, LosesRequest, SetsStore, interval_at}
+use Rattle.tftp_loop.specs.Serves.{started, with_timer}
 use Rattle.tftp_loop.specs.Tended.{AreKept, AreSettled, Concludes, IsOpen}
 use Rattle.tftp_loop.proofs.LoopStays.{all_appended, some_none, work_keeps}
 use Rattle.tftp_loop.proofs.RequestRuns.{concludes_run}
 use Rattle.tftp_loop.proofs.Tables.{inserted_apart, inserted_own}
 
 -- the end of a read
-served_open : {F : Type 0} (sources : SourceMeaning F) (agreed : List Known) (peer : Endpoint) (mode : Mode) (length retries : ℕ) (source rest : F) (e : EndState)
+served_open : {F : Type 0} (sources : SourceMeaning F) (agreed : List Known) (peer : Endpoint) (mode : Mode)
+    (length retries : ℕ) (source rest : F) (e : EndState)
     → ServesRead sources agreed peer mode length retries source rest e → outcome_of e.position.phase ≡ None
 served_open sources [] peer mode length retries source rest e h = ap (λ (d : EndState). outcome_of d.position.phase) h.2
-served_open sources (known ∷ others) peer mode length retries source rest e h = ap (λ (d : EndState). outcome_of d.position.phase) h.1
+served_open sources (known ∷ others) peer mode length retries source rest e h =
+    ap (λ (d : EndState). outcome_of d.position.phase) h.1
 
 -- the end of a write
-taking_open : (agreed : List Known) (peer : Endpoint) (mode : Mode) (retries : ℕ) → outcome_of (serving_write agreed peer mode retries).position.phase ≡ None
+taking_open : (agreed : List Known) (peer : Endpoint) (mode : Mode) (retries : ℕ) →
+    outcome_of (serving_write agreed peer mode retries).position.phase ≡ None
 taking_open [] peer mode retries = refl
 taking_open (known ∷ others) peer mode retries = refl
 
 module _ {S F D : Type 0} where
   -- the transfer of a result
-  came_open : (came : Came S F D) (transfer : HeldTransfer F D) (end : EndState) (store store' : S) (of : HeldTransfer F D) → of.end ≡ end → outcome_of end.position.phase ≡ None
+  came_open : (came : Came S F D) (transfer : HeldTransfer F D) (end : EndState) (store store' : S)
+      (of : HeldTransfer F D) → of.end ≡ end → outcome_of end.position.phase ≡ None
       → A_transfer transfer store ≡ A_transfer of store' → is_closed transfer ≡ false
   came_open came transfer end store store' of ends none e =
       let same : transfer ≡ of = (cc) in
       ap (λ (t : HeldTransfer F D). is_some (outcome_of t.end.position.phase)) same
       ∙ (ap (λ (d : EndState). is_some (outcome_of d.position.phase)) ends ∙ ap is_some none)
 
-module _ {S F D : Type 0} (meaning : StoreMeaning S D) (sources : SourceMeaning F) (old : ServerState S F D) (from : Endpoint) (bytes : List ℕ) where
-  serves_open : (path : List ℕ) (mode : Mode) (length : ℕ) (agreed : List Known) (source : F) (transfer : HeldTransfer F D) (store : S)
-      → Serves meaning sources old from bytes path mode length agreed source (A_transfer transfer store) → is_closed transfer ≡ false
+module _ {S F D : Type 0} (meaning : StoreMeaning S D) (sources : SourceMeaning F) (old : ServerState S F D)
+    (from : Endpoint) (bytes : List ℕ) where
+  serves_open : (path : List ℕ) (mode : Mode) (length : ℕ) (agreed : List Known) (source : F)
+      (transfer : HeldTransfer F D) (store : S)
+      → Serves meaning sources old from bytes path mode length agreed source (A_transfer transfer store) →
+      is_closed transfer ≡ false
   serves_open path mode length agreed source transfer store s =
       came_open (A_transfer transfer store) transfer s.end store old.store _ refl
       (served_open sources agreed from mode length old.config.retries source s.rest s.end s.serves) s.opens
@@ -51,30 +60,39 @@ module _ {S F D : Type 0} (meaning : StoreMeaning S D) (sources : SourceMeaning 
   sent_open : (service : Service) (file : Result (Opening F) StoreFault) (transfer : HeldTransfer F D) (store : S)
       → Sent meaning sources old from bytes service file (A_transfer transfer store) → is_closed transfer ≡ false
   sent_open Silent file transfer store h = absurd h
-  sent_open (Refused reply) file transfer store h = absurd (let e : A_transfer transfer store ≡ Error_reply reply old.store = h in cc)
+  sent_open (Refused reply) file transfer store h =
+      absurd (let e : A_transfer transfer store ≡ Error_reply reply old.store = h in cc)
   sent_open (Sends path mode length agreed) (Err fault) transfer store h = absurd h
-  sent_open (Sends path mode length agreed) (Ok file) transfer store (inl s) = serves_open path mode length agreed file.source transfer store s
+  sent_open (Sends path mode length agreed) (Ok file) transfer store (inl s) =
+      serves_open path mode length agreed file.source transfer store s
   sent_open (Sends path mode length agreed) (Ok file) transfer store (inr x) = absurd (let e = x.2 in cc)
   sent_open (Takes path mode agreed) file transfer store h = absurd h
 
   taken_open : (service : Service) (draft : Result D StoreFault) (begun : S) (transfer : HeldTransfer F D) (store : S)
-      → Taken meaning sources old from bytes service draft begun (A_transfer transfer store) → is_closed transfer ≡ false
+      → Taken meaning sources old from bytes service draft begun (A_transfer transfer store) →
+      is_closed transfer ≡ false
   taken_open Silent draft begun transfer store h = absurd h
-  taken_open (Refused reply) draft begun transfer store h = absurd (let e : A_transfer transfer store ≡ Error_reply reply begun = h in cc)
+  taken_open (Refused reply) draft begun transfer store h =
+      absurd (let e : A_transfer transfer store ≡ Error_reply reply begun = h in cc)
   taken_open (Sends path mode length agreed) draft begun transfer store h = absurd h
   taken_open (Takes path mode agreed) (Err fault) begun transfer store h = absurd h
   taken_open (Takes path mode agreed) (Ok draft) begun transfer store h =
-      came_open (A_transfer transfer store) transfer (serving_write agreed from mode old.config.retries) store begun _ refl (taking_open agreed from mode old.config.retries) h
+      came_open (A_transfer transfer store) transfer (serving_write agreed from mode old.config.retries) store begun _
+      refl (taking_open agreed from mode old.config.retries) h
 
-  opens_open : (ask : Ask) (transfer : HeldTransfer F D) (store : S) → Goes meaning sources old from bytes ask (A_transfer transfer store) → is_closed transfer ≡ false
+  opens_open : (ask : Ask) (transfer : HeldTransfer F D) (store : S) →
+      Goes meaning sources old from bytes ask (A_transfer transfer store) → is_closed transfer ≡ false
   opens_open Ignores transfer store h = absurd (let e : A_transfer transfer store ≡ Nothing = h in cc)
-  opens_open (Refuses reply) transfer store h = absurd (let e : A_transfer transfer store ≡ Error_reply reply old.store = h in cc)
+  opens_open (Refuses reply) transfer store h =
+      absurd (let e : A_transfer transfer store ≡ Error_reply reply old.store = h in cc)
   opens_open (Reads path mode options) transfer store h = sent_open _ h.file transfer store h.goes_on
   opens_open (Writes path mode agreed) transfer store h = taken_open _ h.draft h.store transfer store h.goes_on
 
   -- what was unclosed stays so, and what opened is
-  answered_open : (now tid : ℕ) (timers : List Timer) (ask : Ask) (came : Came S F D) → at tid old.held ≡ None → AreKept old.held timers → All (IsOpen old.held) timers → Goes meaning sources old from bytes ask came
-      → All (IsOpen (left_by came old from tid).new.held) (with_timer now from (left_by came old from tid).opened.tid (left_by came old from tid).new.held timers)
+  answered_open : (now tid : ℕ) (timers : List Timer) (ask : Ask) (came : Came S F D) → at tid old.held ≡ None →
+      AreKept old.held timers → All (IsOpen old.held) timers → Goes meaning sources old from bytes ask came
+      → All (IsOpen (left_by came old from tid).new.held) (with_timer now from (left_by came old from tid).opened.tid
+      (left_by came old from tid).new.held timers)
   answered_open now tid timers ask Nothing free kept unclosed goes = unclosed
   answered_open now tid timers ask (Error_reply reply store) free kept unclosed goes = unclosed
   answered_open now tid timers ask (A_transfer transfer store) free kept unclosed goes =
@@ -83,37 +101,49 @@ module _ {S F D : Type 0} (meaning : StoreMeaning S D) (sources : SourceMeaning 
       (λ k d h.
       let port = (slice_index_or timers k d).port in
       ap (λ (o : Option (HeldTransfer F D)). taken_of o)
-      (inserted_apart tid port transfer old.held (λ e. some_none (at port old.held) (kept.each k d h).there (ap (λ (p : ℕ). at p old.held) e ∙ free))) ∙ unclosed k d h)
+      (inserted_apart tid port transfer old.held (λ e. some_none (at port old.held) (kept.each k d h).there
+      (ap (λ (p : ℕ). at p old.held) e ∙ free))) ∙ unclosed k d h)
       (ap (λ (o : Option (HeldTransfer F D)). taken_of o) (inserted_own tid transfer old.held)
-      ∙ ap (λ (b : Bool). if b then Some (record_of transfer.end, draft_of transfer.files) else None) (opens_open ask transfer store goes))
+      ∙ ap (λ (b : Bool). if b then Some (record_of transfer.end, draft_of transfer.files) else None)
+      (opens_open ask transfer store goes))
 
 module _ {S F D : Type 0} (meaning : StoreMeaning S D) (sources : SourceMeaning F) where
   -- trying ports changes no transfer
-  tried_settled : (s t : LoopState S F D) → Run (FindsNoPort meaning sources) s t → AreSettled s.server.held s.timers → AreSettled t.server.held t.timers
+  tried_settled : (s t : LoopState S F D) → Run (FindsNoPort meaning sources) s t → AreSettled s.server.held s.timers →
+      AreSettled t.server.held t.timers
   tried_settled s t Start settled = settled
   tried_settled s t (Then {middle} run d) settled =
       subst (λ (u : LoopState S F D). AreSettled u.server.held u.timers) (sym d.is) (tried_settled s middle run settled)
 
-  set_open : (s t : LoopState S F D) → (t ≡ s) ⊎ SetsStore meaning sources s t → All (IsOpen s.server.held) s.timers → All (IsOpen t.server.held) t.timers
+  set_open : (s t : LoopState S F D) → (t ≡ s) ⊎ SetsStore meaning sources s t → All (IsOpen s.server.held) s.timers →
+      All (IsOpen t.server.held) t.timers
   set_open s t (inl e) unclosed = subst (λ (u : LoopState S F D). All (IsOpen u.server.held) u.timers) (sym e) unclosed
-  set_open s t (inr d) unclosed = subst (λ (u : LoopState S F D). All (IsOpen u.server.held) u.timers) (sym d.is) unclosed
+  set_open s t (inr d) unclosed =
+      subst (λ (u : LoopState S F D). All (IsOpen u.server.held) u.timers) (sym d.is) unclosed
 
-  set_kept : (s t : LoopState S F D) → (t ≡ s) ⊎ SetsStore meaning sources s t → AreKept s.server.held s.timers → AreKept t.server.held t.timers
+  set_kept : (s t : LoopState S F D) → (t ≡ s) ⊎ SetsStore meaning sources s t → AreKept s.server.held s.timers →
+      AreKept t.server.held t.timers
   set_kept s t (inl e) kept = subst (λ (u : LoopState S F D). AreKept u.server.held u.timers) (sym e) kept
   set_kept s t (inr d) kept = subst (λ (u : LoopState S F D). AreKept u.server.held u.timers) (sym d.is) kept
 
-  ends_open : (s t : LoopState S F D) → AnswersRequest meaning sources s t ⊎ LosesRequest meaning sources s t → AreKept s.server.held s.timers → All (IsOpen s.server.held) s.timers → All (IsOpen t.server.held) t.timers
+  ends_open : (s t : LoopState S F D) → AnswersRequest meaning sources s t ⊎ LosesRequest meaning sources s t →
+      AreKept s.server.held s.timers → All (IsOpen s.server.held) s.timers → All (IsOpen t.server.held) t.timers
   ends_open s t (inl d) kept unclosed =
       subst (λ (u : LoopState S F D). All (IsOpen u.server.held) u.timers) (sym d.is)
-      (subst (λ (left : Left S F D). All (IsOpen left.new.held) (with_timer s.now d.from left.opened.tid left.new.held s.timers)) (sym d.steps.left)
-      (answered_open meaning sources s.server d.from d.bytes s.now d.tid s.timers _ d.steps.came d.free kept unclosed d.steps.goes))
-  ends_open s t (inr d) kept unclosed = subst (λ (u : LoopState S F D). All (IsOpen u.server.held) u.timers) (sym d.is) unclosed
+      (subst (λ (left : Left S F D). All (IsOpen left.new.held)
+      (with_timer s.now d.from left.opened.tid left.new.held s.timers)) (sym d.steps.left)
+      (answered_open meaning sources s.server d.from d.bytes s.now d.tid s.timers _ d.steps.came d.free kept unclosed
+      d.steps.goes))
+  ends_open s t (inr d) kept unclosed =
+      subst (λ (u : LoopState S F D). All (IsOpen u.server.held) u.timers) (sym d.is) unclosed
 
   -- an answer leaves each transfer unclosed, with its timer
-  pub concludes_settled : (s t : LoopState S F D) → Concludes meaning sources s t → AreSettled s.server.held s.timers → AreSettled t.server.held t.timers
+  pub concludes_settled : (s t : LoopState S F D) → Concludes meaning sources s t → AreSettled s.server.held s.timers →
+      AreSettled t.server.held t.timers
   concludes_settled s t c settled = record {
     kept = (work_keeps meaning sources s t (concludes_run meaning sources s t c)).kept settled.kept;
     none_closed =
         let begun = tried_settled s c.begin c.tries settled in
-        ends_open c.middle t c.ends (set_kept c.begin c.middle c.set begun.kept) (set_open c.begin c.middle c.set begun.none_closed);
+        ends_open c.middle t c.ends (set_kept c.begin c.middle c.set begun.kept)
+        (set_open c.begin c.middle c.set begun.none_closed);
   }

@@ -1,5 +1,6 @@
 -- Lists that are turned round.
-use Rattle.std.proofs.Common.{◌≡◌, ◌≤◌, ◌<◌, ◌+◌, ◌-◌, ℕ, zero, suc, List, [], ◌∷◌, ◌++◌, length, take, drop, refl, sym, ap, ◌∙◌, arith}
+use Rattle.std.proofs.Common.{◌≡◌, ◌≤◌, ◌<◌, ◌+◌, ◌-◌, ℕ, zero, suc, List, [], ◌∷◌, ◌++◌, length, take, drop, refl, sym}
+use Rattle.std.proofs.Common.{ap, ◌∙◌, arith}
 use Rattle.std.specs.Prelude.{slice_index_or}
 use Rattle.std.specs.List.{range_with_len}
 use Rattle.tftp_loop.specs.PortOrder.{coming_from}
@@ -11,7 +12,8 @@ drop_one (y ∷ xs) zero x h e = ap (λ (z : ℕ). z ∷ xs) (sym e)
 drop_one (y ∷ xs) (suc i) x h e = drop_one xs i x (omega (arith, h)) e
 
 -- what is before the next index ends with its element
-take_one : (xs : List ℕ) (i : ℕ) (x : ℕ) → i < length xs → x ≡ slice_index_or xs i x → take (suc i) xs ≡ take i xs ++ x ∷ []
+take_one : (xs : List ℕ) (i : ℕ) (x : ℕ) → i < length xs → x ≡ slice_index_or xs i x →
+    take (suc i) xs ≡ take i xs ++ x ∷ []
 take_one [] i x h e = absurd (omega (arith, h))
 take_one (y ∷ xs) zero x h e = ap (λ (z : ℕ). z ∷ []) (sym e)
 take_one (y ∷ xs) (suc i) x h e = ap (λ (zs : List ℕ). y ∷ zs) (take_one xs i x (omega (arith, h)) e)
@@ -42,11 +44,14 @@ begins_again xs n h =
     ap (λ (ys : List ℕ). ys ++ take n xs) (drop_all xs n h) ∙ take_all xs n h ∙ sym (nothing_after xs)
 
 -- the element at an index comes first, and last from the next index on
-pub comes_first : (xs : List ℕ) (i : ℕ) (x : ℕ) → i < length xs → x ≡ slice_index_or xs i x → coming_from i xs ≡ x ∷ (drop (suc i) xs ++ take i xs)
+pub comes_first : (xs : List ℕ) (i : ℕ) (x : ℕ) → i < length xs → x ≡ slice_index_or xs i x →
+    coming_from i xs ≡ x ∷ (drop (suc i) xs ++ take i xs)
 comes_first xs i x h e = ap (λ (ys : List ℕ). ys ++ take i xs) (drop_one xs i x h e)
 
-pub comes_last : (xs : List ℕ) (i : ℕ) (x : ℕ) → i < length xs → x ≡ slice_index_or xs i x → coming_from (suc i) xs ≡ (drop (suc i) xs ++ take i xs) ++ x ∷ []
-comes_last xs i x h e = ap (λ (ys : List ℕ). drop (suc i) xs ++ ys) (take_one xs i x h e) ∙ assoc (drop (suc i) xs) (take i xs) (x ∷ [])
+pub comes_last : (xs : List ℕ) (i : ℕ) (x : ℕ) → i < length xs → x ≡ slice_index_or xs i x →
+    coming_from (suc i) xs ≡ (drop (suc i) xs ++ take i xs) ++ x ∷ []
+comes_last xs i x h e =
+    ap (λ (ys : List ℕ). drop (suc i) xs ++ ys) (take_one xs i x h e) ∙ assoc (drop (suc i) xs) (take i xs) (x ∷ [])
 
 pub none_within : (xs : List ℕ) → length xs ≤ 0 → xs ≡ []
 none_within [] h = refl
@@ -60,7 +65,8 @@ one_more a (suc n) =
     ap (λ (bs : List ℕ). a ∷ bs) (one_more (a + 1) n ∙ ap (λ (b : ℕ). range_with_len (a + 1) n ++ b ∷ []) e)
 
 -- a loop over the ports of a range
-pub next_listed : (first port : ℕ) (xs ys : List ℕ) → first ≤ port → xs ≡ range_with_len first (port - first) → ys ≡ xs ++ port ∷ [] → ys ≡ range_with_len first ((port + 1) - first)
+pub next_listed : (first port : ℕ) (xs ys : List ℕ) → first ≤ port → xs ≡ range_with_len first (port - first) →
+    ys ≡ xs ++ port ∷ [] → ys ≡ range_with_len first ((port + 1) - first)
 next_listed first port xs ys h e more =
     let n : (port + 1) - first ≡ suc (port - first) = omega (arith, h) in
     let p : first + (port - first) ≡ port = omega (arith, h) in
@@ -69,11 +75,13 @@ next_listed first port xs ys h e more =
     ∙ sym (one_more first (port - first))
     ∙ ap (range_with_len first) (sym n)
 
-pub all_listed : (first last port : ℕ) (xs ys : List ℕ) → xs ≡ range_with_len first (port - first) → port - first ≡ last - first → ys ≡ xs ++ last ∷ [] → ys ≡ range_with_len first (last - first) ++ last ∷ []
+pub all_listed : (first last port : ℕ) (xs ys : List ℕ) → xs ≡ range_with_len first (port - first) →
+    port - first ≡ last - first → ys ≡ xs ++ last ∷ [] → ys ≡ range_with_len first (last - first) ++ last ∷ []
 all_listed first last port xs ys e n more =
     more ∙ ap (λ (zs : List ℕ). zs ++ last ∷ []) (e ∙ ap (range_with_len first) n)
 
-pub comes_next : (xs : List ℕ) (i j : ℕ) (x : ℕ) → i < length xs → x ≡ slice_index_or xs i x → j ≡ suc i → coming_from j xs ≡ (drop (suc i) xs ++ take i xs) ++ x ∷ []
+pub comes_next : (xs : List ℕ) (i j : ℕ) (x : ℕ) → i < length xs → x ≡ slice_index_or xs i x → j ≡ suc i →
+    coming_from j xs ≡ (drop (suc i) xs ++ take i xs) ++ x ∷ []
 comes_next xs i j x h e next = ap (λ (n : ℕ). coming_from n xs) next ∙ comes_last xs i x h e
 
 pub nothing_from : (n : ℕ) → coming_from n [] ≡ []

@@ -1,5 +1,6 @@
 -- A server's calls and its socket's datagrams, as steps at a port.
-use Rattle.std.proofs.Common.{◌≡◌, ℕ, Bool, true, false, List, [], ◌∷◌, cond, Option, Some, None, IsSome, refl, sym, ap, subst, ◌∙◌, Bor}
+use Rattle.std.proofs.Common.{◌≡◌, ℕ, Bool, true, false, List, [], ◌∷◌, cond, Option, Some, None, IsSome, refl, sym, ap}
+use Rattle.std.proofs.Common.{subst, ◌∙◌, Bor}
 use Rattle.std.specs.Prelude.{option_map, unwrap_or, is_some, if◌then◌else◌}
 use Rattle.std.specs.Map.{lookup, set_value}
 use Rattle.std.specs.BTreeMap.{is_at}
@@ -24,10 +25,12 @@ use Rattle.tftp_loop.specs.Serves.{AnswersDatagram, LosesDatagram, AnswersTimeou
 
 -- the answer that an end lends, sent to the endpoint of the step, is the reply of its turn
 pub answered_lent : (port : ℕ) (reply : Option Reply) (to : Option Endpoint) (bytes : List ℕ) (events : List Event)
-    → to ≡ option_map (λ (r : Reply). r.to) reply → bytes ≡ reply_bytes reply → replied port to bytes events ≡ answered port reply events
+    → to ≡ option_map (λ (r : Reply). r.to) reply → bytes ≡ reply_bytes reply →
+    replied port to bytes events ≡ answered port reply events
 answered_lent port None to bytes events t b = ap (λ (o : Option Endpoint). replied port o bytes events) t
 answered_lent port (Some r) to bytes events t b =
-    ap (λ (o : Option Endpoint). replied port o bytes events) t ∙ ap (λ (bs : List ℕ). replied port (Some r.to) bs events) b
+    ap (λ (o : Option Endpoint). replied port o bytes events) t
+    ∙ ap (λ (bs : List ℕ). replied port (Some r.to) bs events) b
 
 module _ {T : Type 0} (test : ℕ → Bool) (was next : T) where
   set_at : (e : ℕ × T) (held more : List (ℕ × T)) (b : Bool) → test e.0 ≡ b → (b ≡ false → lookup test more ≡ Some next)
@@ -35,7 +38,8 @@ module _ {T : Type 0} (test : ℕ → Bool) (was next : T) where
   set_at e held more true h rest = ap (λ (c : Bool). cond c (Some next) (lookup test held)) h
   set_at e held more false h rest = ap (λ (c : Bool). cond c (Some e.1) (lookup test more)) h ∙ rest refl
 
-  pub set_found : (held : List (ℕ × T)) → lookup test held ≡ Some was → lookup test (set_value test held next) ≡ Some next
+  pub set_found : (held : List (ℕ × T)) → lookup test held ≡ Some was →
+      lookup test (set_value test held next) ≡ Some next
   set_found [] found = absurd (none-some was found)
   set_found (e ∷ held) found =
       set_at e held (set_value test held next) (test e.0) refl
@@ -49,14 +53,18 @@ bytes_lent (Some b) d r m xs e f u = ap (λ (x : Bor (List ℕ)). x.now) u ∙ s
 
 module _ {F D : Type 0} where
   -- a transfer that closed can be taken
-  pub closed_taken : (o : Option (HeldTransfer F D)) (held : HeldTransfer F D) → o ≡ Some held → IsSome (outcome_of held.end.position.phase) → IsSome (taken_of o)
+  pub closed_taken : (o : Option (HeldTransfer F D)) (held : HeldTransfer F D) → o ≡ Some held →
+      IsSome (outcome_of held.end.position.phase) → IsSome (taken_of o)
   closed_taken o held e h =
       ap (λ (x : Option (HeldTransfer F D)). is_some (taken_of x)) e
-      ∙ ap (λ (b : Bool). is_some {T = Record × Option D} (if b then Some (record_of held.end, draft_of held.files) else None)) h
+      ∙ ap (λ (b : Bool). is_some {T = Record × Option D} (if b then Some (record_of held.end, draft_of held.files) else
+      None)) h
 
-module _ {S F D : Type 0} (meaning : StoreMeaning S D) (sources : SourceMeaning F) (tid : ℕ) (old new : ServerState S F D) (step : Step) (outgoing : Outgoing) where
+module _ {S F D : Type 0} (meaning : StoreMeaning S D) (sources : SourceMeaning F) (tid : ℕ)
+    (old new : ServerState S F D) (step : Step) (outgoing : Outgoing) where
   -- the transfer that made the step is found
-  pub found_next : (from : Endpoint) (bytes : List ℕ) (takes : TakesDatagramLent meaning sources tid from bytes old new step outgoing)
+  pub found_next : (from : Endpoint) (bytes : List ℕ) (takes : TakesDatagramLent meaning sources tid from bytes old new
+      step outgoing)
       → at tid new.held ≡ Some takes.next
   found_next from bytes takes =
       ap (at tid) takes.held ∙ set_found (is_at (nat_cmp tid)) takes.transfer takes.next old.held takes.found
@@ -65,44 +73,64 @@ module _ {S F D : Type 0} (meaning : StoreMeaning S D) (sources : SourceMeaning 
   pub handled : (port : ℕ) (from : Endpoint) (bytes : List ℕ) (before after : List Event) (sent : List ℕ)
       → tid ≡ port → (takes : TakesDatagramLent meaning sources tid from bytes old new step outgoing)
       → new ≡ record old { store = new.store; held = new.held } → sent ≡ lent outgoing takes.next.end
-      → after ≡ replied port step.to sent before → AnswersDatagram meaning sources port from bytes old new before after step
+      → after ≡ replied port step.to sent before → AnswersDatagram meaning sources port from bytes old new before after
+      step
   handled port from bytes before after sent same takes rest lends events =
-      let At : ℕ → Type 0 = λ p. after ≡ replied p step.to sent before → AnswersDatagram meaning sources p from bytes old new before after step in
+      let At : ℕ → Type 0 =
+      λ p. after ≡ replied p step.to sent before →
+      AnswersDatagram meaning sources p from bytes old new before after step in
       subst At same
       (λ es.
       record {
         outgoing = outgoing;
         takes = takes;
         config = ap (λ (s : ServerState S F D). s.config) rest;
-        events = es ∙ answered_lent tid takes.takes.turn.reply step.to sent before takes.takes.carries.goes (lends ∙ takes.takes.carries.bytes);
+        events =
+            es ∙ answered_lent tid takes.takes.turn.reply step.to sent before takes.takes.carries.goes
+            (lends ∙ takes.takes.carries.bytes);
       })
       events
 
   -- the transfer closed by the step
-  pub closed_by : (port : ℕ) (from : Endpoint) (bytes : List ℕ) → tid ≡ port → (takes : TakesDatagramLent meaning sources tid from bytes old new step outgoing)
+  pub closed_by : (port : ℕ) (from : Endpoint) (bytes : List ℕ) → tid ≡ port →
+      (takes : TakesDatagramLent meaning sources tid from bytes old new step outgoing)
       → IsSome step.closed → IsSome (taken_of (at port new.held))
   closed_by port from bytes same takes h =
       let At : ℕ → Type 0 = λ p. IsSome (taken_of (at p new.held)) in
       subst At same
       (closed_taken (at tid new.held) takes.next (found_next from bytes takes)
-      (ap (λ (e : EndState). is_some (outcome_of e.position.phase)) takes.takes.carries.state ∙ sym (ap (λ (s : Step). is_some s.closed) takes.takes.reports) ∙ h))
+      (ap (λ (e : EndState). is_some (outcome_of e.position.phase)) takes.takes.carries.state
+      ∙ sym (ap (λ (s : Step). is_some s.closed) takes.takes.reports) ∙ h))
 
 -- a datagram was not handled
-pub lost : {S F D : Type 0} (meaning : StoreMeaning S D) (sources : SourceMeaning F) (tid port : ℕ) (from : Endpoint) (bytes : List ℕ) (old new : ServerState S F D) (fault : ServerFault)
-    → tid ≡ port → DatagramFaultLent from bytes (at tid old.held) fault → (fault ≡ Memory → LacksMemoryAt meaning sources AppendsNothing tid from bytes old new) → KeepsHeld meaning sources tid (at tid old.held) old new
+pub lost : {S F D : Type 0} (meaning : StoreMeaning S D) (sources : SourceMeaning F) (tid port : ℕ) (from : Endpoint)
+    (bytes : List ℕ) (old new : ServerState S F D) (fault : ServerFault)
+    → tid ≡ port → DatagramFaultLent from bytes (at tid old.held) fault →
+    (fault ≡ Memory → LacksMemoryAt meaning sources AppendsNothing tid from bytes old new) →
+    KeepsHeld meaning sources tid (at tid old.held) old new
     → new ≡ record old { store = new.store; held = new.held } → LosesDatagram meaning sources port from bytes old new
 lost {S = S} {F = F} {D = D} meaning sources tid port from bytes old new fault same why lacks keeps rest =
     let At : ℕ → Type 0 = λ p. LosesDatagram meaning sources p from bytes old new in
-    subst At same (record { fault = fault; why = why; lacks = lacks; keeps = keeps; config = ap (λ (s : ServerState S F D). s.config) rest })
+    subst At same (record {
+      fault = fault;
+      why = why;
+      lacks = lacks;
+      keeps = keeps;
+      config = ap (λ (s : ServerState S F D). s.config) rest;
+    })
 
 module _ {S F D : Type 0} (tid : ℕ) (old new : ServerState S F D) (step : Step) (outgoing : Outgoing) where
   -- the transfer that timed out is found
-  pub found_timed : (t : TimesOutLent tid old.held new.held step outgoing) → at tid new.held ≡ Some (with_end t.end t.transfer)
-  found_timed t = ap (at tid) t.held ∙ set_found (is_at (nat_cmp tid)) t.transfer (with_end t.end t.transfer) old.held t.found
+  pub found_timed : (t : TimesOutLent tid old.held new.held step outgoing) →
+      at tid new.held ≡ Some (with_end t.end t.transfer)
+  found_timed t =
+      ap (at tid) t.held ∙ set_found (is_at (nat_cmp tid)) t.transfer (with_end t.end t.transfer) old.held t.found
 
   -- the transfer timed out, and its datagram was sent from the port
-  pub timed_out : (port : ℕ) (before after : List Event) (sent : List ℕ) → tid ≡ port → (t : TimesOutLent tid old.held new.held step outgoing)
-      → new ≡ record old { held = new.held } → sent ≡ lent outgoing t.end → after ≡ replied port step.to sent before → AnswersTimeout port old new before after step
+  pub timed_out : (port : ℕ) (before after : List Event) (sent : List ℕ) → tid ≡ port →
+      (t : TimesOutLent tid old.held new.held step outgoing)
+      → new ≡ record old { held = new.held } → sent ≡ lent outgoing t.end → after ≡ replied port step.to sent before →
+      AnswersTimeout port old new before after step
   timed_out port before after sent same t rest lends events =
       let At : ℕ → Type 0 = λ p. after ≡ replied p step.to sent before → AnswersTimeout p old new before after step in
       subst At same
@@ -111,6 +139,8 @@ module _ {S F D : Type 0} (tid : ℕ) (old new : ServerState S F D) (step : Step
         outgoing = outgoing;
         times_out = t;
         rest = rest;
-        events = es ∙ answered_lent tid (timeout_turn t.transfer.end).reply step.to sent before t.carries.goes (lends ∙ t.carries.bytes);
+        events =
+            es ∙ answered_lent tid (timeout_turn t.transfer.end).reply step.to sent before t.carries.goes
+            (lends ∙ t.carries.bytes);
       })
       events

@@ -1,5 +1,6 @@
 -- What happens at the port of a transfer, call by call.
-use Rattle.std.proofs.Common.{◌≡◌, ◌≤◌, ◌⊎◌, ℕ, true, false, List, ◌∷◌, Option, Some, None, inl, inr, refl, ap, subst, ◌∙◌}
+use Rattle.std.proofs.Common.{◌≡◌, ◌≤◌, ◌⊎◌, ℕ, true, false, List, ◌∷◌, Option, Some, None, inl, inr, refl, ap, subst}
+use Rattle.std.proofs.Common.{◌∙◌}
 use Rattle.std.specs.Prelude.{MatchOption}
 use Rattle.tftp_file.specs.Source.{SourceMeaning}
 use Rattle.tftp_ends.specs.declared.endpoint.Endpoint.{Endpoint}
@@ -12,8 +13,10 @@ use Rattle.tftp_sockets.specs.Journal.QuietEvent.{Empty, Failed}
 use Rattle.tftp_sockets.specs.Quiet.{was_tried}
 use Rattle.tftp_loop.specs.Run.{Run}
 use Rattle.tftp_loop.specs.Run.Run.{Then}
-use Rattle.tftp_loop.specs.Serves.{Timer, PortState, AtPort, AnswersDatagram, LosesDatagram, WorksAtPort, AnswersTimeout, marked_as, restarted, timer_after}
-use Rattle.tftp_loop.specs.Serves.AtPort.{A_datagram, A_lost_datagram, Nothing_found, A_failed_receive, A_timeout, A_missed_timeout, Work}
+use Rattle.tftp_loop.specs.Serves.{Timer, PortState, AtPort, AnswersDatagram, LosesDatagram, WorksAtPort}
+use Rattle.tftp_loop.specs.Serves.{AnswersTimeout, marked_as, restarted, timer_after}
+use Rattle.tftp_loop.specs.Serves.AtPort.{A_datagram, A_lost_datagram, Nothing_found, A_failed_receive, A_timeout}
+use Rattle.tftp_loop.specs.Serves.AtPort.{A_missed_timeout, Work}
 use Rattle.tftp_loop.proofs.RunLemmas.{once, idle, onward}
 
 module _ {S F D : Type 0} (meaning : StoreMeaning S D) (sources : SourceMeaning F) (now : ℕ) where
@@ -24,40 +27,64 @@ module _ {S F D : Type 0} (meaning : StoreMeaning S D) (sources : SourceMeaning 
   Runs = Run (AtPort meaning sources now)
 
   -- nothing was received
-  pub finds_nothing : (server : ServerState S F D) (timer timer' : Timer) (es es' : List Event) → es' ≡ Quiet (Empty timer.port) ∷ es → timer' ≡ marked_as false timer
+  pub finds_nothing : (server : ServerState S F D) (timer timer' : Timer) (es es' : List Event) →
+      es' ≡ Quiet (Empty timer.port) ∷ es → timer' ≡ marked_as false timer
       → Runs (here server timer es) (here server timer' es')
-  finds_nothing server timer timer' es es' noted timed = once (Nothing_found (record { server = refl; timer = timed; events = noted }))
+  finds_nothing server timer timer' es es' noted timed =
+      once (Nothing_found (record { server = refl; timer = timed; events = noted }))
 
   -- a receive failed
-  pub fails_to_receive : (server : ServerState S F D) (timer timer' : Timer) (es es' : List Event) → es' ≡ Quiet (Failed timer.port) ∷ es → timer' ≡ marked_as true timer
+  pub fails_to_receive : (server : ServerState S F D) (timer timer' : Timer) (es es' : List Event) →
+      es' ≡ Quiet (Failed timer.port) ∷ es → timer' ≡ marked_as true timer
       → Runs (here server timer es) (here server timer' es')
-  fails_to_receive server timer timer' es es' noted timed = once (A_failed_receive (record { server = refl; timer = timed; events = noted }))
+  fails_to_receive server timer timer' es es' noted timed =
+      once (A_failed_receive (record { server = refl; timer = timed; events = noted }))
 
   -- a datagram was received, handled and answered
-  pub receives : (old new : ServerState S F D) (timer timer' : Timer) (es before es' : List Event) (from : Endpoint) (bytes : List ℕ) (step : Step)
-      → before ≡ Received timer.port from bytes ∷ es → AnswersDatagram meaning sources timer.port from bytes old new before es' step
+  pub receives : (old new : ServerState S F D) (timer timer' : Timer) (es before es' : List Event) (from : Endpoint)
+      (bytes : List ℕ) (step : Step)
+      → before ≡ Received timer.port from bytes ∷ es →
+      AnswersDatagram meaning sources timer.port from bytes old new before es' step
       → timer' ≡ timer_after now step.progress timer → Runs (here old timer es) (here new timer' es')
   receives old new timer timer' es before es' from bytes step noted handles timed =
-      let At : List Event → Type 0 = λ before. AnswersDatagram meaning sources timer.port from bytes old new before es' step in
-      once (A_datagram (record { from = from; bytes = bytes; step = step; handles = subst At noted handles; timer = timed }))
+      let At : List Event → Type 0 =
+      λ before. AnswersDatagram meaning sources timer.port from bytes old new before es' step in
+      once (A_datagram (record {
+        from = from;
+        bytes = bytes;
+        step = step;
+        handles = subst At noted handles;
+        timer = timed;
+      }))
 
   -- a datagram was received and lost
-  pub receives_lost : (old new : ServerState S F D) (timer timer' : Timer) (es before es' : List Event) (from : Endpoint) (bytes : List ℕ)
-      → before ≡ Received timer.port from bytes ∷ es → LosesDatagram meaning sources timer.port from bytes old new → es' ≡ before → timer' ≡ marked_as true timer
+  pub receives_lost : (old new : ServerState S F D) (timer timer' : Timer) (es before es' : List Event)
+      (from : Endpoint) (bytes : List ℕ)
+      → before ≡ Received timer.port from bytes ∷ es → LosesDatagram meaning sources timer.port from bytes old new →
+      es' ≡ before → timer' ≡ marked_as true timer
       → Runs (here old timer es) (here new timer' es')
   receives_lost old new timer timer' es before es' from bytes noted loses same timed =
-      once (A_lost_datagram (record { from = from; bytes = bytes; loses = loses; timer = timed; events = same ∙ noted }))
+      once (A_lost_datagram (record {
+        from = from;
+        bytes = bytes;
+        loses = loses;
+        timer = timed;
+        events = same ∙ noted;
+      }))
 
   -- the file of the transfer worked, or did not
   pub then_works : (start : PortState S F D) (old new : ServerState S F D) (timer : Timer) (es : List Event) (tid : ℕ)
-      → Runs start (here old timer es) → tid ≡ timer.port → (new ≡ old) ⊎ WorksAtPort meaning sources tid old new → Runs start (here new timer es)
-  then_works start old new timer es tid r same (inl e) = onward r (idle (ap (λ (s : ServerState S F D). here s timer es) e))
+      → Runs start (here old timer es) → tid ≡ timer.port → (new ≡ old) ⊎ WorksAtPort meaning sources tid old new →
+      Runs start (here new timer es)
+  then_works start old new timer es tid r same (inl e) =
+      onward r (idle (ap (λ (s : ServerState S F D). here s timer es) e))
   then_works start old new timer es tid r same (inr w) =
       let At : ℕ → Type 0 = λ p. WorksAtPort meaning sources p old new in
       Then r (Work (record { works = subst At same w; timer = refl; events = refl }))
 
   -- a timeout was delivered, and what was sent again
-  pub elapses : (old new : ServerState S F D) (timer timer' : Timer) (es before es' : List Event) (tid : ℕ) (step : Step)
+  pub elapses : (old new : ServerState S F D) (timer timer' : Timer) (es before es' : List Event) (tid : ℕ)
+      (step : Step)
       → timer.deadline ≤ now → was_tried timer.port es ≡ true → timer.look_at ≡ timer.deadline
       → before ≡ Elapsed tid now ∷ es → tid ≡ timer.port
       → AnswersTimeout timer.port old new before es' step → timer' ≡ restarted now timer
@@ -88,10 +115,12 @@ module _ {S F D : Type 0} (meaning : StoreMeaning S D) (sources : SourceMeaning 
       }))
 
   -- a due timeout was delivered, whether or not a transfer is open
-  pub elapses_either : (old new : ServerState S F D) (timer timer' : Timer) (es before es' : List Event) (tid : ℕ) (made : Option Step) (port : ℕ)
+  pub elapses_either : (old new : ServerState S F D) (timer timer' : Timer) (es before es' : List Event) (tid : ℕ)
+      (made : Option Step) (port : ℕ)
       → timer.deadline ≤ now → was_tried timer.port es ≡ true → timer.look_at ≡ timer.deadline
       → before ≡ Elapsed tid now ∷ es → tid ≡ timer.port → port ≡ timer.port
-      → MatchOption made ((is_open (at port old.held) ≡ false) × (new ≡ old) × (es' ≡ before)) (λ step. AnswersTimeout port old new before es' step)
+      → MatchOption made ((is_open (at port old.held) ≡ false) × (new ≡ old) × (es' ≡ before))
+      (λ step. AnswersTimeout port old new before es' step)
       → timer' ≡ restarted now timer → Runs (here old timer es) (here new timer' es')
   elapses_either old new timer timer' es before es' tid None port due tried looked noted same here_too steps timed =
       let At : ℕ → Type 0 = λ p. is_open (at p old.held) ≡ false in

@@ -1,5 +1,6 @@
 -- What a turn at one port leaves of the others.
-use Rattle.std.proofs.Common.{arith, ◌≡◌, ◌≤◌, ◌==◌, ◌||◌, ℕ, Bool, true, false, List, ◌∷◌, Option, Some, None, IsSome, refl, sym, ap, subst, ◌∙◌}
+use Rattle.std.proofs.Common.{arith, ◌≡◌, ◌≤◌, ◌==◌, ◌||◌, ℕ, Bool, true, false, List, ◌∷◌, Option, Some, None, IsSome}
+use Rattle.std.proofs.Common.{refl, sym, ap, subst, ◌∙◌}
 use Rattle.std.specs.BTreeMap.{is_at}
 use Rattle.std.specs.Ordering.{nat_cmp}
 use Rattle.std.proofs.lemmas.Bool.{eq-eqb}
@@ -18,7 +19,8 @@ use Rattle.tftp_sockets.specs.Quiet.{was_tried}
 use Rattle.tftp_loop.specs.Run.{Run}
 use Rattle.tftp_loop.specs.Run.Run.{Start, Then}
 use Rattle.tftp_loop.specs.Serves.{Timer, PortState, AtPort, marked_as, next_look, restarted, timer_after}
-use Rattle.tftp_loop.specs.Serves.AtPort.{A_datagram, A_lost_datagram, Nothing_found, A_failed_receive, A_timeout, A_missed_timeout, Work}
+use Rattle.tftp_loop.specs.Serves.AtPort.{A_datagram, A_lost_datagram, Nothing_found, A_failed_receive, A_timeout}
+use Rattle.tftp_loop.specs.Serves.AtPort.{A_missed_timeout, Work}
 use Rattle.tftp_loop.specs.Tended.{IsRead, KeepsTries}
 use Rattle.tftp_loop.proofs.Tables.{set_apart, set_there}
 
@@ -31,11 +33,13 @@ or_left true b h = refl
 or_left false b h = absurd (let f : false ≡ true = h in cc)
 
 -- an answer is no wait
-pub answered_tries : (port : ℕ) (reply : Option Reply) (events : List Event) → KeepsTries events (answered port reply events)
+pub answered_tries : (port : ℕ) (reply : Option Reply) (events : List Event) →
+    KeepsTries events (answered port reply events)
 answered_tries port None events q h = h
 answered_tries port (Some reply) events q h = h
 
-pub replied_tries : (port : ℕ) (to : Option Endpoint) (bytes : List ℕ) (events : List Event) → KeepsTries events (replied port to bytes events)
+pub replied_tries : (port : ℕ) (to : Option Endpoint) (bytes : List ℕ) (events : List Event) →
+    KeepsTries events (replied port to bytes events)
 replied_tries port None bytes events q h = h
 replied_tries port (Some to) bytes events q h = h
 
@@ -43,9 +47,11 @@ pub own_receive : (port : ℕ) (before : Bool) → ((port == port) || before) �
 own_receive port before = or_left (port == port) before (eq-eqb port port refl)
 
 -- a port whose datagram was received was read
-pub received_tried : (port : ℕ) (from : Endpoint) (bytes : List ℕ) (es before after : List Event) → before ≡ Received port from bytes ∷ es → KeepsTries before after → was_tried port after ≡ true
+pub received_tried : (port : ℕ) (from : Endpoint) (bytes : List ℕ) (es before after : List Event) →
+    before ≡ Received port from bytes ∷ es → KeepsTries before after → was_tried port after ≡ true
 received_tried port from bytes es before after noted tries =
-    tries port (subst (λ (fs : List Event). was_tried port fs ≡ true) (sym noted) (own_receive port (was_tried port es)))
+    tries port (subst (λ (fs : List Event). was_tried port fs ≡ true) (sym noted)
+    (own_receive port (was_tried port es)))
 
 module _ {F D : Type 0} where
   -- the other transfers stay, and the one at the port stays held
@@ -59,7 +65,8 @@ module _ {F D : Type 0} where
     there = λ q h. subst (λ (held : List (ℕ × HeldTransfer F D)). IsSome (at q held)) (sym e) h;
   }
 
-  pub next_held : (port : ℕ) (old new : List (ℕ × HeldTransfer F D)) (next : HeldTransfer F D) → new ≡ with_next port next old → StaysHeld port old new
+  pub next_held : (port : ℕ) (old new : List (ℕ × HeldTransfer F D)) (next : HeldTransfer F D) →
+      new ≡ with_next port next old → StaysHeld port old new
   next_held port old new next e = record {
     others = λ q apart. ap (at q) e ∙ set_apart port q old next apart;
     there = λ q h.
@@ -67,7 +74,8 @@ module _ {F D : Type 0} where
         (set_there (is_at (nat_cmp port)) (is_at (nat_cmp q)) old next ∙ h);
   }
 
-  pub held_onward : (port : ℕ) (a b c : List (ℕ × HeldTransfer F D)) → StaysHeld port a b → StaysHeld port b c → StaysHeld port a c
+  pub held_onward : (port : ℕ) (a b c : List (ℕ × HeldTransfer F D)) → StaysHeld port a b → StaysHeld port b c →
+      StaysHeld port a c
   held_onward port a b c x y = record {
     others = λ q apart. y.others q apart ∙ x.others q apart;
     there = λ q h. y.there q (x.there q h);
@@ -91,11 +99,13 @@ after_port now true timer = refl
 after_port now false timer = refl
 
 module _ {S F D : Type 0} (meaning : StoreMeaning S D) (sources : SourceMeaning F) where
-  keeps_held : (port : ℕ) (o : Option (HeldTransfer F D)) (old new : ServerState S F D) → KeepsHeld meaning sources port o old new → StaysHeld port old.held new.held
+  keeps_held : (port : ℕ) (o : Option (HeldTransfer F D)) (old new : ServerState S F D) →
+      KeepsHeld meaning sources port o old new → StaysHeld port old.held new.held
   keeps_held port None old new keeps = same_held port old.held new.held (ap (λ (s : ServerState S F D). s.held) keeps)
   keeps_held port (Some transfer) old new keeps = next_held port old.held new.held keeps.0 keeps.2
 
-  pub works_held : (port : ℕ) (o : Option (HeldTransfer F D)) (old new : ServerState S F D) → WorksAt meaning sources port o old new → StaysHeld port old.held new.held
+  pub works_held : (port : ℕ) (o : Option (HeldTransfer F D)) (old new : ServerState S F D) →
+      WorksAt meaning sources port o old new → StaysHeld port old.held new.held
   works_held port None old new works = same_held port old.held new.held (ap (λ (s : ServerState S F D). s.held) works)
   works_held port (Some transfer) old new works = next_held port old.held new.held works.0 works.2
 
@@ -110,24 +120,32 @@ module _ {S F D : Type 0} (meaning : StoreMeaning S D) (sources : SourceMeaning 
   looks_by : (timer after : Timer) → after ≡ timer → Looks timer → Looks after
   looks_by timer after e h = subst Looks (sym e) h
 
-  tries_by : (port : ℕ) (es fs : List Event) (event : Event) → fs ≡ event ∷ es → KeepsTries es (event ∷ es) → KeepsTries es fs
+  tries_by : (port : ℕ) (es fs : List Event) (event : Event) → fs ≡ event ∷ es → KeepsTries es (event ∷ es) →
+      KeepsTries es fs
   tries_by port es fs event e k = subst (KeepsTries es) (sym e) k
 
   -- the port was read
-  read_by : (timer after : Timer) (es : List Event) → after.port ≡ timer.port → was_tried timer.port es ≡ true → IsRead es after
+  read_by : (timer after : Timer) (es : List Event) → after.port ≡ timer.port → was_tried timer.port es ≡ true →
+      IsRead es after
   read_by timer after es same tried marked = subst (λ (p : ℕ). was_tried p es ≡ true) (sym same) tried
 
   pub stays_at : (now : ℕ) (old new : PortState S F D) → AtPort meaning sources now old new → StaysAt old new
   stays_at now old new (A_datagram d) =
       let port = ap (λ (t : Timer). t.port) d.timer ∙ after_port now d.step.progress old.timer in
       let received = Received old.timer.port d.from d.bytes ∷ old.events in
-      let more : KeepsTries received new.events = subst (KeepsTries received) (sym d.handles.events) (answered_tries old.timer.port d.handles.takes.takes.turn.reply received) in
+      let more : KeepsTries received new.events =
+      subst (KeepsTries received) (sym d.handles.events)
+      (answered_tries old.timer.port d.handles.takes.takes.turn.reply received) in
       record {
         port = port;
         held = next_held old.timer.port old.server.held new.server.held d.handles.takes.next d.handles.takes.held;
-        look = λ h. looks_by (timer_after now d.step.progress old.timer) new.timer d.timer (after_looks now d.step.progress old.timer);
+        look =
+            λ h. looks_by (timer_after now d.step.progress old.timer) new.timer d.timer
+            (after_looks now d.step.progress old.timer);
         tries = λ q h. more q (or_right (old.timer.port == q) (was_tried q old.events) h);
-        read = λ h. read_by old.timer new.timer new.events port (more old.timer.port (own_receive old.timer.port (was_tried old.timer.port old.events)));
+        read =
+            λ h. read_by old.timer new.timer new.events port
+            (more old.timer.port (own_receive old.timer.port (was_tried old.timer.port old.events)));
       }
   stays_at now old new (A_lost_datagram d) =
       let port = ap (λ (t : Timer). t.port) d.timer in
@@ -138,7 +156,9 @@ module _ {S F D : Type 0} (meaning : StoreMeaning S D) (sources : SourceMeaning 
         held = keeps_held old.timer.port (at old.timer.port old.server.held) old.server new.server d.loses.keeps;
         look = λ h. looks_by (marked_as true old.timer) new.timer d.timer (omega arith);
         tries = λ q h. more q (or_right (old.timer.port == q) (was_tried q old.events) h);
-        read = λ h. read_by old.timer new.timer new.events port (more old.timer.port (own_receive old.timer.port (was_tried old.timer.port old.events)));
+        read =
+            λ h. read_by old.timer new.timer new.events port
+            (more old.timer.port (own_receive old.timer.port (was_tried old.timer.port old.events)));
       }
   stays_at now old new (Nothing_found d) =
       let port = ap (λ (t : Timer). t.port) d.timer in
@@ -146,10 +166,13 @@ module _ {S F D : Type 0} (meaning : StoreMeaning S D) (sources : SourceMeaning 
       let more : KeepsTries found new.events = subst (KeepsTries found) (sym d.events) (λ q h. h) in
       record {
         port = port;
-        held = same_held old.timer.port old.server.held new.server.held (ap (λ (s : ServerState S F D). s.held) d.server);
+        held =
+            same_held old.timer.port old.server.held new.server.held (ap (λ (s : ServerState S F D). s.held) d.server);
         look = λ h. looks_by (marked_as false old.timer) new.timer d.timer (omega arith);
         tries = λ q h. more q (or_right (old.timer.port == q) (was_tried q old.events) h);
-        read = λ h. read_by old.timer new.timer new.events port (more old.timer.port (own_receive old.timer.port (was_tried old.timer.port old.events)));
+        read =
+            λ h. read_by old.timer new.timer new.events port
+            (more old.timer.port (own_receive old.timer.port (was_tried old.timer.port old.events)));
       }
   stays_at now old new (A_failed_receive d) =
       let port = ap (λ (t : Timer). t.port) d.timer in
@@ -157,15 +180,19 @@ module _ {S F D : Type 0} (meaning : StoreMeaning S D) (sources : SourceMeaning 
       let more : KeepsTries found new.events = subst (KeepsTries found) (sym d.events) (λ q h. h) in
       record {
         port = port;
-        held = same_held old.timer.port old.server.held new.server.held (ap (λ (s : ServerState S F D). s.held) d.server);
+        held =
+            same_held old.timer.port old.server.held new.server.held (ap (λ (s : ServerState S F D). s.held) d.server);
         look = λ h. looks_by (marked_as true old.timer) new.timer d.timer (omega arith);
         tries = λ q h. more q (or_right (old.timer.port == q) (was_tried q old.events) h);
-        read = λ h. read_by old.timer new.timer new.events port (more old.timer.port (own_receive old.timer.port (was_tried old.timer.port old.events)));
+        read =
+            λ h. read_by old.timer new.timer new.events port
+            (more old.timer.port (own_receive old.timer.port (was_tried old.timer.port old.events)));
       }
   stays_at now old new (A_timeout d) =
       let port = ap (λ (t : Timer). t.port) d.timer in
       let elapsed = Elapsed old.timer.port now ∷ old.events in
-      let more : KeepsTries elapsed new.events = subst (KeepsTries elapsed) (sym d.times_out.events) (answered_tries old.timer.port _ elapsed) in
+      let more : KeepsTries elapsed new.events =
+      subst (KeepsTries elapsed) (sym d.times_out.events) (answered_tries old.timer.port _ elapsed) in
       record {
         port = port;
         held = next_held old.timer.port old.server.held new.server.held _ d.times_out.times_out.held;
@@ -179,7 +206,8 @@ module _ {S F D : Type 0} (meaning : StoreMeaning S D) (sources : SourceMeaning 
       let more : KeepsTries elapsed new.events = subst (KeepsTries elapsed) (sym d.events) (λ q h. h) in
       record {
         port = port;
-        held = same_held old.timer.port old.server.held new.server.held (ap (λ (s : ServerState S F D). s.held) d.server);
+        held =
+            same_held old.timer.port old.server.held new.server.held (ap (λ (s : ServerState S F D). s.held) d.server);
         look = λ h. looks_by (restarted now old.timer) new.timer d.timer (omega arith);
         tries = λ q h. more q h;
         read = λ h. subst (IsRead new.events) (sym d.timer) (λ m. more old.timer.port (h m));
@@ -197,7 +225,9 @@ module _ {S F D : Type 0} (meaning : StoreMeaning S D) (sources : SourceMeaning 
   stays_onward : (a b c : PortState S F D) → StaysAt a b → StaysAt b c → StaysAt a c
   stays_onward a b c x y = record {
     port = y.port ∙ x.port;
-    held = held_onward a.timer.port a.server.held b.server.held c.server.held x.held (subst (λ (p : ℕ). StaysHeld p b.server.held c.server.held) x.port y.held);
+    held =
+        held_onward a.timer.port a.server.held b.server.held c.server.held x.held
+        (subst (λ (p : ℕ). StaysHeld p b.server.held c.server.held) x.port y.held);
     look = λ h. y.look (x.look h);
     tries = λ q h. y.tries q (x.tries q h);
     read = λ h. y.read (x.read h);
@@ -211,4 +241,5 @@ module _ {S F D : Type 0} (meaning : StoreMeaning S D) (sources : SourceMeaning 
     tries = λ q h. h;
     read = λ h. h;
   }
-  stays_along now old new (Then {middle} run does) = stays_onward old middle new (stays_along now old middle run) (stays_at now middle new does)
+  stays_along now old new (Then {middle} run does) =
+      stays_onward old middle new (stays_along now old middle run) (stays_at now middle new does)

@@ -1,5 +1,6 @@
 -- What is received at the request port, and what becomes of it.
-use Rattle.std.proofs.Common.{arith, ◌≡◌, ◌||◌, ℕ, zero, suc, Bool, true, false, List, [], ◌∷◌, length, map, take, min, Option, Some, None, refl, sym, ap, subst, ◌∙◌}
+use Rattle.std.proofs.Common.{arith, ◌≡◌, ◌||◌, ℕ, zero, suc, Bool, true, false, List, [], ◌∷◌, length, map, take, min}
+use Rattle.std.proofs.Common.{Option, Some, None, refl, sym, ap, subst, ◌∙◌}
 use Rattle.std.specs.Prelude.{Result, Ok, Err, OnOk}
 use Rattle.tftp_file.specs.Source.{SourceMeaning}
 use Rattle.tftp_ends.specs.declared.endpoint.Endpoint.{Endpoint}
@@ -11,7 +12,8 @@ use Rattle.tftp_loop.specs.declared.server_loop.ServerLoop.{ServerLoop}
 use Rattle.tftp_loop.specs.Serves.{LoopState, Timer}
 use Rattle.tftp_loop.specs.Serves.Does.{No_request_found, Request_not_received}
 use Rattle.tftp_loop.specs.Served.{WorksRound, Work_by, loop_state, pending_in, state_of, timer_of}
-use Rattle.tftp_loop.specs.Tended.{AnswersPending, AreSettled, AreTried, HandlesReceived, Concluded, Kept, HasTriedRequests, IsSettled}
+use Rattle.tftp_loop.specs.Tended.{AnswersPending, AreSettled, AreTried, HandlesReceived, Concluded, Kept}
+use Rattle.tftp_loop.specs.Tended.{HasTriedRequests, IsSettled}
 use Rattle.tftp_loop.proofs.LoopRuns.{Runs, same_state}
 use Rattle.tftp_loop.proofs.LoopStays.{work_keeps}
 use Rattle.tftp_loop.proofs.Opened.{concludes_settled}
@@ -36,7 +38,8 @@ take_least : {X : Type 0} (n : ℕ) (xs : List X) → take (min n (length xs)) x
 take_least {X = X} zero xs = ap (λ (m : ℕ). take m xs) (none_least (length xs))
 take_least {X = X} (suc n) [] = ap (λ (m : ℕ). take {A = X} m []) (least_none (suc n))
     ∙ none_taken_of n
-take_least {X = X} (suc n) (x ∷ xs) = ap (λ (m : ℕ). take m (x ∷ xs)) (more_least n (length xs)) ∙ ap (λ (ys : List X). x ∷ ys) (take_least n xs)
+take_least {X = X} (suc n) (x ∷ xs) =
+    ap (λ (m : ℕ). take m (x ∷ xs)) (more_least n (length xs)) ∙ ap (λ (ys : List X). x ∷ ys) (take_least n xs)
 
 module _ {S F D : Type 0} where
   -- whether the datagram is pending does not depend on the buffer
@@ -52,22 +55,29 @@ module _ {S F D : Type 0} where
 
 module _ {S F D : Type 0} (meaning : StoreMeaning S D) (sources : SourceMeaning F) where
   -- the pending datagram was answered or lost
-  pub answered_run : (buffer bytes : List ℕ) (old middle : ServerLoop S F D) (from : Endpoint) (count : ℕ) → old.pending ≡ Some (from, count) → bytes ≡ take (min count (length buffer)) buffer
-      → AnswersPending meaning sources from bytes old middle → Runs meaning sources (state_of buffer old) (loop_state None middle)
+  pub answered_run : (buffer bytes : List ℕ) (old middle : ServerLoop S F D) (from : Endpoint) (count : ℕ) →
+      old.pending ≡ Some (from, count) → bytes ≡ take (min count (length buffer)) buffer
+      → AnswersPending meaning sources from bytes old middle →
+      Runs meaning sources (state_of buffer old) (loop_state None middle)
   answered_run buffer bytes old middle from count pending same answers =
       let whole : bytes ≡ take count buffer = same ∙ take_least count buffer in
       let begins : state_of buffer old ≡ loop_state (Some (from, bytes)) old =
-      ap (λ (p : Option (Endpoint × ℕ)). loop_state (pending_in p buffer) old) pending ∙ ap (λ (bs : List ℕ). loop_state (Some (from, bs)) old) (sym whole) in
+      ap (λ (p : Option (Endpoint × ℕ)). loop_state (pending_in p buffer) old) pending
+      ∙ ap (λ (bs : List ℕ). loop_state (Some (from, bs)) old) (sym whole) in
       subst (λ (s : LoopState S F D). Runs meaning sources s (loop_state None middle)) (sym begins)
       (concludes_run meaning sources (loop_state (Some (from, bytes)) old) (loop_state None middle) answers)
 
-  pub answered_settled : (bytes : List ℕ) (old middle : ServerLoop S F D) (from : Endpoint) → AnswersPending meaning sources from bytes old middle → IsSettled old → IsSettled middle
+  pub answered_settled : (bytes : List ℕ) (old middle : ServerLoop S F D) (from : Endpoint) →
+      AnswersPending meaning sources from bytes old middle → IsSettled old → IsSettled middle
   answered_settled bytes old middle from answers settled =
       concludes_settled meaning sources (loop_state (Some (from, bytes)) old) (loop_state None middle) answers settled
 
   -- ---- a datagram was received
-  module _ (before buffer : List ℕ) (old noted new : ServerLoop S F D) (from : Endpoint) (count : ℕ) (none : old.pending ≡ None) (marked : old.sockets.is_ready ≡ true)
-      (is : noted ≡ record old { journal = noted.journal }) (events : noted.journal.events ≡ Received old.sockets.requests.port from (take count buffer) ∷ old.journal.events) where
+  module _ (before buffer : List ℕ) (old noted new : ServerLoop S F D) (from : Endpoint) (count : ℕ)
+      (none : old.pending ≡ None) (marked : old.sockets.is_ready ≡ true)
+      (is : noted ≡ record old { journal = noted.journal })
+      (events : noted.journal.events ≡ Received old.sockets.requests.port from
+      (take count buffer) ∷ old.journal.events) where
     abbrev received : LoopState S F D
     received = loop_state (Some (from, take count buffer)) noted
 
@@ -76,64 +86,98 @@ module _ {S F D : Type 0} (meaning : StoreMeaning S D) (sources : SourceMeaning 
         subst (λ (s : LoopState S F D). Runs meaning sources s received) (sym (none_pending before old none))
         (receives_as meaning sources (loop_state None old) received from (take count buffer) refl
         (same_state received
-        (record (loop_state None old) { pending = Some (from, take count buffer); marked = true; events = Received old.sockets.requests.port from (take count buffer) ∷ old.journal.events })
-        (ap (λ (d : ServerLoop S F D). d.sockets.requests.port) is) (ap (λ (d : ServerLoop S F D). d.sockets.pool.range) is)
+        (record (loop_state None old) {
+          pending = Some (from, take count buffer);
+          marked = true;
+          events = Received old.sockets.requests.port from (take count buffer) ∷ old.journal.events;
+        })
+        (ap (λ (d : ServerLoop S F D). d.sockets.requests.port) is)
+        (ap (λ (d : ServerLoop S F D). d.sockets.pool.range) is)
         (ap (λ (d : ServerLoop S F D). d.server) is) refl (ap (λ (d : ServerLoop S F D). (loop_state None d).timers) is)
-        (ap (λ (d : ServerLoop S F D). d.sockets.watch.now) is) (ap (λ (d : ServerLoop S F D). d.sockets.is_ready) is ∙ marked) (ap (λ (d : ServerLoop S F D). d.left) is)
+        (ap (λ (d : ServerLoop S F D). d.sockets.watch.now) is) (ap (λ (d : ServerLoop S F D). d.sockets.is_ready) is
+        ∙ marked) (ap (λ (d : ServerLoop S F D). d.left) is)
         (ap (λ (d : ServerLoop S F D). d.rounds) is) events))
 
     received_is_tried : AreTried received
     received_is_tried m =
-        subst (λ (p : ℕ). was_tried p noted.journal.events ≡ true) (sym (ap (λ (d : ServerLoop S F D). d.sockets.requests.port) is))
-        (received_tried old.sockets.requests.port from (take count buffer) old.journal.events noted.journal.events noted.journal.events events (λ q h. h))
+        subst (λ (p : ℕ). was_tried p noted.journal.events ≡ true)
+        (sym (ap (λ (d : ServerLoop S F D). d.sockets.requests.port) is))
+        (received_tried old.sockets.requests.port from (take count buffer) old.journal.events noted.journal.events
+        noted.journal.events events (λ q h. h))
 
-    then_run : HandlesReceived meaning sources from count buffer noted new → Runs meaning sources received (state_of buffer new)
+    then_run : HandlesReceived meaning sources from count buffer noted new →
+        Runs meaning sources received (state_of buffer new)
     then_run (Concluded answers pending) =
-        subst (λ (s : LoopState S F D). Runs meaning sources received s) (sym (none_pending buffer new pending)) (concludes_run meaning sources received (loop_state None new) answers)
+        subst (λ (s : LoopState S F D). Runs meaning sources received s) (sym (none_pending buffer new pending))
+        (concludes_run meaning sources received (loop_state None new) answers)
     then_run (Kept e) = idle (ap (λ (d : ServerLoop S F D). state_of buffer d) e)
 
-    pub handled_run : HandlesReceived meaning sources from count buffer noted new → WorksRound meaning sources before old buffer new
+    pub handled_run : HandlesReceived meaning sources from count buffer noted new →
+        WorksRound meaning sources before old buffer new
     handled_run handles = onward received_run (then_run handles)
 
     pub handled_tried : HandlesReceived meaning sources from count buffer noted new → HasTriedRequests new
-    handled_tried handles = from_state buffer new ((work_keeps meaning sources received (state_of buffer new) (then_run handles)).tried received_is_tried)
+    handled_tried handles =
+        from_state buffer new ((work_keeps meaning sources received (state_of buffer new) (then_run handles)).tried
+        received_is_tried)
 
     noted_settled : IsSettled old → IsSettled noted
     noted_settled settled = subst (λ (d : ServerLoop S F D). IsSettled d) (sym is) settled
 
     then_settled : HandlesReceived meaning sources from count buffer noted new → IsSettled noted → IsSettled new
-    then_settled (Concluded answers pending) settled = answered_settled (take count buffer) noted new from answers settled
+    then_settled (Concluded answers pending) settled =
+        answered_settled (take count buffer) noted new from answers settled
     then_settled (Kept e) settled = subst (λ (d : ServerLoop S F D). IsSettled d) (sym e) settled
 
     pub handled_settled : HandlesReceived meaning sources from count buffer noted new → IsSettled old → IsSettled new
     handled_settled handles settled = then_settled handles (noted_settled settled)
 
   -- ---- a receive found nothing, or failed
-  pub finds_none : (before after : List ℕ) (old new : ServerLoop S F D) → old.pending ≡ None → new ≡ record old { sockets = record old.sockets { is_ready = false }; journal = new.journal }
-      → new.journal.events ≡ Quiet (Empty old.sockets.requests.port) ∷ old.journal.events → WorksRound meaning sources before old after new
+  pub finds_none : (before after : List ℕ) (old new : ServerLoop S F D) → old.pending ≡ None →
+      new ≡ record old { sockets = record old.sockets { is_ready = false }; journal = new.journal }
+      → new.journal.events ≡ Quiet (Empty old.sockets.requests.port) ∷ old.journal.events →
+      WorksRound meaning sources before old after new
   finds_none before after old new none is events =
       once (Work_by (No_request_found (record {
         none = ap (λ (p : Option (Endpoint × ℕ)). pending_in p before) none;
         is =
-            same_state (state_of after new) (record (state_of before old) { marked = false; events = Quiet (Empty old.sockets.requests.port) ∷ old.journal.events })
+            same_state (state_of after new)
+            (record (state_of before old) {
+              marked = false;
+              events = Quiet (Empty old.sockets.requests.port) ∷ old.journal.events;
+            })
             (ap (λ (d : ServerLoop S F D). d.sockets.requests.port) is)
             (ap (λ (d : ServerLoop S F D). d.sockets.pool.range) is) (ap (λ (d : ServerLoop S F D). d.server) is)
-            (ap (λ (d : ServerLoop S F D). pending_in d.pending after) is ∙ (ap (λ (p : Option (Endpoint × ℕ)). pending_in p after) none ∙ sym (ap (λ (p : Option (Endpoint × ℕ)). pending_in p before) none)))
-            (ap (λ (d : ServerLoop S F D). (loop_state None d).timers) is) (ap (λ (d : ServerLoop S F D). d.sockets.watch.now) is) (ap (λ (d : ServerLoop S F D). d.sockets.is_ready) is)
+            (ap (λ (d : ServerLoop S F D). pending_in d.pending after) is
+            ∙ (ap (λ (p : Option (Endpoint × ℕ)). pending_in p after) none
+            ∙ sym (ap (λ (p : Option (Endpoint × ℕ)). pending_in p before) none)))
+            (ap (λ (d : ServerLoop S F D). (loop_state None d).timers) is)
+            (ap (λ (d : ServerLoop S F D). d.sockets.watch.now) is)
+            (ap (λ (d : ServerLoop S F D). d.sockets.is_ready) is)
             (ap (λ (d : ServerLoop S F D). d.left) is) (ap (λ (d : ServerLoop S F D). d.rounds) is) events;
       })) tt)
 
-  pub fails_to_find : (before after : List ℕ) (old new : ServerLoop S F D) → old.pending ≡ None → old.sockets.is_ready ≡ true → new ≡ record old { journal = new.journal }
-      → new.journal.events ≡ Quiet (Failed old.sockets.requests.port) ∷ old.journal.events → WorksRound meaning sources before old after new
+  pub fails_to_find : (before after : List ℕ) (old new : ServerLoop S F D) → old.pending ≡ None →
+      old.sockets.is_ready ≡ true → new ≡ record old { journal = new.journal }
+      → new.journal.events ≡ Quiet (Failed old.sockets.requests.port) ∷ old.journal.events →
+      WorksRound meaning sources before old after new
   fails_to_find before after old new none marked is events =
       once (Work_by (Request_not_received (record {
         none = ap (λ (p : Option (Endpoint × ℕ)). pending_in p before) none;
         is =
-            same_state (state_of after new) (record (state_of before old) { marked = true; events = Quiet (Failed old.sockets.requests.port) ∷ old.journal.events })
+            same_state (state_of after new)
+            (record (state_of before old) {
+              marked = true;
+              events = Quiet (Failed old.sockets.requests.port) ∷ old.journal.events;
+            })
             (ap (λ (d : ServerLoop S F D). d.sockets.requests.port) is)
             (ap (λ (d : ServerLoop S F D). d.sockets.pool.range) is) (ap (λ (d : ServerLoop S F D). d.server) is)
-            (ap (λ (d : ServerLoop S F D). pending_in d.pending after) is ∙ (ap (λ (p : Option (Endpoint × ℕ)). pending_in p after) none ∙ sym (ap (λ (p : Option (Endpoint × ℕ)). pending_in p before) none)))
-            (ap (λ (d : ServerLoop S F D). (loop_state None d).timers) is) (ap (λ (d : ServerLoop S F D). d.sockets.watch.now) is) (ap (λ (d : ServerLoop S F D). d.sockets.is_ready) is ∙ marked)
+            (ap (λ (d : ServerLoop S F D). pending_in d.pending after) is
+            ∙ (ap (λ (p : Option (Endpoint × ℕ)). pending_in p after) none
+            ∙ sym (ap (λ (p : Option (Endpoint × ℕ)). pending_in p before) none)))
+            (ap (λ (d : ServerLoop S F D). (loop_state None d).timers) is)
+            (ap (λ (d : ServerLoop S F D). d.sockets.watch.now) is)
+            (ap (λ (d : ServerLoop S F D). d.sockets.is_ready) is ∙ marked)
             (ap (λ (d : ServerLoop S F D). d.left) is) (ap (λ (d : ServerLoop S F D). d.rounds) is) events;
       })) tt)
 

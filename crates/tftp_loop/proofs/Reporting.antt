@@ -1,5 +1,6 @@
 -- A port that a wait reported is read by the next wait.
-use Rattle.std.proofs.Common.{arith, ◌≡◌, ◌<◌, ◌==◌, ◌⊎◌, ℕ, true, List, [], ◌∷◌, length, map, Option, None, refl, sym, ap, subst, ◌∙◌, inl, inr}
+use Rattle.std.proofs.Common.{arith, ◌≡◌, ◌<◌, ◌==◌, ◌⊎◌, ℕ, true, List, [], ◌∷◌, length, map, Option, None, refl, sym}
+use Rattle.std.proofs.Common.{ap, subst, ◌∙◌, inl, inr}
 use Rattle.std.specs.Prelude.{slice_set, slice_index_or}
 use Rattle.std.proofs.lemmas.Bool.{cases_eq}
 use Rattle.std.proofs.lemmas.Option.{none-some}
@@ -16,16 +17,21 @@ use Rattle.tftp_sockets.specs.Quiet.{is_among, was_tried}
 use Rattle.tftp_loop.specs.Run.{Run}
 use Rattle.tftp_loop.specs.Run.Run.{Start, Then}
 use Rattle.tftp_loop.specs.declared.serving.Ending.{Ending}
-use Rattle.tftp_loop.specs.Serves.{Timer, PortState, LoopState, AtPort, Does, Waits, answering_port, at_start, interval_at, marked_by, port_state, started, with_timer}
-use Rattle.tftp_loop.specs.Serves.AtPort.{A_datagram, A_lost_datagram, Nothing_found, A_failed_receive, A_timeout, A_missed_timeout, Work}
-use Rattle.tftp_loop.specs.Serves.Does.{Waited, At_port, Request_received, No_request_found, Request_not_received, No_port_found, Request_answered, Request_lost, Clock_read, Store_set, Transfer_closed}
+use Rattle.tftp_loop.specs.Serves.{Timer, PortState, LoopState, AtPort, Does, Waits, answering_port, at_start}
+use Rattle.tftp_loop.specs.Serves.{interval_at, marked_by, port_state, started, with_timer}
+use Rattle.tftp_loop.specs.Serves.AtPort.{A_datagram, A_lost_datagram, Nothing_found, A_failed_receive, A_timeout}
+use Rattle.tftp_loop.specs.Serves.AtPort.{A_missed_timeout, Work}
+use Rattle.tftp_loop.specs.Serves.Does.{Waited, At_port, Request_received, No_request_found, Request_not_received}
+use Rattle.tftp_loop.specs.Serves.Does.{No_port_found, Request_answered, Request_lost, Clock_read, Store_set}
+use Rattle.tftp_loop.specs.Serves.Does.{Transfer_closed}
 use Rattle.tftp_loop.specs.Reported.{GoesOn, Goes_by, HasTimer, IsNoWait}
 use Rattle.tftp_loop.specs.Tended.{AreApart, AreKept, KeepsTries}
 use Rattle.tftp_loop.proofs.ListLemmas.{map_at, set_long}
 use Rattle.tftp_loop.proofs.LoopStays.{some_none}
 use Rattle.tftp_loop.proofs.PortStays.{StaysAt, answered_tries, or_right, own_receive, replied_tries, stays_at}
 use Rattle.tftp_loop.proofs.Sleeping.{kept_along, step_kept}
-use Rattle.tftp_loop.proofs.Tables.{any_default, appended_at, appended_long, inserted_apart, removed_apart, removed_place, set_other, set_own}
+use Rattle.tftp_loop.proofs.Tables.{any_default, appended_at, appended_long, inserted_apart, removed_apart}
+use Rattle.tftp_loop.proofs.Tables.{removed_place, set_other, set_own}
 use Rattle.tftp_loop.proofs.Visits.{works_unclosed}
 use Rattle.tftp_loop.proofs.Waits.{marked_at}
 
@@ -33,25 +39,38 @@ use Rattle.tftp_loop.proofs.Waits.{marked_at}
 module _ {S F D : Type 0} (meaning : StoreMeaning S D) (sources : SourceMeaning F) where
   -- the port was read, or it is marked still and its transfer is open
   abbrev IsDueAt : PortState S F D → Type 0
-  IsDueAt q = (was_tried q.timer.port q.events ≡ true) ⊎ ((q.timer.marked ≡ true) × (taken_of (at q.timer.port q.server.held) ≡ None))
+  IsDueAt q =
+      (was_tried q.timer.port q.events ≡ true)
+      ⊎ ((q.timer.marked ≡ true) × (taken_of (at q.timer.port q.server.held) ≡ None))
 
-  tried_at : (old new : PortState S F D) → StaysAt meaning sources old new → (es : List Event) → KeepsTries es new.events → was_tried old.timer.port es ≡ true → IsDueAt new
-  tried_at old new stays es tries tried = inl (subst (λ (p : ℕ). was_tried p new.events ≡ true) (sym stays.port) (tries old.timer.port tried))
+  tried_at : (old new : PortState S F D) → StaysAt meaning sources old new → (es : List Event) →
+      KeepsTries es new.events → was_tried old.timer.port es ≡ true → IsDueAt new
+  tried_at old new stays es tries tried =
+      inl (subst (λ (p : ℕ). was_tried p new.events ≡ true) (sym stays.port) (tries old.timer.port tried))
 
-  due_at : (now : ℕ) (old new : PortState S F D) → AtPort meaning sources now old new → old.timer.marked ≡ true → taken_of (at old.timer.port old.server.held) ≡ None → IsDueAt new
+  due_at : (now : ℕ) (old new : PortState S F D) → AtPort meaning sources now old new → old.timer.marked ≡ true →
+      taken_of (at old.timer.port old.server.held) ≡ None → IsDueAt new
   due_at now old new (A_datagram d) marked unclosed =
       let received = Received old.timer.port d.from d.bytes ∷ old.events in
       tried_at old new (stays_at meaning sources now old new (A_datagram d)) received
-      (subst (KeepsTries received) (sym d.handles.events) (answered_tries old.timer.port d.handles.takes.takes.turn.reply received)) (own_receive old.timer.port (was_tried old.timer.port old.events))
+      (subst (KeepsTries received) (sym d.handles.events)
+      (answered_tries old.timer.port d.handles.takes.takes.turn.reply received))
+      (own_receive old.timer.port (was_tried old.timer.port old.events))
   due_at now old new (A_lost_datagram d) marked unclosed =
       let received = Received old.timer.port d.from d.bytes ∷ old.events in
-      tried_at old new (stays_at meaning sources now old new (A_lost_datagram d)) received (subst (KeepsTries received) (sym d.events) (λ q h. h)) (own_receive old.timer.port (was_tried old.timer.port old.events))
+      tried_at old new (stays_at meaning sources now old new (A_lost_datagram d)) received
+      (subst (KeepsTries received) (sym d.events) (λ q h. h))
+      (own_receive old.timer.port (was_tried old.timer.port old.events))
   due_at now old new (Nothing_found d) marked unclosed =
       let found = Quiet (Empty old.timer.port) ∷ old.events in
-      tried_at old new (stays_at meaning sources now old new (Nothing_found d)) found (subst (KeepsTries found) (sym d.events) (λ q h. h)) (own_receive old.timer.port (was_tried old.timer.port old.events))
+      tried_at old new (stays_at meaning sources now old new (Nothing_found d)) found
+      (subst (KeepsTries found) (sym d.events) (λ q h. h))
+      (own_receive old.timer.port (was_tried old.timer.port old.events))
   due_at now old new (A_failed_receive d) marked unclosed =
       let found = Quiet (Failed old.timer.port) ∷ old.events in
-      tried_at old new (stays_at meaning sources now old new (A_failed_receive d)) found (subst (KeepsTries found) (sym d.events) (λ q h. h)) (own_receive old.timer.port (was_tried old.timer.port old.events))
+      tried_at old new (stays_at meaning sources now old new (A_failed_receive d)) found
+      (subst (KeepsTries found) (sym d.events) (λ q h. h))
+      (own_receive old.timer.port (was_tried old.timer.port old.events))
   due_at now old new (A_timeout d) marked unclosed =
       let stays = stays_at meaning sources now old new (A_timeout d) in
       tried_at old new stays old.events stays.tries d.tried
@@ -59,14 +78,16 @@ module _ {S F D : Type 0} (meaning : StoreMeaning S D) (sources : SourceMeaning 
       let port = ap (λ (t : Timer). t.port) d.timer in
       inr (
         ap (λ (t : Timer). t.marked) d.timer ∙ marked,
-        ap (λ (p : ℕ). taken_of (at p new.server.held)) port ∙ (ap (λ (s : ServerState S F D). taken_of (at old.timer.port s.held)) d.server ∙ unclosed),
+        ap (λ (p : ℕ). taken_of (at p new.server.held)) port
+            ∙ (ap (λ (s : ServerState S F D). taken_of (at old.timer.port s.held)) d.server ∙ unclosed),
       )
   due_at now old new (Work d) marked unclosed =
       let port = ap (λ (t : Timer). t.port) d.timer in
       inr (
         ap (λ (t : Timer). t.marked) d.timer ∙ marked,
         ap (λ (p : ℕ). taken_of (at p new.server.held)) port
-            ∙ works_unclosed meaning sources old.timer.port (at old.timer.port old.server.held) old.server new.server refl d.works.works unclosed,
+            ∙ works_unclosed meaning sources old.timer.port (at old.timer.port old.server.held) old.server new.server
+            refl d.works.works unclosed,
       )
 
   -- ---- at all ports
@@ -81,7 +102,8 @@ module _ {S F D : Type 0} (meaning : StoreMeaning S D) (sources : SourceMeaning 
   abbrev Reads : ℕ → LoopState S F D → Type 0
   Reads port s = (was_tried port s.events ≡ true) ⊎ IsDue port s
 
-  same_due : (port : ℕ) (s t : LoopState S F D) → t.timers ≡ s.timers → t.server.held ≡ s.server.held → IsDue port s → IsDue port t
+  same_due : (port : ℕ) (s t : LoopState S F D) → t.timers ≡ s.timers → t.server.held ≡ s.server.held → IsDue port s →
+      IsDue port t
   same_due port s t timers held due = record {
     place = due.place;
     within = subst (λ (ts : List Timer). due.place < length ts) (sym timers) due.within;
@@ -90,18 +112,26 @@ module _ {S F D : Type 0} (meaning : StoreMeaning S D) (sources : SourceMeaning 
     unclosed = ap (λ (h : List (ℕ × HeldTransfer F D)). taken_of (at port h)) held ∙ due.unclosed;
   }
 
-  step_at : (port : ℕ) (s : LoopState S F D) (index : ℕ) (timer : Timer) (next : PortState S F D) → index < length s.timers → timer ≡ slice_index_or s.timers index timer
-      → AtPort meaning sources s.now (port_state s timer) next → AreApart s.timers → IsDue port s → Reads port (record s { server = next.server; timers = slice_set s.timers index next.timer; events = next.events })
+  step_at : (port : ℕ) (s : LoopState S F D) (index : ℕ) (timer : Timer) (next : PortState S F D) →
+      index < length s.timers → timer ≡ slice_index_or s.timers index timer
+      → AtPort meaning sources s.now (port_state s timer) next → AreApart s.timers → IsDue port s →
+      Reads port (record s {
+        server = next.server;
+        timers = slice_set s.timers index next.timer;
+        events = next.events;
+      })
   step_at port s index timer next within is does apart due =
       let stays = stays_at meaning sources s.now (port_state s timer) next does in
       let t = record s { server = next.server; timers = slice_set s.timers index next.timer; events = next.events } in
       let long = set_long s.timers index next.timer in
       elim (cases_eq due.place index) [
         | inl same ↦
-            let here : timer ≡ slice_index_or s.timers due.place timer = is ∙ ap (λ (j : ℕ). slice_index_or s.timers j timer) (sym same) in
+            let here : timer ≡ slice_index_or s.timers due.place timer =
+            is ∙ ap (λ (j : ℕ). slice_index_or s.timers j timer) (sym same) in
             let port_is : timer.port ≡ port = ap (λ (u : Timer). u.port) here ∙ due.has_port timer in
             let marked : timer.marked ≡ true = ap (λ (u : Timer). u.marked) here ∙ due.marked timer in
-            let unclosed : taken_of (at timer.port s.server.held) ≡ None = ap (λ (p : ℕ). taken_of (at p s.server.held)) port_is ∙ due.unclosed in
+            let unclosed : taken_of (at timer.port s.server.held) ≡ None =
+            ap (λ (p : ℕ). taken_of (at p s.server.held)) port_is ∙ due.unclosed in
             let next_port : next.timer.port ≡ port = stays.port ∙ port_is in
             elim (due_at s.now (port_state s timer) next does marked unclosed) [
               | inl tried ↦ inl (subst (λ (p : ℕ). was_tried p next.events ≡ true) next_port tried)
@@ -115,21 +145,30 @@ module _ {S F D : Type 0} (meaning : StoreMeaning S D) (sources : SourceMeaning 
             ]
         | inr other ↦
             let apart_port : port ≡ timer.port → ⊥ =
-            λ e. other (apart due.place index timer timer due.within within (due.has_port timer ∙ (e ∙ ap (λ (u : Timer). u.port) is))) in
+            λ e. other (apart due.place index timer timer due.within within
+            (due.has_port timer ∙ (e ∙ ap (λ (u : Timer). u.port) is))) in
             inr (record {
               place = due.place;
               within = (let w = due.within in omega (arith, long, w));
-              has_port = λ d. ap (λ (u : Timer). u.port) (set_other s.timers index next.timer due.place d other) ∙ due.has_port d;
-              marked = λ d. ap (λ (u : Timer). u.marked) (set_other s.timers index next.timer due.place d other) ∙ due.marked d;
-              unclosed = ap (λ (o : Option (HeldTransfer F D)). taken_of o) (stays.held.others port apart_port) ∙ due.unclosed;
+              has_port =
+                  λ d. ap (λ (u : Timer). u.port) (set_other s.timers index next.timer due.place d other)
+                  ∙ due.has_port d;
+              marked =
+                  λ d. ap (λ (u : Timer). u.marked) (set_other s.timers index next.timer due.place d other)
+                  ∙ due.marked d;
+              unclosed =
+                  ap (λ (o : Option (HeldTransfer F D)). taken_of o) (stays.held.others port apart_port) ∙ due.unclosed;
             })
       ]
 
-  opens_due : (port now : ℕ) (from : Endpoint) (tid : ℕ) (s : LoopState S F D) (es : List Event) (came : Came S F D) → at tid s.server.held ≡ None → AreKept s.server.held s.timers → IsDue port s
+  opens_due : (port now : ℕ) (from : Endpoint) (tid : ℕ) (s : LoopState S F D) (es : List Event) (came : Came S F D) →
+      at tid s.server.held ≡ None → AreKept s.server.held s.timers → IsDue port s
       → IsDue port (record s {
         server = (left_by came s.server from tid).new;
         pending = None;
-        timers = with_timer now from (left_by came s.server from tid).opened.tid (left_by came s.server from tid).new.held s.timers;
+        timers =
+            with_timer now from (left_by came s.server from tid).opened.tid (left_by came s.server from tid).new.held
+            s.timers;
         events = es;
       })
   opens_due port now from tid s es Nothing free kept due = same_due port s _ refl refl due
@@ -139,96 +178,140 @@ module _ {S F D : Type 0} (meaning : StoreMeaning S D) (sources : SourceMeaning 
       let timer = started now tid from (interval_at (at tid held)) in
       let long = appended_long s.timers timer in
       let apart : port ≡ tid → ⊥ =
-      λ e. some_none (at (slice_index_or s.timers due.place timer).port s.server.held) (kept.each due.place timer due.within).there
+      λ e. some_none (at (slice_index_or s.timers due.place timer).port s.server.held)
+      (kept.each due.place timer due.within).there
       (ap (λ (p : ℕ). at p s.server.held) (due.has_port timer ∙ e) ∙ free) in
       record {
         place = due.place;
         within = (let w = due.within in omega (arith, long, w));
         has_port = λ d. ap (λ (u : Timer). u.port) (appended_at s.timers timer due.place d due.within) ∙ due.has_port d;
         marked = λ d. ap (λ (u : Timer). u.marked) (appended_at s.timers timer due.place d due.within) ∙ due.marked d;
-        unclosed = ap (λ (o : Option (HeldTransfer F D)). taken_of o) (inserted_apart tid port transfer s.server.held apart) ∙ due.unclosed;
+        unclosed =
+            ap (λ (o : Option (HeldTransfer F D)). taken_of o) (inserted_apart tid port transfer s.server.held apart)
+            ∙ due.unclosed;
       }
 
-  step_reads : (port : ℕ) (s t : LoopState S F D) (does : Does meaning sources s t) → IsNoWait meaning sources does → AreKept s.server.held s.timers → Reads port s → Reads port t
+  step_reads : (port : ℕ) (s t : LoopState S F D) (does : Does meaning sources s t) → IsNoWait meaning sources does →
+      AreKept s.server.held s.timers → Reads port s → Reads port t
   step_reads port s t (Waited d) is kept reads = absurd is
   step_reads port s t (At_port d) is kept (inl tried) =
-      subst (Reads port) (sym d.is) (inl ((stays_at meaning sources s.now (port_state s d.timer) d.next d.does).tries port tried))
+      subst (Reads port) (sym d.is)
+      (inl ((stays_at meaning sources s.now (port_state s d.timer) d.next d.does).tries port tried))
   step_reads port s t (At_port d) is kept (inr due) =
       subst (Reads port) (sym d.is) (step_at port s d.index d.timer d.next d.within d.is_timer d.does kept.apart due)
-  step_reads port s t (Request_received d) is kept (inl tried) = subst (Reads port) (sym d.is) (inl (or_right (s.requests == port) (was_tried port s.events) tried))
-  step_reads port s t (Request_received d) is kept (inr due) = subst (Reads port) (sym d.is) (inr (same_due port s _ refl refl due))
-  step_reads port s t (No_request_found d) is kept (inl tried) = subst (Reads port) (sym d.is) (inl (or_right (s.requests == port) (was_tried port s.events) tried))
-  step_reads port s t (No_request_found d) is kept (inr due) = subst (Reads port) (sym d.is) (inr (same_due port s _ refl refl due))
-  step_reads port s t (Request_not_received d) is kept (inl tried) = subst (Reads port) (sym d.is) (inl (or_right (s.requests == port) (was_tried port s.events) tried))
-  step_reads port s t (Request_not_received d) is kept (inr due) = subst (Reads port) (sym d.is) (inr (same_due port s _ refl refl due))
+  step_reads port s t (Request_received d) is kept (inl tried) =
+      subst (Reads port) (sym d.is) (inl (or_right (s.requests == port) (was_tried port s.events) tried))
+  step_reads port s t (Request_received d) is kept (inr due) =
+      subst (Reads port) (sym d.is) (inr (same_due port s _ refl refl due))
+  step_reads port s t (No_request_found d) is kept (inl tried) =
+      subst (Reads port) (sym d.is) (inl (or_right (s.requests == port) (was_tried port s.events) tried))
+  step_reads port s t (No_request_found d) is kept (inr due) =
+      subst (Reads port) (sym d.is) (inr (same_due port s _ refl refl due))
+  step_reads port s t (Request_not_received d) is kept (inl tried) =
+      subst (Reads port) (sym d.is) (inl (or_right (s.requests == port) (was_tried port s.events) tried))
+  step_reads port s t (Request_not_received d) is kept (inr due) =
+      subst (Reads port) (sym d.is) (inr (same_due port s _ refl refl due))
   step_reads port s t (No_port_found d) is kept (inl tried) = subst (Reads port) (sym d.is) (inl tried)
-  step_reads port s t (No_port_found d) is kept (inr due) = subst (Reads port) (sym d.is) (inr (same_due port s _ refl refl due))
-  step_reads port s t (Request_answered d) is kept (inl tried) = subst (Reads port) (sym d.is) (inl (replied_tries _ d.left.opened.to d.left.sent s.events port tried))
+  step_reads port s t (No_port_found d) is kept (inr due) =
+      subst (Reads port) (sym d.is) (inr (same_due port s _ refl refl due))
+  step_reads port s t (Request_answered d) is kept (inl tried) =
+      subst (Reads port) (sym d.is) (inl (replied_tries _ d.left.opened.to d.left.sent s.events port tried))
   step_reads port s t (Request_answered d) is kept (inr due) =
       let fs = replied (answering_port s.requests d.left.opened.tid) d.left.opened.to d.left.sent s.events in
       subst (Reads port) (sym d.is) (inr
-      (subst (λ (left : Left S F D). IsDue port (record s { server = left.new; pending = None; timers = with_timer s.now d.from left.opened.tid left.new.held s.timers; events = fs })) (sym d.steps.left)
+      (subst (λ (left : Left S F D). IsDue port
+      (record s {
+        server = left.new;
+        pending = None;
+        timers = with_timer s.now d.from left.opened.tid left.new.held s.timers;
+        events = fs;
+      })) (sym d.steps.left)
       (opens_due port s.now d.from d.tid s fs d.steps.came d.free kept due)))
   step_reads port s t (Request_lost d) is kept (inl tried) = subst (Reads port) (sym d.is) (inl tried)
-  step_reads port s t (Request_lost d) is kept (inr due) = subst (Reads port) (sym d.is) (inr (same_due port s _ refl refl due))
+  step_reads port s t (Request_lost d) is kept (inr due) =
+      subst (Reads port) (sym d.is) (inr (same_due port s _ refl refl due))
   step_reads port s t (Clock_read d) is kept (inl tried) = subst (Reads port) (sym d.is) (inl tried)
-  step_reads port s t (Clock_read d) is kept (inr due) = subst (Reads port) (sym d.is) (inr (same_due port s _ refl refl due))
+  step_reads port s t (Clock_read d) is kept (inr due) =
+      subst (Reads port) (sym d.is) (inr (same_due port s _ refl refl due))
   step_reads port s t (Store_set d) is kept (inl tried) = subst (Reads port) (sym d.is) (inl tried)
-  step_reads port s t (Store_set d) is kept (inr due) = subst (Reads port) (sym d.is) (inr (same_due port s _ refl refl due))
+  step_reads port s t (Store_set d) is kept (inr due) =
+      subst (Reads port) (sym d.is) (inr (same_due port s _ refl refl due))
   step_reads port s t (Transfer_closed d) is kept (inl tried) = subst (Reads port) (sym d.is) (inl tried)
   step_reads port s t (Transfer_closed d) is kept (inr due) =
       let other : due.place ≡ d.index → ⊥ =
       λ e. none-some d.taken
       (sym due.unclosed ∙ (ap (λ (p : ℕ). taken_of (at p s.server.held))
-      (sym (due.has_port d.timer) ∙ ap (λ (u : Timer). u.port) (ap (λ (j : ℕ). slice_index_or s.timers j d.timer) e ∙ sym d.is_timer)) ∙ d.is_taken)) in
+      (sym (due.has_port d.timer) ∙ ap (λ (u : Timer). u.port) (ap (λ (j : ℕ). slice_index_or s.timers j d.timer) e
+      ∙ sym d.is_timer)) ∙ d.is_taken)) in
       let apart : port ≡ d.timer.port → ⊥ =
-      λ e. other (kept.apart due.place d.index d.timer d.timer due.within d.within (due.has_port d.timer ∙ (e ∙ ap (λ (u : Timer). u.port) d.is_timer))) in
+      λ e. other (kept.apart due.place d.index d.timer d.timer due.within d.within
+      (due.has_port d.timer ∙ (e ∙ ap (λ (u : Timer). u.port) d.is_timer))) in
       let at_place = removed_place s.timers d.index d.timer due.place d.within due.within other in
       subst (Reads port) (sym d.is) (inr (record {
         place = at_place.0;
         within = at_place.1;
         has_port = λ e. ap (λ (u : Timer). u.port) (at_place.2 e) ∙ due.has_port e;
         marked = λ e. ap (λ (u : Timer). u.marked) (at_place.2 e) ∙ due.marked e;
-        unclosed = ap (λ (o : Option (HeldTransfer F D)). taken_of o) (removed_apart d.timer.port port s.server.held apart) ∙ due.unclosed;
+        unclosed =
+            ap (λ (o : Option (HeldTransfer F D)). taken_of o) (removed_apart d.timer.port port s.server.held apart)
+            ∙ due.unclosed;
       }))
 
   record ReadsKept (port : ℕ) (s : LoopState S F D) : Type 0 where
     pub kept : AreKept s.server.held s.timers
     pub reads : Reads port s
 
-  reads_along : (port : ℕ) (s t : LoopState S F D) → Run (GoesOn meaning sources) s t → ReadsKept port s → ReadsKept port t
+  reads_along : (port : ℕ) (s t : LoopState S F D) → Run (GoesOn meaning sources) s t → ReadsKept port s →
+      ReadsKept port t
   reads_along port s t Start was = was
   reads_along port s t (Then {middle} run (Goes_by does is)) was =
       let now = reads_along port s middle run was in
-      record { kept = step_kept meaning sources middle t does now.kept; reads = step_reads port middle t does is now.kept now.reads }
+      record {
+        kept = step_kept meaning sources middle t does now.kept;
+        reads = step_reads port middle t does is now.kept now.reads;
+      }
 
   -- the timer of a port that was reported is marked
-  reported_due : (port : ℕ) (old woken : LoopState S F D) (waits : Waits meaning sources old woken) → is_among port waits.ports ≡ true → HasTimer port old.timers → IsDue port woken
+  reported_due : (port : ℕ) (old woken : LoopState S F D) (waits : Waits meaning sources old woken) →
+      is_among port waits.ports ≡ true → HasTimer port old.timers → IsDue port woken
   reported_due port old woken waits among has =
       let long = length-map old.timers (λ (timer : Timer). timer.port) in
       let more = length-map old.timers (marked_by waits.ports) in
       let within : has.0 < length old.timers = (let w = has.1 in omega (arith, long, w)) in
       let port_of : (d : Timer) → (slice_index_or old.timers has.0 d).port ≡ port =
-      λ d. sym (map_at (λ (timer : Timer). timer.port) old.timers has.0 d) ∙ (any_default (map (λ (timer : Timer). timer.port) old.timers) has.0 d.port port has.1 ∙ has.2) in
+      λ d. sym (map_at (λ (timer : Timer). timer.port) old.timers has.0 d)
+      ∙ (any_default (map (λ (timer : Timer). timer.port) old.timers) has.0 d.port port has.1 ∙ has.2) in
       subst (IsDue port) (sym waits.is) (record {
         place = has.0;
         within = omega (arith, more, within);
         has_port = λ d. ap (λ (u : Timer). u.port) (marked_at waits.ports old.timers has.0 d within) ∙ port_of d;
         marked = λ d.
             ap (λ (u : Timer). u.marked) (marked_at waits.ports old.timers has.0 d within)
-            ∙ or_right (slice_index_or old.timers has.0 d).marked (is_among (slice_index_or old.timers has.0 d).port waits.ports) (ap (λ (p : ℕ). is_among p waits.ports) (port_of d) ∙ among);
-        unclosed = (let d = started 0 0 (record { ip = []; port = 0 }) 0 in ap (λ (p : ℕ). taken_of (at p old.server.held)) (sym (port_of d)) ∙ (waits.may.transfers has.0 d within).not_closed);
+            ∙ or_right (slice_index_or old.timers has.0 d).marked
+            (is_among (slice_index_or old.timers has.0 d).port waits.ports)
+            (ap (λ (p : ℕ). is_among p waits.ports) (port_of d) ∙ among);
+        unclosed =
+            (let d = started 0 0 (record { ip = []; port = 0 }) 0 in ap (λ (p : ℕ). taken_of (at p old.server.held))
+            (sym (port_of d)) ∙ (waits.may.transfers has.0 d within).not_closed);
       })
 
-  pub reads_what_is_reported : (requests : ℕ) (ending : Ending) (server : ServerState S F D) (before : List Event) (old woken last new : LoopState S F D)
-      → Run (Does meaning sources) (at_start requests ending server before) old → (waits : Waits meaning sources old woken) → Run (GoesOn meaning sources) woken last → Waits meaning sources last new
+  pub reads_what_is_reported : (requests : ℕ) (ending : Ending) (server : ServerState S F D) (before : List Event)
+      (old woken last new : LoopState S F D)
+      → Run (Does meaning sources) (at_start requests ending server before) old →
+      (waits : Waits meaning sources old woken) → Run (GoesOn meaning sources) woken last →
+      Waits meaning sources last new
       → (port : ℕ) → is_among port waits.ports ≡ true → HasTimer port old.timers → was_tried port last.events ≡ true
   reads_what_is_reported requests ending server before old woken last new run waits goes next port among has =
-      let kept = step_kept meaning sources old woken (Waited waits) (kept_along meaning sources requests ending server before old run) in
-      let end = reads_along port woken last goes (record { kept = kept; reads = inr (reported_due port old woken waits among has) }) in
+      let kept =
+      step_kept meaning sources old woken (Waited waits)
+      (kept_along meaning sources requests ending server before old run) in
+      let end =
+      reads_along port woken last goes
+      (record { kept = kept; reads = inr (reported_due port old woken waits among has) }) in
       elim end.reads [
         | inl tried ↦ tried
         | inr due ↦
             let d = started 0 0 (record { ip = []; port = 0 }) 0 in
-            subst (λ (p : ℕ). was_tried p last.events ≡ true) (due.has_port d) ((next.may.transfers due.place d due.within).read (due.marked d))
+            subst (λ (p : ℕ). was_tried p last.events ≡ true) (due.has_port d)
+            ((next.may.transfers due.place d due.within).read (due.marked d))
       ]

@@ -13,7 +13,9 @@ use Rattle.tftp_loop.specs.Run.{Run}
 use Rattle.tftp_loop.specs.Run.Run.{Start, Then}
 use Rattle.tftp_loop.specs.declared.serving.Ending.{Ending}
 use Rattle.tftp_loop.specs.Serves.{Timer, LoopState, Does, Waits, at_start, is_busy, port_state, until_look}
-use Rattle.tftp_loop.specs.Serves.Does.{Waited, At_port, Request_received, No_request_found, Request_not_received, No_port_found, Request_answered, Request_lost, Clock_read, Store_set, Transfer_closed}
+use Rattle.tftp_loop.specs.Serves.Does.{Waited, At_port, Request_received, No_request_found, Request_not_received}
+use Rattle.tftp_loop.specs.Serves.Does.{No_port_found, Request_answered, Request_lost, Clock_read, Store_set}
+use Rattle.tftp_loop.specs.Serves.Does.{Transfer_closed}
 use Rattle.tftp_loop.specs.Served.{Work_by}
 use Rattle.tftp_loop.specs.Sleeps.{HasItsOwnPort, MaySleep}
 use Rattle.tftp_loop.specs.Tended.{AreKept}
@@ -39,44 +41,73 @@ module _ {S F D : Type 0} (meaning : StoreMeaning S D) (sources : SourceMeaning 
   both_false false true drained e f = not_marked e
   both_false false false drained e f = f refl
 
-  step_drained : (s t : LoopState S F D) → Does meaning sources s t → All (λ (timer : Timer). timer.port ≢ s.requests) s.timers
-      → (s.marked ≡ false → is_drained s.requests s.events ≡ true) → t.marked ≡ false → is_drained t.requests t.events ≡ true
-  step_drained s t (Waited d) own h = subst (λ (u : LoopState S F D). u.marked ≡ false → is_drained u.requests u.events ≡ true) (sym d.is)
+  step_drained : (s t : LoopState S F D) → Does meaning sources s t →
+      All (λ (timer : Timer). timer.port ≢ s.requests) s.timers
+      → (s.marked ≡ false → is_drained s.requests s.events ≡ true) → t.marked ≡ false →
+      is_drained t.requests t.events ≡ true
+  step_drained s t (Waited d) own h =
+      subst (λ (u : LoopState S F D). u.marked ≡ false → is_drained u.requests u.events ≡ true) (sym d.is)
       (λ m. both_false s.marked (is_among s.requests d.ports) (is_drained s.requests s.events) m h)
-  step_drained s t (Clock_read d) own h = subst (λ (u : LoopState S F D). u.marked ≡ false → is_drained u.requests u.events ≡ true) (sym d.is) h
-  step_drained s t (At_port d) own h = subst (λ (u : LoopState S F D). u.marked ≡ false → is_drained u.requests u.events ≡ true) (sym d.is)
+  step_drained s t (Clock_read d) own h =
+      subst (λ (u : LoopState S F D). u.marked ≡ false → is_drained u.requests u.events ≡ true) (sym d.is) h
+  step_drained s t (At_port d) own h =
+      subst (λ (u : LoopState S F D). u.marked ≡ false → is_drained u.requests u.events ≡ true) (sym d.is)
       (λ m. port_drained meaning sources s.requests s.now (port_state s d.timer) d.next d.does
       (λ e. own d.index d.timer d.within (ap (λ (u : Timer). u.port) (sym d.is_timer) ∙ e)) (h m))
-  step_drained s t (Request_received d) own h = subst (λ (u : LoopState S F D). u.marked ≡ false → is_drained u.requests u.events ≡ true) (sym d.is) (λ m. not_marked m)
-  step_drained s t (No_request_found d) own h = subst (λ (u : LoopState S F D). u.marked ≡ false → is_drained u.requests u.events ≡ true) (sym d.is)
+  step_drained s t (Request_received d) own h =
+      subst (λ (u : LoopState S F D). u.marked ≡ false → is_drained u.requests u.events ≡ true) (sym d.is)
+      (λ m. not_marked m)
+  step_drained s t (No_request_found d) own h =
+      subst (λ (u : LoopState S F D). u.marked ≡ false → is_drained u.requests u.events ≡ true) (sym d.is)
       (λ m. own_receive s.requests (is_drained s.requests s.events))
-  step_drained s t (Request_not_received d) own h = subst (λ (u : LoopState S F D). u.marked ≡ false → is_drained u.requests u.events ≡ true) (sym d.is) (λ m. not_marked m)
-  step_drained s t (No_port_found d) own h = subst (λ (u : LoopState S F D). u.marked ≡ false → is_drained u.requests u.events ≡ true) (sym d.is) h
-  step_drained s t (Request_answered d) own h = subst (λ (u : LoopState S F D). u.marked ≡ false → is_drained u.requests u.events ≡ true) (sym d.is)
+  step_drained s t (Request_not_received d) own h =
+      subst (λ (u : LoopState S F D). u.marked ≡ false → is_drained u.requests u.events ≡ true) (sym d.is)
+      (λ m. not_marked m)
+  step_drained s t (No_port_found d) own h =
+      subst (λ (u : LoopState S F D). u.marked ≡ false → is_drained u.requests u.events ≡ true) (sym d.is) h
+  step_drained s t (Request_answered d) own h =
+      subst (λ (u : LoopState S F D). u.marked ≡ false → is_drained u.requests u.events ≡ true) (sym d.is)
       (λ m. replied_drained s.requests _ d.left.opened.to d.left.sent s.events (h m))
-  step_drained s t (Request_lost d) own h = subst (λ (u : LoopState S F D). u.marked ≡ false → is_drained u.requests u.events ≡ true) (sym d.is) h
-  step_drained s t (Store_set d) own h = subst (λ (u : LoopState S F D). u.marked ≡ false → is_drained u.requests u.events ≡ true) (sym d.is) h
-  step_drained s t (Transfer_closed d) own h = subst (λ (u : LoopState S F D). u.marked ≡ false → is_drained u.requests u.events ≡ true) (sym d.is) h
+  step_drained s t (Request_lost d) own h =
+      subst (λ (u : LoopState S F D). u.marked ≡ false → is_drained u.requests u.events ≡ true) (sym d.is) h
+  step_drained s t (Store_set d) own h =
+      subst (λ (u : LoopState S F D). u.marked ≡ false → is_drained u.requests u.events ≡ true) (sym d.is) h
+  step_drained s t (Transfer_closed d) own h =
+      subst (λ (u : LoopState S F D). u.marked ≡ false → is_drained u.requests u.events ≡ true) (sym d.is) h
 
-  pub step_kept : (s t : LoopState S F D) → Does meaning sources s t → AreKept s.server.held s.timers → AreKept t.server.held t.timers
-  step_kept s t (Waited d) kept = subst (λ (u : LoopState S F D). AreKept u.server.held u.timers) (sym d.is) (marked_kept s.server.held d.ports s.timers kept)
+  pub step_kept : (s t : LoopState S F D) → Does meaning sources s t → AreKept s.server.held s.timers →
+      AreKept t.server.held t.timers
+  step_kept s t (Waited d) kept =
+      subst (λ (u : LoopState S F D). AreKept u.server.held u.timers) (sym d.is)
+      (marked_kept s.server.held d.ports s.timers kept)
   step_kept s t (Clock_read d) kept = subst (λ (u : LoopState S F D). AreKept u.server.held u.timers) (sym d.is) kept
   step_kept s t (At_port d) kept = (work_keeps meaning sources s t (Then Start (Work_by (At_port d) tt))).kept kept
-  step_kept s t (Request_received d) kept = (work_keeps meaning sources s t (Then Start (Work_by (Request_received d) tt))).kept kept
-  step_kept s t (No_request_found d) kept = (work_keeps meaning sources s t (Then Start (Work_by (No_request_found d) tt))).kept kept
-  step_kept s t (Request_not_received d) kept = (work_keeps meaning sources s t (Then Start (Work_by (Request_not_received d) tt))).kept kept
-  step_kept s t (No_port_found d) kept = (work_keeps meaning sources s t (Then Start (Work_by (No_port_found d) tt))).kept kept
-  step_kept s t (Request_answered d) kept = (work_keeps meaning sources s t (Then Start (Work_by (Request_answered d) tt))).kept kept
-  step_kept s t (Request_lost d) kept = (work_keeps meaning sources s t (Then Start (Work_by (Request_lost d) tt))).kept kept
+  step_kept s t (Request_received d) kept =
+      (work_keeps meaning sources s t (Then Start (Work_by (Request_received d) tt))).kept kept
+  step_kept s t (No_request_found d) kept =
+      (work_keeps meaning sources s t (Then Start (Work_by (No_request_found d) tt))).kept kept
+  step_kept s t (Request_not_received d) kept =
+      (work_keeps meaning sources s t (Then Start (Work_by (Request_not_received d) tt))).kept kept
+  step_kept s t (No_port_found d) kept =
+      (work_keeps meaning sources s t (Then Start (Work_by (No_port_found d) tt))).kept kept
+  step_kept s t (Request_answered d) kept =
+      (work_keeps meaning sources s t (Then Start (Work_by (Request_answered d) tt))).kept kept
+  step_kept s t (Request_lost d) kept =
+      (work_keeps meaning sources s t (Then Start (Work_by (Request_lost d) tt))).kept kept
   step_kept s t (Store_set d) kept = (work_keeps meaning sources s t (Then Start (Work_by (Store_set d) tt))).kept kept
-  step_kept s t (Transfer_closed d) kept = (work_keeps meaning sources s t (Then Start (Work_by (Transfer_closed d) tt))).kept kept
+  step_kept s t (Transfer_closed d) kept =
+      (work_keeps meaning sources s t (Then Start (Work_by (Transfer_closed d) tt))).kept kept
 
-  pub kept_along : (port : ℕ) (ending : Ending) (server : ServerState S F D) (before : List Event) (old : LoopState S F D) → Run (Does meaning sources) (at_start port ending server before) old
+  pub kept_along : (port : ℕ) (ending : Ending) (server : ServerState S F D) (before : List Event)
+      (old : LoopState S F D) → Run (Does meaning sources) (at_start port ending server before) old
       → AreKept old.server.held old.timers
-  kept_along port ending server before old Start = record { apart = λ j k d e hj hk h. absurd (omega (arith, hj)); each = λ k d h. absurd (omega (arith, h)) }
-  kept_along port ending server before old (Then {middle} run does) = step_kept middle old does (kept_along port ending server before middle run)
+  kept_along port ending server before old Start =
+      record { apart = λ j k d e hj hk h. absurd (omega (arith, hj)); each = λ k d h. absurd (omega (arith, h)) }
+  kept_along port ending server before old (Then {middle} run does) =
+      step_kept middle old does (kept_along port ending server before middle run)
 
-  quiet_along : (port : ℕ) (ending : Ending) (server : ServerState S F D) (before : List Event) (old : LoopState S F D) → Run (Does meaning sources) (at_start port ending server before) old
+  quiet_along : (port : ℕ) (ending : Ending) (server : ServerState S F D) (before : List Event)
+      (old : LoopState S F D) → Run (Does meaning sources) (at_start port ending server before) old
       → HasItsOwnPort meaning sources (at_start port ending server before) old → IsQuiet old
   quiet_along port ending server before old Start own = record {
     drained = λ m. not_marked m;
@@ -115,28 +146,36 @@ right_false : (a b : Bool) → (a || b) ≡ false → b ≡ false
 right_false true b e = absurd (let f : true ≡ false = e in cc)
 right_false false b e = e
 
-none_marked : (timers : List Timer) → list_any (λ (timer : Timer). timer.marked) timers ≡ false → (k : ℕ) (d : Timer) → k < length timers → (slice_index_or timers k d).marked ≡ false
+none_marked : (timers : List Timer) → list_any (λ (timer : Timer). timer.marked) timers ≡ false → (k : ℕ) (d : Timer) →
+    k < length timers → (slice_index_or timers k d).marked ≡ false
 none_marked [] e k d h = absurd (omega (arith, h))
 none_marked (timer ∷ timers) e zero d h = left_false timer.marked (list_any (λ (t : Timer). t.marked) timers) e
-none_marked (timer ∷ timers) e (suc k) d h = none_marked timers (right_false timer.marked (list_any (λ (t : Timer). t.marked) timers) e) k d (omega (arith, h))
+none_marked (timer ∷ timers) e (suc k) d h =
+    none_marked timers (right_false timer.marked (list_any (λ (t : Timer). t.marked) timers) e) k d (omega (arith, h))
 
-look_first : (now : ℕ) (timers : List Timer) (k : ℕ) (d : Timer) → k < length timers → until_look now timers ≤ (slice_index_or timers k d).look_at - now
+look_first : (now : ℕ) (timers : List Timer) (k : ℕ) (d : Timer) → k < length timers →
+    until_look now timers ≤ (slice_index_or timers k d).look_at - now
 look_first now [] k d h = absurd (omega (arith, h))
 look_first now (timer ∷ timers) zero d h = omega arith
-look_first now (timer ∷ timers) (suc k) d h = let rest = look_first now timers k d (omega (arith, h)) in omega (arith, rest)
+look_first now (timer ∷ timers) (suc k) d h =
+    let rest = look_first now timers k d (omega (arith, h)) in omega (arith, rest)
 
 look_longest : (now : ℕ) (timers : List Timer) → until_look now timers ≤ LONGEST_WAIT
 look_longest now [] = omega arith
 look_longest now (timer ∷ timers) = let rest = look_longest now timers in omega (arith, rest)
 
 module _ {S F D : Type 0} (meaning : StoreMeaning S D) (sources : SourceMeaning F) where
-  pub rests_before_it_sleeps : (port : ℕ) (ending : Ending) (server : ServerState S F D) (before : List Event) (old new : LoopState S F D) → Run (Does meaning sources) (at_start port ending server before) old
-      → HasItsOwnPort meaning sources (at_start port ending server before) old → (waits : Waits meaning sources old new) → 1 ≤ waits.millis → MaySleep meaning sources old waits.millis
+  pub rests_before_it_sleeps : (port : ℕ) (ending : Ending) (server : ServerState S F D) (before : List Event)
+      (old new : LoopState S F D) → Run (Does meaning sources) (at_start port ending server before) old
+      → HasItsOwnPort meaning sources (at_start port ending server before) old →
+      (waits : Waits meaning sources old new) → 1 ≤ waits.millis → MaySleep meaning sources old waits.millis
   rests_before_it_sleeps port ending server before old new run own waits some =
       let was = quiet_along meaning sources port ending server before old run own in
       let until = until_look old.now old.timers in
       let longest = waits.may.longest in
-      let parts = idle_parts old.marked (is_some old.pending) (list_any (λ (timer : Timer). timer.marked) old.timers) until (omega (arith, some, longest)) in
+      let parts =
+      idle_parts old.marked (is_some old.pending) (list_any (λ (timer : Timer). timer.marked) old.timers) until
+      (omega (arith, some, longest)) in
       let most : waits.millis ≤ until = idle_millis (is_busy old) until waits.millis some longest in
       record {
         requests = was.drained parts.0;

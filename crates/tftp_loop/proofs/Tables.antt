@@ -1,5 +1,6 @@
 -- Elements and entries that a change leaves as they were.
-use Rattle.std.proofs.Common.{arith, ◌≡◌, ◌<◌, ◌≤◌, ◌-◌, ◌⊎◌, ℕ, zero, suc, Bool, true, false, List, [], ◌∷◌, ◌++◌, length, take, Option, Some, cond, refl, sym, ap, ◌∙◌, inl, inr}
+use Rattle.std.proofs.Common.{arith, ◌≡◌, ◌<◌, ◌≤◌, ◌-◌, ◌⊎◌, ℕ, zero, suc, Bool, true, false, List, [], ◌∷◌, ◌++◌}
+use Rattle.std.proofs.Common.{length, take, Option, Some, cond, refl, sym, ap, ◌∙◌, inl, inr}
 use Rattle.std.specs.Prelude.{slice_set, slice_index_or, is_some}
 use Rattle.std.specs.List.{swap_remove}
 use Rattle.std.specs.Map.{lookup, remove_entry, set_value}
@@ -13,7 +14,8 @@ use Rattle.tftp_loop.proofs.ListLemmas.{set_long}
 
 -- ---- elements
 module _ {X : Type 0} where
-  pub set_other : (xs : List X) (i : ℕ) (y : X) (k : ℕ) (d : X) → (k ≡ i → ⊥) → slice_index_or (slice_set xs i y) k d ≡ slice_index_or xs k d
+  pub set_other : (xs : List X) (i : ℕ) (y : X) (k : ℕ) (d : X) → (k ≡ i → ⊥) →
+      slice_index_or (slice_set xs i y) k d ≡ slice_index_or xs k d
   set_other [] i y k d h = refl
   set_other (x ∷ xs) zero y zero d h = absurd (h refl)
   set_other (x ∷ xs) zero y (suc k) d h = refl
@@ -38,7 +40,8 @@ module _ {X : Type 0} where
   taken_at (suc n) (x ∷ xs) zero d h = refl
   taken_at (suc n) (x ∷ xs) (suc k) d h = taken_at n xs k d (omega (arith, h))
 
-  pub appended_at : (xs : List X) (x : X) (k : ℕ) (d : X) → k < length xs → slice_index_or (xs ++ x ∷ []) k d ≡ slice_index_or xs k d
+  pub appended_at : (xs : List X) (x : X) (k : ℕ) (d : X) → k < length xs →
+      slice_index_or (xs ++ x ∷ []) k d ≡ slice_index_or xs k d
   appended_at [] x k d h = absurd (omega (arith, h))
   appended_at (y ∷ xs) x zero d h = refl
   appended_at (y ∷ xs) x (suc k) d h = appended_at xs x k d (omega (arith, h))
@@ -72,7 +75,8 @@ module _ {X : Type 0} where
     pub is : (e : X) → y ≡ slice_index_or xs place e
     pub which : ((k ≡ i) × (place ≡ length xs - 1)) ⊎ ((k ≡ i → ⊥) × (place ≡ k))
 
-  pub was_at : (xs : List X) (i : ℕ) (x : X) (k : ℕ) (d : X) → i < length xs → k < length (swap_remove xs i x) → WasAt xs i k (slice_index_or (swap_remove xs i x) k d)
+  pub was_at : (xs : List X) (i : ℕ) (x : X) (k : ℕ) (d : X) → i < length xs → k < length (swap_remove xs i x) →
+      WasAt xs i k (slice_index_or (swap_remove xs i x) k d)
   was_at xs i x k d inside within =
       let last = slice_index_or xs (length xs - 1) x in
       let long = removed_long xs i x in
@@ -83,7 +87,9 @@ module _ {X : Type 0} where
           place = length xs - 1;
           within = omega (arith, below);
           other = λ e. omega (arith, e, same, below);
-          is = λ e. here ∙ (ap (λ (j : ℕ). slice_index_or (slice_set xs i last) j d) same ∙ (set_own xs i last d inside ∙ any_default xs (length xs - 1) x e (omega (arith, below))));
+          is =
+              λ e. here ∙ (ap (λ (j : ℕ). slice_index_or (slice_set xs i last) j d) same
+              ∙ (set_own xs i last d inside ∙ any_default xs (length xs - 1) x e (omega (arith, below))));
           which = inl (same, refl);
         }
         | inr apart ↦ record {
@@ -97,7 +103,8 @@ module _ {X : Type 0} where
 
   -- where an element is after another was removed
   pub removed_place : (xs : List X) (i : ℕ) (x : X) (place : ℕ) → i < length xs → place < length xs → (place ≡ i → ⊥)
-      → (k : ℕ) × (k < length (swap_remove xs i x)) × ((d : X) → slice_index_or (swap_remove xs i x) k d ≡ slice_index_or xs place d)
+      → (k : ℕ) × (k < length (swap_remove xs i x))
+      × ((d : X) → slice_index_or (swap_remove xs i x) k d ≡ slice_index_or xs place d)
   removed_place xs i x place inside within other =
       let last = slice_index_or xs (length xs - 1) x in
       let long = removed_long xs i x in
@@ -108,7 +115,8 @@ module _ {X : Type 0} where
               omega (arith, long, before),
               λ d.
                   taken_at (length xs - 1) (slice_set xs i last) i d before
-                  ∙ (set_own xs i last d inside ∙ (any_default xs (length xs - 1) x d (omega (arith, within)) ∙ ap (λ (j : ℕ). slice_index_or xs j d) (sym end))),
+                  ∙ (set_own xs i last d inside ∙ (any_default xs (length xs - 1) x d (omega (arith, within))
+                  ∙ ap (λ (j : ℕ). slice_index_or xs j d) (sym end))),
             )
         | inr apart ↦
             let before : place < length xs - 1 = omega (arith, within, apart) in (
@@ -131,12 +139,14 @@ no_test false h = refl
 
 -- what is at one key is not at another
 other_key : (q tid key : ℕ) → (q ≡ tid → ⊥) → tid ≡ key → is_eq (nat_cmp q key) ≡ false
-other_key q tid key apart same = no_test (is_eq (nat_cmp q key)) (λ t. apart (compares q key (nat_cmp q key) refl t ∙ sym same))
+other_key q tid key apart same =
+    no_test (is_eq (nat_cmp q key)) (λ t. apart (compares q key (nat_cmp q key) refl t ∙ sym same))
 
 equal_key : (tid key : ℕ) (o : Ordering) → nat_cmp tid key ≡ o → o ≡ Equal → tid ≡ key
 equal_key tid key o e h = compares tid key o e (ap is_eq h)
 
-some_either : {T : Type 0} (c : Bool) (v w : T) (m n : Option T) → is_some n ≡ is_some m → is_some (cond c (Some w) n) ≡ is_some (cond c (Some v) m)
+some_either : {T : Type 0} (c : Bool) (v w : T) (m n : Option T) → is_some n ≡ is_some m →
+    is_some (cond c (Some w) n) ≡ is_some (cond c (Some v) m)
 some_either true v w m n e = refl
 some_either false v w m n e = e
 
@@ -144,58 +154,75 @@ module _ {T : Type 0} where
   abbrev found : ℕ → List (ℕ × T) → Option T
   found q held = lookup (is_at (nat_cmp q)) held
 
-  set_apart_at : (test : ℕ → Bool) (w : T) (e : ℕ × T) (held more : List (ℕ × T)) (b : Bool) → (b ≡ true → test e.0 ≡ false) → lookup test more ≡ lookup test held
+  set_apart_at : (test : ℕ → Bool) (w : T) (e : ℕ × T) (held more : List (ℕ × T)) (b : Bool) →
+      (b ≡ true → test e.0 ≡ false) → lookup test more ≡ lookup test held
       → lookup test (cond b ((e.0, w) ∷ held) (e ∷ more)) ≡ lookup test (e ∷ held)
   set_apart_at test w e held more true h same =
-      ap (λ (c : Bool). cond c (Some w) (lookup test held)) (h refl) ∙ sym (ap (λ (c : Bool). cond c (Some e.1) (lookup test held)) (h refl))
+      ap (λ (c : Bool). cond c (Some w) (lookup test held)) (h refl)
+      ∙ sym (ap (λ (c : Bool). cond c (Some e.1) (lookup test held)) (h refl))
   set_apart_at test w e held more false h same = ap (λ (m : Option T). cond (test e.0) (Some e.1) m) same
 
-  pub set_apart : (tid q : ℕ) (held : List (ℕ × T)) (w : T) → (q ≡ tid → ⊥) → found q (set_value (is_at (nat_cmp tid)) held w) ≡ found q held
+  pub set_apart : (tid q : ℕ) (held : List (ℕ × T)) (w : T) → (q ≡ tid → ⊥) →
+      found q (set_value (is_at (nat_cmp tid)) held w) ≡ found q held
   set_apart tid q [] w apart = refl
   set_apart tid q (e ∷ held) w apart =
       set_apart_at (is_at (nat_cmp q)) w e held (set_value (is_at (nat_cmp tid)) held w) (is_eq (nat_cmp tid e.0))
       (λ t. other_key q tid e.0 apart (compares tid e.0 (nat_cmp tid e.0) refl t)) (set_apart tid q held w apart)
 
-  set_there_at : (test : ℕ → Bool) (w : T) (e : ℕ × T) (held more : List (ℕ × T)) (b : Bool) → is_some (lookup test more) ≡ is_some (lookup test held)
+  set_there_at : (test : ℕ → Bool) (w : T) (e : ℕ × T) (held more : List (ℕ × T)) (b : Bool) →
+      is_some (lookup test more) ≡ is_some (lookup test held)
       → is_some (lookup test (cond b ((e.0, w) ∷ held) (e ∷ more))) ≡ is_some (lookup test (e ∷ held))
   set_there_at test w e held more true same = some_either (test e.0) e.1 w (lookup test held) (lookup test held) refl
   set_there_at test w e held more false same = some_either (test e.0) e.1 e.1 (lookup test held) (lookup test more) same
 
-  pub set_there : (put test : ℕ → Bool) (held : List (ℕ × T)) (w : T) → is_some (lookup test (set_value put held w)) ≡ is_some (lookup test held)
+  pub set_there : (put test : ℕ → Bool) (held : List (ℕ × T)) (w : T) →
+      is_some (lookup test (set_value put held w)) ≡ is_some (lookup test held)
   set_there put test [] w = refl
-  set_there put test (e ∷ held) w = set_there_at test w e held (set_value put held w) (put e.0) (set_there put test held w)
+  set_there put test (e ∷ held) w =
+      set_there_at test w e held (set_value put held w) (put e.0) (set_there put test held w)
 
-  removed_apart_at : (test : ℕ → Bool) (e : ℕ × T) (held more : List (ℕ × T)) (b : Bool) → (b ≡ true → test e.0 ≡ false) → lookup test more ≡ lookup test held
+  removed_apart_at : (test : ℕ → Bool) (e : ℕ × T) (held more : List (ℕ × T)) (b : Bool) →
+      (b ≡ true → test e.0 ≡ false) → lookup test more ≡ lookup test held
       → lookup test (cond b held (e ∷ more)) ≡ lookup test (e ∷ held)
   removed_apart_at test e held more true h same = sym (ap (λ (c : Bool). cond c (Some e.1) (lookup test held)) (h refl))
   removed_apart_at test e held more false h same = ap (λ (m : Option T). cond (test e.0) (Some e.1) m) same
 
-  pub removed_apart : (tid q : ℕ) (held : List (ℕ × T)) → (q ≡ tid → ⊥) → found q (remove_entry (is_at (nat_cmp tid)) held) ≡ found q held
+  pub removed_apart : (tid q : ℕ) (held : List (ℕ × T)) → (q ≡ tid → ⊥) →
+      found q (remove_entry (is_at (nat_cmp tid)) held) ≡ found q held
   removed_apart tid q [] apart = refl
   removed_apart tid q (e ∷ held) apart =
       removed_apart_at (is_at (nat_cmp q)) e held (remove_entry (is_at (nat_cmp tid)) held) (is_eq (nat_cmp tid e.0))
       (λ t. other_key q tid e.0 apart (compares tid e.0 (nat_cmp tid e.0) refl t)) (removed_apart tid q held apart)
 
-  not_first : (test : ℕ → Bool) (key : ℕ) (v : T) (held : List (ℕ × T)) → test key ≡ false → lookup test ((key, v) ∷ held) ≡ lookup test held
+  not_first : (test : ℕ → Bool) (key : ℕ) (v : T) (held : List (ℕ × T)) → test key ≡ false →
+      lookup test ((key, v) ∷ held) ≡ lookup test held
   not_first test key v held h = ap (λ (c : Bool). cond c (Some v) (lookup test held)) h
 
-  inserted_apart_at : (o : Ordering) (test : ℕ → Bool) (tid : ℕ) (v : T) (e : ℕ × T) (held more : List (ℕ × T)) → test tid ≡ false → (o ≡ Equal → test e.0 ≡ false) → lookup test more ≡ lookup test held
+  inserted_apart_at : (o : Ordering) (test : ℕ → Bool) (tid : ℕ) (v : T) (e : ℕ × T) (held more : List (ℕ × T)) →
+      test tid ≡ false → (o ≡ Equal → test e.0 ≡ false) → lookup test more ≡ lookup test held
       → lookup test (match_ordering o ((tid, v) ∷ e ∷ held) ((e.0, v) ∷ held) (e ∷ more)) ≡ lookup test (e ∷ held)
   inserted_apart_at Less test tid v e held more misses same rest = not_first test tid v (e ∷ held) misses
-  inserted_apart_at Equal test tid v e held more misses same rest = not_first test e.0 v held (same refl) ∙ sym (not_first test e.0 e.1 held (same refl))
-  inserted_apart_at Greater test tid v e held more misses same rest = ap (λ (m : Option T). cond (test e.0) (Some e.1) m) rest
+  inserted_apart_at Equal test tid v e held more misses same rest =
+      not_first test e.0 v held (same refl) ∙ sym (not_first test e.0 e.1 held (same refl))
+  inserted_apart_at Greater test tid v e held more misses same rest =
+      ap (λ (m : Option T). cond (test e.0) (Some e.1) m) rest
 
-  pub inserted_apart : (tid q : ℕ) (v : T) (held : List (ℕ × T)) → (q ≡ tid → ⊥) → found q (insert_entry nat_cmp held tid v) ≡ found q held
+  pub inserted_apart : (tid q : ℕ) (v : T) (held : List (ℕ × T)) → (q ≡ tid → ⊥) →
+      found q (insert_entry nat_cmp held tid v) ≡ found q held
   inserted_apart tid q v [] apart = not_first (is_at (nat_cmp q)) tid v [] (other_key q tid tid apart refl)
   inserted_apart tid q v (e ∷ held) apart =
-      inserted_apart_at (nat_cmp tid e.0) (is_at (nat_cmp q)) tid v e held (insert_entry nat_cmp held tid v) (other_key q tid tid apart refl)
+      inserted_apart_at (nat_cmp tid e.0) (is_at (nat_cmp q)) tid v e held (insert_entry nat_cmp held tid v)
+      (other_key q tid tid apart refl)
       (λ h. other_key q tid e.0 apart (equal_key tid e.0 (nat_cmp tid e.0) refl h)) (inserted_apart tid q v held apart)
 
-  first : (test : ℕ → Bool) (key : ℕ) (v : T) (held : List (ℕ × T)) → test key ≡ true → lookup test ((key, v) ∷ held) ≡ Some v
+  first : (test : ℕ → Bool) (key : ℕ) (v : T) (held : List (ℕ × T)) → test key ≡ true →
+      lookup test ((key, v) ∷ held) ≡ Some v
   first test key v held h = ap (λ (c : Bool). cond c (Some v) (lookup test held)) h
 
-  inserted_own_at : (o : Ordering) (test : ℕ → Bool) (tid : ℕ) (v : T) (e : ℕ × T) (held more : List (ℕ × T)) → test tid ≡ true → (o ≡ Equal → test e.0 ≡ true) → (o ≡ Greater → test e.0 ≡ false)
-      → lookup test more ≡ Some v → lookup test (match_ordering o ((tid, v) ∷ e ∷ held) ((e.0, v) ∷ held) (e ∷ more)) ≡ Some v
+  inserted_own_at : (o : Ordering) (test : ℕ → Bool) (tid : ℕ) (v : T) (e : ℕ × T) (held more : List (ℕ × T)) →
+      test tid ≡ true → (o ≡ Equal → test e.0 ≡ true) → (o ≡ Greater → test e.0 ≡ false)
+      → lookup test more ≡ Some v → lookup test (match_ordering o ((tid, v) ∷ e ∷ held) ((e.0, v) ∷ held) (e ∷ more))
+      ≡ Some v
   inserted_own_at Less test tid v e held more own same other rest = first test tid v (e ∷ held) own
   inserted_own_at Equal test tid v e held more own same other rest = first test e.0 v held (same refl)
   inserted_own_at Greater test tid v e held more own same other rest = not_first test e.0 e.1 more (other refl) ∙ rest
@@ -203,5 +230,6 @@ module _ {T : Type 0} where
   pub inserted_own : (tid : ℕ) (v : T) (held : List (ℕ × T)) → found tid (insert_entry nat_cmp held tid v) ≡ Some v
   inserted_own tid v [] = first (is_at (nat_cmp tid)) tid v [] (own_test tid tid (nat_cmp tid tid) refl refl)
   inserted_own tid v (e ∷ held) =
-      inserted_own_at (nat_cmp tid e.0) (is_at (nat_cmp tid)) tid v e held (insert_entry nat_cmp held tid v) (own_test tid tid (nat_cmp tid tid) refl refl)
+      inserted_own_at (nat_cmp tid e.0) (is_at (nat_cmp tid)) tid v e held (insert_entry nat_cmp held tid v)
+      (own_test tid tid (nat_cmp tid tid) refl refl)
       (λ h. ap is_eq h) (λ h. ap is_eq h) (inserted_own tid v held)

@@ -1,5 +1,6 @@
 -- A turn at a port, and what it leaves if its transfer closed and if not.
-use Rattle.std.proofs.Common.{arith, ◌≡◌, ◌<◌, ◌≤◌, ◌+◌, ◌-◌, ℕ, Bool, true, false, List, [], length, map, Option, Some, None, IsSome, refl, sym, ap, subst, ◌∙◌, inl, inr}
+use Rattle.std.proofs.Common.{arith, ◌≡◌, ◌<◌, ◌≤◌, ◌+◌, ◌-◌, ℕ, Bool, true, false, List, [], length, map, Option, Some}
+use Rattle.std.proofs.Common.{None, IsSome, refl, sym, ap, subst, ◌∙◌, inl, inr}
 use Rattle.std.specs.Prelude.{slice_set, slice_index_or, is_some, option_map, if◌then◌else◌}
 use Rattle.std.specs.BTreeMap.{is_at}
 use Rattle.std.specs.Ordering.{nat_cmp}
@@ -20,7 +21,9 @@ use Rattle.tftp_loop.specs.declared.server_loop.ServerLoop.{ServerLoop}
 use Rattle.tftp_loop.specs.declared.server_loop.Turn.{Turn}
 use Rattle.tftp_loop.specs.declared.server_loop.Turn.TheVariants as turns
 use Rattle.tftp_loop.specs.Served.{OnlyWorks, Work_by, close_reported, state_of, timer_of}
-use Rattle.tftp_loop.specs.Tended.{AllFrom, AreKept, AreRead, AreSettled, AreTimed, Finishes, Goes, HaveTurned, Stays, IsOpen, IsRead, IsSettled, IsTimed, KeepsTries, TakesTurn, leaves_by, leaves_read, leaves_timed, timers_of}
+use Rattle.tftp_loop.specs.Tended.{AllFrom, AreKept, AreRead, AreSettled, AreTimed, Finishes, Goes, HaveTurned, Stays}
+use Rattle.tftp_loop.specs.Tended.{IsOpen, IsRead, IsSettled, IsTimed, KeepsTries, TakesTurn, leaves_by, leaves_read}
+use Rattle.tftp_loop.specs.Tended.{leaves_timed, timers_of}
 use Rattle.tftp_loop.proofs.ListLemmas.{map_is, map_removed, map_set, map_within, set_long}
 use Rattle.tftp_loop.proofs.LoopRuns.{Runs, at_place, closes, none_taken}
 use Rattle.tftp_loop.proofs.LoopStays.{all_removed, all_set, other_held, other_port, removed_held, set_kept}
@@ -29,8 +32,10 @@ use Rattle.tftp_loop.proofs.PortStays.{StaysAt, stays_along, works_held}
 use Rattle.tftp_loop.proofs.RunLemmas.{idle, once, onward}
 use Rattle.tftp_loop.proofs.Tables.{any_default, removed_apart, set_other, set_own}
 
-module _ {S F D : Type 0} (meaning : StoreMeaning S D) (sources : SourceMeaning F) {leaves : PortState S F D → ℕ → Type 0} {index : ℕ} {old middle new : ServerLoop S F D}
-    (turns : TakesTurn meaning sources leaves index old middle) (finishes : Finishes meaning sources index middle new) where
+module _ {S F D : Type 0} (meaning : StoreMeaning S D) (sources : SourceMeaning F)
+    {leaves : PortState S F D → ℕ → Type 0} {index : ℕ} {old middle new : ServerLoop S F D}
+    (turns : TakesTurn meaning sources leaves index old middle)
+    (finishes : Finishes meaning sources index middle new) where
   abbrev next : Timer
   next = timer_of turns.next
 
@@ -65,50 +70,67 @@ module _ {S F D : Type 0} (meaning : StoreMeaning S D) (sources : SourceMeaning 
   kept_middle = set_kept meaning sources (state_of [] old) index was end within is_timer stays
 
   -- the transfers of other ports stay
-  others_open : AreSettled old.server.held (timers_of old) → (k : ℕ) (d : Timer) → k < length (timers_of old) → (k ≡ index → ⊥) → IsOpen middle.server.held (slice_index_or (timers_of old) k d)
+  others_open : AreSettled old.server.held (timers_of old) → (k : ℕ) (d : Timer) → k < length (timers_of old) →
+      (k ≡ index → ⊥) → IsOpen middle.server.held (slice_index_or (timers_of old) k d)
   others_open settled k d h apart =
       ap (λ (o : Option (HeldTransfer F D)). taken_of o)
-      (stays.held.others (slice_index_or (timers_of old) k d).port (other_port (timers_of old) index was k d settled.kept.apart within is_timer h apart))
+      (stays.held.others (slice_index_or (timers_of old) k d).port
+      (other_port (timers_of old) index was k d settled.kept.apart within is_timer h apart))
       ∙ settled.none_closed k d h
 
   -- what holds of all other timers, and of the next one if it stays
-  after_stay : (P : Timer → Type 0) (low : ℕ) → ((k : ℕ) (d : Timer) → low ≤ k → k < length (timers_of old) → (k ≡ index → ⊥) → P (slice_index_or (timers_of old) k d))
+  after_stay : (P : Timer → Type 0) (low : ℕ) →
+      ((k : ℕ) (d : Timer) → low ≤ k → k < length (timers_of old) → (k ≡ index → ⊥) →
+      P (slice_index_or (timers_of old) k d))
       → P next → AllFrom P low (timers_of middle)
-  after_stay P low rest own = subst (AllFrom P low) (sym timers) (all_set P (timers_of old) low index next within rest own)
+  after_stay P low rest own =
+      subst (AllFrom P low) (sym timers) (all_set P (timers_of old) low index next within rest own)
 
-  closed_timers : (closes : Closes meaning sources (state_of [] middle) (state_of [] new)) → timers_of new ≡ swap_remove (timers_of middle) closes.index closes.timer
+  closed_timers : (closes : Closes meaning sources (state_of [] middle) (state_of [] new)) →
+      timers_of new ≡ swap_remove (timers_of middle) closes.index closes.timer
   closed_timers closes = ap (λ (s : LoopState S F D). s.timers) closes.is
 
-  after_close : (P : Timer → Type 0) (low : ℕ) → low ≤ index → ((k : ℕ) (d : Timer) → low ≤ k → k < length (timers_of old) → (k ≡ index → ⊥) → P (slice_index_or (timers_of old) k d))
-      → (closes : Closes meaning sources (state_of [] middle) (state_of [] new)) → closes.index ≡ index → AllFrom P low (timers_of new)
+  after_close : (P : Timer → Type 0) (low : ℕ) → low ≤ index →
+      ((k : ℕ) (d : Timer) → low ≤ k → k < length (timers_of old) → (k ≡ index → ⊥) →
+      P (slice_index_or (timers_of old) k d))
+      → (closes : Closes meaning sources (state_of [] middle) (state_of [] new)) → closes.index ≡ index →
+      AllFrom P low (timers_of new)
   after_close P low first rest closes same =
-      let long : length (timers_of middle) ≡ length (timers_of old) = ap (λ (ts : List Timer). length ts) timers ∙ set_long (timers_of old) index next in
+      let long : length (timers_of middle) ≡ length (timers_of old) =
+      ap (λ (ts : List Timer). length ts) timers ∙ set_long (timers_of old) index next in
       subst (AllFrom P low) (sym (closed_timers closes))
       (all_removed P (timers_of middle) low closes.index closes.timer (omega (arith, same, first)) closes.within
       (λ k d l h apart.
       let other : k ≡ index → ⊥ = λ e. apart (e ∙ sym same) in
-      subst P (sym (ap (λ (ts : List Timer). slice_index_or ts k d) timers ∙ set_other (timers_of old) index next k d other))
+      subst P (sym (ap (λ (ts : List Timer). slice_index_or ts k d) timers ∙ set_other (timers_of old) index next k d
+      other))
       (rest k d l (omega (arith, long, h)) other)))
 
   -- a transfer that was removed had closed
-  own_open : ((d : Timer) → IsOpen middle.server.held (slice_index_or (timers_of middle) index d)) → IsOpen middle.server.held next
+  own_open : ((d : Timer) → IsOpen middle.server.held (slice_index_or (timers_of middle) index d)) →
+      IsOpen middle.server.held next
   own_open unclosed =
-      subst (IsOpen middle.server.held) (ap (λ (ts : List Timer). slice_index_or ts index next) timers ∙ set_own (timers_of old) index next next within) (unclosed next)
+      subst (IsOpen middle.server.held) (ap (λ (ts : List Timer). slice_index_or ts index next) timers
+      ∙ set_own (timers_of old) index next next within) (unclosed next)
 
   -- the others stay unclosed when it is removed
-  removed_open : (closes : Closes meaning sources (state_of [] middle) (state_of [] new)) → closes.index ≡ index → IsSettled old → (k : ℕ) (d : Timer) → k < length (timers_of new)
+  removed_open : (closes : Closes meaning sources (state_of [] middle) (state_of [] new)) → closes.index ≡ index →
+      IsSettled old → (k : ℕ) (d : Timer) → k < length (timers_of new)
       → IsOpen (without closes.timer.port middle.server.held) (slice_index_or (timers_of new) k d)
   removed_open closes same settled k d h =
       let kept : AreKept middle.server.held put = kept_middle settled.kept in
       let own : closes.timer ≡ next =
       closes.is_timer ∙ (ap (λ (j : ℕ). slice_index_or (timers_of middle) j closes.timer) same
-      ∙ (ap (λ (ts : List Timer). slice_index_or ts index closes.timer) timers ∙ set_own (timers_of old) index next closes.timer within)) in
+      ∙ (ap (λ (ts : List Timer). slice_index_or ts index closes.timer) timers ∙ set_own (timers_of old) index next
+      closes.timer within)) in
       after_close (IsOpen (without closes.timer.port middle.server.held)) 0 (omega arith)
       (λ k d l h apart.
       let t = slice_index_or (timers_of old) k d in
       let other : t.port ≡ closes.timer.port → ⊥ =
-      λ e. other_port (timers_of old) index was k d settled.kept.apart within is_timer h apart (e ∙ (ap (λ (u : Timer). u.port) own ∙ stays.port)) in
-      ap (λ (o : Option (HeldTransfer F D)). taken_of o) (removed_apart closes.timer.port t.port middle.server.held other) ∙ others_open settled k d h apart)
+      λ e. other_port (timers_of old) index was k d settled.kept.apart within is_timer h apart
+      (e ∙ (ap (λ (u : Timer). u.port) own ∙ stays.port)) in
+      ap (λ (o : Option (HeldTransfer F D)). taken_of o)
+      (removed_apart closes.timer.port t.port middle.server.held other) ∙ others_open settled k d h apart)
       closes same k d (omega arith) h
 
   settled_by : (d : ServerLoop S F D) → new ≡ d → IsSettled d → IsSettled new
@@ -120,15 +142,20 @@ module _ {S F D : Type 0} (meaning : StoreMeaning S D) (sources : SourceMeaning 
         settled_by middle e (record {
           kept = subst (AreKept middle.server.held) (sym timers) (kept_middle settled.kept);
           none_closed = λ k d h.
-              after_stay (IsOpen middle.server.held) 0 (λ k d l h apart. others_open settled k d h apart) (own_open unclosed) k d (omega arith) h;
+              after_stay (IsOpen middle.server.held) 0 (λ k d l h apart. others_open settled k d h apart)
+              (own_open unclosed) k d (omega arith) h;
         })
     | Goes each ↦
         let closes = (each []).0 in
         let same = (each []).1 in
         let held = ap (λ (s : LoopState S F D). s.server.held) closes.is in
-        let kept_old : AreKept middle.server.held (timers_of middle) = subst (AreKept middle.server.held) (sym timers) (kept_middle settled.kept) in
-        let kept_new = removed_held meaning sources middle.server.held (timers_of middle) closes.index closes.timer closes.within closes.is_timer kept_old in
-        let AtHeld : List (ℕ × HeldTransfer F D) → Type 0 = λ hs. AreKept hs (swap_remove (timers_of middle) closes.index closes.timer) in
+        let kept_old : AreKept middle.server.held (timers_of middle) =
+        subst (AreKept middle.server.held) (sym timers) (kept_middle settled.kept) in
+        let kept_new =
+        removed_held meaning sources middle.server.held (timers_of middle) closes.index closes.timer closes.within
+        closes.is_timer kept_old in
+        let AtHeld : List (ℕ × HeldTransfer F D) → Type 0 =
+        λ hs. AreKept hs (swap_remove (timers_of middle) closes.index closes.timer) in
         record {
           kept = subst (AreKept new.server.held) (sym (closed_timers closes)) (subst AtHeld (sym held) kept_new);
           none_closed = λ k d h.
@@ -139,8 +166,10 @@ module _ {S F D : Type 0} (meaning : StoreMeaning S D) (sources : SourceMeaning 
 
   pub tries_after : KeepsTries middle.journal.events new.journal.events
   tries_after = elim finishes [
-    | Stays e unclosed ↦ subst (λ (n : ServerLoop S F D). KeepsTries middle.journal.events n.journal.events) (sym e) (λ q h. h)
-    | Goes each ↦ subst (λ (s : LoopState S F D). KeepsTries middle.journal.events s.events) (sym (each []).0.is) (λ q h. h)
+    | Stays e unclosed ↦
+        subst (λ (n : ServerLoop S F D). KeepsTries middle.journal.events n.journal.events) (sym e) (λ q h. h)
+    | Goes each ↦
+        subst (λ (s : LoopState S F D). KeepsTries middle.journal.events s.events) (sym (each []).0.is) (λ q h. h)
   ]
 
   now_after : new.sockets.watch.now ≡ old.sockets.watch.now
@@ -150,21 +179,33 @@ module _ {S F D : Type 0} (meaning : StoreMeaning S D) (sources : SourceMeaning 
   ]
 
   -- it holds of all timers from this one on
-  after : (P : Timer → Type 0) → ((k : ℕ) (d : Timer) → index + 1 ≤ k → k < length (timers_of old) → P (slice_index_or (timers_of old) k d)) → (IsOpen middle.server.held next → P next)
+  after : (P : Timer → Type 0) →
+      ((k : ℕ) (d : Timer) → index + 1 ≤ k → k < length (timers_of old) → P (slice_index_or (timers_of old) k d)) →
+      (IsOpen middle.server.held next → P next)
       → AllFrom P index (timers_of new)
   after P later own =
-      let rest : (k : ℕ) (d : Timer) → index ≤ k → k < length (timers_of old) → (k ≡ index → ⊥) → P (slice_index_or (timers_of old) k d) = λ k d l h apart. later k d (omega (arith, l, apart)) h in
+      let rest : (k : ℕ) (d : Timer) → index ≤ k → k < length (timers_of old) → (k ≡ index → ⊥) →
+      P (slice_index_or (timers_of old) k d) = λ k d l h apart. later k d (omega (arith, l, apart)) h in
       elim finishes [
-        | Stays e unclosed ↦ subst (λ (n : ServerLoop S F D). AllFrom P index (timers_of n)) (sym e) (after_stay P index rest (own (own_open unclosed)))
+        | Stays e unclosed ↦
+            subst (λ (n : ServerLoop S F D). AllFrom P index (timers_of n)) (sym e)
+            (after_stay P index rest (own (own_open unclosed)))
         | Goes each ↦ after_close P index (omega arith) rest (each []).0 (each []).1
       ]
 
   turn_runs : (buffer : List ℕ) → Runs meaning sources (state_of buffer old) (state_of buffer middle)
   turn_runs buffer =
-      let At : List (Port TransferSocket) → Type 0 = λ ps. Runs meaning sources (state_of buffer old) (record (state_of buffer old) { server = middle.server; timers = map timer_of ps; events = middle.journal.events }) in
+      let At : List (Port TransferSocket) → Type 0 =
+      λ ps. Runs meaning sources (state_of buffer old)
+      (record (state_of buffer old) {
+        server = middle.server;
+        timers = map timer_of ps;
+        events = middle.journal.events;
+      }) in
       subst (λ (d : ServerLoop S F D). Runs meaning sources (state_of buffer old) (state_of buffer d)) (sym turns.rest)
       (subst At (sym turns.items)
-      (at_place meaning sources (state_of buffer old) old.ports.items index turns.port turns.next middle.server middle.journal.events refl turns.within turns.is_port turns.serves))
+      (at_place meaning sources (state_of buffer old) old.ports.items index turns.port turns.next middle.server
+      middle.journal.events refl turns.within turns.is_port turns.serves))
 
   finish_runs : (buffer : List ℕ) → Runs meaning sources (state_of buffer middle) (state_of buffer new)
   finish_runs buffer = elim finishes [
@@ -175,25 +216,31 @@ module _ {S F D : Type 0} (meaning : StoreMeaning S D) (sources : SourceMeaning 
   pub works_after : OnlyWorks meaning sources old new
   works_after buffer = onward (turn_runs buffer) (finish_runs buffer)
 
-module _ {S F D : Type 0} (meaning : StoreMeaning S D) (sources : SourceMeaning F) {index : ℕ} {old middle new : ServerLoop S F D} where
+module _ {S F D : Type 0} (meaning : StoreMeaning S D) (sources : SourceMeaning F) {index : ℕ}
+    {old middle new : ServerLoop S F D} where
   -- the ports from this one on were read
-  pub read_after : TakesTurn meaning sources leaves_read index old middle → Finishes meaning sources index middle new → AreRead (index + 1) old → AreRead index new
+  pub read_after : TakesTurn meaning sources leaves_read index old middle → Finishes meaning sources index middle new →
+      AreRead (index + 1) old → AreRead index new
   read_after turns finishes read =
       let tries : KeepsTries middle.journal.events new.journal.events = tries_after meaning sources turns finishes in
       let held = stays meaning sources turns finishes in
       after meaning sources turns finishes (IsRead new.journal.events)
-      (λ k d l h marked. tries (slice_index_or (timers_of old) k d).port (held.tries (slice_index_or (timers_of old) k d).port (read k d l h marked)))
+      (λ k d l h marked. tries (slice_index_or (timers_of old) k d).port
+      (held.tries (slice_index_or (timers_of old) k d).port (read k d l h marked)))
       (λ unclosed marked. tries (timer_of turns.next).port (turns.leaves_it marked))
 
   -- the ports from this one on are not due
-  pub timed_after : TakesTurn meaning sources leaves_timed index old middle → Finishes meaning sources index middle new → AreTimed (index + 1) old → AreTimed index new
+  pub timed_after : TakesTurn meaning sources leaves_timed index old middle →
+      Finishes meaning sources index middle new → AreTimed (index + 1) old → AreTimed index new
   timed_after turns finishes timed =
       let now = now_after meaning sources turns finishes in
       subst (λ (n : ℕ). AllFrom (IsTimed n) index (timers_of new)) (sym now)
-      (after meaning sources turns finishes (IsTimed old.sockets.watch.now) (λ k d l h. timed k d l h) (λ unclosed. turns.leaves_it unclosed))
+      (after meaning sources turns finishes (IsTimed old.sockets.watch.now) (λ k d l h. timed k d l h)
+      (λ unclosed. turns.leaves_it unclosed))
 
   -- the ports from this one on have had their turn
-  pub turned_after : (turn : Turn) → TakesTurn meaning sources (leaves_by turn) index old middle → Finishes meaning sources index middle new → HaveTurned turn (index + 1) old → HaveTurned turn index new
+  pub turned_after : (turn : Turn) → TakesTurn meaning sources (leaves_by turn) index old middle →
+      Finishes meaning sources index middle new → HaveTurned turn (index + 1) old → HaveTurned turn index new
   turned_after turns.Ready takes finishes turned = read_after takes finishes turned
   turned_after turns.Due takes finishes turned = timed_after takes finishes turned
 
@@ -203,24 +250,32 @@ not_taken false x e = refl
 
 module _ {S F D : Type 0} (meaning : StoreMeaning S D) (sources : SourceMeaning F) where
   -- a file that works leaves its transfer unclosed
-  pub works_unclosed : (port : ℕ) (o : Option (HeldTransfer F D)) (old new : ServerState S F D) → at port old.held ≡ o → WorksAt meaning sources port o old new → taken_of (at port old.held) ≡ None
+  pub works_unclosed : (port : ℕ) (o : Option (HeldTransfer F D)) (old new : ServerState S F D) → at port old.held ≡ o →
+      WorksAt meaning sources port o old new → taken_of (at port old.held) ≡ None
       → taken_of (at port new.held) ≡ None
-  works_unclosed port None old new found works unclosed = ap (λ (s : ServerState S F D). taken_of (at port s.held)) works ∙ unclosed
+  works_unclosed port None old new found works unclosed =
+      ap (λ (s : ServerState S F D). taken_of (at port s.held)) works ∙ unclosed
   works_unclosed port (Some transfer) old new found works unclosed =
       let next = works.0 in
-      let now_found : at port new.held ≡ Some next = ap (at port) works.2 ∙ set_found (is_at (nat_cmp port)) transfer next old.held found in
-      let still = not_taken (is_closed transfer) (record_of transfer.end, draft_of transfer.files) (ap (λ (p : Option (HeldTransfer F D)). taken_of p) (sym found) ∙ unclosed) in
+      let now_found : at port new.held ≡ Some next =
+      ap (at port) works.2 ∙ set_found (is_at (nat_cmp port)) transfer next old.held found in
+      let still =
+      not_taken (is_closed transfer) (record_of transfer.end, draft_of transfer.files)
+      (ap (λ (p : Option (HeldTransfer F D)). taken_of p) (sym found) ∙ unclosed) in
       let same : is_closed next ≡ is_closed transfer = ap (λ (t : HeldTransfer F D). is_closed t) works.1.rest in
       ap (λ (p : Option (HeldTransfer F D)). taken_of p) now_found
       ∙ ap (λ (b : Bool). if b then Some (record_of next.end, draft_of next.files) else None) (same ∙ still)
 
   -- and all others
-  pub works_settled : (old new : ServerLoop S F D) (index : ℕ) (port : Port TransferSocket) → index < length old.ports.items → port ≡ slice_index_or old.ports.items index port
-      → WorksAtPort meaning sources port.socket.udp.port old.server new.server → new ≡ record old { server = new.server } → IsSettled old → IsSettled new
+  pub works_settled : (old new : ServerLoop S F D) (index : ℕ) (port : Port TransferSocket) →
+      index < length old.ports.items → port ≡ slice_index_or old.ports.items index port
+      → WorksAtPort meaning sources port.socket.udp.port old.server new.server →
+      new ≡ record old { server = new.server } → IsSettled old → IsSettled new
   works_settled old new index port inside is_port works rest settled =
       let was = timer_of port in
       let within : index < length (timers_of old) = map_within timer_of old.ports.items index inside in
-      let is_timer : was ≡ slice_index_or (timers_of old) index was = map_is timer_of old.ports.items index port is_port in
+      let is_timer : was ≡ slice_index_or (timers_of old) index was =
+      map_is timer_of old.ports.items index port is_port in
       let held = works_held meaning sources was.port (at was.port old.server.held) old.server new.server works.works in
       let AtTimers : List Timer → Type 0 = λ ts. AreSettled new.server.held ts in
       subst AtTimers (sym (ap (λ (d : ServerLoop S F D). timers_of d) rest)) (record {
@@ -228,48 +283,65 @@ module _ {S F D : Type 0} (meaning : StoreMeaning S D) (sources : SourceMeaning 
           apart = settled.kept.apart;
           each = λ k d h.
               let t = slice_index_or (timers_of old) k d in
-              other_held meaning sources old.server.held new.server.held t (held.there t.port) (settled.kept.each k d h);
+              other_held meaning sources old.server.held new.server.held t (held.there t.port)
+              (settled.kept.each k d h);
         };
         none_closed = λ k d h.
             let t = slice_index_or (timers_of old) k d in
             elim (cases_eq t.port was.port) [
               | inl same ↦
-                  let unclosed : taken_of (at was.port old.server.held) ≡ None = ap (λ (p : ℕ). taken_of (at p old.server.held)) (sym same) ∙ settled.none_closed k d h in
-                  ap (λ (p : ℕ). taken_of (at p new.server.held)) same ∙ works_unclosed was.port (at was.port old.server.held) old.server new.server refl works.works unclosed
-              | inr other ↦ ap (λ (o : Option (HeldTransfer F D)). taken_of o) (held.others t.port other) ∙ settled.none_closed k d h
+                  let unclosed : taken_of (at was.port old.server.held) ≡ None =
+                  ap (λ (p : ℕ). taken_of (at p old.server.held)) (sym same) ∙ settled.none_closed k d h in
+                  ap (λ (p : ℕ). taken_of (at p new.server.held)) same ∙ works_unclosed was.port
+                  (at was.port old.server.held) old.server new.server refl works.works unclosed
+              | inr other ↦
+                  ap (λ (o : Option (HeldTransfer F D)). taken_of o) (held.others t.port other)
+                  ∙ settled.none_closed k d h
             ];
       })
 
-module _ {S F D : Type 0} (meaning : StoreMeaning S D) (sources : SourceMeaning F) (old new : ServerLoop S F D) (index : ℕ) (port : Port TransferSocket) (tid : ℕ) (closed : Option Record)
-    (inside : index < length old.ports.items) (is_port : port ≡ slice_index_or old.ports.items index port) (same : tid ≡ port.socket.udp.port)
+module _ {S F D : Type 0} (meaning : StoreMeaning S D) (sources : SourceMeaning F) (old new : ServerLoop S F D)
+    (index : ℕ) (port : Port TransferSocket) (tid : ℕ) (closed : Option Record)
+    (inside : index < length old.ports.items) (is_port : port ≡ slice_index_or old.ports.items index port)
+    (same : tid ≡ port.socket.udp.port)
     (found : closed ≡ option_map (λ (t : Record × Option D). t.0) (taken_of (at tid old.server.held)))
-    (held : new.server.held ≡ (if is_some closed then without tid old.server.held else old.server.held)) (rest : new.server ≡ record old.server { held = new.server.held }) where
+    (held : new.server.held ≡ (if is_some closed then without tid old.server.held else old.server.held))
+    (rest : new.server ≡ record old.server { held = new.server.held }) where
   -- the timer at the index
   timer_is : (d : Timer) → slice_index_or (timers_of old) index d ≡ timer_of port
   timer_is d =
-      any_default (timers_of old) index d (timer_of port) (map_within timer_of old.ports.items index inside) ∙ sym (map_is timer_of old.ports.items index port is_port)
+      any_default (timers_of old) index d (timer_of port) (map_within timer_of old.ports.items index inside)
+      ∙ sym (map_is timer_of old.ports.items index port is_port)
 
   -- nothing was taken
-  pub stays_by : is_some closed ≡ false → new ≡ record old { server = new.server } → Finishes meaning sources index old new
+  pub stays_by : is_some closed ≡ false → new ≡ record old { server = new.server } →
+      Finishes meaning sources index old new
   stays_by none is =
-      let kept : new.server.held ≡ old.server.held = held ∙ ap (λ (b : Bool). if b then without tid old.server.held else old.server.held) none in
-      let server : new.server ≡ old.server = rest ∙ ap (λ (h : List (ℕ × HeldTransfer F D)). record old.server { held = h }) kept in
+      let kept : new.server.held ≡ old.server.held =
+      held ∙ ap (λ (b : Bool). if b then without tid old.server.held else old.server.held) none in
+      let server : new.server ≡ old.server =
+      rest ∙ ap (λ (h : List (ℕ × HeldTransfer F D)). record old.server { held = h }) kept in
       Stays (is ∙ ap (λ (s : ServerState S F D). record old { server = s }) server)
       (λ d.
       ap (λ (t : Timer). taken_of (at t.port old.server.held)) (timer_is d)
-      ∙ (ap (λ (p : ℕ). taken_of (at p old.server.held)) (sym same) ∙ none_taken closed (taken_of (at tid old.server.held)) found none))
+      ∙ (ap (λ (p : ℕ). taken_of (at p old.server.held)) (sym same)
+      ∙ none_taken closed (taken_of (at tid old.server.held)) found none))
 
   -- a transfer was taken
   pub goes_by : IsSome closed → 1 ≤ old.left → new.ports.items ≡ swap_remove old.ports.items index port
       → new.journal.events ≡ close_reported port.socket.udp.port port.socket.peer closed old.journal.events
-      → new ≡ record old { server = new.server; ports = new.ports; journal = new.journal; left = old.left - 1 } → Finishes meaning sources index old new
+      → new ≡ record old { server = new.server; ports = new.ports; journal = new.journal; left = old.left - 1 } →
+      Finishes meaning sources index old new
   goes_by some left items events is =
-      let timers : timers_of new ≡ swap_remove (timers_of old) index (timer_of port) = ap (map timer_of) items ∙ map_removed timer_of old.ports.items index port in
+      let timers : timers_of new ≡ swap_remove (timers_of old) index (timer_of port) =
+      ap (map timer_of) items ∙ map_removed timer_of old.ports.items index port in
       Goes (λ buffer.
       let s = state_of buffer old in
       let At : LoopState S F D → Type 0 = λ t. (closes : Closes meaning sources s t) × (closes.index ≡ index) in
-      let AtTimers : List Timer → Type 0 = λ ts. At (record s { server = new.server; timers = ts; left = s.left - 1; events = new.journal.events }) in
+      let AtTimers : List Timer → Type 0 =
+      λ ts. At (record s { server = new.server; timers = ts; left = s.left - 1; events = new.journal.events }) in
       subst At (sym (ap (λ (d : ServerLoop S F D). state_of buffer d) is))
       (subst AtTimers (sym timers)
-      (closes meaning sources s index (timer_of port) tid closed new.server new.journal.events left (map_within timer_of old.ports.items index inside)
+      (closes meaning sources s index (timer_of port) tid closed new.server new.journal.events left
+      (map_within timer_of old.ports.items index inside)
       (map_is timer_of old.ports.items index port is_port) same found some held rest events)))

@@ -9,13 +9,13 @@
 //! [`Journal`]: tftp_sockets::Journal
 #![tactic(auto)]
 
-mod server_loop;
 pub mod laws;
 mod log_entry;
 mod port_order;
 mod port_pool;
 mod report;
 mod requests;
+mod server_loop;
 mod server_udp;
 mod serving;
 mod sockets;

@@ -13,9 +13,9 @@ ghost use Rattle.tftp_loop.specs.Served.{HasAnswered, IsAdmission, WorksRound, t
 ghost use Rattle.tftp_loop.specs.Tended.{AnswersPending, HandlesReceived, HasTriedRequests};
 ghost use Rattle.tftp_loop.specs.Tended.{IsSettled};
 
-use crate::server_loop::ServerLoop;
 use crate::log_entry::LogEntry;
 use crate::report::{log_lost, log_unopened, log_unsent_answer};
+use crate::server_loop::ServerLoop;
 use crate::server_udp::ServerUdp;
 use crate::store::ServedStore;
 use crate::transfer_port::{TransferPort, TransferSocket, next_look, reply};

@@ -5,8 +5,8 @@ ghost use Rattle.tftp_loop.specs.Served.{FailsToBind, StopsServing};
 ghost use Rattle.tftp_loop.specs.Serves.{Serves, ServesFromIn, ServesIn, ServesToEnd};
 ghost use Rattle.tftp_loop.specs.Serves.{ServesToEndIn, listening};
 
-use crate::server_loop::{Buffers, ServerLoop};
 use crate::port_order::PortRange;
+use crate::server_loop::{Buffers, ServerLoop};
 use crate::server_udp::ServerUdp;
 use crate::sockets::Sockets;
 use crate::store::ServedStore;

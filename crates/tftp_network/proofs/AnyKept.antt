@@ -1,6 +1,7 @@
 -- In the end state of the journals what a receiver was handed is what its peer's file gave: the invariant by the run
 -- says it of a text that is padded, and no padding is part of what is claimed.
-use Rattle.std.proofs.Common.{◌≡◌, ℕ, true, false, List, [], length, Option, Some, None, refl, sym, ap, ◌∙◌, subst, inl, inr}
+use Rattle.std.proofs.Common.{◌≡◌, ℕ, true, false, List, [], length, Option, Some, None, refl, sym, ap, ◌∙◌, subst, inl}
+use Rattle.std.proofs.Common.{inr}
 use Rattle.std.specs.Prelude.{◌≢◌, slice_get, option_map}
 use Rattle.std.proofs.lemmas.Bool.{true≢false}
 use Rattle.std.proofs.lemmas.Option.{same_Some, slice_get-map}
@@ -23,7 +24,8 @@ use Rattle.tftp_machine.specs.ViewSafety.{IsAmong, IsSafeViews, safety_view}
 use Rattle.tftp_machine.proofs.Shown.{shown_by}
 use Rattle.tftp_machine.proofs.ViewSafe.{shown_safe}
 use Rattle.tftp_network.specs.ClientRuns.{moved_in}
-use Rattle.tftp_network.specs.AnyFiles.{IsEnd, IsOurs, IsServingAt, KeepAnyFiles, ProgramEnd, WasOpened, client_end, has_of, peer_of}
+use Rattle.tftp_network.specs.AnyFiles.{IsEnd, IsOurs, IsServingAt, KeepAnyFiles, ProgramEnd, WasOpened, client_end}
+use Rattle.tftp_network.specs.AnyFiles.{has_of, peer_of}
 use Rattle.tftp_network.specs.AnyFiles.{safety_of, transfer_end}
 use Rattle.tftp_network.specs.Arrived.{ViewsEnd}
 use Rattle.tftp_network.specs.Moved.{Moved}
@@ -32,7 +34,8 @@ use Rattle.tftp_network.specs.Order.{Programs, IsStranger}
 use Rattle.tftp_network.specs.Programs.{ClientProgram, endpoint, requests_at}
 use Rattle.tftp_network.specs.Promises.{HasOpened, joined}
 use Rattle.tftp_network.specs.Snapshots.{Has_asked, all_of}
-use Rattle.tftp_network.proofs.Kept.{By_run, ClientKept, GaveSo, HasFile, HasStored, IsKept, IsOpened, IsViewed, TookSo, length_of}
+use Rattle.tftp_network.proofs.Kept.{By_run, ClientKept, GaveSo, HasFile, HasStored, IsKept, IsOpened, IsViewed, TookSo}
+use Rattle.tftp_network.proofs.Kept.{length_of}
 use Rattle.tftp_network.proofs.KeptShown.{receiver_text, text_if, views_end}
 use Rattle.tftp_network.proofs.KeptViews.{view_there}
 use Rattle.tftp_network.proofs.Places.{strangers_elsewhere}
@@ -42,8 +45,10 @@ use Rattle.tftp_network.proofs.Texts.{begin_each_other, begins_unpadded, pad_len
 abbrev peer_of : ProgramEnd → Option Endpoint
 peer_of x = (record_of x.state).peer
 
-module _ {S F D G K : Type 0} {stores : StoreMeaning S D} {sources : SourceMeaning F} {inputs : SourceMeaning G} {outputs : SinkMeaning K}
-    (programs : Programs stores sources inputs outputs) (kept : (pad : ℕ) → IsKept programs (By_run pad) (all_of programs)) where
+module _ {S F D G K : Type 0} {stores : StoreMeaning S D} {sources : SourceMeaning F} {inputs : SourceMeaning G}
+    {outputs : SinkMeaning K}
+    (programs : Programs stores sources inputs outputs) (kept : (pad : ℕ) →
+    IsKept programs (By_run pad) (all_of programs)) where
   abbrev Client : Type 0
   Client = ClientProgram inputs outputs (requests_at stores sources programs.server)
 
@@ -65,7 +70,8 @@ module _ {S F D G K : Type 0} {stores : StoreMeaning S D} {sources : SourceMeani
     took : is_sender end.state.role.side ≡ false → TookSo end x.moved
 
   client_kept : (pad k : ℕ) (client : Client) → slice_get programs.clients k ≡ Some client →
-      ClientKept programs (By_run pad) (views pad) (kept pad).messages client client.last client.files (moved_in client.runs)
+      ClientKept programs (By_run pad) (views pad) (kept pad).messages client client.last client.files
+      (moved_in client.runs)
   client_kept pad k client found =
       (kept pad).clients k client (Has_asked client.last client.files client.noted (moved_in client.runs)) found
       (slice_get-map (λ (c : Client). Has_asked c.last c.files c.noted (moved_in c.runs)) programs.clients k
@@ -81,21 +87,28 @@ module _ {S F D G K : Type 0} {stores : StoreMeaning S D} {sources : SourceMeani
       λ s. has.gave,
       λ r. absurd (true≢false (sym has.sender ∙ r)),
     )
-    client_stands (Sink sink) has = (λ s. absurd (true≢false (sym s ∙ has.receiver)), λ s. absurd (true≢false (sym s ∙ has.receiver)), λ r. has.took)
+    client_stands (Sink sink) has = (
+      λ s. absurd (true≢false (sym s ∙ has.receiver)),
+      λ s. absurd (true≢false (sym s ∙ has.receiver)),
+      λ r. has.took,
+    )
 
   module _ (pad : ℕ) (a : Endpoint) (x : OpenEnd) (at : x.address ≡ a) where
     moved_there : moved_at programs x.address programs.server.run ≡ moved_at programs a programs.server.run
     moved_there = ap (λ (e : Endpoint). moved_at programs e programs.server.run) at
 
-    measured : IsOpened programs (all_of programs) x → length_of (opened_at programs x.address programs.server.run) ≡ x.state.role.length
+    measured : IsOpened programs (all_of programs) x →
+        length_of (opened_at programs x.address programs.server.run) ≡ x.state.role.length
     measured h = ap length_of h.opened ∙ ap (λ (r : Role). r.length) h.role
 
     transfer_stands : (files : Files F D) → HasStored programs (By_run pad) (all_of programs) x files →
-        (is_sender x.state.role.side ≡ true → x.text ≡ pad_to pad x.state.role.length (moved_at programs a programs.server.run).bytes)
+        (is_sender x.state.role.side ≡ true →
+        x.text ≡ pad_to pad x.state.role.length (moved_at programs a programs.server.run).bytes)
         × (is_sender x.state.role.side ≡ true → GaveSo x (moved_at programs a programs.server.run))
         × (is_sender x.state.role.side ≡ false → TookSo x (moved_at programs a programs.server.run))
     transfer_stands (Source source) has = (
-      λ s. has.text ∙ (ap (λ (n : ℕ). pad_to pad n (moved_at programs x.address programs.server.run).bytes) (measured has.opened) ∙ ap (λ (m : Moved). pad_to pad x.state.role.length m.bytes) moved_there),
+      λ s. has.text ∙ (ap (λ (n : ℕ). pad_to pad n (moved_at programs x.address programs.server.run).bytes)
+          (measured has.opened) ∙ ap (λ (m : Moved). pad_to pad x.state.role.length m.bytes) moved_there),
       λ s. subst (λ (m : Moved). GaveSo x m) moved_there has.gave,
       λ r. absurd (true≢false (sym has.sender ∙ r)),
     )
@@ -106,27 +119,50 @@ module _ {S F D G K : Type 0} {stores : StoreMeaning S D} {sources : SourceMeani
     )
 
   -- each end stands among the views
-  of_client : (pad k : ℕ) (client : Client) → slice_get programs.clients k ≡ Some client → StandsFor pad (client_end programs client)
+  of_client : (pad k : ℕ) (client : Client) → slice_get programs.clients k ≡ Some client →
+      StandsFor pad (client_end programs client)
   of_client pad k client found =
       let h = client_kept pad k client found in
       let got = client_stands pad client h.end client.files h.has in
-      record { end = h.end; address = h.address; state = h.state; viewed = h.viewed; text = got.0; gave = got.1; took = got.2 }
+      record {
+        end = h.end;
+        address = h.address;
+        state = h.state;
+        viewed = h.viewed;
+        text = got.0;
+        gave = got.1;
+        took = got.2;
+      }
 
-  of_transfer : (pad port : ℕ) (transfer : HeldTransfer F D) (a : Endpoint) → HasOpened programs port transfer a → StandsFor pad (transfer_end programs transfer a)
+  of_transfer : (pad port : ℕ) (transfer : HeldTransfer F D) (a : Endpoint) → HasOpened programs port transfer a →
+      StandsFor pad (transfer_end programs transfer a)
   of_transfer pad port transfer a opened =
       let h = (kept pad).transfers port transfer a opened in
       let got = transfer_stands pad a h.end h.address transfer.files h.has in
-      record { end = h.end; address = h.address; state = h.state; viewed = h.viewed; text = got.0; gave = got.1; took = got.2 }
+      record {
+        end = h.end;
+        address = h.address;
+        state = h.state;
+        viewed = h.viewed;
+        text = got.0;
+        gave = got.1;
+        took = got.2;
+      }
 
   stands : (pad : ℕ) (x : ProgramEnd) → IsEnd programs x → StandsFor pad x
   stands pad x (inl of) = subst (λ (z : ProgramEnd). StandsFor pad z) (sym of.3) (of_client pad of.0 of.1 of.2)
   stands pad x (inr of) = subst (λ (z : ProgramEnd). StandsFor pad z) (sym of.4) (of_transfer pad of.0 of.1 of.2 of.3)
 
   -- and each view is of an end
-  viewed_end : (pad : ℕ) (view : EndView) → IsAmong (views pad) view → (x : ProgramEnd) × IsEnd programs x × (view.address ≡ x.address)
+  viewed_end : (pad : ℕ) (view : EndView) → IsAmong (views pad) view →
+      (x : ProgramEnd) × IsEnd programs x × (view.address ≡ x.address)
   viewed_end pad view among = elim ((kept pad).only view among) [
     | inl of ↦ (client_end programs of.client, inl (of.k, of.client, of.found, refl), of.address)
-    | inr of ↦ (transfer_end programs of.transfer view.address, inr (of.port, of.transfer, view.address, of.is_transfer, refl), refl)
+    | inr of ↦ (
+      transfer_end programs of.transfer view.address,
+      inr (of.port, of.transfer, view.address, of.is_transfer, refl),
+      refl,
+    )
   ]
 
   module _ (pad : ℕ) (x : ProgramEnd) (s : StandsFor pad x) where
@@ -142,7 +178,9 @@ module _ {S F D G K : Type 0} {stores : StoreMeaning S D} {sources : SourceMeani
 
     -- and the view at its endpoint is its own
     own_view : (v : EndView) → IsAmong (views pad) v → v.address ≡ x.address → v ≡ view
-    own_view v inside same = view_there (joined programs) (views pad) (kept pad).messages s.end v (kept pad).shown s.viewed inside (same ∙ sym s.address)
+    own_view v inside same =
+        view_there (joined programs) (views pad) (kept pad).messages s.end v (kept pad).shown s.viewed inside
+        (same ∙ sym s.address)
 
     sender_at : is_sender x.state.role.side ≡ true → is_sender s.end.state.role.side ≡ true
     sender_at sends = ap (λ (e : EndState). is_sender e.role.side) s.state ∙ sends
@@ -160,7 +198,8 @@ module _ {S F D G K : Type 0} {stores : StoreMeaning S D} {sources : SourceMeani
     has_text : is_sender x.state.role.side ≡ false → view.text ≡ has_of x
     has_text receives =
         let receiver = receiver_at receives in
-        receiver_text s.end receiver ∙ (ap (received_text s.end.state) (s.took receiver).stored ∙ ap (λ (e : EndState). received_text e x.moved.bytes) s.state)
+        receiver_text s.end receiver ∙ (ap (received_text s.end.state) (s.took receiver).stored
+        ∙ ap (λ (e : EndState). received_text e x.moved.bytes) s.state)
 
   -- ---- the promises
   not_elsewhere : (p : Endpoint) → IsOurs programs p → (joined programs).host_of p ≢ Elsewhere
@@ -186,7 +225,8 @@ module _ {S F D G K : Type 0} {stores : StoreMeaning S D} {sources : SourceMeani
   CompletesAt p other y = IsCompleteAt safety_of (IsEnd programs) p other y
 
   -- the end of a view of the server's
-  is_serving : (v : EndView) (p a : Endpoint) → IsAmong (views 0) v → v.address ≡ p → v.client ≡ false → v.peer ≡ Some a → (y : ProgramEnd) × IsServingAt programs p a y
+  is_serving : (v : EndView) (p a : Endpoint) → IsAmong (views 0) v → v.address ≡ p → v.client ≡ false →
+      v.peer ≡ Some a → (y : ProgramEnd) × IsServingAt programs p a y
   is_serving v p a among at client peer =
       let e = viewed_end 0 v among in
       let t = stands 0 e.0 e.1 in
@@ -202,31 +242,39 @@ module _ {S F D G K : Type 0} {stores : StoreMeaning S D} {sources : SourceMeani
       )
 
   -- a view of an end that serves
-  view_serving : (m : Machine) (x : Party) (p a : Endpoint) → Shows (views 0) (kept 0).messages m → IsServing a x (m.party p) → (v : EndView) × IsAmong (views 0) v × (v.address ≡ p) × (v.client ≡ false) × (v.peer ≡ Some a)
+  view_serving : (m : Machine) (x : Party) (p a : Endpoint) → Shows (views 0) (kept 0).messages m →
+      IsServing a x (m.party p) →
+      (v : EndView) × IsAmong (views 0) v × (v.address ≡ p) × (v.client ≡ false) × (v.peer ≡ Some a)
   view_serving m x p a shows serves =
       let there = shows.only p serves.is_open in
-      let matches : Matches there.1 (m.party p) = subst (λ (e : Endpoint). Matches there.1 (m.party e)) there.3 (shows.ends there.0 there.1 there.2) in
+      let matches : Matches there.1 (m.party p) =
+      subst (λ (e : Endpoint). Matches there.1 (m.party e)) there.3 (shows.ends there.0 there.1 there.2) in
       (there.1, (there.0, there.2), there.3, sym matches.client ∙ serves.client, sym matches.peer ∙ serves.peer)
 
   -- the peer of a client serves it
-  server_peer : (x : ProgramEnd) (p : Endpoint) → IsEnd programs x → is_client x.state.role.side ≡ true → peer_of x ≡ Some p → (y : ProgramEnd) × IsServingAt programs p x.address y
+  server_peer : (x : ProgramEnd) (p : Endpoint) → IsEnd programs x → is_client x.state.role.side ≡ true →
+      peer_of x ≡ Some p → (y : ProgramEnd) × IsServingAt programs p x.address y
   server_peer x p is_end client peer =
       let s = stands 0 x is_end in
       let told = says 0 x s in
       let by = shown_by (joined programs) (views 0) (kept 0).messages (kept 0).shown in
       let m = by.3.ends s.viewed.index (view 0 x s) s.viewed.viewed in
-      let serves = ((by.1.ends (view 0 x s).address m.is_open).serving (m.client ∙ (told.client ∙ client)) p (m.peer ∙ (told.peer ∙ peer))).1 in
+      let serves =
+      ((by.1.ends (view 0 x s).address m.is_open).serving (m.client ∙ (told.client ∙ client)) p
+      (m.peer ∙ (told.peer ∙ peer))).1 in
       let v = view_serving by.0 (by.0.party (view 0 x s).address) p (view 0 x s).address by.3 serves in
       is_serving v.0 p x.address v.1 v.2 v.3 (v.4 ∙ ap (λ (a : Endpoint). Some a) told.address)
 
   -- a transfer whose peer is ours is at its port
-  at_its_port : (port : ℕ) (transfer : HeldTransfer F D) (a p : Endpoint) → HasOpened programs port transfer a → peer_of (transfer_end programs transfer a) ≡ Some p → IsOurs programs p → a ≡ endpoint programs.server.ip port
+  at_its_port : (port : ℕ) (transfer : HeldTransfer F D) (a p : Endpoint) → HasOpened programs port transfer a →
+      peer_of (transfer_end programs transfer a) ≡ Some p → IsOurs programs p → a ≡ endpoint programs.server.ip port
   at_its_port port transfer a p opened peer ours =
       let h = (kept 0).transfers port transfer a opened in
       elim h.seat [
         | inl here ↦ here
         | inr s ↦
-            let same : s.peer ≡ p = same_Some s.peer p (sym s.is_peer ∙ (ap (λ (e : EndState). (record_of e).peer) h.state ∙ peer)) in
+            let same : s.peer ≡ p =
+            same_Some s.peer p (sym s.is_peer ∙ (ap (λ (e : EndState). (record_of e).peer) h.state ∙ peer)) in
             absurd (ours (subst (λ (b : Endpoint). IsStranger stores sources inputs outputs programs b) same s.strange))
       ]
 
@@ -387,7 +435,8 @@ module _ {S F D G K : Type 0} {stores : StoreMeaning S D} {sources : SourceMeani
       sym told.size ∙ (same ∙ told_y.size)
 
   -- what the server opened at a place
-  opened_so : (transfer : HeldTransfer F D) (a : Endpoint) (x : OpenEnd) → x.address ≡ a → x.state ≡ transfer.end → x.path ≡ transfer.path → IsOpened programs (all_of programs) x → WasOpened programs transfer a
+  opened_so : (transfer : HeldTransfer F D) (a : Endpoint) (x : OpenEnd) → x.address ≡ a → x.state ≡ transfer.end →
+      x.path ≡ transfer.path → IsOpened programs (all_of programs) x → WasOpened programs transfer a
   opened_so transfer a x at state path h = record {
     opening = h.opening;
     opened = ap (λ (e : Endpoint). opened_at programs e programs.server.run) (sym at) ∙ h.opened;
@@ -395,11 +444,13 @@ module _ {S F D G K : Type 0} {stores : StoreMeaning S D} {sources : SourceMeani
     role = h.role ∙ ap (λ (e : EndState). e.role) state;
   }
 
-  opened_of : (files : Files F D) (x : OpenEnd) → HasStored programs (By_run 0) (all_of programs) x files → IsOpened programs (all_of programs) x
+  opened_of : (files : Files F D) (x : OpenEnd) → HasStored programs (By_run 0) (all_of programs) x files →
+      IsOpened programs (all_of programs) x
   opened_of (Source source) x has = has.opened
   opened_of (Sink draft) x has = has.opened
 
-  was_opened : (port : ℕ) (transfer : HeldTransfer F D) (a : Endpoint) → HasOpened programs port transfer a → WasOpened programs transfer a
+  was_opened : (port : ℕ) (transfer : HeldTransfer F D) (a : Endpoint) → HasOpened programs port transfer a →
+      WasOpened programs transfer a
   was_opened port transfer a opened =
       let h = (kept 0).transfers port transfer a opened in
       opened_so transfer a h.end h.address h.state h.path (opened_of transfer.files h.end h.has)

@@ -7,11 +7,14 @@ use Rattle.tftp_host.specs.ClientOutcome.{end_text}
 use Rattle.tftp_host.specs.declared.client.client_outcome.ClientOutcome.TheVariants as ends
 use Rattle.tftp_client.specs.Converses.{State, Converses}
 use Rattle.tftp_client.specs.Converses.Converses.{Begins, Receives, Waits, Times, Rests}
-use Rattle.tftp_network.specs.ClientRuns.{ClientRun, ClientsAreRuns, Starts, Goes_on, Receives_one, Waits_until, Times_out, File_works, Prints_line}
+use Rattle.tftp_network.specs.ClientRuns.{ClientRun, ClientsAreRuns, Starts, Goes_on, Receives_one, Waits_until}
+use Rattle.tftp_network.specs.ClientRuns.{Times_out, File_works, Prints_line}
 
-module _ {G K : Type 0} {inputs : SourceMeaning G} {outputs : SinkMeaning K} {port : ℕ} {first : State} {file : Files G K} where
+module _ {G K : Type 0} {inputs : SourceMeaning G} {outputs : SinkMeaning K} {port : ℕ} {first : State}
+    {file : Files G K} where
   -- a run goes on
-  goes_on : {s : State} {files : Files G K} → ClientRun inputs outputs port first file s files → {s' : State} {files' : Files G K} → Converses inputs outputs port s files s' files' →
+  goes_on : {s : State} {files : Files G K} → ClientRun inputs outputs port first file s files →
+      {s' : State} {files' : Files G K} → Converses inputs outputs port s files s' files' →
       ClientRun inputs outputs port first file s' files'
   goes_on run Begins = run
   goes_on run (Receives more may later handles) = Goes_on (goes_on run more) (Receives_one may later handles)
@@ -22,5 +25,12 @@ module _ {G K : Type 0} {inputs : SourceMeaning G} {outputs : SinkMeaning K} {po
 pub clients_run : {G K : Type 0} (inputs : SourceMeaning G) (outputs : SinkMeaning K) → ClientsAreRuns inputs outputs
 clients_run inputs outputs port end before s files runs = record {
   runs_so = goes_on Starts runs.converses;
-  stays_so = λ count after stays. (stays.last, stays.files, goes_on (Goes_on (goes_on Starts runs.converses) (Prints_line (end_text (ends.Complete count)))) stays.converses, stays.events);
+  stays_so =
+      λ count after stays. (
+        stays.last,
+        stays.files,
+        goes_on (Goes_on (goes_on Starts runs.converses) (Prints_line (end_text (ends.Complete count))))
+            stays.converses,
+        stays.events,
+      );
 }

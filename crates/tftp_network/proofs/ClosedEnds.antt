@@ -1,5 +1,6 @@
 -- A closed end with any datagram, and at a timeout: it sends an ERROR or its last datagram at most, and its view stays.
-use Rattle.std.proofs.Common.{◌≡◌, ◌≢◌, ℕ, suc, zero, Bool, true, List, [], ◌∷◌, ◌++◌, set, Option, Some, refl, sym, ap, subst, inl, arith}
+use Rattle.std.proofs.Common.{◌≡◌, ◌≢◌, ℕ, suc, zero, Bool, true, List, [], ◌∷◌, ◌++◌, set, Option, Some, refl, sym, ap}
+use Rattle.std.proofs.Common.{subst, inl, arith}
 use Rattle.std.specs.Prelude.{◌==◌, ◌&&◌, is_none, is_some, slice_get}
 use Rattle.std.proofs.lemmas.Bool.{true≢false}
 use Rattle.std.proofs.lemmas.List.{append-nil}
@@ -41,15 +42,19 @@ set_same {X = X} (y ∷ ys) (suc k) x e = ap (λ (zs : List X). y ∷ zs) (set_s
 module _ (network : Network) (first : List Rule) (views : List EndView) (messages : List Message) (k : ℕ) where
   module _ (x : OpenEnd) (s : Stands network first views messages k (open_view x)) where
     -- the view of the end stays
-    still_shown : (all : List Message) → IsShownWithin network 3 first views all → IsShownWithin network 3 first (set views k (open_view x)) all
-    still_shown all h = subst (λ (vs : List EndView). IsShownWithin network 3 first vs all) (sym (set_same views k (open_view x) s.viewed)) h
+    still_shown : (all : List Message) → IsShownWithin network 3 first views all →
+        IsShownWithin network 3 first (set views k (open_view x)) all
+    still_shown all h =
+        subst (λ (vs : List EndView). IsShownWithin network 3 first vs all)
+        (sym (set_same views k (open_view x) s.viewed)) h
 
     nothing_said : IsShownWithin network 3 first views (messages ++ [])
     nothing_said =
         subst (λ (ms : List Message). IsShownWithin network 3 first views ms) (sym (append-nil messages))
         (shown_within network 0 3 first views messages (omega arith) (shown_still network first views messages s.shown))
 
-    ignores : EndKept network x → (from : Endpoint) → Goes network first views messages k x (response_turn Ignore from x.state) x
+    ignores : EndKept network x → (from : Endpoint) →
+        Goes network first views messages k x (response_turn Ignore from x.state) x
     ignores kept from = record {
       said_now = [];
       shown = still_shown (messages ++ []) nothing_said;
@@ -60,10 +65,13 @@ module _ (network : Network) (first : List Rule) (views : List EndView) (message
       stored = λ _. refl;
     }
 
-    answers_stranger : EndKept network x → (from : Endpoint) → Goes network first views messages k x (response_turn Stranger from x.state) x
+    answers_stranger : EndKept network x → (from : Endpoint) →
+        Goes network first views messages k x (response_turn Stranger from x.state) x
     answers_stranger kept from = record {
       said_now = message x.address from Error ∷ [];
-      shown = still_shown (messages ++ message x.address from Error ∷ []) (says_error network first views messages s.shown x.address from);
+      shown =
+          still_shown (messages ++ message x.address from Error ∷ [])
+          (says_error network first views messages s.shown x.address from);
       replies = error_says UnknownTransferId x.address from;
       kept = kept;
       side = refl;
@@ -82,20 +90,27 @@ module _ (network : Network) (first : List Rule) (views : List EndView) (message
     abbrev closed_end : OpenEnd
     closed_end = with_phase (Closed terms n complete outcome) x0
 
-    module _ (s : Stands network first views messages k (open_view closed_end)) (kept : EndKept network closed_end) where
-      answers : (from : Endpoint) (bytes : List ℕ) (decoded : Option WirePacket) → ClosedAnswers closed_end from (datagram_action closed_end.state from bytes decoded)
+    module _ (s : Stands network first views messages k (open_view closed_end))
+        (kept : EndKept network closed_end) where
+      answers : (from : Endpoint) (bytes : List ℕ) (decoded : Option WirePacket) →
+          ClosedAnswers closed_end from (datagram_action closed_end.state from bytes decoded)
       answers from bytes decoded =
           let P = ClosedAnswers closed_end from in
-          let ignored : P (Respond Ignore) = record { response = Ignore; is = refl; same = refl; goes = ignores closed_end s kept from } in
-          let refused : P (Respond Stranger) = record { response = Stranger; is = refl; same = refl; goes = answers_stranger closed_end s kept from } in
+          let ignored : P (Respond Ignore) =
+          record { response = Ignore; is = refl; same = refl; goes = ignores closed_end s kept from } in
+          let refused : P (Respond Stranger) =
+          record { response = Stranger; is = refl; same = refl; goes = answers_stranger closed_end s kept from } in
           if_acts P (is_stranger terms x0.state.position.last_sent_to from) _ _
           (λ f. if_acts P (has_error_opcode bytes) (Respond Ignore) (Respond Stranger) (λ b. ignored) (λ b. refused))
-          (λ f. if_acts P (has_error_opcode bytes && is_none decoded) (Respond Ignore) (Respond Ignore) (λ b. ignored) (λ b. ignored))
+          (λ f. if_acts P (has_error_opcode bytes && is_none decoded) (Respond Ignore) (Respond Ignore) (λ b. ignored)
+          (λ b. ignored))
 
       abbrev Turns_by : Response → Type 0
       Turns_by response =
-          Goes network first views messages k closed_end (response_turn response closed_end.state.position.last_sent_to closed_end.state)
-          (in_state (with_position (after response closed_end.state.position.last_sent_to closed_end.state) closed_end.state) closed_end)
+          Goes network first views messages k closed_end (response_turn response closed_end.state.position.last_sent_to
+          closed_end.state)
+          (in_state (with_position (after response closed_end.state.position.last_sent_to closed_end.state)
+          closed_end.state) closed_end)
 
       -- the end of a transfer that has ended ends again
       ends_again : (o : Outcome) → Turns_by (Close o)
@@ -109,12 +124,14 @@ module _ (network : Network) (first : List Rule) (views : List EndView) (message
         stored = λ _. refl;
       }
 
-      retransmits : IsThere messages closed_end.address closed_end.state.position.last_sent_to closed_end.state.position.last_sent → Turns_by Retransmit
+      retransmits : IsThere messages closed_end.address closed_end.state.position.last_sent_to
+          closed_end.state.position.last_sent → Turns_by Retransmit
       retransmits old =
           let m = message closed_end.address closed_end.state.position.last_sent_to (said old.0) in
           record {
             said_now = m ∷ [];
-            shown = still_shown closed_end s (messages ++ m ∷ []) (repeats network first views messages s.shown m old.2);
+            shown =
+                still_shown closed_end s (messages ++ m ∷ []) (repeats network first views messages s.shown m old.2);
             replies = (old.0, old.1, refl);
             kept = record { phase = tt; held = kept.held; committed = kept.committed };
             side = refl;
@@ -122,15 +139,21 @@ module _ (network : Network) (first : List Rule) (views : List EndView) (message
             stored = λ _. refl;
           }
 
-      times_out : IsThere messages closed_end.address closed_end.state.position.last_sent_to closed_end.state.position.last_sent →
+      times_out : IsThere messages closed_end.address closed_end.state.position.last_sent_to
+          closed_end.state.position.last_sent →
           Turns_by (timeout_response x0.state.position.retries_left (Closed terms n complete outcome))
-      times_out old = if_acts Turns_by (x0.state.position.retries_left == 0) (Close outcomes.TimedOut) Retransmit (λ b. ends_again outcomes.TimedOut) (λ b. retransmits old)
+      times_out old =
+          if_acts Turns_by (x0.state.position.retries_left == 0) (Close outcomes.TimedOut) Retransmit
+          (λ b. ends_again outcomes.TimedOut) (λ b. retransmits old)
 
   -- a closed end with any datagram
-  pub closed_datagram_goes : (x : OpenEnd) → Stands network first views messages k (open_view x) → EndKept network x → is_some (outcome_of x.state.position.phase) ≡ true →
-      (from : Endpoint) (bytes : List ℕ) (decoded : Option WirePacket) → ClosedAnswers x from (datagram_action x.state from bytes decoded)
+  pub closed_datagram_goes : (x : OpenEnd) → Stands network first views messages k (open_view x) → EndKept network x →
+      is_some (outcome_of x.state.position.phase) ≡ true →
+      (from : Endpoint) (bytes : List ℕ) (decoded : Option WirePacket) →
+      ClosedAnswers x from (datagram_action x.state from bytes decoded)
   closed_datagram_goes x s kept closed from bytes decoded = by_phase x.state.position.phase s kept closed where
-    by_phase : (phase : Phase) → Stands network first views messages k (open_view (with_phase phase x)) → EndKept network (with_phase phase x) → is_some (outcome_of phase) ≡ true →
+    by_phase : (phase : Phase) → Stands network first views messages k (open_view (with_phase phase x)) →
+        EndKept network (with_phase phase x) → is_some (outcome_of phase) ≡ true →
         ClosedAnswers (with_phase phase x) from (datagram_action (with_phase phase x).state from bytes decoded)
     by_phase (Closed terms n complete outcome) t kept c = answers x terms n complete outcome t kept from bytes decoded
     by_phase (Waiting asked limit) t kept c = absurd (true≢false (sym c))
@@ -139,23 +162,36 @@ module _ (network : Network) (first : List Rule) (views : List EndView) (message
     by_phase (Dallying terms n dally) t kept c = absurd (true≢false (sym c))
 
   -- an end with a datagram that is not from its peer
-  pub wrong_datagram_goes : (x : OpenEnd) → Stands network first views messages k (open_view x) → EndKept network x → (peer : Endpoint) → peer_of x.state.position.phase ≡ Some peer → (from : Endpoint) → peer ≢ from →
+  pub wrong_datagram_goes : (x : OpenEnd) → Stands network first views messages k (open_view x) → EndKept network x →
+      (peer : Endpoint) → peer_of x.state.position.phase ≡ Some peer → (from : Endpoint) → peer ≢ from →
       (bytes : List ℕ) (decoded : Option WirePacket) → ClosedAnswers x from (datagram_action x.state from bytes decoded)
   wrong_datagram_goes x s kept peer is from n bytes decoded =
       let P = ClosedAnswers x from in
-      let ignored : P (Respond Ignore) = record { response = Ignore; is = refl; same = refl; goes = ignores x s kept from } in
-      let refused : P (Respond Stranger) = record { response = Stranger; is = refl; same = refl; goes = answers_stranger x s kept from } in
-      subst P (sym (wrong_peer x.state from bytes decoded peer is n)) (if_acts P (has_error_opcode bytes) (Respond Ignore) (Respond Stranger) (λ b. ignored) (λ b. refused))
+      let ignored : P (Respond Ignore) =
+      record { response = Ignore; is = refl; same = refl; goes = ignores x s kept from } in
+      let refused : P (Respond Stranger) =
+      record { response = Stranger; is = refl; same = refl; goes = answers_stranger x s kept from } in
+      subst P (sym (wrong_peer x.state from bytes decoded peer is n))
+      (if_acts P (has_error_opcode bytes) (Respond Ignore) (Respond Stranger) (λ b. ignored) (λ b. refused))
 
   -- a closed end at a timeout
-  pub closed_timeout_goes : (x : OpenEnd) → Stands network first views messages k (open_view x) → EndKept network x → is_some (outcome_of x.state.position.phase) ≡ true →
-      IsThere messages x.address x.state.position.last_sent_to x.state.position.last_sent → Goes network first views messages k x (timeout_turn x.state) (end_after x (timeout_turn x.state) (files_of x))
+  pub closed_timeout_goes : (x : OpenEnd) → Stands network first views messages k (open_view x) → EndKept network x →
+      is_some (outcome_of x.state.position.phase) ≡ true →
+      IsThere messages x.address x.state.position.last_sent_to x.state.position.last_sent →
+      Goes network first views messages k x (timeout_turn x.state) (end_after x (timeout_turn x.state) (files_of x))
   closed_timeout_goes x s kept closed old =
-      from_response network first views messages k x (timeout_response x.state.position.retries_left x.state.position.phase) x.state.position.last_sent_to (timeout_turn x.state) (files_of x)
+      from_response network first views messages k x
+      (timeout_response x.state.position.retries_left x.state.position.phase) x.state.position.last_sent_to
+      (timeout_turn x.state) (files_of x)
       (by_phase x.state.position.phase s kept closed) (refl, refl) where
-        by_phase : (phase : Phase) → Stands network first views messages k (open_view (with_phase phase x)) → EndKept network (with_phase phase x) → is_some (outcome_of phase) ≡ true →
-            Goes network first views messages k (with_phase phase x) (response_turn (timeout_response x.state.position.retries_left phase) x.state.position.last_sent_to (with_phase phase x).state)
-            (in_state (with_position (after (timeout_response x.state.position.retries_left phase) x.state.position.last_sent_to (with_phase phase x).state) (with_phase phase x).state) (with_phase phase x))
+        by_phase : (phase : Phase) → Stands network first views messages k (open_view (with_phase phase x)) →
+            EndKept network (with_phase phase x) → is_some (outcome_of phase) ≡ true →
+            Goes network first views messages k (with_phase phase x)
+            (response_turn (timeout_response x.state.position.retries_left phase) x.state.position.last_sent_to
+            (with_phase phase x).state)
+            (in_state (with_position (after (timeout_response x.state.position.retries_left phase)
+            x.state.position.last_sent_to (with_phase phase x).state) (with_phase phase x).state)
+            (with_phase phase x))
         by_phase (Closed terms n complete outcome) t kept c = times_out x terms n complete outcome t kept old
         by_phase (Waiting asked limit) t kept c = absurd (true≢false (sym c))
         by_phase (Sending terms n) t kept c = absurd (true≢false (sym c))

@@ -1,5 +1,6 @@
 -- The programs of the exchange are joined.
-use Rattle.std.proofs.Common.{◌≡◌, ℕ, List, [], ◌∷◌, ◌++◌, reverse, take, Some, None, refl, sym, ap, ◌∙◌, subst, inl, inr, arith, zero, suc}
+use Rattle.std.proofs.Common.{◌≡◌, ℕ, List, [], ◌∷◌, ◌++◌, reverse, take, Some, None, refl, sym, ap, ◌∙◌, subst, inl}
+use Rattle.std.proofs.Common.{inr, arith, zero, suc}
 use Rattle.std.specs.Prelude.{◌≢◌, ◌⊎◌, ◌+◌, ◌==◌, if◌then◌else◌, get_or, slice_get}
 use Rattle.std.proofs.lemmas.Option.{same_Some}
 use Rattle.tftp_ends.specs.Step.{ack_bytes, data_bytes}
@@ -17,9 +18,12 @@ use Rattle.tftp_network.specs.Openings.{ArePortsFresh, our_ports}
 use Rattle.tftp_network.specs.Order.{Noted, Programs, CanCome, IsHonest, IsOrder, IsStranger, events_of, ip_of}
 use Rattle.tftp_network.specs.Ports.{AreDistinct}
 use Rattle.tftp_network.specs.Programs.{endpoint, ClientProgram, client_at}
-use Rattle.tftp_network.specs.Witness.{HasExchanged, SomeAreJoined, SomeAreServed, client_ip, exchange, late_exchange, latecomer, other_ip, read_file, requests, read_request, server_ip, stranger, write_request, written_file, agreed}
+use Rattle.tftp_network.specs.Witness.{HasExchanged, SomeAreJoined, SomeAreServed, client_ip, exchange, late_exchange}
+use Rattle.tftp_network.specs.Witness.{latecomer, other_ip, read_file, requests, read_request, server_ip, stranger}
+use Rattle.tftp_network.specs.Witness.{write_request, written_file, agreed}
 use Rattle.tftp_network.proofs.ExchangeReader.{asking, reading, stored}
-use Rattle.tftp_network.proofs.ExchangeServer.{after_write, all_opened, closed_there, opened_for, read_by, reading_3, server}
+use Rattle.tftp_network.proofs.ExchangeServer.{after_write, all_opened, closed_there, opened_for, read_by, reading_3}
+use Rattle.tftp_network.proofs.ExchangeServer.{server}
 use Rattle.tftp_network.proofs.ExchangeWriter.{writing}
 
 abbrev Client : Type 0
@@ -47,51 +51,90 @@ module _ (more : List Client) (before : List Noted) where
   Strange a = IsStranger memory_meaning memory_source memory_source memory_sink with_others a
 
   -- a datagram that a program sent comes to another
-  delivered : (sender program : ℕ) (sip ip : List ℕ) → At sender sip → At program ip → (sport port : ℕ) (bytes : List ℕ) (earlier : List Noted) → Contains earlier (sender, Sent sport (endpoint ip port) bytes) →
+  delivered : (sender program : ℕ) (sip ip : List ℕ) → At sender sip → At program ip →
+      (sport port : ℕ) (bytes : List ℕ) (earlier : List Noted) →
+      Contains earlier (sender, Sent sport (endpoint ip port) bytes) →
       Comes program (Received port (endpoint sip sport) bytes) earlier
-  delivered sender program sip ip there here sport port bytes earlier sent = (endpoint ip port, (ip, here, refl), inl (record { program = sender; port = sport; is_at = (sip, there, refl); sent = sent }))
+  delivered sender program sip ip there here sport port bytes earlier sent = (
+    endpoint ip port,
+    (ip, here, refl),
+    inl (record { program = sender; port = sport; is_at = (sip, there, refl); sent = sent }),
+  )
 
   -- one that a stranger sent comes to the server
-  strays : (port : ℕ) (from : Endpoint) (bytes : List ℕ) (earlier : List Noted) → Strange from → Comes 0 (Received port from bytes) earlier
+  strays : (port : ℕ) (from : Endpoint) (bytes : List ℕ) (earlier : List Noted) → Strange from →
+      Comes 0 (Received port from bytes) earlier
   strays port from bytes earlier strange = (endpoint server_ip port, (server_ip, refl, refl), inr strange)
 
   -- the first events of the exchange are honest
   abbrev Honest : ℕ → Type 0
-  Honest count = IsHonest memory_meaning memory_source memory_source memory_sink with_others (reverse (take count exchange) ++ before)
+  Honest count =
+      IsHonest memory_meaning memory_source memory_source memory_sink with_others (reverse (take count exchange)
+      ++ before)
 
   module _ (strange : Strange stranger) (honest_0 : Honest 0) where
     honest_3 : Honest 3
-    honest_3 = (delivered 1 0 client_ip server_ip refl refl 5000 69 read_request _ (1, omega arith, refl), (tt, (tt, honest_0)))
+    honest_3 = (
+      delivered 1 0 client_ip server_ip refl refl 5000 69 read_request _ (1, omega arith, refl),
+      (tt, (tt, honest_0)),
+    )
 
     honest_5 : Honest 5
     honest_5 = (strays 1024 stranger (ack_bytes 0) _ strange, (tt, honest_3))
 
     honest_8 : Honest 8
-    honest_8 = (delivered 0 1 server_ip client_ip refl refl 1024 5000 (oack_bytes agreed) _ (3, omega arith, refl), (tt, (tt, honest_5)))
+    honest_8 = (
+      delivered 0 1 server_ip client_ip refl refl 1024 5000 (oack_bytes agreed) _ (3, omega arith, refl),
+      (tt, (tt, honest_5)),
+    )
 
     honest_11 : Honest 11
-    honest_11 = (delivered 2 0 client_ip server_ip refl refl 5001 69 write_request _ (8, omega arith, refl), (tt, (tt, honest_8)))
+    honest_11 = (
+      delivered 2 0 client_ip server_ip refl refl 5001 69 write_request _ (8, omega arith, refl),
+      (tt, (tt, honest_8)),
+    )
 
     honest_17 : Honest 17
-    honest_17 = (delivered 0 2 server_ip client_ip refl refl 1025 5001 (ack_bytes 0) _ (4, omega arith, refl), (tt, (tt, (tt, (tt, (tt, honest_11))))))
+    honest_17 = (
+      delivered 0 2 server_ip client_ip refl refl 1025 5001 (ack_bytes 0) _ (4, omega arith, refl),
+      (tt, (tt, (tt, (tt, (tt, honest_11))))),
+    )
 
     honest_20 : Honest 20
-    honest_20 = (delivered 1 0 client_ip server_ip refl refl 5000 1024 (ack_bytes 0) _ (9, omega arith, refl), (tt, (tt, honest_17)))
+    honest_20 = (
+      delivered 1 0 client_ip server_ip refl refl 5000 1024 (ack_bytes 0) _ (9, omega arith, refl),
+      (tt, (tt, honest_17)),
+    )
 
     honest_22 : Honest 22
-    honest_22 = (delivered 2 0 client_ip server_ip refl refl 5001 1025 (data_bytes 1 written_file) _ (2, omega arith, refl), (tt, honest_20))
+    honest_22 = (
+      delivered 2 0 client_ip server_ip refl refl 5001 1025 (data_bytes 1 written_file) _ (2, omega arith, refl),
+      (tt, honest_20),
+    )
 
     honest_25 : Honest 25
-    honest_25 = (delivered 0 1 server_ip client_ip refl refl 1024 5000 (data_bytes 1 read_file) _ (3, omega arith, refl), (tt, (tt, honest_22)))
+    honest_25 = (
+      delivered 0 1 server_ip client_ip refl refl 1024 5000 (data_bytes 1 read_file) _ (3, omega arith, refl),
+      (tt, (tt, honest_22)),
+    )
 
     honest_30 : Honest 30
-    honest_30 = (delivered 0 2 server_ip client_ip refl refl 1025 5001 (ack_bytes 1) _ (6, omega arith, refl), (tt, (tt, (tt, (tt, honest_25)))))
+    honest_30 = (
+      delivered 0 2 server_ip client_ip refl refl 1025 5001 (ack_bytes 1) _ (6, omega arith, refl),
+      (tt, (tt, (tt, (tt, honest_25)))),
+    )
 
     honest_41 : Honest 41
-    honest_41 = (delivered 0 1 server_ip client_ip refl refl 1024 5000 (data_bytes 1 read_file) _ (1, omega arith, refl), (tt, (tt, (tt, (tt, (tt, (tt, (tt, (tt, (tt, (tt, honest_30)))))))))))
+    honest_41 = (
+      delivered 0 1 server_ip client_ip refl refl 1024 5000 (data_bytes 1 read_file) _ (1, omega arith, refl),
+      (tt, (tt, (tt, (tt, (tt, (tt, (tt, (tt, (tt, (tt, honest_30)))))))))),
+    )
 
     honest_44 : Honest 44
-    honest_44 = (delivered 1 0 client_ip server_ip refl refl 5000 1024 (ack_bytes 1) _ (0, omega arith, refl), (tt, (tt, honest_41)))
+    honest_44 = (
+      delivered 1 0 client_ip server_ip refl refl 5000 1024 (ack_bytes 1) _ (0, omega arith, refl),
+      (tt, (tt, honest_41)),
+    )
 
     honest_45 : Honest 45
     honest_45 = (tt, honest_44)
@@ -107,13 +150,15 @@ programs = with_others [] []
 abbrev order : List Noted
 order = reverse exchange
 
-one_of : (k : ℕ) (c : Client) → slice_get (reading ∷ writing ∷ []) k ≡ Some c → ((k ≡ 0) × (reading ≡ c)) ⊎ ((k ≡ 1) × (writing ≡ c))
+one_of : (k : ℕ) (c : Client) → slice_get (reading ∷ writing ∷ []) k ≡ Some c →
+    ((k ≡ 0) × (reading ≡ c)) ⊎ ((k ≡ 1) × (writing ≡ c))
 one_of zero c e = inl (refl, let f : Some reading ≡ Some c = e in cc)
 one_of (suc zero) c e = inr (refl, let f : Some writing ≡ Some c = e in cc)
 one_of (suc (suc k)) c e = absurd (let f : None ≡ Some c = e in cc)
 
 -- what holds of both holds of each
-each : (P : ℕ → Client → Type 0) → P 0 reading → P 1 writing → (k : ℕ) (c : Client) → slice_get (reading ∷ writing ∷ []) k ≡ Some c → P k c
+each : (P : ℕ → Client → Type 0) → P 0 reading → P 1 writing → (k : ℕ) (c : Client) →
+    slice_get (reading ∷ writing ∷ []) k ≡ Some c → P k c
 each P reads writes k c e = elim (one_of k c e) [
   | inl first ↦ subst (λ (j : ℕ). P j c) (sym first.0) (subst (λ (z : Client). P 0 z) first.1 reads)
   | inr second ↦ subst (λ (j : ℕ). P j c) (sym second.0) (subst (λ (z : Client). P 1 z) second.1 writes)
@@ -147,11 +192,15 @@ distinct : AreDistinct ports
 distinct j k port e f = port_at j port e ∙ sym (port_at k port f)
 
 at_client : (port : ℕ) (c : Client) → c.ip ≡ client_ip → endpoint c.ip c.port ≢ endpoint server_ip port
-at_client port c own = apart_by (endpoint c.ip c.port) (endpoint server_ip port) 2 1 (ap (λ (ip : List ℕ). get_or ip 3 0) own) refl (λ e. omega (arith, e))
+at_client port c own =
+    apart_by (endpoint c.ip c.port) (endpoint server_ip port) 2 1 (ap (λ (ip : List ℕ). get_or ip 3 0) own) refl
+    (λ e. omega (arith, e))
 
-not_one : (j k : ℕ) (x y : Client) → slice_get programs.clients j ≡ Some x → slice_get programs.clients k ≡ Some y → client_at memory_source memory_sink requests x ≡ client_at memory_source memory_sink requests y → j ≡ k
+not_one : (j k : ℕ) (x y : Client) → slice_get programs.clients j ≡ Some x → slice_get programs.clients k ≡ Some y →
+    client_at memory_source memory_sink requests x ≡ client_at memory_source memory_sink requests y → j ≡ k
 not_one j k x y e f same =
-    let own : (i : ℕ) (c : Client) → slice_get programs.clients i ≡ Some c → c.port ≡ 5000 + i = each (λ i c. c.port ≡ 5000 + i) refl refl in
+    let own : (i : ℕ) (c : Client) → slice_get programs.clients i ≡ Some c → c.port ≡ 5000 + i =
+    each (λ i c. c.port ≡ 5000 + i) refl refl in
     let a = own j x e in
     let b = own k y f in
     let one : x.port ≡ y.port = ap (λ (a : Endpoint). a.port) same in
@@ -176,7 +225,8 @@ abbrev file_of : Client → List ℕ
 file_of c = if c.port == 5001 then written_file else []
 
 modelled : AreModelled programs
-modelled = record { known = refl; file_of = file_of; whole = each (λ k c. HasWhole c.opens (file_of c)) refl (refl, refl) }
+modelled =
+    record { known = refl; file_of = file_of; whole = each (λ k c. HasWhole c.opens (file_of c)) refl (refl, refl) }
 
 exchanged : HasExchanged programs
 exchanged = record {
@@ -209,7 +259,8 @@ three = with_others (asking ∷ []) []
 abbrev asked : List Noted
 asked = (3, Sent 7001 requests read_request) ∷ []
 
-each_of : (P : ℕ → Client → Type 0) → P 0 reading → P 1 writing → P 2 asking → (k : ℕ) (c : Client) → slice_get three.clients k ≡ Some c → P k c
+each_of : (P : ℕ → Client → Type 0) → P 0 reading → P 1 writing → P 2 asking → (k : ℕ) (c : Client) →
+    slice_get three.clients k ≡ Some c → P k c
 each_of P reads writes asks zero c e = subst (λ (z : Client). P 0 z) (same_Some reading c e) reads
 each_of P reads writes asks (suc zero) c e = subst (λ (z : Client). P 1 z) (same_Some writing c e) writes
 each_of P reads writes asks (suc (suc zero)) c e = subst (λ (z : Client). P 2 z) (same_Some asking c e) asks
@@ -244,14 +295,24 @@ module _ (c : Client) where
   only_one zero x e = (refl, sym (same_Some c x e))
   only_one (suc i) x e = absurd (let f : None ≡ Some x = e in cc)
 
-  not_here : (x : Client) → x.ip ≢ server_ip → c.port ≢ x.port → IsStranger memory_meaning memory_source memory_source memory_sink (alone three c) (client_at memory_source memory_sink requests x)
-  not_here x away n = record { server = away; clients = λ i z e same. n (ap (λ (w : Client). w.port) (sym (only_one i z e).1) ∙ ap (λ (a : Endpoint). a.port) same) }
+  not_here : (x : Client) → x.ip ≢ server_ip → c.port ≢ x.port →
+      IsStranger memory_meaning memory_source memory_source memory_sink (alone three c)
+      (client_at memory_source memory_sink requests x)
+  not_here x away n =
+      record {
+        server = away;
+        clients = λ i z e same. n (ap (λ (w : Client). w.port) (sym (only_one i z e).1)
+            ∙ ap (λ (a : Endpoint). a.port) same);
+      }
 
-  fresh_alone : (port : ℕ) → our_ports (alone three c) three.server.run ≡ port ∷ [] → 69 ≢ port → c.ip ≢ server_ip → ArePortsFresh (alone three c)
+  fresh_alone : (port : ℕ) → our_ports (alone three c) three.server.run ≡ port ∷ [] → 69 ≢ port → c.ip ≢ server_ip →
+      ArePortsFresh (alone three c)
   fresh_alone port is n away = record {
     server = subst (λ (opened : List ℕ). AreDistinct (69 ∷ opened)) (sym is) (two_apart 69 port n);
     clients = λ i j x y e f same. (only_one i x e).0 ∙ sym (only_one j y f).0;
-    apart = λ i q x e known same. away (ap (λ (w : Client). w.ip) (sym (only_one i x e).1) ∙ ap (λ (a : Endpoint). a.ip) same);
+    apart =
+        λ i q x e known same. away (ap (λ (w : Client). w.ip) (sym (only_one i x e).1)
+        ∙ ap (λ (a : Endpoint). a.ip) same);
   }
 
 client_away : client_ip ≢ server_ip
@@ -264,13 +325,18 @@ in_order : IsOrder memory_meaning memory_source memory_source memory_sink three 
 in_order = record { server = refl; clients = each_of (λ k c. events_of (suc k) late_exchange ≡ c.noted) refl refl refl }
 
 abbrev NotOne : ℕ → Client → ℕ → Client → Type 0
-NotOne k c j x = j ≢ k → IsStranger memory_meaning memory_source memory_source memory_sink (alone three c) (client_at memory_source memory_sink requests x)
+NotOne k c j x =
+    j ≢ k → IsStranger memory_meaning memory_source memory_source memory_sink (alone three c)
+    (client_at memory_source memory_sink requests x)
 
 reader_served : IsServed three late_exchange 0 reading
 reader_served = record {
   is_order = in_order;
   honest = honest_late;
-  others = each_of (NotOne 0 reading) (λ n. absurd (n refl)) (λ n. not_here reading writing client_away (λ e. omega (arith, e))) (λ n. not_here reading asking other_away (λ e. omega (arith, e)));
+  others =
+      each_of (NotOne 0 reading) (λ n. absurd (n refl))
+      (λ n. not_here reading writing client_away (λ e. omega (arith, e)))
+      (λ n. not_here reading asking other_away (λ e. omega (arith, e)));
   fresh = fresh_alone reading 1024 (opened_for (alone three reading)) (λ e. omega (arith, e)) client_away;
 }
 
@@ -278,7 +344,9 @@ latecomer_served : IsServed three late_exchange 2 asking
 latecomer_served = record {
   is_order = in_order;
   honest = honest_late;
-  others = each_of (NotOne 2 asking) (λ n. not_here asking reading client_away (λ e. omega (arith, e))) (λ n. not_here asking writing client_away (λ e. omega (arith, e))) (λ n. absurd (n refl));
+  others =
+      each_of (NotOne 2 asking) (λ n. not_here asking reading client_away (λ e. omega (arith, e)))
+      (λ n. not_here asking writing client_away (λ e. omega (arith, e))) (λ n. absurd (n refl));
   fresh = fresh_alone asking 1024 (opened_for (alone three asking)) (λ e. omega (arith, e)) other_away;
 }
 

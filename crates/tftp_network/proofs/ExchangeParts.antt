@@ -12,7 +12,8 @@ use Rattle.tftp_negotiate.proofs.LawsLemmas.{numbers_are_printed}
 use Rattle.tftp_file.specs.Memory.{MustRefuseAppend, new_mem_sink}
 use Rattle.tftp_ends.specs.Opening.{MayGet, MayPut, request_of, oack_bytes}
 use Rattle.tftp_ends.specs.Step.{ack_bytes, data_bytes}
-use Rattle.tftp_network.specs.Witness.{agreed, blocks_of_8, no_options, read_name, read_request, write_request, written_name}
+use Rattle.tftp_network.specs.Witness.{agreed, blocks_of_8, no_options, read_name, read_request, write_request}
+use Rattle.tftp_network.specs.Witness.{written_name}
 
 -- ---- how 8 is written, and read
 pub eight : decimal 8 ≡ 56 ∷ []
@@ -41,7 +42,8 @@ pub ack_spelled : (number : ℕ) → number < 2 ^ 16 → Spells (Ack number) (ac
 ack_spelled number fits = record { valid = fits; word = []; mode = refl; whole = refl }
 
 pub block_spelled : (byte : ℕ) → Spells (Data 1 (byte ∷ [])) (data_bytes 1 (byte ∷ []))
-block_spelled byte = record { valid = (λ e. omega (arith, e), omega arith, omega arith); word = []; mode = refl; whole = refl }
+block_spelled byte =
+    record { valid = (λ e. omega (arith, e), omega arith, omega arith); word = []; mode = refl; whole = refl }
 
 -- ---- a sink in memory that is not full refuses nothing
 pub takes_all : {P : Type 0} (bytes : List ℕ) → MustRefuseAppend (new_mem_sink 10 false) bytes → P

@@ -14,7 +14,8 @@ use Rattle.tftp_ends.specs.declared.action.Response.TheVariants.{Accept, ResendR
 use Rattle.tftp_ends.specs.declared.phase.Terms.{Terms}
 use Rattle.tftp_ends.specs.End.{EndState}
 use Rattle.tftp_ends.specs.Opening.{getting, oack_bytes}
-use Rattle.tftp_ends.specs.Step.{DatagramStep, Done, Turn, after_turn, ack_bytes, committed_turn, data_bytes, response_turn}
+use Rattle.tftp_ends.specs.Step.{DatagramStep, Done, Turn, after_turn, ack_bytes, committed_turn, data_bytes}
+use Rattle.tftp_ends.specs.Step.{response_turn}
 use Rattle.tftp_ends.specs.Waiting.{agreed_terms}
 use Rattle.tftp_host.specs.ClientOutcome.{end_text}
 use Rattle.tftp_host.specs.declared.client.client_outcome.ClientOutcome.TheVariants as ends
@@ -25,7 +26,8 @@ use Rattle.tftp_client.specs.Converses.HandlesReceived.{Answers}
 use Rattle.tftp_client.specs.Runs.{begun}
 use Rattle.tftp_network.specs.ClientRuns.{ClientDoes, Starts, Goes_on, Receives_one, Prints_line}
 use Rattle.tftp_network.specs.Programs.{ClientOpens, ClientProgram, To_read}
-use Rattle.tftp_network.specs.Witness.{agreed, blocks_of_8, client_ip, other_ip, read_file, read_name, read_port, requests}
+use Rattle.tftp_network.specs.Witness.{agreed, blocks_of_8, client_ip, other_ip, read_file, read_name, read_port}
+use Rattle.tftp_network.specs.Witness.{requests}
 use Rattle.tftp_network.proofs.ExchangeParts.{block_spelled, may_read, oack_spelled, read_8, takes_all}
 
 abbrev at_first : EndState
@@ -42,7 +44,8 @@ empty = Sink (new_mem_sink 10 false)
 
 -- the block, and then its commit
 abbrev with_block : MemSinkState
-with_block = record (new_mem_sink 10 false) { holding = record { bytes = read_file; committed = false; refuses = false } }
+with_block =
+    record (new_mem_sink 10 false) { holding = record { bytes = read_file; committed = false; refuses = false } }
 
 abbrev pub stored : MemSinkState
 stored = record (new_mem_sink 10 false) { holding = record { bytes = read_file; committed = true; refuses = false } }
@@ -68,7 +71,13 @@ again = response_turn ResendReply read_port dallying
 
 accepts_so : Step at_first empty (oack_bytes agreed) accepts empty
 unfolding occurrences_of name_of taken_option
-accepts_so = record { decoded = Some (Oack (agreed_options agreed)); says = oack_spelled; acts = rw read_8 (refl, refl); again = rw read_8 tt }
+accepts_so =
+    record {
+      decoded = Some (Oack (agreed_options agreed));
+      says = oack_spelled;
+      acts = rw read_8 (refl, refl);
+      again = rw read_8 tt;
+    }
 
 stores_so : Step receiving empty (data_bytes 1 read_file) stores (Sink stored)
 stores_so = record {
@@ -113,7 +122,9 @@ s1 = record {
   end = receiving;
   now = 10;
   due = 1010;
-  events = Sent 5000 read_port (ack_bytes 0) ∷ Watched 10 ∷ Received 5000 read_port (oack_bytes agreed) ∷ Quiet (Slept 1000) ∷ s0.events;
+  events =
+      Sent 5000 read_port (ack_bytes 0) ∷ Watched 10 ∷ Received 5000 read_port (oack_bytes agreed) ∷ Quiet
+      (Slept 1000) ∷ s0.events;
 }
 
 abbrev s2 : State
@@ -121,7 +132,9 @@ s2 = record {
   end = dallying;
   now = 20;
   due = 1020;
-  events = Sent 5000 read_port (ack_bytes 1) ∷ Watched 20 ∷ Received 5000 read_port (data_bytes 1 read_file) ∷ Quiet (Slept 1000) ∷ s1.events;
+  events =
+      Sent 5000 read_port (ack_bytes 1) ∷ Watched 20 ∷ Received 5000 read_port (data_bytes 1 read_file) ∷ Quiet
+      (Slept 1000) ∷ s1.events;
 }
 
 abbrev s3 : State
@@ -132,20 +145,28 @@ s4 = record {
   end = dallying;
   now = 1010;
   due = 1020;
-  events = Sent 5000 read_port (ack_bytes 1) ∷ Watched 1010 ∷ Received 5000 read_port (data_bytes 1 read_file) ∷ Quiet (Slept 1000) ∷ s3.events;
+  events =
+      Sent 5000 read_port (ack_bytes 1) ∷ Watched 1010 ∷ Received 5000 read_port (data_bytes 1 read_file) ∷ Quiet
+      (Slept 1000) ∷ s3.events;
 }
 
 abbrev Does : State → Files (List ℕ) MemSinkState → State → Files (List ℕ) MemSinkState → Type 0
 Does s files s' files' = ClientDoes memory_source memory_sink 5000 s files s' files'
 
 pub accepts_does : Does s0 empty s1 empty
-accepts_does = Receives_one (record { not_closed = λ o. absurd (true≢false (sym o)); due = λ late. absurd (omega (arith, late)) }) (omega arith) (Answers (λ o. absurd (true≢false (sym o))) accepts_so)
+accepts_does =
+    Receives_one (record { not_closed = λ o. absurd (true≢false (sym o)); due = λ late. absurd (omega (arith, late)) })
+    (omega arith) (Answers (λ o. absurd (true≢false (sym o))) accepts_so)
 
 pub stores_does : Does s1 empty s2 (Sink stored)
-stores_does = Receives_one (record { not_closed = λ o. absurd (true≢false (sym o)); due = λ late. absurd (omega (arith, late)) }) (omega arith) (Answers (λ o. absurd (true≢false (sym o))) stores_so)
+stores_does =
+    Receives_one (record { not_closed = λ o. absurd (true≢false (sym o)); due = λ late. absurd (omega (arith, late)) })
+    (omega arith) (Answers (λ o. absurd (true≢false (sym o))) stores_so)
 
 pub again_does : Does s3 (Sink stored) s4 (Sink stored)
-again_does = Receives_one (record { not_closed = λ o. absurd (true≢false (sym o)); due = λ late. absurd (omega (arith, late)) }) (omega arith) (Answers (λ o. absurd (true≢false (sym o))) again_so)
+again_does =
+    Receives_one (record { not_closed = λ o. absurd (true≢false (sym o)); due = λ late. absurd (omega (arith, late)) })
+    (omega arith) (Answers (λ o. absurd (true≢false (sym o))) again_so)
 
 abbrev its_request : ClientOpens memory_source memory_sink requests at_first empty
 its_request = To_read (record {
@@ -187,7 +208,9 @@ reading = record {
   files = Sink stored;
   file = empty;
   new = refl;
-  runs = Goes_on (Goes_on (Goes_on (Goes_on Starts accepts_does) stores_does) (Prints_line (end_text (ends.Complete 1)))) again_does;
+  runs =
+      Goes_on (Goes_on (Goes_on (Goes_on Starts accepts_does) stores_does) (Prints_line (end_text (ends.Complete 1))))
+      again_does;
   opens = its_request;
   noted = s4.events;
   is_noted = refl;

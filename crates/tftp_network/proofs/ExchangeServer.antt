@@ -1,5 +1,6 @@
 -- The server of the exchange, step by step.
-use Rattle.std.proofs.Common.{◌≡◌, ℕ, ◌<◌, Bool, true, false, List, [], ◌∷◌, ◌++◌, length, Some, None, Ok, refl, sym, ap, ◌∙◌, arith, rules, inl, inr}
+use Rattle.std.proofs.Common.{◌≡◌, ℕ, ◌<◌, Bool, true, false, List, [], ◌∷◌, ◌++◌, length, Some, None, Ok, refl, sym}
+use Rattle.std.proofs.Common.{ap, ◌∙◌, arith, rules, inl, inr}
 use Rattle.std.specs.Prelude.{◌+◌, if◌then◌else◌}
 use Rattle.std.proofs.lemmas.Bool.{true≢false}
 use Rattle.std.proofs.lemmas.List.Elements.{All-from_recursion}
@@ -22,7 +23,8 @@ use Rattle.tftp_ends.specs.declared.outgoing.Outgoing.TheVariants.{Nothing, Last
 use Rattle.tftp_ends.specs.declared.phase.Terms.{Terms}
 use Rattle.tftp_ends.specs.End.{EndState, record_of}
 use Rattle.tftp_ends.specs.Opening.{request_of, oack_bytes, serving_read, serving_write}
-use Rattle.tftp_ends.specs.Step.{Done, Turn, after_turn, ack_bytes, committed_turn, data_bytes, error_bytes, filled_turn, reported, response_turn, timeout_turn}
+use Rattle.tftp_ends.specs.Step.{Done, Turn, after_turn, ack_bytes, committed_turn, data_bytes, error_bytes}
+use Rattle.tftp_ends.specs.Step.{filled_turn, reported, response_turn, timeout_turn}
 use Rattle.tftp_ends.specs.Waiting.{agreed_terms, default_terms}
 use Rattle.tftp_store.specs.Memory.{memory_meaning}
 use Rattle.tftp_store.specs.Store.{FileList, Stored, Drafted, new_draft}
@@ -40,13 +42,15 @@ use Rattle.tftp_loop.specs.Run.{Run}
 use Rattle.tftp_loop.specs.Run.Run.{Start, Then}
 use Rattle.tftp_loop.specs.Serves.{Timer, LoopState, Does, IsServed, MayWait, at_start}
 use Rattle.tftp_loop.specs.Serves.AtPort.{A_datagram, Nothing_found, A_timeout}
-use Rattle.tftp_loop.specs.Serves.Does.{Waited, At_port, Request_received, No_request_found, Request_answered, Clock_read, Transfer_closed}
+use Rattle.tftp_loop.specs.Serves.Does.{Waited, At_port, Request_received, No_request_found, Request_answered}
+use Rattle.tftp_loop.specs.Serves.Does.{Clock_read, Transfer_closed}
 use Rattle.tftp_loop.specs.declared.serving.Ending.{Ending}
 use Rattle.tftp_network.specs.Openings.{HasClosed, above, is_ours, our_ports}
 use Rattle.tftp_network.specs.Order.{Programs}
 use Rattle.tftp_network.specs.Ports.{opened_ports}
 use Rattle.tftp_network.specs.Programs.{ServerProgram, endpoint}
-use Rattle.tftp_network.specs.Witness.{agreed, blocks_of_8, latecomer, no_options, read_file, read_name, read_request, reader, server_ip, stranger, write_request, writer, written_file, written_name}
+use Rattle.tftp_network.specs.Witness.{agreed, blocks_of_8, latecomer, no_options, read_file, read_name, read_request}
+use Rattle.tftp_network.specs.Witness.{reader, server_ip, stranger, write_request, writer, written_file, written_name}
 use Rattle.tftp_network.proofs.ExchangeParts.{ack_spelled, block_spelled, read_8, read_spelled, write_spelled}
 
 abbrev Held : Type 0
@@ -162,7 +166,8 @@ held_7 = (1024, read_by late_0 read_file) ∷ held_6
 
 -- ---- the timers
 abbrev timed : ℕ → Endpoint → ℕ → Bool → ℕ → Timer
-timed port peer deadline marked look_at = record { port = port; peer = peer; interval = 1; deadline = deadline; marked = marked; look_at = look_at }
+timed port peer deadline marked look_at =
+    record { port = port; peer = peer; interval = 1; deadline = deadline; marked = marked; look_at = look_at }
 
 abbrev writes : Timer
 writes = timed 1025 writer 1000 false 500
@@ -247,7 +252,12 @@ s14 = record s13 {
 }
 
 abbrev s15 : Loop
-s15 = record s14 { pending = Some (latecomer, read_request); marked = true; events = Received 69 latecomer read_request ∷ s14.events }
+s15 =
+    record s14 {
+      pending = Some (latecomer, read_request);
+      marked = true;
+      events = Received 69 latecomer read_request ∷ s14.events;
+    }
 
 abbrev pub s16 : Loop
 s16 = record s15 {
@@ -266,8 +276,11 @@ asks_to_read = Request_received (record { from = reader; bytes = read_request; n
 
 -- the file is opened for a client that reads it
 reads_file : (files : FileList) (held : List (ℕ × Held)) (peer : Endpoint) →
-    AsksToRead memory_meaning memory_source (serving (record { files = (read_name, read_file) ∷ files; refuses = false }) held) peer read_request read_name Octet (request_of read_name Octet blocks_of_8).options
-    (A_transfer (read_by (serving_read agreed peer Octet 1 1 []) read_file) (record { files = (read_name, read_file) ∷ files; refuses = false }))
+    AsksToRead memory_meaning memory_source
+    (serving (record { files = (read_name, read_file) ∷ files; refuses = false }) held) peer read_request read_name
+    Octet (request_of read_name Octet blocks_of_8).options
+    (A_transfer (read_by (serving_read agreed peer Octet 1 1 []) read_file)
+    (record { files = (read_name, read_file) ∷ files; refuses = false }))
 unfolding occurrences_of name_of answered_option
 reads_file files held peer = record {
   file = Ok (record { source = read_file; length = 1 });
@@ -276,7 +289,13 @@ reads_file files held peer = record {
   must = λ fault m. absurd (let f : Some read_file ≡ None = m.missing in cc);
   reads = λ want f. absurd f;
   memory = λ e. absurd (cc);
-  goes_on = rw read_8 (inl (record { rest = read_file; end = serving_read agreed peer Octet 1 1 []; serves = (refl, refl); opens = refl }));
+  goes_on =
+      rw read_8 (inl (record {
+        rest = read_file;
+        end = serving_read agreed peer Octet 1 1 [];
+        serves = (refl, refl);
+        opens = refl;
+      }));
 }
 
 pub opens_read : Step s1 s2
@@ -302,8 +321,10 @@ opens_read = Request_answered (record {
 })
 
 -- a stranger's datagram is answered, and the transfer goes on
-refuses_stranger : StepIn memory_meaning memory_source stranger (ack_bytes 0) reading_0 (Source read_file) at_stranger (Source read_file)
-refuses_stranger = record { decoded = Some (Ack 0); says = ack_spelled 0 (omega arith); acts = (refl, refl); again = tt }
+refuses_stranger : StepIn memory_meaning memory_source stranger (ack_bytes 0) reading_0 (Source read_file) at_stranger
+    (Source read_file)
+refuses_stranger =
+    record { decoded = Some (Ack 0); says = ack_spelled 0 (omega arith); acts = (refl, refl); again = tt }
 
 pub answers_stranger : Step s2 s3
 answers_stranger = At_port (record {
@@ -393,7 +414,13 @@ reads_block = record {
   acts = record {
     answer = Ok 1;
     piece = read_file;
-    reads = record { fills = record { count = refl; given = refl; rest = refl }; read = λ e. absurd (cc); fails = λ f. absurd f; memory = λ e. absurd (cc) };
+    reads =
+        record {
+          fills = record { count = refl; given = refl; rest = refl };
+          read = λ e. absurd (cc);
+          fails = λ f. absurd f;
+          memory = λ e. absurd (cc);
+        };
     answers = refl;
   };
   again = tt;
@@ -440,7 +467,8 @@ sends_block = At_port (record {
 abbrev drafting : Stored → Drafted → Files (List ℕ) (Drafting Stored Drafted)
 drafting store draft = Sink (record { store = store; draft = draft; path = written_name; replace = false })
 
-stores_block : StepIn memory_meaning memory_source writer (data_bytes 1 written_file) writing_0 (drafting before_write new_draft) stores (drafting after_write committed)
+stores_block : StepIn memory_meaning memory_source writer (data_bytes 1 written_file) writing_0
+    (drafting before_write new_draft) stores (drafting after_write committed)
 stores_block = record {
   decoded = Some (Data 1 written_file);
   says = block_spelled 66;
@@ -453,7 +481,13 @@ stores_block = record {
       mid = record { store = before_write; draft = appended; path = written_name; replace = false };
       answer = Ok done;
       decoded = (refl, refl);
-      appended = (refl, tt, record { path = refl; replace = refl; files = refl }, record { refused = λ e. absurd (true≢false (sym e)); cleared = refl }, λ e. absurd (cc));
+      appended = (
+        refl,
+        tt,
+        record { path = refl; replace = refl; files = refl },
+        record { refused = λ e. absurd (true≢false (sym e)); cleared = refl },
+        λ e. absurd (cc),
+      );
       memory = λ e. absurd (cc);
       rest = record {
         answer = Ok done;
@@ -509,7 +543,8 @@ pub finds_no_request : Step s7 s8
 finds_no_request = No_request_found (record { none = refl; is = refl })
 
 -- both transfers are served before the wait
-served : (timer : Timer) → timer.marked ≡ false → 0 < timer.deadline → 0 < timer.look_at → taken_of (at timer.port held_3) ≡ None → IsServed s8 timer
+served : (timer : Timer) → timer.marked ≡ false → 0 < timer.deadline → 0 < timer.look_at →
+    taken_of (at timer.port held_3) ≡ None → IsServed s8 timer
 served timer unmarked due look still = record {
   read = λ marked. absurd (true≢false (sym marked ∙ unmarked));
   due = inl due;
@@ -522,7 +557,12 @@ may_wait = record {
   left = omega arith;
   rounds = omega arith;
   requests = λ marked. absurd (true≢false (sym marked));
-  transfers = All-from_recursion (IsServed s8) s8.timers (served (timed 1024 reader 1000 false 500) refl (omega arith) (omega arith) refl, (served writes refl (omega arith) (omega arith) refl, tt));
+  transfers =
+      All-from_recursion (IsServed s8) s8.timers (
+        served (timed 1024 reader 1000 false 500) refl (omega arith)
+            (omega arith) refl,
+        (served writes refl (omega arith) (omega arith) refl, tt),
+      );
   longest = omega arith;
   shortest = λ none. absurd (omega (arith, none));
 }
@@ -668,7 +708,16 @@ agreeable = search rules
 
 abbrev pub serves : Run (Does memory_meaning memory_source) s0 s16
 serves =
-    Then (Then (Then (Then (Then (Then (Then (Then (Then (Then (Then (Then (Then (Then (Then (Then Start asks_to_read) opens_read) answers_stranger) asks_to_write) opens_write) sends_block) commits_block) finds_no_request) waits)
+    Then
+    (Then
+    (Then
+    (Then
+    (Then
+    (Then
+    (Then
+    (Then
+    (Then (Then (Then (Then (Then (Then (Then (Then Start asks_to_read) opens_read) answers_stranger) asks_to_write)
+    opens_write) sends_block) commits_block) finds_no_request) waits)
     reads_clock) finds_nothing) sends_again) completes_read) closes_read) asks_again) opens_again
 
 abbrev pub server : ServerProgram memory_meaning memory_source
@@ -686,19 +735,34 @@ server = record {
 
 -- the transfers that it opened
 pub all_opened : opened_ports serves ≡ 1024 ∷ 1025 ∷ 1024 ∷ []
-unfolding asks_to_read opens_read answers_stranger asks_to_write opens_write sends_block commits_block finds_no_request waits reads_clock finds_nothing sends_again completes_read closes_read asks_again opens_again
+unfolding asks_to_read opens_read answers_stranger asks_to_write opens_write sends_block commits_block finds_no_request
+    waits reads_clock finds_nothing sends_again completes_read closes_read asks_again opens_again
 all_opened = refl
 
 -- those of the clients of a network
 abbrev pub ours_of : Bool → Bool → Bool → List ℕ
-ours_of late writes reads = (if late then 1024 ∷ [] else []) ++ ((if writes then 1025 ∷ [] else []) ++ ((if reads then 1024 ∷ [] else []) ++ []))
+ours_of late writes reads =
+    (if late then 1024 ∷ [] else [])
+    ++ ((if writes then 1025 ∷ [] else []) ++ ((if reads then 1024 ∷ [] else []) ++ []))
 
 -- and the one that it closed
-module _ {G K : Type 0} {inputs : SourceMeaning G} {outputs : SinkMeaning K} (programs : Programs memory_meaning memory_source inputs outputs) where
-  pub opened_for : our_ports programs serves ≡ ours_of (is_ours programs latecomer) (is_ours programs writer) (is_ours programs reader)
-  unfolding asks_to_read opens_read answers_stranger asks_to_write opens_write sends_block commits_block finds_no_request waits reads_clock finds_nothing sends_again completes_read closes_read asks_again opens_again
+module _ {G K : Type 0} {inputs : SourceMeaning G} {outputs : SinkMeaning K}
+    (programs : Programs memory_meaning memory_source inputs outputs) where
+  pub opened_for : our_ports programs serves ≡ ours_of (is_ours programs latecomer) (is_ours programs writer)
+      (is_ours programs reader)
+  unfolding asks_to_read opens_read answers_stranger asks_to_write opens_write sends_block commits_block
+      finds_no_request waits reads_clock finds_nothing sends_again completes_read closes_read asks_again opens_again
   opened_for = refl
 
-  pub closed_there : is_ours programs reader ≡ true → HasClosed programs serves 1024 (read_by reading_3 []) (endpoint programs.server.ip 1024)
-  unfolding asks_to_read opens_read answers_stranger asks_to_write opens_write sends_block commits_block finds_no_request waits reads_clock finds_nothing sends_again completes_read closes_read asks_again opens_again
-  closed_there reads = inr (inr (inl ((refl, refl), sym (ap (λ (b : Bool). endpoint programs.server.ip (if b then 1024 else above programs + length (opened_ports (Then Start asks_to_read)))) reads))))
+  pub closed_there : is_ours programs reader ≡ true →
+      HasClosed programs serves 1024 (read_by reading_3 []) (endpoint programs.server.ip 1024)
+  unfolding asks_to_read opens_read answers_stranger asks_to_write opens_write sends_block commits_block
+      finds_no_request waits reads_clock finds_nothing sends_again completes_read closes_read asks_again opens_again
+  closed_there reads =
+      inr
+      (inr
+      (inl (
+        (refl, refl),
+        sym (ap (λ (b : Bool). endpoint programs.server.ip
+            (if b then 1024 else above programs + length (opened_ports (Then Start asks_to_read)))) reads),
+      )))

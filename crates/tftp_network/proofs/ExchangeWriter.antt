@@ -50,7 +50,13 @@ sends_so = record {
   acts = record {
     answer = Ok 1;
     piece = written_file;
-    reads = record { fills = record { count = refl; given = refl; rest = refl }; read = λ e. absurd (cc); fails = λ f. absurd f; memory = λ e. absurd (cc) };
+    reads =
+        record {
+          fills = record { count = refl; given = refl; rest = refl };
+          read = λ e. absurd (cc);
+          fails = λ f. absurd f;
+          memory = λ e. absurd (cc);
+        };
     answers = refl;
   };
   again = tt;
@@ -71,7 +77,9 @@ s2 = record {
   end = sending;
   now = 10;
   due = 1010;
-  events = Sent 5001 write_port (data_bytes 1 written_file) ∷ Watched 10 ∷ Received 5001 write_port (ack_bytes 0) ∷ Quiet (Slept 995) ∷ s1.events;
+  events =
+      Sent 5001 write_port (data_bytes 1 written_file) ∷ Watched 10 ∷ Received 5001 write_port (ack_bytes 0) ∷ Quiet
+      (Slept 995) ∷ s1.events;
 }
 
 abbrev s3 : State
@@ -89,13 +97,19 @@ abbrev Does : State → Files (List ℕ) MemSinkState → State → Files (List 
 Does s files s' files' = ClientDoes memory_source memory_sink 5001 s files s' files'
 
 pub waits_does : Does s0 (Source written_file) s1 (Source written_file)
-waits_does = Waits_until (record { not_closed = λ o. absurd (true≢false (sym o)); due = λ late. absurd (omega (arith, late)) }) (inl refl) (omega arith)
+waits_does =
+    Waits_until (record { not_closed = λ o. absurd (true≢false (sym o)); due = λ late. absurd (omega (arith, late)) })
+    (inl refl) (omega arith)
 
 pub sends_does : Does s1 (Source written_file) s2 (Source [])
-sends_does = Receives_one (record { not_closed = λ o. absurd (true≢false (sym o)); due = λ late. absurd (omega (arith, late)) }) (omega arith) (Answers (λ o. absurd (true≢false (sym o))) sends_so)
+sends_does =
+    Receives_one (record { not_closed = λ o. absurd (true≢false (sym o)); due = λ late. absurd (omega (arith, late)) })
+    (omega arith) (Answers (λ o. absurd (true≢false (sym o))) sends_so)
 
 pub completes_does : Does s2 (Source []) s3 (Source [])
-completes_does = Receives_one (record { not_closed = λ o. absurd (true≢false (sym o)); due = λ late. absurd (omega (arith, late)) }) (omega arith) (Answers (λ o. absurd (true≢false (sym o))) completes_so)
+completes_does =
+    Receives_one (record { not_closed = λ o. absurd (true≢false (sym o)); due = λ late. absurd (omega (arith, late)) })
+    (omega arith) (Answers (λ o. absurd (true≢false (sym o))) completes_so)
 
 abbrev pub writing : ClientProgram memory_source memory_sink requests
 writing = record {
@@ -107,7 +121,9 @@ writing = record {
   files = Source [];
   file = Source written_file;
   new = tt;
-  runs = Goes_on (Goes_on (Goes_on (Goes_on Starts waits_does) sends_does) completes_does) (Prints_line (end_text (ends.Complete 1)));
+  runs =
+      Goes_on (Goes_on (Goes_on (Goes_on Starts waits_does) sends_does) completes_does)
+      (Prints_line (end_text (ends.Complete 1)));
   opens = To_write (record {
     name = written_name;
     mode = Octet;

@@ -1,5 +1,8 @@
--- The invariant of the programs between two of their steps: rules of the guarded machine lead to the views of all ends that were opened, and each datagram that was sent is one of its messages. That a message is there (`IsThere`) is said as for the turns of an end.
-use Rattle.std.specs.Prelude.{ℕ, ◌≡◌, ◌≢◌, ◌⊎◌, ◌<◌, true, false, List, [], ◌∷◌, ◌++◌, slice_get, Option, Some, None, IsSome}
+-- The invariant of the programs between two of their steps: rules of the guarded machine lead to the views of all ends
+-- that were opened, and each datagram that was sent is one of its messages. That a message is there (`IsThere`) is said
+-- as for the turns of an end.
+use Rattle.std.specs.Prelude.{ℕ, ◌≡◌, ◌≢◌, ◌⊎◌, ◌<◌, true, false, List, [], ◌∷◌, ◌++◌, slice_get, Option, Some, None}
+use Rattle.std.specs.Prelude.{IsSome}
 use Rattle.std.specs.List.{Contains}
 use Rattle.tftp_file.specs.Block.{IsBeginningOf}
 use Rattle.tftp_file.specs.Netascii.{wire_text}
@@ -61,9 +64,11 @@ abbrev pub length_of : {F D : Type 0} → Option (HeldTransfer F D) → ℕ
 length_of None = 0
 length_of (Some held) = held.end.role.length
 
-module _ {S F D G K : Type 0} {stores : StoreMeaning S D} {sources : SourceMeaning F} {inputs : SourceMeaning G} {outputs : SinkMeaning K}
+module _ {S F D G K : Type 0} {stores : StoreMeaning S D} {sources : SourceMeaning F} {inputs : SourceMeaning G}
+    {outputs : SinkMeaning K}
     (programs : Programs stores sources inputs outputs) where
-  -- what is known of the files: their models, or what the finished run moved; a sender's text is then that, padded by this byte
+  -- what is known of the files: their models, or what the finished run moved; a sender's text is then that, padded by
+  -- this byte
   pub data How : Type 0 where
     By_models : AreModelled programs → How
     By_run : ℕ → How
@@ -74,7 +79,8 @@ module _ {S F D G K : Type 0} {stores : StoreMeaning S D} {sources : SourceMeani
 
   -- the text of a transfer that sends, at this place
   abbrev pub place_text : ℕ → Endpoint → List ℕ
-  place_text pad a = pad_to pad (length_of (opened_at programs a programs.server.run)) (moved_at programs a programs.server.run).bytes
+  place_text pad a =
+      pad_to pad (length_of (opened_at programs a programs.server.run)) (moved_at programs a programs.server.run).bytes
 
   -- a client that sends, by the models and by the run; of a closed one a source may be one that must fail
   pub record ClientSends (file : List ℕ) (x : OpenEnd) (source : G) : Type 0 where
@@ -83,7 +89,8 @@ module _ {S F D G K : Type 0} {stores : StoreMeaning S D} {sources : SourceMeani
     pub text : x.text ≡ wire_text x.state.role.mode x.file
     pub left : outcome_of x.state.position.phase ≡ None → HasLeft inputs source x.left
 
-  pub record ClientGave (pad : ℕ) (client : ClientProgram inputs outputs (requests_at stores sources programs.server)) (x : OpenEnd) (moved : Moved) : Type 0 where
+  pub record ClientGave (pad : ℕ) (client : ClientProgram inputs outputs (requests_at stores sources programs.server))
+      (x : OpenEnd) (moved : Moved) : Type 0 where
     pub sender : is_sender x.state.role.side ≡ true
     pub role : x.state.role ≡ client.first.role
     pub text : x.text ≡ client_text pad client
@@ -99,14 +106,16 @@ module _ {S F D G K : Type 0} {stores : StoreMeaning S D} {sources : SourceMeani
     pub took : TookSo x moved
 
   -- what is known of the file of a client's end
-  abbrev pub HasFile : How → ClientProgram inputs outputs (requests_at stores sources programs.server) → OpenEnd → Files G K → Moved → Type 0
+  abbrev pub HasFile : How → ClientProgram inputs outputs (requests_at stores sources programs.server) → OpenEnd →
+      Files G K → Moved → Type 0
   HasFile (By_models models) client x (Source source) moved = ClientSends (models.file_of client) x source
   HasFile (By_models models) client x (Sink sink) moved = ClientStores x sink
   HasFile (By_run pad) client x (Source source) moved = ClientGave pad client x moved
   HasFile (By_run pad) client x (Sink sink) moved = ClientTook x moved
 
   -- the end of a client that has asked
-  pub record ClientKept (how : How) (views : List EndView) (messages : List Message) (client : ClientProgram inputs outputs (requests_at stores sources programs.server))
+  pub record ClientKept (how : How) (views : List EndView) (messages : List Message)
+      (client : ClientProgram inputs outputs (requests_at stores sources programs.server))
       (s : State) (files : Files G K) (moved : Moved) : Type 0 where
     pub end : OpenEnd
     pub address : end.address ≡ client_at inputs outputs (requests_at stores sources programs.server) client
@@ -116,14 +125,17 @@ module _ {S F D G K : Type 0} {stores : StoreMeaning S D} {sources : SourceMeani
     pub has : HasFile how client end files moved
 
   -- the end of a client, once it has asked
-  abbrev pub StageKept : How → List EndView → List Message → ClientProgram inputs outputs (requests_at stores sources programs.server) → ClientStage G K → Type 0
+  abbrev pub StageKept : How → List EndView → List Message →
+      ClientProgram inputs outputs (requests_at stores sources programs.server) → ClientStage G K → Type 0
   StageKept how views messages client Unasked = Unit {0}
-  StageKept how views messages client (Has_asked s files noted moved) = ClientKept how views messages client s files moved
+  StageKept how views messages client (Has_asked s files noted moved) =
+      ClientKept how views messages client s files moved
 
   -- the server holds the transfer, which is at this place, or has removed it
   abbrev pub HasTransferBy : Snapshot programs → ℕ → HeldTransfer F D → Endpoint → Type 0
   HasTransferBy snapshot port transfer a =
-      ((at port snapshot.state.server.held ≡ Some transfer) × (a ≡ place_at programs port snapshot.run)) ⊎ HasClosed programs snapshot.run port transfer a
+      ((at port snapshot.state.server.held ≡ Some transfer) × (a ≡ place_at programs port snapshot.run))
+      ⊎ HasClosed programs snapshot.run port transfer a
 
   -- the end of a stranger's transfer: its peer is one, and its last datagram went to one
   pub record IsStrangers (e : EndState) : Type 0 where
@@ -132,7 +144,8 @@ module _ {S F D G K : Type 0} {stores : StoreMeaning S D} {sources : SourceMeani
     pub strange : IsStranger stores sources inputs outputs programs peer
     pub last_sent_to : IsStranger stores sources inputs outputs programs e.position.last_sent_to
 
-  -- what a transfer sends was under its path, and still is unless writes may replace files; an open one has this left, or must fail
+  -- what a transfer sends was under its path, and still is unless writes may replace files; an open one has this left,
+  -- or must fail
   pub record SendsKept (snapshot : Snapshot programs) (x : OpenEnd) (source : F) : Type 0 where
     pub sender : is_sender x.state.role.side ≡ true
     pub text : x.text ≡ wire_text x.state.role.mode x.file
@@ -144,7 +157,8 @@ module _ {S F D G K : Type 0} {stores : StoreMeaning S D} {sources : SourceMeani
   pub record StoresKept (snapshot : Snapshot programs) (x : OpenEnd) (draft : D) : Type 0 where
     pub receiver : is_sender x.state.role.side ≡ false
     pub drafted : stores.drafted draft ≡ Some (record { bytes = x.stored; committed = x.committed })
-    pub stays : programs.server.start.server.config.overwrite ≡ false → is_complete x.state.position.phase ≡ true → IsStored stores snapshot.state x.path x.stored
+    pub stays : programs.server.start.server.config.overwrite ≡ false → is_complete x.state.position.phase ≡ true →
+        IsStored stores snapshot.state x.path x.stored
 
   -- the transfer was opened so at its place
   pub record IsOpened (snapshot : Snapshot programs) (x : OpenEnd) : Type 0 where
@@ -173,7 +187,8 @@ module _ {S F D G K : Type 0} {stores : StoreMeaning S D} {sources : SourceMeani
   HasStored (By_run pad) snapshot x (Sink draft) = StoresMoved snapshot x
 
   -- the end of a transfer, held or removed, which is at its port, or a stranger's
-  pub record TransferKept (how : How) (views : List EndView) (messages : List Message) (snapshot : Snapshot programs) (port : ℕ) (transfer : HeldTransfer F D) (a : Endpoint) : Type 0 where
+  pub record TransferKept (how : How) (views : List EndView) (messages : List Message) (snapshot : Snapshot programs)
+      (port : ℕ) (transfer : HeldTransfer F D) (a : Endpoint) : Type 0 where
     pub end : OpenEnd
     pub address : end.address ≡ a
     pub seat : (a ≡ endpoint programs.server.ip port) ⊎ IsStrangers end.state
@@ -198,9 +213,13 @@ module _ {S F D G K : Type 0} {stores : StoreMeaning S D} {sources : SourceMeani
         HasArrived messages from (requests_at stores sources programs.server) bytes
     pub once : AreKeyedOnce snapshot.state.server.held
     -- no two transfers that are held are at one place, and none is where one was removed
-    pub seats : (p q : ℕ) (t u : HeldTransfer F D) → at p snapshot.state.server.held ≡ Some t → at q snapshot.state.server.held ≡ Some u → place_at programs p snapshot.run ≡ place_at programs q snapshot.run → p ≡ q
-    pub gone : (p q : ℕ) (t u : HeldTransfer F D) (a : Endpoint) → HasClosed programs snapshot.run p t a → at q snapshot.state.server.held ≡ Some u → a ≢ place_at programs q snapshot.run
-    pub opened : (port : ℕ) (transfer : HeldTransfer F D) (a : Endpoint) → HasTransferBy snapshot port transfer a → Contains (places programs snapshot.run) a
+    pub seats : (p q : ℕ) (t u : HeldTransfer F D) → at p snapshot.state.server.held ≡ Some t →
+        at q snapshot.state.server.held ≡ Some u → place_at programs p snapshot.run ≡ place_at programs q snapshot.run →
+        p ≡ q
+    pub gone : (p q : ℕ) (t u : HeldTransfer F D) (a : Endpoint) → HasClosed programs snapshot.run p t a →
+        at q snapshot.state.server.held ≡ Some u → a ≢ place_at programs q snapshot.run
+    pub opened : (port : ℕ) (transfer : HeldTransfer F D) (a : Endpoint) → HasTransferBy snapshot port transfer a →
+        Contains (places programs snapshot.run) a
 
   -- the endpoint of a client that has asked
   pub record IsOfClient (snapshot : Snapshot programs) (a : Endpoint) : Type 0 where
@@ -226,30 +245,41 @@ module _ {S F D G K : Type 0} {stores : StoreMeaning S D} {sources : SourceMeani
     pub messages : List Message
     pub shown : IsShown (joined programs) views messages
     -- what was sent is there, unless it is for a stranger
-    pub sent : (from to : Endpoint) (bytes : List ℕ) → WasSentBefore programs snapshot from to bytes → IsThere messages from to bytes ⊎ IsStranger stores sources inputs outputs programs to
+    pub sent : (from to : Endpoint) (bytes : List ℕ) → WasSentBefore programs snapshot from to bytes →
+        IsThere messages from to bytes ⊎ IsStranger stores sources inputs outputs programs to
     pub server : ServerKept how messages snapshot
-    pub clients : (k : ℕ) (client : ClientProgram inputs outputs (requests_at stores sources programs.server)) (stage : ClientStage G K) →
-        slice_get programs.clients k ≡ Some client → slice_get snapshot.clients k ≡ Some stage → StageKept how views messages client stage
-    pub transfers : (port : ℕ) (transfer : HeldTransfer F D) (a : Endpoint) → HasTransferBy snapshot port transfer a → TransferKept how views messages snapshot port transfer a
+    pub clients : (k : ℕ) (client : ClientProgram inputs outputs (requests_at stores sources programs.server))
+        (stage : ClientStage G K) →
+        slice_get programs.clients k ≡ Some client → slice_get snapshot.clients k ≡ Some stage →
+        StageKept how views messages client stage
+    pub transfers : (port : ℕ) (transfer : HeldTransfer F D) (a : Endpoint) → HasTransferBy snapshot port transfer a →
+        TransferKept how views messages snapshot port transfer a
     -- the view of an end at an endpoint is the only one there, so this determines it
-    pub only : (view : EndView) → IsAmong views view → IsOfClient snapshot view.address ⊎ IsOfTransfer snapshot view.address
+    pub only : (view : EndView) → IsAmong views view →
+        IsOfClient snapshot view.address ⊎ IsOfTransfer snapshot view.address
 
-  -- what has moved so far at the place of a transfer that was opened begins what moved there in all, at the same transfer
+  -- what has moved so far at the place of a transfer that was opened begins what moved there in all, at the same
+  -- transfer
   pub record IsToldAt (snapshot : Snapshot programs) (a : Endpoint) : Type 0 where
     pub bytes : IsBeginningOf (moved_at programs a snapshot.run).bytes (moved_at programs a programs.server.run).bytes
     pub opened : opened_at programs a snapshot.run ≡ opened_at programs a programs.server.run
 
-  -- what the steps need: ports of the clients' transfers so far that no two ends have, below the places of others, and that what has moved so far begins what moved in all
+  -- what the steps need: ports of the clients' transfers so far that no two ends have, below the places of others, and
+  -- that what has moved so far begins what moved in all
   pub record IsFreshBy (snapshot : Snapshot programs) : Type 0 where
     pub server : AreDistinct (programs.server.start.requests ∷ our_ports programs snapshot.run)
     pub below : (port : ℕ) → Contains (our_ports programs snapshot.run) port → port < above programs
     pub clients : (j k : ℕ) (x y : ClientProgram inputs outputs (requests_at stores sources programs.server)) →
         slice_get programs.clients j ≡ Some x → slice_get programs.clients k ≡ Some y →
-        client_at inputs outputs (requests_at stores sources programs.server) x ≡ client_at inputs outputs (requests_at stores sources programs.server) y → j ≡ k
+        client_at inputs outputs (requests_at stores sources programs.server) x ≡ client_at inputs outputs
+        (requests_at stores sources programs.server) y → j ≡ k
     pub apart : (k port : ℕ) (x : ClientProgram inputs outputs (requests_at stores sources programs.server)) →
-        slice_get programs.clients k ≡ Some x → Contains (programs.server.start.requests ∷ our_ports programs snapshot.run) port →
+        slice_get programs.clients k ≡ Some x →
+        Contains (programs.server.start.requests ∷ our_ports programs snapshot.run) port →
         client_at inputs outputs (requests_at stores sources programs.server) x ≢ endpoint programs.server.ip port
     pub told : (a : Endpoint) → Contains (places programs snapshot.run) a → IsToldAt snapshot a
-    pub gave : (k : ℕ) (client : ClientProgram inputs outputs (requests_at stores sources programs.server)) (s : State) (files : Files G K) (noted : List Event) (moved : Moved) →
-        slice_get programs.clients k ≡ Some client → slice_get snapshot.clients k ≡ Some (Has_asked s files noted moved) →
+    pub gave : (k : ℕ) (client : ClientProgram inputs outputs (requests_at stores sources programs.server)) (s : State)
+        (files : Files G K) (noted : List Event) (moved : Moved) →
+        slice_get programs.clients k ≡ Some client →
+        slice_get snapshot.clients k ≡ Some (Has_asked s files noted moved) →
         IsBeginningOf moved.bytes (moved_in client.runs).bytes

@@ -1,4 +1,5 @@
--- An answer to a client that has no peer comes from the server: a client's DATA, ACK or OACK goes to its peer, which is at the server.
+-- An answer to a client that has no peer comes from the server: a client's DATA, ACK or OACK goes to its peer, which is
+-- at the server.
 use Rattle.std.proofs.Common.{◌≡◌, true, Some, sym, ap, ◌∙◌, subst, inl, inr, List}
 use Rattle.std.specs.Prelude.{◌≢◌}
 use Rattle.std.specs.List.{Contains}
@@ -14,11 +15,14 @@ use Rattle.tftp_machine.specs.Shows.{EndView, IsShown}
 use Rattle.tftp_machine.proofs.Shown.{shown_by}
 
 module _ (network : Network) where
-  module _ (m : Machine) (holds : Holds network m) (from to : Endpoint) (at_client : network.host_of to ≡ At_client) where
+  module _ (m : Machine) (holds : Holds network m) (from to : Endpoint)
+      (at_client : network.host_of to ≡ At_client) where
     -- the peer of a client is at the server
     from_peer : (m.party from).is_open ≡ true → (m.party from).peer ≡ Some to → network.host_of from ≡ At_server
     from_peer opened peer = elim (cases_Bool (m.party from).client) [
-      | inl client ↦ absurd (let there : At_server ≡ At_client = sym ((holds.ends from opened).serving client to peer).0 ∙ at_client in cc)
+      | inl client ↦
+          absurd (let there : At_server ≡ At_client = sym ((holds.ends from opened).serving client to peer).0
+          ∙ at_client in cc)
       | inr server ↦ (holds.ends from opened).at_home ∙ ap home server
     ]
 
@@ -30,7 +34,8 @@ module _ (network : Network) where
     by_packet (Error code text) answer h = absurd answer
     by_packet (Oack options) answer h = from_peer h.is_open h.peer
 
-  pub answer_from_server : (views : List EndView) (messages : List Message) → IsShown network views messages → (from to : Endpoint) → network.host_of from ≢ Elsewhere → network.host_of to ≡ At_client →
+  pub answer_from_server : (views : List EndView) (messages : List Message) → IsShown network views messages →
+      (from to : Endpoint) → network.host_of from ≢ Elsewhere → network.host_of to ≡ At_client →
       (p : WirePacket) → IsAnswer p → Contains messages (message from to (said p)) → network.host_of from ≡ At_server
   answer_from_server views messages shown from to somewhere at_client p answer come =
       let by = shown_by network views messages shown in

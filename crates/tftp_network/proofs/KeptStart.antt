@@ -13,28 +13,36 @@ use Rattle.tftp_network.specs.Joint.{WasSentBefore}
 use Rattle.tftp_network.specs.Order.{Programs, IsStranger}
 use Rattle.tftp_network.specs.Promises.{joined}
 use Rattle.tftp_network.specs.Snapshots.{ClientStage, Unasked, noted_by, nothing_done}
-use Rattle.tftp_network.proofs.Kept.{How, By_models, By_run, IsKnown, IsThere, AreKeyedOnce, HasTransferBy, StageKept, IsKept}
+use Rattle.tftp_network.proofs.Kept.{How, By_models, By_run, IsKnown, IsThere, AreKeyedOnce, HasTransferBy, StageKept}
+use Rattle.tftp_network.proofs.Kept.{IsKept}
 use Rattle.tftp_network.proofs.KeptEvents.{nothing_in}
 
 -- no client has asked
-unasked_at : {C G K : Type 0} (clients : List C) (k : ℕ) (stage : ClientStage G K) → slice_get (map (λ (client : C). Unasked) clients) k ≡ Some stage → Unasked ≡ stage
+unasked_at : {C G K : Type 0} (clients : List C) (k : ℕ) (stage : ClientStage G K) →
+    slice_get (map (λ (client : C). Unasked) clients) k ≡ Some stage → Unasked ≡ stage
 unasked_at [] k stage e = absurd (let f : None ≡ Some stage = e in cc)
 unasked_at (c ∷ clients) zero stage e = let f : Some Unasked ≡ Some stage = e in cc
 unasked_at (c ∷ clients) (suc k) stage e = unasked_at clients k stage e
 
-module _ {S F D G K : Type 0} {stores : StoreMeaning S D} {sources : SourceMeaning F} {inputs : SourceMeaning G} {outputs : SinkMeaning K}
+module _ {S F D G K : Type 0} {stores : StoreMeaning S D} {sources : SourceMeaning F} {inputs : SourceMeaning G}
+    {outputs : SinkMeaning K}
     (programs : Programs stores sources inputs outputs) where
   -- nothing was sent
-  nothing_sent : (from to : Endpoint) (bytes : List ℕ) → WasSentBefore programs (nothing_done programs) from to bytes → IsThere [] from to bytes ⊎ IsStranger stores sources inputs outputs programs to
+  nothing_sent : (from to : Endpoint) (bytes : List ℕ) → WasSentBefore programs (nothing_done programs) from to bytes →
+      IsThere [] from to bytes ⊎ IsStranger stores sources inputs outputs programs to
   nothing_sent from to bytes (inl h) = absurd (nothing_in (Sent h.port to bytes) h.sent)
   nothing_sent from to bytes (inr h) =
-      absurd (nothing_in (Sent h.port to bytes) (subst (λ (s : ClientStage G K). Contains (noted_by s) (Sent h.port to bytes)) (sym (unasked_at programs.clients h.k h.stage h.is_stage)) h.sent))
+      absurd (nothing_in (Sent h.port to bytes)
+      (subst (λ (s : ClientStage G K). Contains (noted_by s) (Sent h.port to bytes))
+      (sym (unasked_at programs.clients h.k h.stage h.is_stage)) h.sent))
 
   -- no transfer is held, and none was removed
-  nothing_held : (port : ℕ) (transfer : HeldTransfer F D) → at port programs.server.start.server.held ≡ Some transfer → ⊥
+  nothing_held : (port : ℕ) (transfer : HeldTransfer F D) → at port programs.server.start.server.held ≡ Some transfer →
+      ⊥
   nothing_held port transfer e = let f : None ≡ Some transfer = ap (at port) (sym programs.server.empty) ∙ e in cc
 
-  no_transfer : (port : ℕ) (transfer : HeldTransfer F D) (a : Endpoint) → HasTransferBy programs (nothing_done programs) port transfer a → ⊥
+  no_transfer : (port : ℕ) (transfer : HeldTransfer F D) (a : Endpoint) →
+      HasTransferBy programs (nothing_done programs) port transfer a → ⊥
   no_transfer port transfer a (inl e) = nothing_held port transfer e.0
   no_transfer port transfer a (inr closed) = closed
 
@@ -58,7 +66,9 @@ module _ {S F D G K : Type 0} {stores : StoreMeaning S D} {sources : SourceMeani
       gone = λ p q t u a h. absurd h;
       opened = λ port transfer a h. absurd (no_transfer port transfer a h);
     };
-    clients = λ k client stage found e. subst (λ (s : ClientStage G K). StageKept programs how [] [] client s) (unasked_at programs.clients k stage e) tt;
+    clients =
+        λ k client stage found e. subst (λ (s : ClientStage G K). StageKept programs how [] [] client s)
+        (unasked_at programs.clients k stage e) tt;
     transfers = λ port transfer a h. absurd (no_transfer port transfer a h);
     only = λ view among. absurd (let f : None ≡ Some view = among.1 in cc);
   }

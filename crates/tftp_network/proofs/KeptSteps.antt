@@ -8,7 +8,8 @@ use Rattle.tftp_network.proofs.KeptOpenings.{request_keeps}
 use Rattle.tftp_network.proofs.KeptRuns.{ServerStepsKeep}
 use Rattle.tftp_network.proofs.KeptServes.{AnswersKeep, serves_keep}
 
-module _ {S F D G K : Type 0} {stores : StoreMeaning S D} {sources : SourceMeaning F} {inputs : SourceMeaning G} {outputs : SinkMeaning K}
+module _ {S F D G K : Type 0} {stores : StoreMeaning S D} {sources : SourceMeaning F} {inputs : SourceMeaning G}
+    {outputs : SinkMeaning K}
     (programs : Programs stores sources inputs outputs) (how : How programs) where
   -- a request that the server answers
   pub answers_keep : AnswersKeep programs how

@@ -1,4 +1,5 @@
--- What a step receives is among the messages: it was sent before, or it is a stranger's, whose message may be added at any time.
+-- What a step receives is among the messages: it was sent before, or it is a stranger's, whose message may be added at
+-- any time.
 use Rattle.std.proofs.Common.{ℕ, List, [], ◌∷◌, ◌++◌, subst, inl, inr}
 use Rattle.std.specs.Prelude.{◌⊎◌}
 use Rattle.std.specs.List.{Contains}
@@ -29,14 +30,18 @@ use Rattle.tftp_network.proofs.Kept.{How, HasArrived, IsThere, IsKept, StageKept
 use Rattle.tftp_network.proofs.KeptViews.{arrived_still, sent_still, there_says, viewed_still}
 use Rattle.tftp_network.proofs.Places.{strangers_elsewhere}
 
-module _ {S F D G K : Type 0} {stores : StoreMeaning S D} {sources : SourceMeaning F} {inputs : SourceMeaning G} {outputs : SinkMeaning K}
-    (programs : Programs stores sources inputs outputs) {how : How programs} (snapshot : Snapshot programs) (kept : IsKept programs how snapshot) where
+module _ {S F D G K : Type 0} {stores : StoreMeaning S D} {sources : SourceMeaning F} {inputs : SourceMeaning G}
+    {outputs : SinkMeaning K}
+    (programs : Programs stores sources inputs outputs) {how : How programs} (snapshot : Snapshot programs)
+    (kept : IsKept programs how snapshot) where
   abbrev Client : Type 0
   Client = ClientProgram inputs outputs (requests_at stores sources programs.server)
 
   -- a message more changes no end
   module _ (more : List Message) where
-    stage_still : (client : Client) (stage : ClientStage G K) → StageKept programs how kept.views kept.messages client stage → StageKept programs how kept.views (kept.messages ++ more) client stage
+    stage_still : (client : Client) (stage : ClientStage G K) →
+        StageKept programs how kept.views kept.messages client stage →
+        StageKept programs how kept.views (kept.messages ++ more) client stage
     stage_still client Unasked h = tt
     stage_still client (Has_asked s files noted moved) h = record {
       end = h.end;
@@ -47,7 +52,8 @@ module _ {S F D G K : Type 0} {stores : StoreMeaning S D} {sources : SourceMeani
       has = h.has;
     }
 
-    transfer_still : (port : ℕ) (transfer : HeldTransfer F D) (a : Endpoint) → TransferKept programs how kept.views kept.messages snapshot port transfer a →
+    transfer_still : (port : ℕ) (transfer : HeldTransfer F D) (a : Endpoint) →
+        TransferKept programs how kept.views kept.messages snapshot port transfer a →
         TransferKept programs how kept.views (kept.messages ++ more) snapshot port transfer a
     transfer_still port transfer a h = record {
       end = h.end;
@@ -62,7 +68,8 @@ module _ {S F D G K : Type 0} {stores : StoreMeaning S D} {sources : SourceMeani
     }
 
   -- one that may be said at any time
-  said_kept : (m : Message) → IsShown (joined programs) kept.views (kept.messages ++ m ∷ []) → IsKept programs how snapshot
+  said_kept : (m : Message) → IsShown (joined programs) kept.views (kept.messages ++ m ∷ []) →
+      IsKept programs how snapshot
   said_kept m shown =
       record {
         views = kept.views;
@@ -73,7 +80,9 @@ module _ {S F D G K : Type 0} {stores : StoreMeaning S D} {sources : SourceMeani
           requests = kept.server.requests;
           config = kept.server.config;
           known = kept.server.known;
-          pending = λ a bs e. arrived_still kept.messages (m ∷ []) a (requests_at stores sources programs.server) bs (kept.server.pending a bs e);
+          pending =
+              λ a bs e. arrived_still kept.messages (m ∷ []) a (requests_at stores sources programs.server) bs
+              (kept.server.pending a bs e);
           once = kept.server.once;
           seats = kept.server.seats;
           gone = kept.server.gone;
@@ -85,15 +94,20 @@ module _ {S F D G K : Type 0} {stores : StoreMeaning S D} {sources : SourceMeani
       }
 
   -- a stranger's datagram
-  stray_kept : (from to : Endpoint) (bytes : List ℕ) → IsStranger stores sources inputs outputs programs from → IsKept programs how snapshot
+  stray_kept : (from to : Endpoint) (bytes : List ℕ) → IsStranger stores sources inputs outputs programs from →
+      IsKept programs how snapshot
   stray_kept from to bytes stranger =
       let m : Message = message from to (said (packet_in bytes)) in
-      let now = strays (joined programs) kept.shown.0 kept.views kept.messages kept.shown.1 m ((strangers_elsewhere programs from).1 stranger) in
+      let now =
+      strays (joined programs) kept.shown.0 kept.views kept.messages kept.shown.1 m
+      ((strangers_elsewhere programs from).1 stranger) in
       said_kept m (kept.shown.0 ++ now.0, now.2)
 
-  stray_arrived : (from to : Endpoint) (bytes : List ℕ) → HasArrived (kept.messages ++ message from to (said (packet_in bytes)) ∷ []) from to bytes
+  stray_arrived : (from to : Endpoint) (bytes : List ℕ) →
+      HasArrived (kept.messages ++ message from to (said (packet_in bytes)) ∷ []) from to bytes
   stray_arrived from to bytes p spells =
-      subst (λ (q : WirePacket). Contains (kept.messages ++ message from to (said (packet_in bytes)) ∷ []) (message from to (said q))) (spelled_is_found p bytes spells)
+      subst (λ (q : WirePacket). Contains (kept.messages ++ message from to (said (packet_in bytes)) ∷ [])
+      (message from to (said q))) (spelled_is_found p bytes spells)
       (Contains-push kept.messages (message from to (said (packet_in bytes))))
 
   -- the invariant, with what has arrived
@@ -101,12 +115,16 @@ module _ {S F D G K : Type 0} {stores : StoreMeaning S D} {sources : SourceMeani
     pub now : IsKept programs how snapshot
     pub come : HasArrived now.messages from to bytes
 
-  pub strays_in : (from to : Endpoint) (bytes : List ℕ) → IsStranger stores sources inputs outputs programs from → Arrived from to bytes
+  pub strays_in : (from to : Endpoint) (bytes : List ℕ) → IsStranger stores sources inputs outputs programs from →
+      Arrived from to bytes
   unfolding stray_kept said_kept
-  strays_in from to bytes stranger = record { now = stray_kept from to bytes stranger; come = stray_arrived from to bytes }
+  strays_in from to bytes stranger =
+      record { now = stray_kept from to bytes stranger; come = stray_arrived from to bytes }
 
   -- what a program receives
-  pub arrives : (from to : Endpoint) (bytes : List ℕ) → (IsStranger stores sources inputs outputs programs to → ⊥) → WasSentBefore programs snapshot from to bytes ⊎ IsStranger stores sources inputs outputs programs from → Arrived from to bytes
+  pub arrives : (from to : Endpoint) (bytes : List ℕ) → (IsStranger stores sources inputs outputs programs to → ⊥) →
+      WasSentBefore programs snapshot from to bytes ⊎ IsStranger stores sources inputs outputs programs from →
+      Arrived from to bytes
   arrives from to bytes ours (inl sent) = elim (kept.sent from to bytes sent) [
     | inl there ↦ record { now = kept; come = there_says kept.messages from to bytes there }
     | inr strange ↦ absurd (ours strange)
@@ -124,5 +142,10 @@ module _ {S F D G K : Type 0} {stores : StoreMeaning S D} {sources : SourceMeani
       let shown = says_error (joined programs) kept.shown.0 kept.views kept.messages kept.shown.1 from to in
       record {
         now = said_kept (message from to Says_an_error) (kept.shown.0 ++ shown.0, shown.2);
-        there = (error_packet reply, spells_own (error_packet reply) (valid_error reply), Contains-push kept.messages (message from to Says_an_error));
+        there = (
+          error_packet reply,
+          spells_own (error_packet reply) (valid_error reply),
+          Contains-push kept.messages
+              (message from to Says_an_error),
+        );
       }

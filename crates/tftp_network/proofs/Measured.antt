@@ -12,5 +12,6 @@ counted_whole : (n size : ℕ) → size ≤ MAX_BLOCK → min n (MAX_WIRE + 1) <
 counted_whole n size small few = omega arith
 
 -- a file whose blocks can be numbered was measured to its end
-pub measured_whole : (mode : Mode) (file : List ℕ) (size : ℕ) → size ≤ MAX_BLOCK → measured mode file < 65535 * size → measured mode file ≡ length (wire_text mode file)
+pub measured_whole : (mode : Mode) (file : List ℕ) (size : ℕ) → size ≤ MAX_BLOCK → measured mode file < 65535 * size →
+    measured mode file ≡ length (wire_text mode file)
 measured_whole mode file size small few = counted_whole (length (wire_text mode file)) size small few

@@ -30,22 +30,34 @@ module _ {S F D : Type 0} (stores : StoreMeaning S D) (sources : SourceMeaning F
   GotSo (Sink draft) x moved = (is_sender x.state.role.side ≡ false) × TookSo x moved
 
   -- a step over what moves
-  pub record MovesOver (x : OpenEnd) (from : Endpoint) (bytes : List ℕ) (turn : Turn) (files' : Files F D) (moved : Moved) : Type 0 where
+  pub record MovesOver (x : OpenEnd) (from : Endpoint) (bytes : List ℕ) (turn : Turn) (files' : Files F D)
+      (moved : Moved) : Type 0 where
     pub content : Files (List ℕ) Holding
     pub steps : DatagramStep known_source known_sink from bytes x.state (files_of x) turn content
     pub got : GotSo files' (end_after x turn content) moved
 
-  module _ (x : OpenEnd) (network : Network) (kept : EndKept network x) (still : outcome_of x.state.position.phase ≡ None) (from : Endpoint) (bytes : List ℕ) (turn : Turn)
-      (store store' : S) (path path' : List ℕ) (replace : Bool) (pad : ℕ) (all : List ℕ) (text : is_sender x.state.role.side ≡ true → x.text ≡ pad_to pad x.state.role.length all) (moved : Moved) where
-    pub files_move : (files files' : Files F D) → AreSame (λ (a b : F). ⊤) (λ (a b : D). ⊤) files files' → GotSo files x moved →
-        (step : StepIn stores sources from bytes x.state (files_in store path replace files) turn (files_in store' path' replace files')) →
-        IsBeginningOf (step_moves sources (drafting_sink stores) from bytes x.state (files_in store path replace files) turn (files_in store' path' replace files') step moved).bytes all →
-        MovesOver x from bytes turn files' (step_moves sources (drafting_sink stores) from bytes x.state (files_in store path replace files) turn (files_in store' path' replace files') step moved)
+  module _ (x : OpenEnd) (network : Network) (kept : EndKept network x)
+      (still : outcome_of x.state.position.phase ≡ None) (from : Endpoint) (bytes : List ℕ) (turn : Turn)
+      (store store' : S) (path path' : List ℕ) (replace : Bool) (pad : ℕ) (all : List ℕ)
+      (text : is_sender x.state.role.side ≡ true → x.text ≡ pad_to pad x.state.role.length all)
+      (moved : Moved) where
+    pub files_move : (files files' : Files F D) → AreSame (λ (a b : F). ⊤) (λ (a b : D). ⊤) files files' →
+        GotSo files x moved →
+        (step : StepIn stores sources from bytes x.state (files_in store path replace files) turn
+        (files_in store' path' replace files')) →
+        IsBeginningOf (step_moves sources (drafting_sink stores) from bytes x.state (files_in store path replace files)
+        turn (files_in store' path' replace files') step moved).bytes all →
+        MovesOver x from bytes turn files' (step_moves sources (drafting_sink stores) from bytes x.state
+        (files_in store path replace files) turn (files_in store' path' replace files') step moved)
     files_move (Source source) (Source source') kind h step told =
-        let m = source_moves sources (drafting_sink stores) x from source source' turn moved h.1 still pad all (text h.0) network kept h.0 bytes step told in
+        let m =
+        source_moves sources (drafting_sink stores) x from source source' turn moved h.1 still pad all
+        (text h.0) network kept h.0 bytes step told in
         record {
           content = Source m.left;
-          steps = subst (λ (f : Files (List ℕ) Holding). DatagramStep known_source known_sink from bytes x.state f turn (Source m.left)) (source_is x h.0) m.steps;
+          steps =
+              subst (λ (f : Files (List ℕ) Holding). DatagramStep known_source known_sink from bytes x.state f turn
+              (Source m.left)) (source_is x h.0) m.steps;
           got = (h.0, m.gave);
         }
     files_move (Sink draft) (Sink draft') kind h step told =
@@ -54,7 +66,9 @@ module _ {S F D : Type 0} (stores : StoreMeaning S D) (sources : SourceMeaning F
         let m = sink_moves sources (drafting_sink stores) from turn x moved h.1 d d' bytes step in
         record {
           content = Sink m.after;
-          steps = subst (λ (f : Files (List ℕ) Holding). DatagramStep known_source known_sink from bytes x.state f turn (Sink m.after)) (sink_is x h.0) m.steps;
+          steps =
+              subst (λ (f : Files (List ℕ) Holding). DatagramStep known_source known_sink from bytes x.state f turn
+              (Sink m.after)) (sink_is x h.0) m.steps;
           got = (h.0, m.took);
         }
     files_move (Source source) (Sink draft') kind h step told = absurd kind

@@ -1,5 +1,7 @@
 -- A step of a sender over any source is one over the text that the finished run tells.
-use Rattle.std.proofs.Common.{◌≡◌, ℕ, ◌+◌, ◌-◌, ◌*◌, ◌/◌, ◌≤◌, Bool, true, false, List, [], ◌++◌, append_assoc, append-nil, length, take, drop, Option, Some, None, Result, Ok, Err, refl, sym, ap, ◌∙◌, subst, arith}
+use Rattle.std.proofs.Common.{◌≡◌, ℕ, ◌+◌, ◌-◌, ◌*◌, ◌/◌, ◌≤◌, Bool, true, false, List, [], ◌++◌, append_assoc}
+use Rattle.std.proofs.Common.{append-nil, length, take, drop, Option, Some, None, Result, Ok, Err, refl, sym, ap, ◌∙◌}
+use Rattle.std.proofs.Common.{subst, arith}
 use Rattle.std.specs.Prelude.{◌≢◌, ◌&&◌, ◌==◌, if◌then◌else◌, is_none, nat_lt}
 use Rattle.std.proofs.lemmas.Bool.{true≢false, eqb-true}
 use Rattle.std.proofs.lemmas.List.{length-append, length-drop, length-take}
@@ -30,8 +32,10 @@ use Rattle.tftp_ends.specs.declared.phase.Terms.{Terms}
 use Rattle.tftp_ends.specs.Action.{datagram_action, packet_action, garbled_response, is_stranger}
 use Rattle.tftp_ends.specs.End.{is_sender, is_client, outcome_of, terms_of}
 use Rattle.tftp_ends.specs.Sender.{sender_action, illegal_action}
-use Rattle.tftp_ends.specs.Step.{Turn, Sends, Acts, DatagramStep, block_length, data_bytes, filled_turn, refused_turn, result_count_is, sent_turn}
-use Rattle.tftp_ends.specs.Waiting.{agreed_terms, begin_action, begin_with_action, default_terms, no_answer, reader_action, writer_action}
+use Rattle.tftp_ends.specs.Step.{Turn, Sends, Acts, DatagramStep, block_length, data_bytes, filled_turn, refused_turn}
+use Rattle.tftp_ends.specs.Step.{result_count_is, sent_turn}
+use Rattle.tftp_ends.specs.Waiting.{agreed_terms, begin_action, begin_with_action, default_terms, no_answer}
+use Rattle.tftp_ends.specs.Waiting.{reader_action, writer_action}
 use Rattle.tftp_machine.specs.EndKept.{EndKept, PhaseKept, IsUnderWay}
 use Rattle.tftp_machine.specs.KnownFiles.{known_source, known_sink}
 use Rattle.tftp_machine.specs.Machine.{Network}
@@ -65,7 +69,8 @@ module _ (x : OpenEnd) (sender : is_sender x.state.role.side ≡ true) (from : E
   module _ (left : x.left ≡ x.text) (measured : x.state.role.length ≡ length x.text) where
     begins : (terms : Terms) → Within (begin_action x.state.role.length terms)
     begins terms =
-        if_acts Within (nat_lt x.state.role.length (65535 * terms.size)) (Send terms 1) (Respond (Refuse None FileTooLarge outcomes.TooLarge))
+        if_acts Within (nat_lt x.state.role.length (65535 * terms.size)) (Send terms 1)
+        (Respond (Refuse None FileTooLarge outcomes.TooLarge))
         (λ b. first_within x.state.role.length terms.size (length x.left) (measured ∙ ap length (sym left))) (λ b. tt)
 
     agreed : (a : Result (List Known) Refusal) → Within (begin_with_action from x.state.role.length a)
@@ -75,13 +80,15 @@ module _ (x : OpenEnd) (sender : is_sender x.state.role.side ≡ true) (from : E
     agreed (Err refusals.NotAsked) = tt
     agreed (Err refusals.BadValue) = tt
 
-    writes : (asked : Asked) (limit : ℕ) (decoded : Option WirePacket) → Within (writer_action x.state.role.mode asked limit x.state.role.length from decoded)
+    writes : (asked : Asked) (limit : ℕ) (decoded : Option WirePacket) →
+        Within (writer_action x.state.role.mode asked limit x.state.role.length from decoded)
     writes asked limit None = tt
     writes asked limit (Some (Read r)) = tt
     writes asked limit (Some (Write r)) = tt
     writes asked limit (Some (Data number bytes)) = tt
     writes asked limit (Some (Ack number)) =
-        if_acts Within (number == 0) (begin_action x.state.role.length (default_terms from)) no_answer (λ b. begins (default_terms from)) (λ b. tt)
+        if_acts Within (number == 0) (begin_action x.state.role.length (default_terms from)) no_answer
+        (λ b. begins (default_terms from)) (λ b. tt)
     writes asked limit (Some (Error code text)) = tt
     writes asked limit (Some (Oack options)) = agreed (agreement asked kinds.Write x.state.role.mode options limit)
 
@@ -94,25 +101,32 @@ module _ (x : OpenEnd) (sender : is_sender x.state.role.side ≡ true) (from : E
         let e = ap (λ (t : List ℕ). length t) u.left in
         omega (arith, within, l, e)
 
-    acks : (acked : ℕ) → Within (sender_action (is_client x.state.role.side) x.state.role.length terms n (Some (Ack acked)))
+    acks : (acked : ℕ) → Within (sender_action (is_client x.state.role.side) x.state.role.length terms n
+        (Some (Ack acked)))
     acks acked =
-        if_acts Within (acked == n) (if nat_lt n (x.state.role.length / terms.size + 1) then Send terms (n + 1) else Respond Complete) (if nat_lt acked n then Respond Ignore else illegal_action terms)
-        (λ b. if_acts Within (nat_lt n (x.state.role.length / terms.size + 1)) (Send terms (n + 1)) (Respond Complete) (λ c. more) (λ c. tt))
+        if_acts Within (acked == n) (if nat_lt n (x.state.role.length / terms.size + 1) then Send terms (n + 1) else
+        Respond Complete) (if nat_lt acked n then Respond Ignore else illegal_action terms)
+        (λ b. if_acts Within (nat_lt n (x.state.role.length / terms.size + 1)) (Send terms (n + 1)) (Respond Complete)
+        (λ c. more) (λ c. tt))
         (λ b. if_acts Within (nat_lt acked n) (Respond Ignore) (illegal_action terms) (λ c. tt) (λ c. tt))
 
-    sends : (decoded : Option WirePacket) → Within (sender_action (is_client x.state.role.side) x.state.role.length terms n decoded)
+    sends : (decoded : Option WirePacket) →
+        Within (sender_action (is_client x.state.role.side) x.state.role.length terms n decoded)
     sends None = tt
     sends (Some (Read r)) = tt
     sends (Some (Write r)) = tt
     sends (Some (Data number bytes)) = tt
     sends (Some (Ack acked)) = acks acked
     sends (Some (Error code text)) = tt
-    sends (Some (Oack options)) = if_acts Within (is_client x.state.role.side && terms.by_oack) (Respond Ignore) (illegal_action terms) (λ b. tt) (λ b. tt)
+    sends (Some (Oack options)) =
+        if_acts Within (is_client x.state.role.side && terms.by_oack) (Respond Ignore) (illegal_action terms) (λ b. tt)
+        (λ b. tt)
 
   module _ (network : Network) (decoded : Option WirePacket) where
     by_phase : (phase : Phase) → PhaseKept network x phase → Within (packet_action x.state from decoded phase)
     by_phase (Waiting asked limit) h =
-        if_acts Within (is_sender x.state.role.side) (writer_action x.state.role.mode asked limit x.state.role.length from decoded) (reader_action x.state.role.mode asked limit from decoded)
+        if_acts Within (is_sender x.state.role.side) (writer_action x.state.role.mode asked limit x.state.role.length
+        from decoded) (reader_action x.state.role.mode asked limit from decoded)
         (λ s. writes h.3 (h.5 s) asked limit decoded) (λ r. absurd (true≢false (sym sender ∙ r)))
     by_phase (Sending terms n) u = sends terms n u decoded
     by_phase (Receiving terms n) h = absurd (true≢false (sym sender ∙ h.0))
@@ -121,10 +135,14 @@ module _ (x : OpenEnd) (sender : is_sender x.state.role.side ≡ true) (from : E
 
     pub reads_within : (bytes : List ℕ) → EndKept network x → Within (datagram_action x.state from bytes decoded)
     reads_within bytes kept =
-        if_acts Within (is_stranger (terms_of x.state.position.phase) x.state.position.last_sent_to from) (if has_error_opcode bytes then Respond Ignore else Respond Stranger)
-        (if has_error_opcode bytes && is_none decoded then Respond (garbled_response x.state.position.phase) else packet_action x.state from decoded x.state.position.phase)
+        if_acts Within (is_stranger (terms_of x.state.position.phase) x.state.position.last_sent_to from)
+        (if has_error_opcode bytes then Respond Ignore else Respond Stranger)
+        (if has_error_opcode bytes && is_none decoded then Respond (garbled_response x.state.position.phase) else
+        packet_action x.state from decoded x.state.position.phase)
         (λ b. if_acts Within (has_error_opcode bytes) (Respond Ignore) (Respond Stranger) (λ c. tt) (λ c. tt))
-        (λ b. if_acts Within (has_error_opcode bytes && is_none decoded) (Respond (garbled_response x.state.position.phase)) (packet_action x.state from decoded x.state.position.phase)
+        (λ b. if_acts Within (has_error_opcode bytes && is_none decoded)
+        (Respond (garbled_response x.state.position.phase))
+        (packet_action x.state from decoded x.state.position.phase)
         (λ c. tt) (λ c. by_phase x.state.position.phase kept.phase))
 
 -- ---- what was read
@@ -132,7 +150,8 @@ whole_answer : (want : ℕ) (answer : Result ℕ FileFault) → result_count_is 
 whole_answer want (Ok count) e = ap (λ (n : ℕ). Ok n) (eqb-true count want e)
 whole_answer want (Err fault) e = absurd (true≢false (sym e))
 
-pub piece_length : (before after : Option (List ℕ)) (want : ℕ) (piece : List ℕ) → Fills before after want [] piece (Ok want) → length piece ≡ want
+pub piece_length : (before after : Option (List ℕ)) (want : ℕ) (piece : List ℕ) →
+    Fills before after want [] piece (Ok want) → length piece ≡ want
 piece_length (Some left) after want piece f =
     let a = ap (λ (t : List ℕ). length t) f.given in
     let b = length-take want left in
@@ -155,47 +174,69 @@ pub record SourceMoves (x : OpenEnd) (turn : Turn) (moved : Moved) (P : List ℕ
   pub steps : P left
   pub gave : GaveSo (end_after x turn (Source left)) moved
 
-module _ {S K : Type 0} (sources : SourceMeaning S) (sinks : SinkMeaning K) (x : OpenEnd) (from : Endpoint) (s s' : S) (turn : Turn) (moved : Moved) (gave : GaveSo x moved)
-    (still : outcome_of x.state.position.phase ≡ None) (pad : ℕ) (all : List ℕ) (text : x.text ≡ pad_to pad x.state.role.length all) where
+module _ {S K : Type 0} (sources : SourceMeaning S) (sinks : SinkMeaning K) (x : OpenEnd) (from : Endpoint) (s s' : S)
+    (turn : Turn) (moved : Moved) (gave : GaveSo x moved)
+    (still : outcome_of x.state.position.phase ≡ None) (pad : ℕ) (all : List ℕ)
+    (text : x.text ≡ pad_to pad x.state.role.length all) where
   abbrev want : Terms → ℕ → ℕ
   want terms number = block_length x.state.role.length terms.size number
 
   -- the whole block was read
-  whole : (terms : Terms) (number : ℕ) (h : Sends sources terms number from x.state s turn s') → want terms number ≤ length x.left → result_count_is (want terms number) h.answer ≡ true →
-      IsBeginningOf (moved.bytes ++ h.piece) all → SourceMoves x turn (with_more h.piece moved.committed moved) (Sends known_source terms number from x.state x.left turn)
+  whole : (terms : Terms) (number : ℕ) (h : Sends sources terms number from x.state s turn s') →
+      want terms number ≤ length x.left → result_count_is (want terms number) h.answer ≡ true →
+      IsBeginningOf (moved.bytes ++ h.piece) all → SourceMoves x turn (with_more h.piece moved.committed moved)
+      (Sends known_source terms number from x.state x.left turn)
   whole terms number h within count told =
       let n = want terms number in
       let is = whole_answer n h.answer count in
-      let fills = subst (λ (r : Result ℕ FileFault). Fills (sources.left s) (sources.left s') n [] h.piece r) is h.reads.fills in
+      let fills =
+      subst (λ (r : Result ℕ FileFault). Fills (sources.left s) (sources.left s') n [] h.piece r) is
+      h.reads.fills in
       let long : length h.piece ≡ n = piece_length (sources.left s) (sources.left s') n h.piece fills in
       let all_left : moved.bytes ++ x.left ≡ x.text = gave.left still in
-      let measured : length x.text ≡ x.state.role.length = ap (λ (t : List ℕ). length t) text ∙ pad_length pad x.state.role.length all in
+      let measured : length x.text ≡ x.state.role.length =
+      ap (λ (t : List ℕ). length t) text ∙ pad_length pad x.state.role.length all in
       let a = length-append moved.bytes h.piece in
       let b = length-append moved.bytes x.left in
       let c = ap (λ (t : List ℕ). length t) all_left in
-      let short : length (moved.bytes ++ h.piece) ≤ x.state.role.length = omega (arith, a, b, c, long, within, measured) in
+      let short : length (moved.bytes ++ h.piece) ≤ x.state.role.length =
+      omega (arith, a, b, c, long, within, measured) in
       let begins : IsBeginningOf (moved.bytes ++ h.piece) x.text =
-      subst (λ (t : List ℕ). IsBeginningOf (moved.bytes ++ h.piece) t) (sym text) (begins_padded pad x.state.role.length (moved.bytes ++ h.piece) all told short) in
+      subst (λ (t : List ℕ). IsBeginningOf (moved.bytes ++ h.piece) t) (sym text)
+      (begins_padded pad x.state.role.length (moved.bytes ++ h.piece) all told short) in
       let next : IsBeginningOf h.piece x.left =
-      begins_after moved.bytes h.piece x.left (subst (λ (t : List ℕ). IsBeginningOf (moved.bytes ++ h.piece) t) (sym all_left) begins) in
-      let given : h.piece ≡ take n x.left = sym (begins_by_take h.piece x.left next) ∙ ap (λ (k : ℕ). take k x.left) long in
-      let rest : h.piece ++ drop n x.left ≡ x.left = ap (λ (k : ℕ). h.piece ++ drop k x.left) (sym long) ∙ then_rest h.piece x.left next in
+      begins_after moved.bytes h.piece x.left (subst (λ (t : List ℕ). IsBeginningOf (moved.bytes ++ h.piece) t)
+      (sym all_left) begins) in
+      let given : h.piece ≡ take n x.left =
+      sym (begins_by_take h.piece x.left next) ∙ ap (λ (k : ℕ). take k x.left) long in
+      let rest : h.piece ++ drop n x.left ≡ x.left =
+      ap (λ (k : ℕ). h.piece ++ drop k x.left) (sym long) ∙ then_rest h.piece x.left next in
       record {
         left = drop n x.left;
         steps = record {
           answer = Ok n;
           piece = h.piece;
-          reads = record { fills = record { count = omega (arith, within); given = given; rest = refl }; read = λ q. tt; fails = λ q. absurd q; memory = no_memory n };
-          answers = subst (λ (r : Result ℕ FileFault). turn ≡ filled_turn terms number from h.piece x.state r) is h.answers;
+          reads =
+              record {
+                fills = record { count = omega (arith, within); given = given; rest = refl };
+                read = λ q. tt;
+                fails = λ q. absurd q;
+                memory = no_memory n;
+              };
+          answers =
+              subst (λ (r : Result ℕ FileFault). turn ≡ filled_turn terms number from h.piece x.state r) is h.answers;
         };
         gave = record {
           beginning = begins;
-          left = λ o. append_assoc moved.bytes h.piece (drop n x.left) ∙ (ap (λ (t : List ℕ). moved.bytes ++ t) rest ∙ all_left);
+          left =
+              λ o. append_assoc moved.bytes h.piece (drop n x.left)
+              ∙ (ap (λ (t : List ℕ). moved.bytes ++ t) rest ∙ all_left);
         };
       }
 
   -- it was not
-  failed : (terms : Terms) (number : ℕ) (h : Sends sources terms number from x.state s turn s') → result_count_is (want terms number) h.answer ≡ false →
+  failed : (terms : Terms) (number : ℕ) (h : Sends sources terms number from x.state s turn s') →
+      result_count_is (want terms number) h.answer ≡ false →
       SourceMoves x turn (with_more [] moved.committed moved) (Sends known_source terms number from x.state x.left turn)
   failed terms number h count = record {
     left = x.left;
@@ -205,7 +246,8 @@ module _ {S K : Type 0} (sources : SourceMeaning S) (sinks : SinkMeaning K) (x :
       reads = record { fills = refl; read = λ q. tt; fails = λ q. absurd q; memory = no_memory_read };
       answers =
           h.answers
-          ∙ ap (λ (b : Bool). if b then sent_turn (Sending terms number) from (data_bytes number h.piece) x.state else refused_turn terms FileChanged outcomes.SourceFault from x.state) count;
+          ∙ ap (λ (b : Bool). if b then sent_turn (Sending terms number) from (data_bytes number h.piece) x.state else
+          refused_turn terms FileChanged outcomes.SourceFault from x.state) count;
     };
     gave = record {
       beginning = subst (λ (t : List ℕ). IsBeginningOf t x.text) (sym (append-nil moved.bytes)) gave.beginning;
@@ -213,14 +255,18 @@ module _ {S K : Type 0} (sources : SourceMeaning S) (sinks : SinkMeaning K) (x :
     };
   }
 
-  either : (terms : Terms) (number : ℕ) (h : Sends sources terms number from x.state s turn s') → want terms number ≤ length x.left → (b : Bool) → result_count_is (want terms number) h.answer ≡ b →
+  either : (terms : Terms) (number : ℕ) (h : Sends sources terms number from x.state s turn s') →
+      want terms number ≤ length x.left → (b : Bool) → result_count_is (want terms number) h.answer ≡ b →
       IsBeginningOf (moved.bytes ++ (if b then h.piece else [])) all →
-      SourceMoves x turn (with_more (if b then h.piece else []) moved.committed moved) (Sends known_source terms number from x.state x.left turn)
+      SourceMoves x turn (with_more (if b then h.piece else []) moved.committed moved)
+      (Sends known_source terms number from x.state x.left turn)
   either terms number h within true count told = whole terms number h within count told
   either terms number h within false count told = failed terms number h count
 
-  source_acts : (action : Action) → ReadsWithin x.state.role.length x.left action → (bytes : List ℕ) (acts : Acts sources sinks action from bytes x.state (Source s) turn (Source s')) →
-      IsBeginningOf (acts_move sources sinks action from bytes x.state (Source s) turn (Source s') acts moved).bytes all →
+  source_acts : (action : Action) → ReadsWithin x.state.role.length x.left action →
+      (bytes : List ℕ) (acts : Acts sources sinks action from bytes x.state (Source s) turn (Source s')) →
+      IsBeginningOf (acts_move sources sinks action from bytes x.state (Source s) turn (Source s') acts moved).bytes
+      all →
       SourceMoves x turn (acts_move sources sinks action from bytes x.state (Source s) turn (Source s') acts moved)
       (λ (left : List ℕ). Acts known_source known_sink action from bytes x.state (Source x.left) turn (Source left))
   source_acts (Respond response) within bytes acts told = record {
@@ -228,14 +274,27 @@ module _ {S K : Type 0} (sources : SourceMeaning S) (sinks : SinkMeaning K) (x :
     steps = (acts.0, refl);
     gave = record { beginning = gave.beginning; left = λ o. gave.left still };
   }
-  source_acts (Send terms number) within bytes acts told = either terms number acts within (result_count_is (want terms number) acts.answer) refl told
+  source_acts (Send terms number) within bytes acts told =
+      either terms number acts within (result_count_is (want terms number) acts.answer) refl told
   source_acts (Store terms number) within bytes acts told = absurd acts.2
 
   -- a step
-  pub source_moves : (network : Network) → EndKept network x → is_sender x.state.role.side ≡ true → (bytes : List ℕ) (step : DatagramStep sources sinks from bytes x.state (Source s) turn (Source s')) →
+  pub source_moves : (network : Network) → EndKept network x → is_sender x.state.role.side ≡ true →
+      (bytes : List ℕ) (step : DatagramStep sources sinks from bytes x.state (Source s) turn (Source s')) →
       IsBeginningOf (step_moves sources sinks from bytes x.state (Source s) turn (Source s') step moved).bytes all →
       SourceMoves x turn (step_moves sources sinks from bytes x.state (Source s) turn (Source s') step moved)
       (λ (left : List ℕ). DatagramStep known_source known_sink from bytes x.state (Source x.left) turn (Source left))
   source_moves network kept sender bytes step told =
-      let h = source_acts (datagram_action x.state from bytes step.decoded) (reads_within x sender from network step.decoded bytes kept) bytes step.acts told in
-      record { left = h.left; steps = record { decoded = step.decoded; says = step.says; acts = h.steps; again = step.again }; gave = h.gave }
+      let h =
+      source_acts (datagram_action x.state from bytes step.decoded)
+      (reads_within x sender from network step.decoded bytes kept) bytes step.acts told in
+      record {
+        left = h.left;
+        steps = record {
+          decoded = step.decoded;
+          says = step.says;
+          acts = h.steps;
+          again = step.again;
+        };
+        gave = h.gave;
+      }

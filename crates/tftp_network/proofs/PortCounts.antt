@@ -1,5 +1,6 @@
 -- How many elements of a list, and how many entries of a table, have a port.
-use Rattle.std.proofs.Common.{arith, ◌≡◌, ◌+◌, ◌<◌, ◌≤◌, ℕ, zero, suc, Bool, true, false, List, [], ◌∷◌, ◌++◌, map, length, Option, Some, None, cond, eqb, refl, sym, ap, ◌∙◌, inl, inr}
+use Rattle.std.proofs.Common.{arith, ◌≡◌, ◌+◌, ◌<◌, ◌≤◌, ℕ, zero, suc, Bool, true, false, List, [], ◌∷◌, ◌++◌, map}
+use Rattle.std.proofs.Common.{length, Option, Some, None, cond, eqb, refl, sym, ap, ◌∙◌, inl, inr}
 use Rattle.std.specs.Prelude.{slice_set, slice_index_or, slice_get, IsSome}
 use Rattle.std.specs.List.{Contains, swap_remove, sum_by}
 use Rattle.std.specs.Map.{lookup, remove_entry, set_value}
@@ -32,22 +33,27 @@ module _ {X : Type 0} (port_of : X → ℕ) where
   hits_push port (y ∷ xs) x = let e = hits_push port xs x in omega (arith, e)
 
   -- a change that keeps the ports
-  pub hits_map : (port : ℕ) (xs : List X) (f : X → X) → ((x : X) → port_of (f x) ≡ port_of x) → hits port (map f xs) ≡ hits port xs
+  pub hits_map : (port : ℕ) (xs : List X) (f : X → X) → ((x : X) → port_of (f x) ≡ port_of x) →
+      hits port (map f xs) ≡ hits port xs
   hits_map port [] f same = refl
   hits_map port (x ∷ xs) f same =
-      ap (λ (p : ℕ). hit port p + hits port (map f xs)) (same x) ∙ ap (λ (n : ℕ). hit port (port_of x) + n) (hits_map port xs f same)
+      ap (λ (p : ℕ). hit port p + hits port (map f xs)) (same x) ∙ ap (λ (n : ℕ). hit port (port_of x) + n)
+      (hits_map port xs f same)
 
   hits_sum : (port : ℕ) (xs : List X) → hits port xs ≡ sum_by (λ x. hit port (port_of x)) xs
   hits_sum port [] = refl
-  hits_sum port (x ∷ xs) = ap (λ (n : ℕ). hit port (port_of x) + n) (hits_sum port xs) ∙ sym (sum_by-cons (λ x. hit port (port_of x)) x xs)
+  hits_sum port (x ∷ xs) =
+      ap (λ (n : ℕ). hit port (port_of x) + n) (hits_sum port xs) ∙ sym (sum_by-cons (λ x. hit port (port_of x)) x xs)
 
-  pub hits_swap_removed : (port : ℕ) (xs : List X) (i : ℕ) (x : X) → i < length xs → x ≡ slice_index_or xs i x → hits port (swap_remove xs i x) + hit port (port_of x) ≡ hits port xs
+  pub hits_swap_removed : (port : ℕ) (xs : List X) (i : ℕ) (x : X) → i < length xs → x ≡ slice_index_or xs i x →
+      hits port (swap_remove xs i x) + hit port (port_of x) ≡ hits port xs
   hits_swap_removed port xs i x within is =
       ap (λ (n : ℕ). n + hit port (port_of x)) (hits_sum port (swap_remove xs i x))
       ∙ (ap (λ (y : X). sum_by (λ z. hit port (port_of z)) (swap_remove xs i x) + hit port (port_of y)) is
       ∙ (sum_by-swap_remove (λ z. hit port (port_of z)) xs i x within ∙ sym (hits_sum port xs)))
 
-  pub hits_set : (port : ℕ) (xs : List X) (i : ℕ) (x y : X) → x ≡ slice_index_or xs i x → port_of y ≡ port_of x → hits port (slice_set xs i y) ≡ hits port xs
+  pub hits_set : (port : ℕ) (xs : List X) (i : ℕ) (x y : X) → x ≡ slice_index_or xs i x → port_of y ≡ port_of x →
+      hits port (slice_set xs i y) ≡ hits port xs
   hits_set port [] i x y is same = refl
   hits_set port (z ∷ xs) zero x y is same = ap (λ (p : ℕ). hit port p + hits port xs) (same ∙ ap port_of is)
   hits_set port (z ∷ xs) (suc i) x y is same = ap (λ (n : ℕ). hit port (port_of z) + n) (hits_set port xs i x y is same)
@@ -62,7 +68,8 @@ module _ {X : Type 0} (port_of : X → ℕ) where
   hits_at port (x ∷ xs) (suc i) e = let more = hits_at port xs i e in omega (arith, more)
 
   -- if no port is there twice, one port is at one index
-  pub hits_apart : (xs : List X) → ((port : ℕ) → hits port xs ≤ 1) → (j k port : ℕ) → slice_get (map port_of xs) j ≡ Some port → slice_get (map port_of xs) k ≡ Some port → j ≡ k
+  pub hits_apart : (xs : List X) → ((port : ℕ) → hits port xs ≤ 1) → (j k port : ℕ) →
+      slice_get (map port_of xs) j ≡ Some port → slice_get (map port_of xs) k ≡ Some port → j ≡ k
   hits_apart [] most j k port e f = absurd (let n : None ≡ Some port = e in cc)
   hits_apart (x ∷ xs) most zero zero port e f = refl
   hits_apart (x ∷ xs) most zero (suc k) port e f =
@@ -80,10 +87,13 @@ module _ {X : Type 0} (port_of : X → ℕ) where
   hits_apart (x ∷ xs) most (suc j) (suc k) port e f =
       ap suc (hits_apart xs (λ p. let all = most p in omega (arith, all)) j k port e f)
 
-  pub hits_contained : (port : ℕ) (xs : List X) (k : ℕ) → k < length (map port_of xs) → slice_index_or (map port_of xs) k port ≡ port → 0 < hits port xs
+  pub hits_contained : (port : ℕ) (xs : List X) (k : ℕ) → k < length (map port_of xs) →
+      slice_index_or (map port_of xs) k port ≡ port → 0 < hits port xs
   hits_contained port [] k l e = absurd (omega (arith, l))
-  hits_contained port (x ∷ xs) zero l e = let one : hit port (port_of x) ≡ 1 = ap (hit port) e ∙ hit_same port in omega (arith, one)
-  hits_contained port (x ∷ xs) (suc k) l e = let more = hits_contained port xs k (omega (arith, l)) e in omega (arith, more)
+  hits_contained port (x ∷ xs) zero l e =
+      let one : hit port (port_of x) ≡ 1 = ap (hit port) e ∙ hit_same port in omega (arith, one)
+  hits_contained port (x ∷ xs) (suc k) l e =
+      let more = hits_contained port xs k (omega (arith, l)) e in omega (arith, more)
 
   pub contains_hit : (port : ℕ) (xs : List X) → 0 < hits port xs → Contains (map port_of xs) port
   contains_hit port [] h = absurd (omega (arith, h))
@@ -107,7 +117,8 @@ module _ {T : Type 0} where
   abbrev pub keyed : ℕ → List (ℕ × T) → ℕ
   keyed = hits (λ (e : ℕ × T). e.0)
 
-  keyed_absent_at : (b : Bool) (port : ℕ) (e : ℕ × T) (n : ℕ) (m : Option T) → (b ≡ false → port ≡ e.0 → ⊥) → (m ≡ None → n ≡ 0) → cond b (Some e.1) m ≡ None → hit port e.0 + n ≡ 0
+  keyed_absent_at : (b : Bool) (port : ℕ) (e : ℕ × T) (n : ℕ) (m : Option T) → (b ≡ false → port ≡ e.0 → ⊥) →
+      (m ≡ None → n ≡ 0) → cond b (Some e.1) m ≡ None → hit port e.0 + n ≡ 0
   keyed_absent_at true port e n m apart more h = absurd (let f : Some e.1 ≡ None = h in cc)
   keyed_absent_at false port e n m apart more h =
       let none = hit_other port e.0 (apart refl) in
@@ -121,28 +132,33 @@ module _ {T : Type 0} where
       keyed_absent_at (is_eq (nat_cmp port e.0)) port e (keyed port held) (lookup (is_at (nat_cmp port)) held)
       (differs port e.0 (nat_cmp port e.0) refl) (keyed_absent port held) h
 
-  keyed_present_at : (b : Bool) (port : ℕ) (e : ℕ × T) (n : ℕ) (m : Option T) → (b ≡ true → port ≡ e.0) → (IsSome m → 0 < n) → IsSome (cond b (Some e.1) m) → 0 < hit port e.0 + n
+  keyed_present_at : (b : Bool) (port : ℕ) (e : ℕ × T) (n : ℕ) (m : Option T) → (b ≡ true → port ≡ e.0) →
+      (IsSome m → 0 < n) → IsSome (cond b (Some e.1) m) → 0 < hit port e.0 + n
   keyed_present_at true port e n m same more h =
       let one : hit port e.0 ≡ 1 = ap (hit port) (sym (same refl)) ∙ hit_same port in
       omega (arith, one)
   keyed_present_at false port e n m same more h = let rest = more h in omega (arith, rest)
 
-  pub keyed_present : (port : ℕ) (held : List (ℕ × T)) → IsSome (lookup (is_at (nat_cmp port)) held) → 0 < keyed port held
+  pub keyed_present : (port : ℕ) (held : List (ℕ × T)) → IsSome (lookup (is_at (nat_cmp port)) held) →
+      0 < keyed port held
   keyed_present port [] h = absurd (cc)
   keyed_present port (e ∷ held) h =
       keyed_present_at (is_eq (nat_cmp port e.0)) port e (keyed port held) (lookup (is_at (nat_cmp port)) held)
       (compares port e.0 (nat_cmp port e.0) refl) (keyed_present port held) h
 
-  found : (port : ℕ) (held : List (ℕ × T)) (o : Option T) → lookup (is_at (nat_cmp port)) held ≡ o → 0 < keyed port held → IsSome o
+  found : (port : ℕ) (held : List (ℕ × T)) (o : Option T) → lookup (is_at (nat_cmp port)) held ≡ o →
+      0 < keyed port held → IsSome o
   found port held None e h = absurd (let none = keyed_absent port held e in omega (arith, none, h))
   found port held (Some x) e h = refl
 
   pub keyed_found : (port : ℕ) (held : List (ℕ × T)) → 0 < keyed port held → IsSome (lookup (is_at (nat_cmp port)) held)
   keyed_found port held h = found port held (lookup (is_at (nat_cmp port)) held) refl h
 
-  keyed_inserted_at : (o : Ordering) (port tid : ℕ) (v : T) (e : ℕ × T) (held more : List (ℕ × T)) → nat_cmp tid e.0 ≡ o → lookup (is_at (nat_cmp tid)) (e ∷ held) ≡ None
+  keyed_inserted_at : (o : Ordering) (port tid : ℕ) (v : T) (e : ℕ × T) (held more : List (ℕ × T)) →
+      nat_cmp tid e.0 ≡ o → lookup (is_at (nat_cmp tid)) (e ∷ held) ≡ None
       → (lookup (is_at (nat_cmp tid)) held ≡ None → keyed port more ≡ hit port tid + keyed port held)
-      → keyed port (match_ordering o ((tid, v) ∷ e ∷ held) ((e.0, v) ∷ held) (e ∷ more)) ≡ hit port tid + keyed port (e ∷ held)
+      → keyed port (match_ordering o ((tid, v) ∷ e ∷ held) ((e.0, v) ∷ held) (e ∷ more)) ≡ hit port tid + keyed port
+      (e ∷ held)
   keyed_inserted_at Less port tid v e held more o absent rest = refl
   keyed_inserted_at Equal port tid v e held more o absent rest =
       let there : lookup (is_at (nat_cmp tid)) (e ∷ held) ≡ Some e.1 = rw o refl in absurd (cc)
@@ -151,26 +167,34 @@ module _ {T : Type 0} where
       let one = rest there in
       omega (arith, one)
 
-  pub keyed_inserted : (port tid : ℕ) (v : T) (held : List (ℕ × T)) → lookup (is_at (nat_cmp tid)) held ≡ None → keyed port (insert_entry nat_cmp held tid v) ≡ hit port tid + keyed port held
+  pub keyed_inserted : (port tid : ℕ) (v : T) (held : List (ℕ × T)) → lookup (is_at (nat_cmp tid)) held ≡ None →
+      keyed port (insert_entry nat_cmp held tid v) ≡ hit port tid + keyed port held
   keyed_inserted port tid v [] absent = refl
   keyed_inserted port tid v (e ∷ held) absent =
-      keyed_inserted_at (nat_cmp tid e.0) port tid v e held (insert_entry nat_cmp held tid v) refl absent (keyed_inserted port tid v held)
+      keyed_inserted_at (nat_cmp tid e.0) port tid v e held (insert_entry nat_cmp held tid v) refl absent
+      (keyed_inserted port tid v held)
 
-  keyed_set_at : (b : Bool) (port : ℕ) (v : T) (e : ℕ × T) (held more : List (ℕ × T)) → keyed port more ≡ keyed port held → keyed port (cond b ((e.0, v) ∷ held) (e ∷ more)) ≡ keyed port (e ∷ held)
+  keyed_set_at : (b : Bool) (port : ℕ) (v : T) (e : ℕ × T) (held more : List (ℕ × T)) →
+      keyed port more ≡ keyed port held → keyed port (cond b ((e.0, v) ∷ held) (e ∷ more)) ≡ keyed port (e ∷ held)
   keyed_set_at true port v e held more same = refl
   keyed_set_at false port v e held more same = ap (λ (n : ℕ). hit port e.0 + n) same
 
-  pub keyed_set : (test : ℕ → Bool) (port : ℕ) (v : T) (held : List (ℕ × T)) → keyed port (set_value test held v) ≡ keyed port held
+  pub keyed_set : (test : ℕ → Bool) (port : ℕ) (v : T) (held : List (ℕ × T)) →
+      keyed port (set_value test held v) ≡ keyed port held
   keyed_set test port v [] = refl
-  keyed_set test port v (e ∷ held) = keyed_set_at (test e.0) port v e held (set_value test held v) (keyed_set test port v held)
+  keyed_set test port v (e ∷ held) =
+      keyed_set_at (test e.0) port v e held (set_value test held v) (keyed_set test port v held)
 
-  keyed_removed_at : (b : Bool) (port tid : ℕ) (e : ℕ × T) (held more : List (ℕ × T)) (m : Option T) → (b ≡ true → tid ≡ e.0) → (IsSome m → hit port tid + keyed port more ≡ keyed port held)
+  keyed_removed_at : (b : Bool) (port tid : ℕ) (e : ℕ × T) (held more : List (ℕ × T)) (m : Option T) →
+      (b ≡ true → tid ≡ e.0) → (IsSome m → hit port tid + keyed port more ≡ keyed port held)
       → IsSome (cond b (Some e.1) m) → hit port tid + keyed port (cond b held (e ∷ more)) ≡ keyed port (e ∷ held)
   keyed_removed_at true port tid e held more m same rest h = ap (λ (k : ℕ). hit port k + keyed port held) (same refl)
   keyed_removed_at false port tid e held more m same rest h = let one = rest h in omega (arith, one)
 
-  pub keyed_removed : (port tid : ℕ) (held : List (ℕ × T)) → IsSome (lookup (is_at (nat_cmp tid)) held) → hit port tid + keyed port (remove_entry (is_at (nat_cmp tid)) held) ≡ keyed port held
+  pub keyed_removed : (port tid : ℕ) (held : List (ℕ × T)) → IsSome (lookup (is_at (nat_cmp tid)) held) →
+      hit port tid + keyed port (remove_entry (is_at (nat_cmp tid)) held) ≡ keyed port held
   keyed_removed port tid [] h = absurd (cc)
   keyed_removed port tid (e ∷ held) h =
-      keyed_removed_at (is_eq (nat_cmp tid e.0)) port tid e held (remove_entry (is_at (nat_cmp tid)) held) (lookup (is_at (nat_cmp tid)) held)
+      keyed_removed_at (is_eq (nat_cmp tid e.0)) port tid e held (remove_entry (is_at (nat_cmp tid)) held)
+      (lookup (is_at (nat_cmp tid)) held)
       (compares tid e.0 (nat_cmp tid e.0) refl) (keyed_removed port tid held) h

@@ -33,16 +33,20 @@ no_outcome (Some outcome) e = absurd (true≢false e)
 
 -- a datagram was received
 pub datagram_silent : (own : ℕ) (from : Endpoint) (bytes : List ℕ) → IsSilent (Received own from bytes ∷ [])
-datagram_silent own from bytes port to b c = let f : Received own from bytes ≡ Sent port to b = only_one (Received own from bytes) (Sent port to b) c in cc
+datagram_silent own from bytes port to b c =
+    let f : Received own from bytes ≡ Sent port to b = only_one (Received own from bytes) (Sent port to b) c in cc
 
-module _ {S F D G K : Type 0} {stores : StoreMeaning S D} {sources : SourceMeaning F} {inputs : SourceMeaning G} {outputs : SinkMeaning K}
-    (programs : Programs stores sources inputs outputs) {how : How programs} (old : Snapshot programs) (kept : IsKept programs how old) {new : LoopState S F D} (serves : ServesPort stores sources old.state new)
+module _ {S F D G K : Type 0} {stores : StoreMeaning S D} {sources : SourceMeaning F} {inputs : SourceMeaning G}
+    {outputs : SinkMeaning K}
+    (programs : Programs stores sources inputs outputs) {how : How programs} (old : Snapshot programs)
+    (kept : IsKept programs how old) {new : LoopState S F D} (serves : ServesPort stores sources old.state new)
     (added : List Event) (events : new.events ≡ added ++ old.state.events) where
   -- the server after it
   pub server_is : new.server ≡ serves.next.server
   server_is = ap (λ (s : LoopState S F D). s.server) serves.is
 
-  pub stays_by : serves.next.server.config ≡ old.state.server.config → IsKnown programs how new → FilesStay programs how old.state new → ServerStays programs old kept (At_port serves)
+  pub stays_by : serves.next.server.config ≡ old.state.server.config → IsKnown programs how new →
+      FilesStay programs how old.state new → ServerStays programs old kept (At_port serves)
   stays_by config known files = record {
     opens = refl;
     seats = λ port. refl;
@@ -50,7 +54,8 @@ module _ {S F D G K : Type 0} {stores : StoreMeaning S D} {sources : SourceMeani
     requests = ap (λ (s : LoopState S F D). s.requests) serves.is;
     config = ap (λ (s : ServerState S F D). s.config) server_is ∙ config;
     known = known;
-    pending = λ from bytes e. kept.server.pending from bytes (sym (ap (λ (s : LoopState S F D). s.pending) serves.is) ∙ e);
+    pending =
+        λ from bytes e. kept.server.pending from bytes (sym (ap (λ (s : LoopState S F D). s.pending) serves.is) ∙ e);
     files = files;
   }
 
@@ -58,20 +63,29 @@ module _ {S F D G K : Type 0} {stores : StoreMeaning S D} {sources : SourceMeani
   events_are : serves.next.events ≡ added ++ old.state.events
   events_are = sym (ap (λ (s : LoopState S F D). s.events) serves.is) ∙ events
 
-  module _ (reply : Option Reply) (noted : List Event) (answers : serves.next.events ≡ answered serves.timer.port reply (noted ++ old.state.events)) where
+  module _ (reply : Option Reply) (noted : List Event) (answers : serves.next.events ≡ answered serves.timer.port reply
+      (noted ++ old.state.events)) where
     pub added_is : answered serves.timer.port reply noted ≡ added
     added_is = added_by serves.timer.port reply noted old.state.events added (sym answers ∙ events_are)
 
     -- only the answer was sent
     pub sends_only : IsSilent noted → SendsOnly serves.timer.port reply added
-    sends_only silent = subst (λ (es : List Event). SendsOnly serves.timer.port reply es) added_is (answered_sends serves.timer.port reply noted silent)
+    sends_only silent =
+        subst (λ (es : List Event). SendsOnly serves.timer.port reply es) added_is
+        (answered_sends serves.timer.port reply noted silent)
 
     -- what was received was sent there, or is a stranger's
-    pub received_there : (port : ℕ) (from : Endpoint) (bytes : List ℕ) → Contains noted (Received port from bytes) → CanTake programs old programs.server.ip added →
-        WasSentBefore programs old from (endpoint programs.server.ip port) bytes ⊎ IsStranger stores sources inputs outputs programs from
+    pub received_there : (port : ℕ) (from : Endpoint) (bytes : List ℕ) → Contains noted (Received port from bytes) →
+        CanTake programs old programs.server.ip added →
+        WasSentBefore programs old from (endpoint programs.server.ip port) bytes ⊎ IsStranger stores sources inputs
+        outputs programs from
     received_there port from bytes c take =
-        take port from bytes (subst (λ (es : List Event). Contains es (Received port from bytes)) added_is (answered_has serves.timer.port reply noted (Received port from bytes) c))
+        take port from bytes (subst (λ (es : List Event). Contains es (Received port from bytes)) added_is
+        (answered_has serves.timer.port reply noted (Received port from bytes) c))
 
   -- nothing was sent
-  pub silent_by : (noted : List Event) → serves.next.events ≡ noted ++ old.state.events → IsSilent noted → IsSilent added
-  silent_by noted e silent = subst (λ (es : List Event). IsSilent es) (added_by serves.timer.port None noted old.state.events added (sym e ∙ events_are)) silent
+  pub silent_by : (noted : List Event) → serves.next.events ≡ noted ++ old.state.events → IsSilent noted →
+      IsSilent added
+  silent_by noted e silent =
+      subst (λ (es : List Event). IsSilent es) (added_by serves.timer.port None noted old.state.events added
+      (sym e ∙ events_are)) silent

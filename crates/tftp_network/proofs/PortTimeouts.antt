@@ -49,9 +49,11 @@ use Rattle.tftp_network.proofs.TurnsAtPort.{Becomes, IsSeated, turn_keeps}
 abbrev phase_then : Response → EndState → Phase
 phase_then response e = (after response e.position.last_sent_to e).phase
 
-closed_still : (e : EndState) (phase : Phase) → e.position.phase ≡ phase → is_some (outcome_of phase) ≡ true → is_some (outcome_of (phase_then (timeout_response e.position.retries_left phase) e)) ≡ true
+closed_still : (e : EndState) (phase : Phase) → e.position.phase ≡ phase → is_some (outcome_of phase) ≡ true →
+    is_some (outcome_of (phase_then (timeout_response e.position.retries_left phase) e)) ≡ true
 closed_still e (Closed terms n complete outcome) is c =
-    if_acts (λ (r : Response). is_some (outcome_of (phase_then r e)) ≡ true) (e.position.retries_left == 0) (Close outcomes.TimedOut) Retransmit
+    if_acts (λ (r : Response). is_some (outcome_of (phase_then r e)) ≡ true) (e.position.retries_left == 0)
+    (Close outcomes.TimedOut) Retransmit
     (λ b. refl) (λ b. ap (λ (p : Phase). is_some (outcome_of p)) is)
 closed_still e (Waiting asked limit) is c = absurd (true≢false (sym c))
 closed_still e (Sending terms n) is c = absurd (true≢false (sym c))
@@ -64,9 +66,13 @@ open_before e o = elim (cases_Bool (is_some (outcome_of e.position.phase))) [
   | inr n ↦ no_outcome (outcome_of e.position.phase) n
 ]
 
-module _ {S F D G K : Type 0} {stores : StoreMeaning S D} {sources : SourceMeaning F} {inputs : SourceMeaning G} {outputs : SinkMeaning K}
-    (programs : Programs stores sources inputs outputs) {how : How programs} (old : Snapshot programs) (kept : IsKept programs how old) (fresh : IsFreshBy programs old)
-    {new : LoopState S F D} (serves : ServesPort stores sources old.state new) (added : List Event) (events : new.events ≡ added ++ old.state.events) (none : (a : Endpoint) → MovesNone programs old.run (At_port serves) a) where
+module _ {S F D G K : Type 0} {stores : StoreMeaning S D} {sources : SourceMeaning F} {inputs : SourceMeaning G}
+    {outputs : SinkMeaning K}
+    (programs : Programs stores sources inputs outputs) {how : How programs} (old : Snapshot programs)
+    (kept : IsKept programs how old) (fresh : IsFreshBy programs old)
+    {new : LoopState S F D} (serves : ServesPort stores sources old.state new) (added : List Event)
+    (events : new.events ≡ added ++ old.state.events) (none : (a : Endpoint) →
+    MovesNone programs old.run (At_port serves) a) where
   abbrev port : ℕ
   port = serves.timer.port
 
@@ -77,7 +83,8 @@ module _ {S F D G K : Type 0} {stores : StoreMeaning S D} {sources : SourceMeani
   abbrev now : Snapshot programs
   now = server_did programs old (At_port serves) added
 
-  module _ (step : Step) (answers : AnswersTimeout port old.state.server serves.next.server (Elapsed port old.state.now ∷ old.state.events) serves.next.events step) where
+  module _ (step : Step) (answers : AnswersTimeout port old.state.server serves.next.server
+      (Elapsed port old.state.now ∷ old.state.events) serves.next.events step) where
     abbrev timed : TimesOutLent port old.state.server.held serves.next.server.held step answers.outgoing
     timed = answers.times_out
 
@@ -113,52 +120,88 @@ module _ {S F D G K : Type 0} {stores : StoreMeaning S D} {sources : SourceMeani
     stay = stay_if programs how old.state new stay_all
 
     -- so is the file: what a timeout leaves is what was there
-    has_left : (w : How programs) (files : Files F D) → HasStored programs w now x files → (content : Files (List ℕ) Holding) → content ≡ files_of x →
+    has_left : (w : How programs) (files : Files F D) → HasStored programs w now x files →
+        (content : Files (List ℕ) Holding) → content ≡ files_of x →
         (outcome_of turn.position.phase ≡ None → outcome_of x.state.position.phase ≡ None) →
-        (is_sender x.state.role.side ≡ false → (end_after x turn content).committed ≡ is_complete turn.position.phase) → HasStored programs w now (end_after x turn content) files
+        (is_sender x.state.role.side ≡ false → (end_after x turn content).committed ≡ is_complete turn.position.phase) →
+        HasStored programs w now (end_after x turn content) files
     has_left (By_models models) (Source source) h (Source left) e still done =
         let l = left_is left x.left (e ∙ sym (source_is x h.sender)) in
-        record { sender = h.sender; text = h.text; left = λ o. subst (λ (t : List ℕ). HasLeft sources source t) (sym l) (h.left (still o)); was = h.was; stays = h.stays }
+        record {
+          sender = h.sender;
+          text = h.text;
+          left = λ o. subst (λ (t : List ℕ). HasLeft sources source t) (sym l) (h.left (still o));
+          was = h.was;
+          stays = h.stays;
+        }
     has_left (By_models models) (Sink draft) h (Sink held) e still done =
         let n = now_is held (holding_of x) (e ∙ sym (sink_is x h.receiver)) in
         record {
           receiver = h.receiver;
-          drafted = h.drafted ∙ ap (λ (z : Holding). Some (record { bytes = z.bytes; committed = z.committed })) (sym n);
+          drafted =
+              h.drafted ∙ ap (λ (z : Holding). Some (record { bytes = z.bytes; committed = z.committed })) (sym n);
           stays = λ o c.
               subst (λ (bs : List ℕ). IsStored stores new x.path bs) (ap (λ (z : Holding). z.bytes) (sym n))
-              (h.stays o (sym (was.viewed.kept.committed h.receiver) ∙ (ap (λ (z : Holding). z.committed) (sym n) ∙ (done h.receiver ∙ c))));
+              (h.stays o (sym (was.viewed.kept.committed h.receiver)
+              ∙ (ap (λ (z : Holding). z.committed) (sym n) ∙ (done h.receiver ∙ c))));
         }
     has_left (By_run pad) (Source source) h (Source left) e still done =
         let l = left_is left x.left (e ∙ sym (source_is x h.sender)) in
         record {
           sender = h.sender;
-          opened = record { opening = h.opened.opening; opened = h.opened.opened; path = h.opened.path; role = h.opened.role };
+          opened =
+              record {
+                opening = h.opened.opening;
+                opened = h.opened.opened;
+                path = h.opened.path;
+                role = h.opened.role;
+              };
           text = h.text;
-          gave = record { beginning = h.gave.beginning; left = λ o. ap (λ (t : List ℕ). (moved_at programs x.address now.run).bytes ++ t) l ∙ h.gave.left (still o) };
+          gave =
+              record {
+                beginning = h.gave.beginning;
+                left = λ o. ap (λ (t : List ℕ). (moved_at programs x.address now.run).bytes ++ t) l
+                    ∙ h.gave.left (still o);
+              };
         }
     has_left (By_run pad) (Sink draft) h (Sink held) e still done =
         let n = now_is held (holding_of x) (e ∙ sym (sink_is x h.receiver)) in
         record {
           receiver = h.receiver;
-          opened = record { opening = h.opened.opening; opened = h.opened.opened; path = h.opened.path; role = h.opened.role };
+          opened =
+              record {
+                opening = h.opened.opening;
+                opened = h.opened.opened;
+                path = h.opened.path;
+                role = h.opened.role;
+              };
           took = record {
             stored = ap (λ (z : Holding). z.bytes) n ∙ h.took.stored;
             committed = λ c. h.took.committed (ap (λ (z : Holding). z.committed) (sym n) ∙ c);
             refuses = ap (λ (z : Holding). z.refuses) n ∙ h.took.refuses;
           };
         }
-    has_left (By_models models) (Source source) h (Sink held) e still done = absurd (sink_no_source held x.left (e ∙ sym (source_is x h.sender)))
-    has_left (By_run pad) (Source source) h (Sink held) e still done = absurd (sink_no_source held x.left (e ∙ sym (source_is x h.sender)))
-    has_left (By_models models) (Sink draft) h (Source left) e still done = absurd (sink_no_source (holding_of x) left (sym (e ∙ sym (sink_is x h.receiver))))
-    has_left (By_run pad) (Sink draft) h (Source left) e still done = absurd (sink_no_source (holding_of x) left (sym (e ∙ sym (sink_is x h.receiver))))
+    has_left (By_models models) (Source source) h (Sink held) e still done =
+        absurd (sink_no_source held x.left (e ∙ sym (source_is x h.sender)))
+    has_left (By_run pad) (Source source) h (Sink held) e still done =
+        absurd (sink_no_source held x.left (e ∙ sym (source_is x h.sender)))
+    has_left (By_models models) (Sink draft) h (Source left) e still done =
+        absurd (sink_no_source (holding_of x) left (sym (e ∙ sym (sink_is x h.receiver))))
+    has_left (By_run pad) (Sink draft) h (Source left) e still done =
+        absurd (sink_no_source (holding_of x) left (sym (e ∙ sym (sink_is x h.receiver))))
 
-    has : Goes (joined programs) kept.shown.0 kept.views kept.messages was.viewed.index x turn y → HasStored programs how now y timed.transfer.files
+    has : Goes (joined programs) kept.shown.0 kept.views kept.messages was.viewed.index x turn y →
+        HasStored programs how now y timed.transfer.files
     has goes =
-        has_left how timed.transfer.files (stored_after programs how old (At_port serves) added stay x (none x.address) timed.transfer.files was.has) (files_of x) refl (open_before x.state)
-        (λ r. subst (λ (e : EndState). (end_after x turn (files_of x)).committed ≡ is_complete e.position.phase) (after_rest (in_state (after_turn x.state turn) x) (files_of x)).1
-        (goes.kept.committed (ap (λ (e : EndState). is_sender e.role.side) (after_rest (in_state (after_turn x.state turn) x) (files_of x)).1 ∙ r)))
+        has_left how timed.transfer.files (stored_after programs how old (At_port serves) added stay x (none x.address)
+        timed.transfer.files was.has) (files_of x) refl (open_before x.state)
+        (λ r. subst (λ (e : EndState). (end_after x turn (files_of x)).committed ≡ is_complete e.position.phase)
+        (after_rest (in_state (after_turn x.state turn) x) (files_of x)).1
+        (goes.kept.committed (ap (λ (e : EndState). is_sender e.role.side)
+        (after_rest (in_state (after_turn x.state turn) x) (files_of x)).1 ∙ r)))
 
-    becomes : Goes (joined programs) kept.shown.0 kept.views kept.messages was.viewed.index x turn y → Becomes programs old kept (At_port serves) added port timed.transfer timed.found x turn next
+    becomes : Goes (joined programs) kept.shown.0 kept.views kept.messages was.viewed.index x turn y →
+        Becomes programs old kept (At_port serves) added port timed.transfer timed.found x turn next
     becomes goes =
         let rest = after_rest (in_state (after_turn x.state turn) x) (files_of x) in
         record {
@@ -176,28 +219,41 @@ module _ {S F D G K : Type 0} {stores : StoreMeaning S D} {sources : SourceMeani
 
     its_turn : Goes (joined programs) kept.shown.0 kept.views kept.messages was.viewed.index x turn y
     its_turn = elim (cases_Bool (is_some (outcome_of x.state.position.phase))) [
-      | inl c ↦ closed_timeout_goes (joined programs) kept.shown.0 kept.views kept.messages was.viewed.index x stands was.viewed.kept c was.viewed.last_sent
-      | inr o ↦ timeout_goes (joined programs) kept.shown.0 kept.views kept.messages was.viewed.index x (record { stands = stands; kept = was.viewed.kept; still = o; last_sent = was.viewed.last_sent })
+      | inl c ↦
+          closed_timeout_goes (joined programs) kept.shown.0 kept.views kept.messages was.viewed.index x stands
+          was.viewed.kept c was.viewed.last_sent
+      | inr o ↦
+          timeout_goes (joined programs) kept.shown.0 kept.views kept.messages was.viewed.index x
+          (record { stands = stands; kept = was.viewed.kept; still = o; last_sent = was.viewed.last_sent })
     ]
 
     only_reply : SendsOnly port turn.reply added
     only_reply =
         subst (λ (e : EndState). SendsOnly port (timeout_turn e).reply added) (sym was.state)
-        (sends_only programs old kept serves added events (timeout_turn timed.transfer.end).reply elapsed answers.events (elapsed_silent port old.state.now))
+        (sends_only programs old kept serves added events (timeout_turn timed.transfer.end).reply elapsed answers.events
+        (elapsed_silent port old.state.now))
 
     -- where it stands then
-    seated : (place ≡ endpoint programs.server.ip port) ⊎ IsStrangers programs x.state → IsSeated programs old kept (At_port serves) added port timed.transfer timed.found turn y
+    seated : (place ≡ endpoint programs.server.ip port) ⊎ IsStrangers programs x.state →
+        IsSeated programs old kept (At_port serves) added port timed.transfer timed.found turn y
     seated (inl here) = inl here
     seated (inr s) =
         let stays = timeout_stays x.state in
         inr (record {
-          strangers = subst (λ (e : EndState). IsStrangers programs e) (sym (after_rest (in_state (after_turn x.state turn) x) (files_of x)).1) (stays_strangers programs x.state.position.last_sent_to x.state turn s.last_sent_to s stays);
-          replies = λ reply says. inl (subst (λ (a : Endpoint). IsStranger stores sources inputs outputs programs a) (sym (stays.replies reply says)) s.last_sent_to);
+          strangers =
+              subst (λ (e : EndState). IsStrangers programs e)
+              (sym (after_rest (in_state (after_turn x.state turn) x) (files_of x)).1)
+              (stays_strangers programs x.state.position.last_sent_to x.state turn s.last_sent_to s stays);
+          replies =
+              λ reply says. inl (subst (λ (a : Endpoint). IsStranger stores sources inputs outputs programs a)
+              (sym (stays.replies reply says)) s.last_sent_to);
         })
 
     pub timeout_keeps : IsKept programs how now
     unfolding becomes
     timeout_keeps =
         turn_keeps programs old kept (At_port serves) added port timed.transfer timed.found fresh
-        (stays_by programs old kept serves added events (ap (λ (s : ServerState S F D). s.config) answers.rest) (known_if programs how old.state new (ap stores.stored store_is) kept.server.known) stay)
-        x was.address was.side was.viewed.last_sent turn next held (becomes its_turn) only_reply (seated was.seat) (λ a n. none a)
+        (stays_by programs old kept serves added events (ap (λ (s : ServerState S F D). s.config) answers.rest)
+        (known_if programs how old.state new (ap stores.stored store_is) kept.server.known) stay)
+        x was.address was.side was.viewed.last_sent turn next held (becomes its_turn) only_reply (seated was.seat)
+        (λ a n. none a)

@@ -11,11 +11,14 @@ use Rattle.tftp_network.specs.Openings.{place}
 use Rattle.tftp_network.specs.Order.{Programs}
 use Rattle.tftp_network.specs.Ports.{opened_ports}
 
-module _ {S F D G K : Type 0} {stores : StoreMeaning S D} {sources : SourceMeaning F} {inputs : SourceMeaning G} {outputs : SinkMeaning K}
+module _ {S F D G K : Type 0} {stores : StoreMeaning S D} {sources : SourceMeaning F} {inputs : SourceMeaning G}
+    {outputs : SinkMeaning K}
     (programs : Programs stores sources inputs outputs) where
   -- by a step
-  abbrev pub placed_by : {first old new : LoopState S F D} → Run (Does stores sources) first old → Does stores sources old new → List Endpoint
-  placed_by run (Request_answered answers) = map (place programs (length (opened_ports run)) answers.from) (option_to_list answers.left.opened.tid)
+  abbrev pub placed_by : {first old new : LoopState S F D} → Run (Does stores sources) first old →
+      Does stores sources old new → List Endpoint
+  placed_by run (Request_answered answers) =
+      map (place programs (length (opened_ports run)) answers.from) (option_to_list answers.left.opened.tid)
   placed_by run does = []
 
   -- and by all of them

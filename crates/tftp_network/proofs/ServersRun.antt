@@ -10,16 +10,22 @@ use Rattle.tftp_network.specs.Programs.{ServersAreRuns}
 use Rattle.tftp_network.proofs.StepEvents.{Silent, Notes, server_adds}
 
 -- what it noted
-pub server_noted : {S F D : Type 0} {stores : StoreMeaning S D} {sources : SourceMeaning F} {start last : LoopState S F D} → Run (Does stores sources) start last → (noted : List Event) × (last.events ≡ noted ++ start.events)
+pub server_noted : {S F D : Type 0} {stores : StoreMeaning S D} {sources : SourceMeaning F}
+    {start last : LoopState S F D} → Run (Does stores sources) start last →
+    (noted : List Event) × (last.events ≡ noted ++ start.events)
 server_noted Start = ([], refl)
 server_noted {start = start} (Then run does) = elim (server_adds does) [
   | Silent same ↦ ((server_noted run).0, same ∙ (server_noted run).1)
   | Notes x rest own is ↦
-      let before = server_noted run in
-      ((x ∷ rest) ++ before.0, is ∙ (ap (λ (es : List Event). (x ∷ rest) ++ es) before.1 ∙ sym (append_assoc (x ∷ rest) before.0 start.events)))
+      let before = server_noted run in (
+        (x ∷ rest) ++ before.0,
+        is ∙ (ap (λ (es : List Event). (x ∷ rest) ++ es) before.1
+            ∙ sym (append_assoc (x ∷ rest) before.0 start.events)),
+      )
 ]
 
-pub servers_run : {S F D : Type 0} (stores : StoreMeaning S D) (sources : SourceMeaning F) → ServersAreRuns stores sources
+pub servers_run : {S F D : Type 0} (stores : StoreMeaning S D) (sources : SourceMeaning F) →
+    ServersAreRuns stores sources
 servers_run stores sources ip start last run empty idle max_block = record {
   server = record {
     ip = ip;

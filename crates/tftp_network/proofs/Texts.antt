@@ -1,5 +1,6 @@
 -- Beginnings of texts, and a text that is padded to a length.
-use Rattle.std.proofs.Common.{◌≡◌, ℕ, zero, suc, ◌≤◌, List, [], ◌∷◌, ◌++◌, append_assoc, append-nil, length, take, drop, replicate, refl, sym, ap, ◌∙◌, arith}
+use Rattle.std.proofs.Common.{◌≡◌, ℕ, zero, suc, ◌≤◌, List, [], ◌∷◌, ◌++◌, append_assoc, append-nil, length, take, drop}
+use Rattle.std.proofs.Common.{replicate, refl, sym, ap, ◌∙◌, arith}
 use Rattle.std.proofs.lemmas.List.{append_cancel_left, length-append, length-replicate, length-take}
 use Rattle.tftp_file.specs.Block.{IsBeginningOf}
 
@@ -17,13 +18,18 @@ pad_length pad n xs =
 begins_take : (xs rest : List ℕ) (n : ℕ) → length xs ≤ n → IsBeginningOf xs (take n (xs ++ rest))
 begins_take [] rest n l = (take n rest, refl)
 begins_take (x ∷ xs) rest zero l = absurd (omega (arith, l))
-begins_take (x ∷ xs) rest (suc n) l = let h = begins_take xs rest n (omega (arith, l)) in (h.0, ap (λ (ys : List ℕ). x ∷ ys) h.1)
+begins_take (x ∷ xs) rest (suc n) l =
+    let h = begins_take xs rest n (omega (arith, l)) in (h.0, ap (λ (ys : List ℕ). x ∷ ys) h.1)
 
 -- a beginning that is not longer begins the padded text
-pub begins_padded : (pad n : ℕ) (xs ys : List ℕ) → IsBeginningOf xs ys → length xs ≤ n → IsBeginningOf xs (pad_to pad n ys)
+pub begins_padded : (pad n : ℕ) (xs ys : List ℕ) → IsBeginningOf xs ys → length xs ≤ n →
+    IsBeginningOf xs (pad_to pad n ys)
 begins_padded pad n xs ys b l =
-    let h = begins_take xs (b.0 ++ replicate n pad) n l in
-    (h.0, h.1 ∙ ap (λ (zs : List ℕ). take n zs) (sym (append_assoc xs b.0 (replicate n pad)) ∙ ap (λ (zs : List ℕ). zs ++ replicate n pad) b.1))
+    let h = begins_take xs (b.0 ++ replicate n pad) n l in (
+      h.0,
+      h.1 ∙ ap (λ (zs : List ℕ). take n zs) (sym (append_assoc xs b.0 (replicate n pad))
+          ∙ ap (λ (zs : List ℕ). zs ++ replicate n pad) b.1),
+    )
 
 pub begins_itself : (xs : List ℕ) → IsBeginningOf xs xs
 begins_itself xs = ([], append-nil xs)
@@ -60,23 +66,32 @@ nothing_first (x ∷ xs) ys e = absurd (let f : x ∷ (xs ++ ys) ≡ [] = e in c
 -- two texts that begin each other are one
 pub begin_each_other : (xs ys : List ℕ) → IsBeginningOf xs ys → IsBeginningOf ys xs → xs ≡ ys
 begin_each_other xs ys a b =
-    let none : a.0 ++ b.0 ≡ [] = append_cancel_left xs (a.0 ++ b.0) [] (sym (append_assoc xs a.0 b.0) ∙ (ap (λ (ws : List ℕ). ws ++ b.0) a.1 ∙ (b.1 ∙ sym (append-nil xs)))) in
+    let none : a.0 ++ b.0 ≡ [] =
+    append_cancel_left xs (a.0 ++ b.0) [] (sym (append_assoc xs a.0 b.0)
+    ∙ (ap (λ (ws : List ℕ). ws ++ b.0) a.1 ∙ (b.1 ∙ sym (append-nil xs)))) in
     sym (append-nil xs) ∙ (ap (λ (zs : List ℕ). xs ++ zs) (sym (nothing_first a.0 b.0 none)) ∙ a.1)
 
 -- what begins a text however it is padded begins it
-pub begins_unpadded : (n k : ℕ) (xs zs : List ℕ) → IsBeginningOf zs (take n (xs ++ replicate k 0)) → IsBeginningOf zs (take n (xs ++ replicate k 1)) → IsBeginningOf zs xs
+pub begins_unpadded : (n k : ℕ) (xs zs : List ℕ) → IsBeginningOf zs (take n (xs ++ replicate k 0)) →
+    IsBeginningOf zs (take n (xs ++ replicate k 1)) → IsBeginningOf zs xs
 begins_unpadded n k xs [] a b = (xs, refl)
 begins_unpadded zero k xs (z ∷ zs) a b = absurd (let f : z ∷ (zs ++ a.0) ≡ [] = a.1 in cc)
 begins_unpadded (suc n) zero [] (z ∷ zs) a b = absurd (let f : z ∷ (zs ++ a.0) ≡ [] = a.1 in cc)
-begins_unpadded (suc n) (suc k) [] (z ∷ zs) a b = absurd (both z (zs ++ a.0) (zs ++ b.0) (take n (replicate k 0)) (take n (replicate k 1)) a.1 b.1) where
-  both : (z : ℕ) (ps bs cs ds : List ℕ) → z ∷ ps ≡ 0 ∷ cs → z ∷ bs ≡ 1 ∷ ds → ⊥
-  both z ps bs cs ds e f =
-      let x : z ≡ 0 = cc in
-      let y : z ≡ 1 = cc in
-      omega (arith, x, y)
+begins_unpadded (suc n) (suc k) [] (z ∷ zs) a b =
+    absurd (both z (zs ++ a.0) (zs ++ b.0) (take n (replicate k 0)) (take n (replicate k 1)) a.1 b.1) where
+      both : (z : ℕ) (ps bs cs ds : List ℕ) → z ∷ ps ≡ 0 ∷ cs → z ∷ bs ≡ 1 ∷ ds → ⊥
+      both z ps bs cs ds e f =
+          let x : z ≡ 0 = cc in
+          let y : z ≡ 1 = cc in
+          omega (arith, x, y)
 begins_unpadded (suc n) k (x ∷ xs) (z ∷ zs) a b =
-    let h = begins_unpadded n k xs zs (a.0, tails z x (zs ++ a.0) (take n (xs ++ replicate k 0)) a.1) (b.0, tails z x (zs ++ b.0) (take n (xs ++ replicate k 1)) b.1) in
-    (h.0, ap (λ (w : ℕ). w ∷ (zs ++ h.0)) (heads z x (zs ++ a.0) (take n (xs ++ replicate k 0)) a.1) ∙ ap (λ (ws : List ℕ). x ∷ ws) h.1) where
+    let h =
+    begins_unpadded n k xs zs (a.0, tails z x (zs ++ a.0) (take n (xs ++ replicate k 0)) a.1)
+    (b.0, tails z x (zs ++ b.0) (take n (xs ++ replicate k 1)) b.1) in (
+      h.0,
+      ap (λ (w : ℕ). w ∷ (zs ++ h.0)) (heads z x (zs ++ a.0) (take n (xs ++ replicate k 0)) a.1)
+          ∙ ap (λ (ws : List ℕ). x ∷ ws) h.1,
+    ) where
       tails : (z x : ℕ) (ps bs : List ℕ) → z ∷ ps ≡ x ∷ bs → ps ≡ bs
       tails z x ps bs e = cc
 

@@ -309,7 +309,8 @@ module _ (w : WorldState) (asking : PortAsking) (came : PortCame) (s : IsServerO
   by_begun path mode agreed store (Err store_faults.Exists) None taken begins may h =
       absurd (true≢false (sym begins.1 ∙ taken))
   by_begun path mode agreed store (Err store_faults.Exists) (Some file) taken begins may h =
-      refused FileExists (h ∙ ap (λ (st : Stored). Error_reply FileExists st) (same_Some store asking.old.store begins.0))
+      refused FileExists (h ∙ ap (λ (st : Stored). Error_reply FileExists st)
+      (same_Some store asking.old.store begins.0))
   by_begun path mode agreed store (Err store_faults.Missing) there taken begins may h = absurd may
   by_begun path mode agreed store (Err store_faults.Memory) there taken begins may h = absurd may
   by_begun path mode agreed store (Err store_faults.Full) there taken begins may h = absurd may

@@ -177,7 +177,8 @@ module _ (strangers : Bool) (old new : WorldState) (name : List ℕ) (mode : Mod
   abbrev text : List ℕ
   text = wire_text mode file
 
-  reader_asks : (agreed : List Known) → Refines strangers old → (h : ReadsStraight old new name mode asked file agreed) →
+  reader_asks : (agreed : List Known) → Refines strangers old →
+      (h : ReadsStraight old new name mode asked file agreed) →
       HasAsked strangers old h.run.asked reader
   reader_asks agreed ok h =
       let s = h.run.asks in
@@ -364,7 +365,8 @@ module _ (strangers : Bool) (old new : WorldState) (name : List ℕ) (mode : Mod
   abbrev written : List ℕ
   written = wire_text mode file
 
-  writer_asks : (agreed : List Known) → Refines strangers old → (h : WritesStraight old new name mode asked file agreed) →
+  writer_asks : (agreed : List Known) → Refines strangers old →
+      (h : WritesStraight old new name mode asked file agreed) →
       HasAsked strangers old h.run.asked writer
   writer_asks agreed ok h =
       let s = h.run.asks in

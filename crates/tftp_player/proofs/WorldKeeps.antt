@@ -96,7 +96,8 @@ shown_as P Q strangers w ok shown = record {
   ends = ok.ends;
 }
 
-pub stays_ok : (first : List Rule) (strangers : Bool) (w v : WorldState) (report : Report) → RefinesAt first strangers w →
+pub stays_ok : (first : List Rule) (strangers : Bool) (w v : WorldState) (report : Report) →
+    RefinesAt first strangers w →
     Stays w report v → RefinesWithin 3 first strangers v
 stays_ok first strangers w v report ok s =
     subst (λ (z : WorldState). RefinesWithin 3 first strangers z) (sym s.is)
@@ -304,7 +305,8 @@ module _ (first : List Rule) (strangers : Bool) (w v : WorldState) (from : Endpo
       answer options kinds.Write mode 0 w.limits ≡ Ok agreed → Kept_by (by_draft path mode agreed (begun_of there))
   taking_served path mode options None agreed come e =
       subst
-      (λ (n : Mode). OpeningStep w (receiving_end w from bytes n path agreed) report v → RefinesWithin 3 first strangers v)
+      (λ (n : Mode). OpeningStep w (receiving_end w from bytes n path agreed) report v →
+      RefinesWithin 3 first strangers v)
       come.1
       (taking_keeps first strangers w v from bytes come.0 path agreed report ok come.2
       (answer_granted options kinds.Write mode 0 w.limits agreed (omega arith) ok.max_block e))

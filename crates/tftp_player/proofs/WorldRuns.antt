@@ -61,7 +61,8 @@ set_same {X = X} (y ∷ ys) zero x e = ap (λ (z : X). z ∷ ys) (sym (same_Some
 set_same {X = X} (y ∷ ys) (suc k) x e = ap (λ (zs : List X). y ∷ zs) (set_same ys k x e)
 
 -- what a datagram of the list says is there
-pub come_from : (first : List Rule) (strangers : Bool) (w : WorldState) (ok : RefinesAt first strangers w) (d : Datagram) →
+pub come_from : (first : List Rule) (strangers : Bool) (w : WorldState) (ok : RefinesAt first strangers w)
+    (d : Datagram) →
     Contains w.sent d → (p : WirePacket) → Spells p d.bytes → Contains ok.messages (message d.from d.to (said p))
 come_from first strangers w ok d i p s =
     let h = ok.sent d i in

@@ -31,7 +31,8 @@ use Rattle.tftp_player.specs.World.{WorldState, WorldEnd, Open_end, Closed_end, 
 use Rattle.tftp_player.specs.World.{StoredFile, file_at, in_the_way, datagram, replied, standing, has_committed}
 use Rattle.tftp_player.specs.World.{world_after, opened_in, said_in, view_of_end}
 use Rattle.tftp_player.specs.WorldSteps.{FilesAfter, Turns, OpeningStep}
-use Rattle.tftp_player.specs.WorldKept.{HasPorts, IsOpenIn, StandsIn, IsKeptIn, SaysSo, MaySpeak, RefinesAt, RefinesWithin}
+use Rattle.tftp_player.specs.WorldKept.{HasPorts, IsOpenIn, StandsIn, IsKeptIn, SaysSo, MaySpeak, RefinesAt}
+use Rattle.tftp_player.specs.WorldKept.{RefinesWithin}
 use Rattle.tftp_player.specs.declared.datagram.Datagram.{Datagram}
 use Rattle.tftp_player.specs.declared.report.Report.{Report}
 use Rattle.tftp_machine.proofs.Indices.{slice_get-set_cases, slice_get-push_cases}

@@ -12,11 +12,11 @@ ghost use Rattle.tftp_player.specs.Clients.{sending_client, stored_by, armed_cli
 ghost use Rattle.tftp_player.specs.Clients.{holding_in, asking_effect, sending_effect, open_fault};
 ghost use Rattle.tftp_player.specs.Clients.{AskRefuses};
 
+use crate::client_sink::ClientSink;
 use crate::effect::{Effect, effect_of};
 use crate::fault::WorldFault;
 use crate::hosts::{REQUEST_PORT, client_at};
 use crate::room::{answer_room, copied, largest_block, reserved};
-use crate::client_sink::ClientSink;
 use std::alloc::Global;
 use std::marker::Model;
 use tftp_ends::{End, EndConfig, EndFault, Endpoint, OpenFault, Outgoing, Record};

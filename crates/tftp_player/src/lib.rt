@@ -7,10 +7,12 @@
 #![tactic(auto)]
 
 mod client;
+mod client_sink;
 mod datagram;
 mod effect;
 mod ends;
 mod event;
+mod exchange;
 mod fault;
 mod hosts;
 pub mod laws;
@@ -19,8 +21,6 @@ mod random;
 mod report;
 mod room;
 mod served;
-mod client_sink;
-mod exchange;
 mod world;
 
 pub use datagram::Datagram;

@@ -17,9 +17,9 @@ ghost use Rattle.tftp_player.specs.WorldSafety.{IsSafe};
 
 use crate::datagram::Datagram;
 use crate::event::Event;
+use crate::exchange::Exchange;
 use crate::fault::WorldFault;
 use crate::report::Report;
-use crate::exchange::Exchange;
 use std::alloc::Global;
 use std::marker::Model;
 use tftp_ends::{Endpoint, Record};

@@ -1,5 +1,6 @@
 -- What the request port decides, from the calls that it makes.
-use Rattle.std.proofs.Common.{◌≡◌, ◌≢◌, ℕ, Bool, true, false, List, [], ◌++◌, Option, Some, None, Result, Ok, Err, IfOk, IsErrOf, OnOk, OnErr, length, take, refl, sym, ap, subst, ◌∙◌}
+use Rattle.std.proofs.Common.{◌≡◌, ◌≢◌, ℕ, Bool, true, false, List, [], ◌++◌, Option, Some, None, Result, Ok, Err, IfOk}
+use Rattle.std.proofs.Common.{IsErrOf, OnOk, OnErr, length, take, refl, sym, ap, subst, ◌∙◌}
 use Rattle.std.specs.Prelude.{if◌then◌else◌, nat_le, IsOk}
 use Rattle.tftp_wire.specs.declared.mode.Mode.{Mode}
 use Rattle.tftp_wire.specs.declared.options.RawOption.{RawOption}
@@ -34,30 +35,38 @@ use Rattle.tftp_server.specs.declared.opened.Opened.{Opened}
 use Rattle.tftp_server.specs.declared.server.request.PortAction.{PortAction}
 use Rattle.tftp_server.specs.declared.server.request.Decision.{Decision}
 use Rattle.tftp_server.specs.declared.server.request.Decision.TheVariants.{Refuse, Open}
-use Rattle.tftp_server.specs.Port.{Ask, Ignores, Refuses, asks, by_packet, by_repeat, by_name, by_options, by_kind, begin_reply}
-use Rattle.tftp_server.specs.Request.{Acts, Admits, CarriesOut, Came, Nothing, Error_reply, A_transfer, IsRequest, AsksToWrite, Goes, RequestStep, Left, ask_of, came_to, decided_bytes, left_by}
+use Rattle.tftp_server.specs.Port.{Ask, Ignores, Refuses, asks, by_packet, by_repeat, by_name, by_options, by_kind}
+use Rattle.tftp_server.specs.Port.{begin_reply}
+use Rattle.tftp_server.specs.Request.{Acts, Admits, CarriesOut, Came, Nothing, Error_reply, A_transfer, IsRequest}
+use Rattle.tftp_server.specs.Request.{AsksToWrite, Goes, RequestStep, Left, ask_of, came_to, decided_bytes, left_by}
 use Rattle.tftp_server.specs.Shortage.{NamesAPath}
 use Rattle.tftp_server.specs.State.{HeldTransfer, ServerState, IsRepeated, with_new}
 use Rattle.tftp_store.specs.Store.{StoreMeaning, Begins}
 
 -- what was appended is truncated
-cut_back : (before sent all cut : List ℕ) (start : ℕ) → start ≡ length before → all ≡ before ++ sent → cut ≡ take start all → cut ≡ before
-cut_back before sent all cut start s a c = c ∙ (ap (λ (n : ℕ). take n all) s ∙ (ap (take (length before)) a ∙ take-append_seam before sent))
+cut_back : (before sent all cut : List ℕ) (start : ℕ) → start ≡ length before → all ≡ before ++ sent →
+    cut ≡ take start all → cut ≡ before
+cut_back before sent all cut start s a c =
+    c ∙ (ap (λ (n : ℕ). take n all) s ∙ (ap (take (length before)) a ∙ take-append_seam before sent))
 
 -- if no draft is begun, nothing has been sent
-pub refused_bytes : {F D E : Type 0} (reply : ErrorReply) (P : Type 0) (before sent all cut : List ℕ) (start : ℕ) (r : Result (Decision F D) E) → start ≡ length before → all ≡ before ++ sent → cut ≡ take start all →
+pub refused_bytes : {F D E : Type 0} (reply : ErrorReply) (P : Type 0) (before sent all cut : List ℕ) (start : ℕ)
+    (r : Result (Decision F D) E) → start ≡ length before → all ≡ before ++ sent → cut ≡ take start all →
     IfOk r (λ d. (d ≡ Refuse reply) × P) → IfOk r (λ d. cut ≡ before ++ decided_bytes d)
 refused_bytes reply P before sent all cut start (Err e) s a c h = tt
 refused_bytes reply P before sent all cut start (Ok d) s a c h =
     cut_back before sent all cut start s a c ∙ sym (ap (λ d. before ++ decided_bytes d) h.0 ∙ append-nil before)
 
-pub cut_on_err : {T E : Type 0} (before sent all cut : List ℕ) (start : ℕ) (r : Result T E) → start ≡ length before → all ≡ before ++ sent → cut ≡ take start all → OnErr r (cut ≡ before)
+pub cut_on_err : {T E : Type 0} (before sent all cut : List ℕ) (start : ℕ) (r : Result T E) → start ≡ length before →
+    all ≡ before ++ sent → cut ≡ take start all → OnErr r (cut ≡ before)
 cut_on_err before sent all cut start (Ok d) s a c = tt
 cut_on_err before sent all cut start (Err e) s a c = cut_back before sent all cut start s a c
 
 -- before an ERROR is appended, nothing has been sent
-nothing_sent : {F D : Type 0} (was mid : List ℕ) (d : Decision F D) (reply : ErrorReply) → d ≡ Refuse reply → mid ≡ was ++ decided_bytes d → mid ≡ was
-nothing_sent {F = F} {D = D} was mid d reply is sent = sent ∙ ap (λ (x : Decision F D). was ++ decided_bytes x) is ∙ append-nil was
+nothing_sent : {F D : Type 0} (was mid : List ℕ) (d : Decision F D) (reply : ErrorReply) → d ≡ Refuse reply →
+    mid ≡ was ++ decided_bytes d → mid ≡ was
+nothing_sent {F = F} {D = D} was mid d reply is sent =
+    sent ∙ ap (λ (x : Decision F D). was ++ decided_bytes x) is ∙ append-nil was
 
 module _ (cap count : ℕ) (limits : Limits) where
   -- the tests of the name in a request
@@ -80,10 +89,12 @@ module _ (cap count : ℕ) (limits : Limits) where
   packet_named None repeated asked h = sym (ap (asked_of repeated) h)
 
   -- the port decides by the tests of the name, unless the request is repeated
-  asks_named : (bytes : List ℕ) (asked : Option (Kind × Request)) (decoded : Option Packet) (repeated : Bool) → has_error_opcode bytes ≡ false → IsRequest decoded asked →
+  asks_named : (bytes : List ℕ) (asked : Option (Kind × Request)) (decoded : Option Packet) (repeated : Bool) →
+      has_error_opcode bytes ≡ false → IsRequest decoded asked →
       asked_of repeated asked ≡ asks cap count repeated limits bytes decoded
   asks_named bytes asked decoded repeated test is =
-      sym (packet_named decoded repeated asked is) ∙ ap (λ (b : Bool). if b then Ignores else by_packet cap count repeated limits decoded) (sym test)
+      sym (packet_named decoded repeated asked is)
+      ∙ ap (λ (b : Bool). if b then Ignores else by_packet cap count repeated limits decoded) (sym test)
 
 -- ---- a name never makes the port ignore a datagram
 either_acts : (b : Bool) (x y : Ask) → x ≢ Ignores → y ≢ Ignores → (if b then x else y) ≢ Ignores
@@ -94,13 +105,16 @@ options_act : (path : List ℕ) (mode : Mode) (r : Result (List Known) Refusal) 
 options_act path mode (Err refusal) e = cc
 options_act path mode (Ok agreed) e = cc
 
-kind_acts : (kind : Kind) (mode : Mode) (options : List RawOption) (limits : Limits) (path : List ℕ) → by_kind kind mode options limits path ≢ Ignores
+kind_acts : (kind : Kind) (mode : Mode) (options : List RawOption) (limits : Limits) (path : List ℕ) →
+    by_kind kind mode options limits path ≢ Ignores
 kind_acts kinds.Read mode options limits path e = cc
 kind_acts kinds.Write mode options limits path e = options_act path mode (answer options kinds.Write mode 0 limits) e
 
-name_acts : (cap count : ℕ) (next : List ℕ → Ask) → ((path : List ℕ) → next path ≢ Ignores) → (r : Result (List ℕ) PathFault) → by_name cap count next r ≢ Ignores
+name_acts : (cap count : ℕ) (next : List ℕ → Ask) → ((path : List ℕ) → next path ≢ Ignores) →
+    (r : Result (List ℕ) PathFault) → by_name cap count next r ≢ Ignores
 name_acts cap count next h (Err fault) e = cc
-name_acts cap count next h (Ok path) e = either_acts (nat_le cap count) (Refuses ServerBusy) (next path) (λ e. cc) (h path) e
+name_acts cap count next h (Ok path) e =
+    either_acts (nat_le cap count) (Refuses ServerBusy) (next path) (λ e. cc) (h path) e
 
 module _ {S F D : Type 0} (old : ServerState S F D) (from : Endpoint) (bytes : List ℕ) where
   -- the tests of the name in a request, in this state of the server
@@ -108,8 +122,10 @@ module _ {S F D : Type 0} (old : ServerState S F D) (from : Endpoint) (bytes : L
   named_now kind request = named old.config.cap (length old.held) old.config.limits kind request
 
   -- the tests of a name are those of the datagram
-  admits_named : (kind : Kind) (request : Request) (decoded : Option Packet) (repeated : Bool) (ask : Ask) → has_error_opcode bytes ≡ false → Decodes bytes decoded → IsRequest decoded (Some (kind, request)) →
-      IsRepeated repeated from decoded old.held → repeated ≡ false → ask ≡ named_now kind request → Admits old from bytes ask
+  admits_named : (kind : Kind) (request : Request) (decoded : Option Packet) (repeated : Bool) (ask : Ask) →
+      has_error_opcode bytes ≡ false → Decodes bytes decoded → IsRequest decoded (Some (kind, request)) →
+      IsRepeated repeated from decoded old.held → repeated ≡ false → ask ≡ named_now kind request →
+      Admits old from bytes ask
   admits_named kind request decoded repeated ask test says is repeats new h =
       record {
         decoded = decoded;
@@ -118,17 +134,23 @@ module _ {S F D : Type 0} (old : ServerState S F D) (from : Endpoint) (bytes : L
         repeats = repeats;
         asks_for =
             h ∙ (ap (λ (b : Bool). by_repeat b (named_now kind request)) (sym new)
-            ∙ asks_named old.config.cap (length old.held) old.config.limits bytes (Some (kind, request)) decoded repeated test is);
+            ∙ asks_named old.config.cap (length old.held) old.config.limits bytes (Some (kind, request)) decoded
+            repeated test is);
       }
 
-  pub asked_by_name : {E : Type 0} (kind : Kind) (request : Request) (decoded : Option Packet) (repeated : Bool) (r : Result PortAction E) → has_error_opcode bytes ≡ false → Decodes bytes decoded → IsRequest decoded (Some (kind, request)) →
+  pub asked_by_name : {E : Type 0} (kind : Kind) (request : Request) (decoded : Option Packet) (repeated : Bool)
+      (r : Result PortAction E) → has_error_opcode bytes ≡ false → Decodes bytes decoded →
+      IsRequest decoded (Some (kind, request)) →
       IsRepeated repeated from decoded old.held → repeated ≡ false →
       IfOk r (λ asked. ask_of asked ≡ named_now kind request) → IfOk r (λ asked. Admits old from bytes (ask_of asked))
-  asked_by_name kind request decoded repeated (Ok asked) test says is repeats new h = admits_named kind request decoded repeated (ask_of asked) test says is repeats new h
+  asked_by_name kind request decoded repeated (Ok asked) test says is repeats new h =
+      admits_named kind request decoded repeated (ask_of asked) test says is repeats new h
   asked_by_name kind request decoded repeated (Err fault) test says is repeats new h = tt
 
   -- and when they are out of memory, the datagram is not one to ignore
-  pub acts_by_name : {T E : Type 0} (kind : Kind) (request : Request) (decoded : Option Packet) (repeated : Bool) (r : Result T E) → has_error_opcode bytes ≡ false → Decodes bytes decoded → IsRequest decoded (Some (kind, request)) →
+  pub acts_by_name : {T E : Type 0} (kind : Kind) (request : Request) (decoded : Option Packet) (repeated : Bool)
+      (r : Result T E) → has_error_opcode bytes ≡ false → Decodes bytes decoded →
+      IsRequest decoded (Some (kind, request)) →
       IsRepeated repeated from decoded old.held → repeated ≡ false → OnErr r (Acts old from bytes)
   acts_by_name kind request decoded repeated (Ok done) test says is repeats new = tt
   acts_by_name kind request decoded repeated (Err fault) test says is repeats new = (
@@ -139,8 +161,10 @@ module _ {S F D : Type 0} (old : ServerState S F D) (from : Endpoint) (bytes : L
   )
 
   -- and its name is a path
-  pub names_a_path : {T E : Type 0} (kind : Kind) (request : Request) (decoded : Option Packet) (repeated : Bool) (r : Result T E) → Decodes bytes decoded → IsRequest decoded (Some (kind, request)) →
-      IsRepeated repeated from decoded old.held → repeated ≡ false → OnErr r (IsOk (path_of_name request.name)) → OnErr r (NamesAPath old from bytes)
+  pub names_a_path : {T E : Type 0} (kind : Kind) (request : Request) (decoded : Option Packet) (repeated : Bool)
+      (r : Result T E) → Decodes bytes decoded → IsRequest decoded (Some (kind, request)) →
+      IsRepeated repeated from decoded old.held → repeated ≡ false → OnErr r (IsOk (path_of_name request.name)) →
+      OnErr r (NamesAPath old from bytes)
   names_a_path kind request decoded repeated (Ok done) says is repeats new h = tt
   names_a_path kind request decoded repeated (Err fault) says is repeats new h =
       record {
@@ -153,48 +177,85 @@ module _ {S F D : Type 0} (old : ServerState S F D) (from : Endpoint) (bytes : L
         path = h;
       }
 
-module _ {S F D : Type 0} (meaning : StoreMeaning S D) (sources : SourceMeaning F) (old : ServerState S F D) (from : Endpoint) (bytes : List ℕ) where
+module _ {S F D : Type 0} (meaning : StoreMeaning S D) (sources : SourceMeaning F) (old : ServerState S F D)
+    (from : Endpoint) (bytes : List ℕ) where
   -- a draft was begun
-  pub asks_to_write : (path : List ℕ) (mode : Mode) (agreed : List Known) (store : S) (draft : D) (end : EndState) (request : List ℕ) (held : HeldTransfer F D) → Begins meaning.drafted (meaning.stored old.store) (meaning.stored store) path old.config.overwrite (Ok draft) →
+  pub asks_to_write : (path : List ℕ) (mode : Mode) (agreed : List Known) (store : S) (draft : D) (end : EndState)
+      (request : List ℕ) (held : HeldTransfer F D) →
+      Begins meaning.drafted (meaning.stored old.store) (meaning.stored store) path old.config.overwrite (Ok draft) →
       meaning.begun old.store store None →
       end ≡ serving_write agreed from mode old.config.retries → request ≡ bytes →
       held ≡ record { end = end; files = Sink draft; path = path; request = request } →
       AsksToWrite meaning sources old from bytes path mode agreed (A_transfer held store)
   asks_to_write path mode agreed store draft end request held begins begun opens copies is =
-      let held-is : held ≡ record { end = serving_write agreed from mode old.config.retries; files = Sink draft; path = path; request = bytes } = rw (← opens, ← copies) is in
-      record { store = store; draft = Ok draft; begins = begins; refused = tt; begun = begun; memory = λ e. cc; goes_on = ap (λ (h : HeldTransfer F D). A_transfer h store) held-is }
+      let held-is : held ≡ record {
+        end = serving_write agreed from mode old.config.retries;
+        files = Sink draft;
+        path = path;
+        request = bytes;
+      } = rw (← opens, ← copies) is in
+      record {
+        store = store;
+        draft = Ok draft;
+        begins = begins;
+        refused = tt;
+        begun = begun;
+        memory = λ e. cc;
+        goes_on = ap (λ (h : HeldTransfer F D). A_transfer h store) held-is;
+      }
 
   -- or none was, and an ERROR is sent
-  pub refused_to_write : {E : Type 0} (path : List ℕ) (mode : Mode) (agreed : List Known) (store : S) (fault : StoreFault) (r : Result (Decision F D) E) → Begins {K = D} meaning.drafted (meaning.stored old.store) (meaning.stored store) path old.config.overwrite (Err fault) →
+  pub refused_to_write : {E : Type 0} (path : List ℕ) (mode : Mode) (agreed : List Known) (store : S)
+      (fault : StoreFault) (r : Result (Decision F D) E) →
+      Begins {K = D} meaning.drafted (meaning.stored old.store) (meaning.stored store) path old.config.overwrite
+      (Err fault) →
       meaning.may_refuse_begin old.store path old.config.overwrite fault →
       meaning.begun old.store store (Some fault) →
       IfOk r (λ d. (d ≡ Refuse (begin_reply fault)) × (fault ≢ Memory)) →
       IfOk r (λ d. AsksToWrite meaning sources old from bytes path mode agreed (came_to d store))
   refused_to_write path mode agreed store fault (Err e) begins may begun h = tt
   refused_to_write path mode agreed store fault (Ok d) begins may begun h =
-      record { store = store; draft = Err fault; begins = begins; refused = may; begun = begun; memory = λ e. h.1 (cc); goes_on = ap (λ (d : Decision F D). came_to d store) h.0 }
+      record {
+        store = store;
+        draft = Err fault;
+        begins = begins;
+        refused = may;
+        begun = begun;
+        memory = λ e. h.1 (cc);
+        goes_on = ap (λ (d : Decision F D). came_to d store) h.0;
+      }
 
   -- if no draft was begun for lack of memory, nothing has changed
-  pub nothing_begun : {T E : Type 0} (store : S) (fault : StoreFault) (was cut : List ℕ) (r : Result T E) → (IsErrOf {T = D} (Err fault) Memory → store ≡ old.store) → OnErr r (fault ≡ Memory) → OnErr r (cut ≡ was) →
+  pub nothing_begun : {T E : Type 0} (store : S) (fault : StoreFault) (was cut : List ℕ) (r : Result T E) →
+      (IsErrOf {T = D} (Err fault) Memory → store ≡ old.store) → OnErr r (fault ≡ Memory) → OnErr r (cut ≡ was) →
       OnErr r ((record old { store = store } ≡ old) × (cut ≡ was))
   nothing_begun store fault was cut (Ok d) same why back = tt
-  nothing_begun store fault was cut (Err e) same why back = (ap (λ (s : S). record old { store = s }) (same (ap Err why)), back)
+  nothing_begun store fault was cut (Err e) same why back =
+      (ap (λ (s : S). record old { store = s }) (same (ap Err why)), back)
 
   -- what was decided is done, with this result
   carries : (tid : ℕ) (ask done : Ask) (came : Came S F D) (result : Left S F D) → ask ≡ done →
-      Goes meaning sources old from bytes done came → result ≡ left_by came old from tid → CarriesOut meaning sources old from bytes ask tid result
+      Goes meaning sources old from bytes done came → result ≡ left_by came old from tid →
+      CarriesOut meaning sources old from bytes ask tid result
   carries tid ask done came result is goes left =
-      record { came = came; goes = subst (λ (a : Ask). Goes meaning sources old from bytes a came) (sym is) goes; left = left }
+      record {
+        came = came;
+        goes = subst (λ (a : Ask). Goes meaning sources old from bytes a came) (sym is) goes;
+        left = left;
+      }
 
   -- the datagram is ignored
   pub stays_silent : (tid : ℕ) (ask : Ask) (out : List ℕ) → ask ≡ Ignores →
-      (sent : List ℕ) × (out ≡ out ++ sent) × CarriesOut meaning sources old from bytes ask tid (record { new = old; opened = record { tid = None; to = None }; sent = sent })
+      (sent : List ℕ) × (out ≡ out ++ sent) × CarriesOut meaning sources old from bytes ask tid
+      (record { new = old; opened = record { tid = None; to = None }; sent = sent })
   stays_silent tid ask out is = ([], sym (append-nil out), carries tid ask Ignores Nothing _ is refl refl)
 
   -- an ERROR is sent
-  pub refuses : (tid : ℕ) (ask : Ask) (reply : ErrorReply) (before after : List ℕ) (r : Result Opened ServerFault) → ask ≡ Refuses reply →
+  pub refuses : (tid : ℕ) (ask : Ask) (reply : ErrorReply) (before after : List ℕ) (r : Result Opened ServerFault) →
+      ask ≡ Refuses reply →
       IfOk r (λ opened. opened ≡ record { tid = None; to = Some from }) → OnOk r (after ≡ before ++ error_bytes reply) →
-      IfOk r (λ opened. (sent : List ℕ) × (after ≡ before ++ sent) × CarriesOut meaning sources old from bytes ask tid (record { new = old; opened = opened; sent = sent }))
+      IfOk r (λ opened. (sent : List ℕ) × (after ≡ before ++ sent) × CarriesOut meaning sources old from bytes ask tid
+      (record { new = old; opened = opened; sent = sent }))
   refuses tid ask reply before after (Ok opened) is opened_is ok = (
     error_bytes reply,
     ok,
@@ -204,17 +265,22 @@ module _ {S F D : Type 0} (meaning : StoreMeaning S D) (sources : SourceMeaning 
   refuses tid ask reply before after (Err fault) is opened_is ok = tt
 
   -- the store was asked for a file or a draft
-  pub goes_on : (tid : ℕ) (ask done : Ask) (before after : List ℕ) (new : ServerState S F D) (r : Result Opened ServerFault) → ask ≡ done →
+  pub goes_on : (tid : ℕ) (ask done : Ask) (before after : List ℕ) (new : ServerState S F D)
+      (r : Result Opened ServerFault) → ask ≡ done →
       IfOk r (λ opened. (came : Came S F D) × (sent : List ℕ) × Goes meaning sources old from bytes done came
       × (after ≡ before ++ sent) × (record { new = new; opened = opened; sent = sent } ≡ left_by came old from tid)) →
-      IfOk r (λ opened. (sent : List ℕ) × (after ≡ before ++ sent) × CarriesOut meaning sources old from bytes ask tid (record { new = new; opened = opened; sent = sent }))
+      IfOk r (λ opened. (sent : List ℕ) × (after ≡ before ++ sent) × CarriesOut meaning sources old from bytes ask tid
+      (record { new = new; opened = opened; sent = sent }))
   goes_on tid ask done before after new (Ok opened) is h = (h.1, h.3, carries tid ask done h.0 _ is h.2 h.4)
   goes_on tid ask done before after new (Err fault) is h = tt
 
   -- the decision of the port and its execution are its step
-  pub requested : (tid : ℕ) (ask : Ask) (before after : List ℕ) (new : ServerState S F D) (r : Result Opened ServerFault) → Admits old from bytes ask →
-      IfOk r (λ opened. (sent : List ℕ) × (after ≡ before ++ sent) × CarriesOut meaning sources old from bytes ask tid (record { new = new; opened = opened; sent = sent })) →
-      IfOk r (λ opened. (sent : List ℕ) × (after ≡ before ++ sent) × RequestStep meaning sources old from bytes tid (record { new = new; opened = opened; sent = sent }))
+  pub requested : (tid : ℕ) (ask : Ask) (before after : List ℕ) (new : ServerState S F D)
+      (r : Result Opened ServerFault) → Admits old from bytes ask →
+      IfOk r (λ opened. (sent : List ℕ) × (after ≡ before ++ sent) × CarriesOut meaning sources old from bytes ask tid
+      (record { new = new; opened = opened; sent = sent })) →
+      IfOk r (λ opened. (sent : List ℕ) × (after ≡ before ++ sent) × RequestStep meaning sources old from bytes tid
+      (record { new = new; opened = opened; sent = sent }))
   requested tid ask before after new (Ok opened) admits h = (
     h.0,
     h.1,
@@ -231,7 +297,9 @@ module _ {S F D : Type 0} (meaning : StoreMeaning S D) (sources : SourceMeaning 
   requested tid ask before after new (Err fault) admits h = tt
 
 -- ---- a write, for which the table reserved capacity first
-module _ {S F D : Type 0} (meaning : StoreMeaning S D) (sources : SourceMeaning F) (config : Config) (store : S) (held none : List (ℕ × HeldTransfer F D)) (from : Endpoint) (bytes : List ℕ) (path : List ℕ) (mode : Mode) (agreed : List Known) (after : ServerState S F D)
+module _ {S F D : Type 0} (meaning : StoreMeaning S D) (sources : SourceMeaning F) (config : Config) (store : S)
+    (held none : List (ℕ × HeldTransfer F D)) (from : Endpoint) (bytes : List ℕ) (path : List ℕ) (mode : Mode)
+    (agreed : List Known) (after : ServerState S F D)
     (config' : Config) (store' : S) (others : List (ℕ × HeldTransfer F D)) (table : List (ℕ × HeldTransfer F D)) where
   abbrev before_write : List (ℕ × HeldTransfer F D) → ServerState S F D
   before_write transfers = record { config = config; store = store; held = transfers }
@@ -247,30 +315,53 @@ module _ {S F D : Type 0} (meaning : StoreMeaning S D) (sources : SourceMeaning 
     store_kept = ap (λ (s : ServerState S F D). s.store) seen
 
     -- the store's answer does not depend on the other transfers
-    asked_apart : (came : Came S F D) → AsksToWrite meaning sources (before_write none) from bytes path mode agreed came → AsksToWrite meaning sources (before_write held) from bytes path mode agreed came
-    asked_apart came h = record { store = h.store; draft = h.draft; begins = h.begins; refused = h.refused; begun = h.begun; memory = h.memory; goes_on = h.goes_on }
+    asked_apart : (came : Came S F D) →
+        AsksToWrite meaning sources (before_write none) from bytes path mode agreed came →
+        AsksToWrite meaning sources (before_write held) from bytes path mode agreed came
+    asked_apart came h =
+        record {
+          store = h.store;
+          draft = h.draft;
+          begins = h.begins;
+          refused = h.refused;
+          begun = h.begun;
+          memory = h.memory;
+          goes_on = h.goes_on;
+        }
 
     abbrev Written : ℕ → List ℕ → List ℕ → Opened → Type 0
     Written tid was out opened =
-        (came : Came S F D) × (sent : List ℕ) × AsksToWrite meaning sources (before_write held) from bytes path mode agreed came
-        × (out ≡ was ++ sent) × (record { new = after_write table; opened = opened; sent = sent } ≡ left_by came (before_write held) from tid)
+        (came : Came S F D) × (sent : List ℕ) × AsksToWrite meaning sources (before_write held) from bytes path mode
+        agreed came
+        × (out ≡ was ++ sent) × (record { new = after_write table; opened = opened; sent = sent } ≡ left_by came
+        (before_write held) from tid)
 
-    pub write_opened : (tid : ℕ) (was out : List ℕ) (d : Decision F D) (transfer : HeldTransfer F D) → d ≡ Open transfer → table ≡ with_new tid transfer held → AsksToWrite meaning sources (before_write none) from bytes path mode agreed (came_to d after.store) → out ≡ was ++ decided_bytes d →
+    pub write_opened : (tid : ℕ) (was out : List ℕ) (d : Decision F D) (transfer : HeldTransfer F D) →
+        d ≡ Open transfer → table ≡ with_new tid transfer held →
+        AsksToWrite meaning sources (before_write none) from bytes path mode agreed (came_to d after.store) →
+        out ≡ was ++ decided_bytes d →
         Written tid was out (record { tid = Some tid; to = Some from })
     write_opened tid was out d transfer is put asks sent = (
       A_transfer transfer after.store,
       transfer.end.position.last_sent,
-      asked_apart (A_transfer transfer after.store) (subst (λ (x : Decision F D). AsksToWrite meaning sources (before_write none) from bytes path mode agreed (came_to x after.store)) is asks),
+      asked_apart (A_transfer transfer after.store)
+          (subst (λ (x : Decision F D). AsksToWrite meaning sources (before_write none) from bytes path mode agreed
+          (came_to x after.store)) is asks),
       sent ∙ ap (λ (x : Decision F D). was ++ decided_bytes x) is,
       rw (config_kept, store_kept, put) refl,
     )
 
-    pub write_refused : (tid : ℕ) (was mid out : List ℕ) (d : Decision F D) (reply : ErrorReply) (opened : Opened) → d ≡ Refuse reply → table ≡ held → AsksToWrite meaning sources (before_write none) from bytes path mode agreed (came_to d after.store) → mid ≡ was ++ decided_bytes d →
+    pub write_refused : (tid : ℕ) (was mid out : List ℕ) (d : Decision F D) (reply : ErrorReply) (opened : Opened) →
+        d ≡ Refuse reply → table ≡ held →
+        AsksToWrite meaning sources (before_write none) from bytes path mode agreed (came_to d after.store) →
+        mid ≡ was ++ decided_bytes d →
         opened ≡ record { tid = None; to = Some from } → out ≡ mid ++ error_bytes reply → Written tid was out opened
     write_refused tid was mid out d reply opened is back asks sent opened_is ok = (
       Error_reply reply after.store,
       error_bytes reply,
-      asked_apart (Error_reply reply after.store) (subst (λ (x : Decision F D). AsksToWrite meaning sources (before_write none) from bytes path mode agreed (came_to x after.store)) is asks),
+      asked_apart (Error_reply reply after.store)
+          (subst (λ (x : Decision F D). AsksToWrite meaning sources (before_write none) from bytes path mode agreed
+          (came_to x after.store)) is asks),
       ok ∙ ap (λ (x : List ℕ). x ++ error_bytes reply) (nothing_sent was mid d reply is sent),
       rw (config_kept, store_kept, back, opened_is) refl,
     )

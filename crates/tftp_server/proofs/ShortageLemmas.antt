@@ -1,5 +1,6 @@
 -- An end that borrows its file lacks memory as one that owns it, and a transfer as its end.
-use Rattle.std.proofs.Common.{◌≡◌, ℕ, Bool, List, [], ◌∷◌, Option, Some, Result, Ok, Err, OnErr, inl, inr, refl, sym, ap, subst, ◌∙◌}
+use Rattle.std.proofs.Common.{◌≡◌, ℕ, Bool, List, [], ◌∷◌, Option, Some, Result, Ok, Err, OnErr, inl, inr, refl, sym}
+use Rattle.std.proofs.Common.{ap, subst, ◌∙◌}
 use Rattle.std.specs.Prelude.{IsErrOf, ◌⊎◌}
 use Rattle.std.specs.Borrow.{MutBor}
 use Rattle.tftp_wire.specs.declared.mode.Mode.{Mode}
@@ -38,24 +39,36 @@ files_map f g (Source source) = Source (f source)
 files_map f g (Sink sink) = Sink (g sink)
 
 module _ {S T K L : Type 0} (sources : SourceMeaning T) (sinks : SinkMeaning L) (f : S → T) (g : K → L) where
-  send_as : (want : ℕ) (e : EndState) (s s' : S) → SendLacksMemory (source_through sources f) want e s s' → SendLacksMemory sources want e (f s) (f s')
+  send_as : (want : ℕ) (e : EndState) (s s' : S) → SendLacksMemory (source_through sources f) want e s s' →
+      SendLacksMemory sources want e (f s) (f s')
   send_as want e s s' (inl h) = inl (h.0, ap f h.1)
   send_as want e s s' (inr h) = inr (record { left = h.left; fails = h.fails })
 
-  appended_as : (bytes : List ℕ) (k k' : K) → Appended (sink_through sinks g) bytes k k' (Err Memory) → Appended sinks bytes (g k) (g k') (Err Memory)
+  appended_as : (bytes : List ℕ) (k k' : K) → Appended (sink_through sinks g) bytes k k' (Err Memory) →
+      Appended sinks bytes (g k) (g k') (Err Memory)
   appended_as [] k k' h = (h.0, ap g h.1)
   appended_as (b ∷ bytes) k k' h = h
 
-  append_as : (mode : Mode) (text piece : List ℕ) (k k' : K) → AppendLacksMemory (sink_through sinks g) mode text piece k k' → AppendLacksMemory sinks mode text piece (g k) (g k')
+  append_as : (mode : Mode) (text piece : List ℕ) (k k' : K) →
+      AppendLacksMemory (sink_through sinks g) mode text piece k k' →
+      AppendLacksMemory sinks mode text piece (g k) (g k')
   append_as mode text piece k k' h =
-      record { bytes = h.bytes; text_after = h.text_after; decoded = h.decoded; appended = appended_as h.bytes k k' h.appended }
+      record {
+        bytes = h.bytes;
+        text_after = h.text_after;
+        decoded = h.decoded;
+        appended = appended_as h.bytes k k' h.appended;
+      }
 
-  store_as : (mode : Mode) (text piece : List ℕ) (k k' : K) → StoreLacksMemory (sink_through sinks g) mode text piece k k' → StoreLacksMemory sinks mode text piece (g k) (g k')
+  store_as : (mode : Mode) (text piece : List ℕ) (k k' : K) →
+      StoreLacksMemory (sink_through sinks g) mode text piece k k' → StoreLacksMemory sinks mode text piece (g k) (g k')
   store_as Octet text piece k k' h = append_as Octet text piece k k' h
   store_as Netascii text piece k k' (inl h) = inl (ap g h)
   store_as Netascii text piece k k' (inr h) = inr (append_as Netascii text piece k k' h)
 
-  act_as : (action : Action) (bytes : List ℕ) (e : EndState) (files files' : Files S K) → ActLacksMemory (source_through sources f) (sink_through sinks g) action bytes e files files' → ActLacksMemory sources sinks action bytes e (files_map f g files) (files_map f g files')
+  act_as : (action : Action) (bytes : List ℕ) (e : EndState) (files files' : Files S K) →
+      ActLacksMemory (source_through sources f) (sink_through sinks g) action bytes e files files' →
+      ActLacksMemory sources sinks action bytes e (files_map f g files) (files_map f g files')
   act_as (Respond response) bytes e files files' h = h
   act_as (Send terms number) bytes e (Source s) (Source s') h = send_as _ e s s' h
   act_as (Send terms number) bytes e (Source s) (Sink k') h = h
@@ -66,7 +79,8 @@ module _ {S T K L : Type 0} (sources : SourceMeaning T) (sinks : SinkMeaning L) 
   act_as (Store terms number) bytes e (Source s) (Source s') h = h
   act_as (Store terms number) bytes e (Source s) (Sink k') h = h
 
-  pub lacks_as : (too_full : ℕ → Type 0) (from : Endpoint) (bytes : List ℕ) (e : EndState) (files files' : Files S K) → LacksMemory (source_through sources f) (sink_through sinks g) too_full from bytes e files files' →
+  pub lacks_as : (too_full : ℕ → Type 0) (from : Endpoint) (bytes : List ℕ) (e : EndState) (files files' : Files S K) →
+      LacksMemory (source_through sources f) (sink_through sinks g) too_full from bytes e files files' →
       LacksMemory sources sinks too_full from bytes e (files_map f g files) (files_map f g files')
   lacks_as too_full from bytes e files files' h =
       record {
@@ -78,21 +92,29 @@ module _ {S T K L : Type 0} (sources : SourceMeaning T) (sinks : SinkMeaning L) 
         ];
       }
 
-module _ {S K : Type 0} (sources : SourceMeaning S) (sinks : SinkMeaning K) (too_full : ℕ → Type 0) (from : Endpoint) (bytes : List ℕ) (e : EndState) where
+module _ {S K : Type 0} (sources : SourceMeaning S) (sinks : SinkMeaning K) (too_full : ℕ → Type 0) (from : Endpoint)
+    (bytes : List ℕ) (e : EndState) where
   -- over a borrowed source, and over a borrowed sink
-  pub source_lacks : (first second : MutBor S) (files : Files (MutBor S) K) (last : S) → files ≡ Source second → last ≡ second.now →
-      LacksMemory (borrowed_source sources) sinks too_full from bytes e (Source first) files → LacksMemory sources sinks too_full from bytes e (Source first.now) (Source last)
+  pub source_lacks : (first second : MutBor S) (files : Files (MutBor S) K) (last : S) → files ≡ Source second →
+      last ≡ second.now →
+      LacksMemory (borrowed_source sources) sinks too_full from bytes e (Source first) files →
+      LacksMemory sources sinks too_full from bytes e (Source first.now) (Source last)
   source_lacks first second files last is same h =
       subst (λ (s : S). LacksMemory sources sinks too_full from bytes e (Source first.now) (Source s)) (sym same)
-      (lacks_as sources sinks (λ (s : MutBor S). s.now) (λ (k : K). k) too_full from bytes e (Source first) (Source second)
-      (subst (λ (f : Files (MutBor S) K). LacksMemory (borrowed_source sources) sinks too_full from bytes e (Source first) f) is h))
+      (lacks_as sources sinks (λ (s : MutBor S). s.now) (λ (k : K). k) too_full from bytes e (Source first)
+      (Source second)
+      (subst (λ (f : Files (MutBor S) K). LacksMemory (borrowed_source sources) sinks too_full from bytes e
+      (Source first) f) is h))
 
-  pub sink_lacks : (first second : MutBor K) (files : Files S (MutBor K)) (last : K) → files ≡ Sink second → last ≡ second.now →
-      LacksMemory sources (borrowed_sink sinks) too_full from bytes e (Sink first) files → LacksMemory sources sinks too_full from bytes e (Sink first.now) (Sink last)
+  pub sink_lacks : (first second : MutBor K) (files : Files S (MutBor K)) (last : K) → files ≡ Sink second →
+      last ≡ second.now →
+      LacksMemory sources (borrowed_sink sinks) too_full from bytes e (Sink first) files →
+      LacksMemory sources sinks too_full from bytes e (Sink first.now) (Sink last)
   sink_lacks first second files last is same h =
       subst (λ (k : K). LacksMemory sources sinks too_full from bytes e (Sink first.now) (Sink k)) (sym same)
       (lacks_as sources sinks (λ (s : S). s) (λ (k : MutBor K). k.now) too_full from bytes e (Sink first) (Sink second)
-      (subst (λ (f : Files S (MutBor K)). LacksMemory sources (borrowed_sink sinks) too_full from bytes e (Sink first) f) is h))
+      (subst (λ (f : Files S (MutBor K)). LacksMemory sources (borrowed_sink sinks) too_full from bytes e (Sink first)
+      f) is h))
 
 -- ---- the end of a transfer
 
@@ -102,12 +124,16 @@ source_or source (Source s) = Source s
 source_or source (Sink k) = Source source
 
 module _ {S K L : Type 0} (sources : SourceMeaning S) (sinks : SinkMeaning K) (others : SinkMeaning L) where
-  act_of_source : (action : Action) (bytes : List ℕ) (e : EndState) (s s' : S) → ActLacksMemory sources sinks action bytes e (Source s) (Source s') → ActLacksMemory sources others action bytes e (Source s) (Source s')
+  act_of_source : (action : Action) (bytes : List ℕ) (e : EndState) (s s' : S) →
+      ActLacksMemory sources sinks action bytes e (Source s) (Source s') →
+      ActLacksMemory sources others action bytes e (Source s) (Source s')
   act_of_source (Respond response) bytes e s s' h = h
   act_of_source (Send terms number) bytes e s s' h = h
   act_of_source (Store terms number) bytes e s s' h = h
 
-  lacks_of_source : (too_full : ℕ → Type 0) (from : Endpoint) (bytes : List ℕ) (e : EndState) (s s' : S) → LacksMemory sources sinks too_full from bytes e (Source s) (Source s') → LacksMemory sources others too_full from bytes e (Source s) (Source s')
+  lacks_of_source : (too_full : ℕ → Type 0) (from : Endpoint) (bytes : List ℕ) (e : EndState) (s s' : S) →
+      LacksMemory sources sinks too_full from bytes e (Source s) (Source s') →
+      LacksMemory sources others too_full from bytes e (Source s) (Source s')
   lacks_of_source too_full from bytes e s s' h =
       record {
         decoded = h.decoded;
@@ -120,22 +146,39 @@ module _ {S K L : Type 0} (sources : SourceMeaning S) (sinks : SinkMeaning K) (o
 
 module _ {S F D : Type 0} (meaning : StoreMeaning S D) (sources : SourceMeaning F) (too_full : ℕ → Type 0) where
   -- a transfer over a source, or over a draft
-  pub source_lacked : {K : Type 0} (sinks : SinkMeaning K) (replace : Bool) (from : Endpoint) (bytes : List ℕ) (store : S) (e e' : EndState) (files : Files F D) (s s' : F) (path request : List ℕ) → files ≡ Source s →
+  pub source_lacked : {K : Type 0} (sinks : SinkMeaning K) (replace : Bool) (from : Endpoint) (bytes : List ℕ)
+      (store : S) (e e' : EndState) (files : Files F D) (s s' : F) (path request : List ℕ) → files ≡ Source s →
       LacksMemory sources sinks too_full from bytes e (Source s) (Source s') →
-      TransferLacksMemory meaning sources too_full replace from bytes store store (record { end = e; files = files; path = path; request = request }) (record { end = e'; files = Source s'; path = path; request = request })
+      TransferLacksMemory meaning sources too_full replace from bytes store store
+      (record { end = e; files = files; path = path; request = request })
+      (record { end = e'; files = Source s'; path = path; request = request })
   source_lacked sinks replace from bytes store e e' files s s' path request is h =
-      subst (λ (f : Files F D). TransferLacksMemory meaning sources too_full replace from bytes store store (record { end = e; files = f; path = path; request = request }) (record { end = e'; files = Source s'; path = path; request = request })) (sym is)
+      subst (λ (f : Files F D). TransferLacksMemory meaning sources too_full replace from bytes store store
+      (record { end = e; files = f; path = path; request = request })
+      (record { end = e'; files = Source s'; path = path; request = request })) (sym is)
       (lacks_of_source sources sinks (drafting_sink meaning) too_full from bytes e s s' h)
 
-  pub draft_lacked : (replace : Bool) (from : Endpoint) (bytes : List ℕ) (store store' : S) (e e' : EndState) (files : Files F D) (k k' : DraftSink S F D) (draft draft' : D) (path request : List ℕ) → files ≡ Sink draft →
-      drafting_of k ≡ record { store = store; draft = draft; path = path; replace = replace } → drafting_of k' ≡ record { store = store'; draft = draft'; path = path; replace = replace } →
+  pub draft_lacked : (replace : Bool) (from : Endpoint) (bytes : List ℕ) (store store' : S) (e e' : EndState)
+      (files : Files F D) (k k' : DraftSink S F D) (draft draft' : D) (path request : List ℕ) → files ≡ Sink draft →
+      drafting_of k ≡ record { store = store; draft = draft; path = path; replace = replace } →
+      drafting_of k' ≡ record { store = store'; draft = draft'; path = path; replace = replace } →
       LacksMemory sources (sink_through (drafting_sink meaning) drafting_of) too_full from bytes e (Sink k) (Sink k') →
-      TransferLacksMemory meaning sources too_full replace from bytes store store' (record { end = e; files = files; path = path; request = request }) (record { end = e'; files = Sink draft'; path = path; request = request })
+      TransferLacksMemory meaning sources too_full replace from bytes store store'
+      (record { end = e; files = files; path = path; request = request })
+      (record { end = e'; files = Sink draft'; path = path; request = request })
   draft_lacked replace from bytes store store' e e' files k k' draft draft' path request is was now h =
-      let lacks = lacks_as sources (drafting_sink meaning) (λ (s : F). s) drafting_of too_full from bytes e (Sink k) (Sink k') h in
-      let last = subst (λ (d : Drafting S D). LacksMemory sources (drafting_sink meaning) too_full from bytes e (Sink (drafting_of k)) (Sink d)) now lacks in
-      let both = subst (λ (d : Drafting S D). LacksMemory sources (drafting_sink meaning) too_full from bytes e (Sink d) (Sink (record { store = store'; draft = draft'; path = path; replace = replace }))) was last in
-      subst (λ (f : Files F D). TransferLacksMemory meaning sources too_full replace from bytes store store' (record { end = e; files = f; path = path; request = request }) (record { end = e'; files = Sink draft'; path = path; request = request })) (sym is) both
+      let lacks =
+      lacks_as sources (drafting_sink meaning) (λ (s : F). s) drafting_of too_full from bytes e (Sink k)
+      (Sink k') h in
+      let last =
+      subst (λ (d : Drafting S D). LacksMemory sources (drafting_sink meaning) too_full from bytes e
+      (Sink (drafting_of k)) (Sink d)) now lacks in
+      let both =
+      subst (λ (d : Drafting S D). LacksMemory sources (drafting_sink meaning) too_full from bytes e (Sink d)
+      (Sink (record { store = store'; draft = draft'; path = path; replace = replace }))) was last in
+      subst (λ (f : Files F D). TransferLacksMemory meaning sources too_full replace from bytes store store'
+      (record { end = e; files = f; path = path; request = request })
+      (record { end = e'; files = Sink draft'; path = path; request = request })) (sym is) both
 
 -- ---- a draft stays
 abbrev sink_or : {S K : Type 0} → K → Files S K → K
@@ -147,22 +190,26 @@ abbrev draft_sinks : {S F D : Type 0} → StoreMeaning S D → SinkMeaning (Draf
 draft_sinks meaning = sink_through (drafting_sink meaning) drafting_of
 
 module _ {S D : Type 0} (meaning : StoreMeaning S D) where
-  append_stays : (bytes : List ℕ) (d d' : Drafting S D) → Appended (drafting_sink meaning) bytes d d' (Err Memory) → d' ≡ d
+  append_stays : (bytes : List ℕ) (d d' : Drafting S D) → Appended (drafting_sink meaning) bytes d d' (Err Memory) →
+      d' ≡ d
   append_stays [] d d' h = h.1
   append_stays (b ∷ bytes) d d' h = h.3.1 refl
 
-  store_stays : (mode : Mode) (text piece : List ℕ) (d d' : Drafting S D) → StoreLacksMemory (drafting_sink meaning) mode text piece d d' → d' ≡ d
+  store_stays : (mode : Mode) (text piece : List ℕ) (d d' : Drafting S D) →
+      StoreLacksMemory (drafting_sink meaning) mode text piece d d' → d' ≡ d
   store_stays Octet text piece d d' h = append_stays h.bytes d d' h.appended
   store_stays Netascii text piece d d' (inl h) = h
   store_stays Netascii text piece d d' (inr h) = append_stays h.bytes d d' h.appended
 
 module _ {S F D : Type 0} (meaning : StoreMeaning S D) (sources : SourceMeaning F) where
-  act_stays : (action : Action) (bytes : List ℕ) (e : EndState) (d d' : Drafting S D) → ActLacksMemory sources (drafting_sink meaning) action bytes e (Sink d) (Sink d') → d' ≡ d
+  act_stays : (action : Action) (bytes : List ℕ) (e : EndState) (d d' : Drafting S D) →
+      ActLacksMemory sources (drafting_sink meaning) action bytes e (Sink d) (Sink d') → d' ≡ d
   act_stays (Respond response) bytes e d d' h = absurd h
   act_stays (Send terms number) bytes e d d' h = absurd h
   act_stays (Store terms number) bytes e d d' h = store_stays meaning e.role.mode e.position.held _ d d' h
 
-  lacks_stays : (too_full : ℕ → Type 0) (from : Endpoint) (bytes : List ℕ) (e : EndState) (d d' : Drafting S D) → LacksMemory sources (drafting_sink meaning) too_full from bytes e (Sink d) (Sink d') → d' ≡ d
+  lacks_stays : (too_full : ℕ → Type 0) (from : Endpoint) (bytes : List ℕ) (e : EndState) (d d' : Drafting S D) →
+      LacksMemory sources (drafting_sink meaning) too_full from bytes e (Sink d) (Sink d') → d' ≡ d
   lacks_stays too_full from bytes e d d' h =
       elim h.lacks [
         | inl full ↦ ap (sink_or d) full.1
@@ -170,29 +217,47 @@ module _ {S F D : Type 0} (meaning : StoreMeaning S D) (sources : SourceMeaning 
       ]
 
   -- a fault of an end over a draft changes neither the draft nor the store
-  fault_stays : {R : Type 0} (too_full : ℕ → Type 0) (from : Endpoint) (bytes : List ℕ) (e : EndState) (k k' : DraftSink S F D) (fault : EndFault) →
+  fault_stays : {R : Type 0} (too_full : ℕ → Type 0) (from : Endpoint) (bytes : List ℕ) (e : EndState)
+      (k k' : DraftSink S F D) (fault : EndFault) →
       (IsErrOf {T = R} (Err fault) ends.Closed → k' ≡ k) →
-      (IsErrOf {T = R} (Err fault) ends.Memory → LacksMemory sources (draft_sinks meaning) too_full from bytes e (Sink k) (Sink k')) → drafting_of k' ≡ drafting_of k
+      (IsErrOf {T = R} (Err fault) ends.Memory → LacksMemory sources (draft_sinks meaning) too_full from bytes e
+      (Sink k) (Sink k')) → drafting_of k' ≡ drafting_of k
   fault_stays too_full from bytes e k k' ends.Closed unmoved why = ap drafting_of (unmoved refl)
   fault_stays too_full from bytes e k k' ends.Memory unmoved why =
-      lacks_stays too_full from bytes e (drafting_of k) (drafting_of k') (lacks_as sources (drafting_sink meaning) (λ (s : F). s) drafting_of too_full from bytes e (Sink k) (Sink k') (why refl))
+      lacks_stays too_full from bytes e (drafting_of k) (drafting_of k')
+      (lacks_as sources (drafting_sink meaning) (λ (s : F). s) drafting_of too_full from bytes e (Sink k) (Sink k')
+      (why refl))
 
   -- after a fault a transfer over a draft, the draft and the store stay
-  pub draft_stays : {R : Type 0} (too_full : ℕ → Type 0) (A B : Type 0) (replace : Bool) (from : Endpoint) (bytes : List ℕ) (store store' : S) (e e' : EndState) (files : Files F D) (k k' : DraftSink S F D) (draft draft' : D) (path request : List ℕ) (result : Result R EndFault) → files ≡ Sink draft →
-      drafting_of k ≡ record { store = store; draft = draft; path = path; replace = replace } → drafting_of k' ≡ record { store = store'; draft = draft'; path = path; replace = replace } →
+  pub draft_stays : {R : Type 0} (too_full : ℕ → Type 0) (A B : Type 0) (replace : Bool) (from : Endpoint)
+      (bytes : List ℕ) (store store' : S) (e e' : EndState) (files : Files F D) (k k' : DraftSink S F D)
+      (draft draft' : D) (path request : List ℕ) (result : Result R EndFault) → files ≡ Sink draft →
+      drafting_of k ≡ record { store = store; draft = draft; path = path; replace = replace } →
+      drafting_of k' ≡ record { store = store'; draft = draft'; path = path; replace = replace } →
       (IsErrOf result ends.Closed → k' ≡ k) →
-      (IsErrOf result ends.Memory → LacksMemory sources (draft_sinks meaning) too_full from bytes e (Sink k) (Sink k')) →
+      (IsErrOf result ends.Memory → LacksMemory sources (draft_sinks meaning) too_full from bytes e (Sink k)
+      (Sink k')) →
       (A → (e' ≡ e) × KeepsSink (draft_sinks meaning) k k') →
-      (A → StaysAs meaning sources replace store store' (record { end = e; files = files; path = path; request = request }) (record { end = e'; files = Sink draft'; path = path; request = request }) → B) → OnErr result A → OnErr result B
-  draft_stays too_full A B replace from bytes store store' e e' files k k' draft draft' path request (Ok r) is was now unmoved why keeps then h = tt
-  draft_stays {R = R} too_full A B replace from bytes store store' e e' files k k' draft draft' path request (Err fault) is was now unmoved why keeps then h =
+      (A → StaysAs meaning sources replace store store'
+      (record { end = e; files = files; path = path; request = request })
+      (record { end = e'; files = Sink draft'; path = path; request = request }) → B) → OnErr result A →
+      OnErr result B
+  draft_stays too_full A B replace from bytes store store' e e' files k k' draft draft' path request (Ok r) is was now
+      unmoved why keeps then h = tt
+  draft_stays {R = R} too_full A B replace from bytes store store' e e' files k k' draft draft' path request (Err fault)
+      is was now unmoved why keeps then h =
       let first : Drafting S D = record { store = store; draft = draft; path = path; replace = replace } in
       let last : Drafting S D = record { store = store'; draft = draft'; path = path; replace = replace } in
       let back : last ≡ first = sym now ∙ (fault_stays {R = R} too_full from bytes e k k' fault unmoved why ∙ was) in
-      let kept : KeepsSink (drafting_sink meaning) (drafting_of k) (drafting_of k') = record { holding = (keeps h).1.holding; leaves = (keeps h).1.leaves } in
-      let both = subst (λ (d : Drafting S D). KeepsSink (drafting_sink meaning) d last) was (subst (λ (d : Drafting S D). KeepsSink (drafting_sink meaning) (drafting_of k) d) now kept) in
+      let kept : KeepsSink (drafting_sink meaning) (drafting_of k) (drafting_of k') =
+      record { holding = (keeps h).1.holding; leaves = (keeps h).1.leaves } in
+      let both =
+      subst (λ (d : Drafting S D). KeepsSink (drafting_sink meaning) d last) was
+      (subst (λ (d : Drafting S D). KeepsSink (drafting_sink meaning) (drafting_of k) d) now kept) in
       then h
-      (subst (λ (f : Files F D). StaysAs meaning sources replace store store' (record { end = e; files = f; path = path; request = request }) (record { end = e'; files = Sink draft'; path = path; request = request })) (sym is)
+      (subst (λ (f : Files F D). StaysAs meaning sources replace store store'
+      (record { end = e; files = f; path = path; request = request })
+      (record { end = e'; files = Sink draft'; path = path; request = request })) (sym is)
       (record {
         end = (keeps h).0;
         path = refl;
@@ -207,13 +272,18 @@ of_memory : (fault : EndFault) → of_end fault ≡ faults.Memory → fault ≡ 
 of_memory ends.Memory e = refl
 of_memory ends.Closed e = absurd (cc)
 
-pub memory_of_end : {R Q : Type 0} (fault : EndFault) (server : ServerFault) → server ≡ of_end fault → IsErrOf {T = Q} (Err server) faults.Memory → IsErrOf {T = R} (Err fault) ends.Memory
+pub memory_of_end : {R Q : Type 0} (fault : EndFault) (server : ServerFault) → server ≡ of_end fault →
+    IsErrOf {T = Q} (Err server) faults.Memory → IsErrOf {T = R} (Err fault) ends.Memory
 memory_of_end fault server same is =
     let memory : server ≡ faults.Memory = cc in
     ap Err (of_memory fault (sym same ∙ memory))
 
-pub lacks_at : {S F D : Type 0} (meaning : StoreMeaning S D) (sources : SourceMeaning F) (too_full : ℕ → Type 0) (tid : ℕ) (from : Endpoint) (bytes : List ℕ) (old new : ServerState S F D) (table : List (ℕ × HeldTransfer F D)) (transfer next : HeldTransfer F D) → table ≡ old.held → Some transfer ≡ at tid table → new.held ≡ with_next tid next table →
-    TransferLacksMemory meaning sources too_full old.config.overwrite from bytes old.store new.store transfer next → LacksMemoryAt meaning sources too_full tid from bytes old new
+pub lacks_at : {S F D : Type 0} (meaning : StoreMeaning S D) (sources : SourceMeaning F) (too_full : ℕ → Type 0)
+    (tid : ℕ) (from : Endpoint) (bytes : List ℕ) (old new : ServerState S F D) (table : List (ℕ × HeldTransfer F D))
+    (transfer next : HeldTransfer F D) → table ≡ old.held → Some transfer ≡ at tid table →
+    new.held ≡ with_next tid next table →
+    TransferLacksMemory meaning sources too_full old.config.overwrite from bytes old.store new.store transfer next →
+    LacksMemoryAt meaning sources too_full tid from bytes old new
 lacks_at meaning sources too_full tid from bytes old new table transfer next same found written h =
     record {
       transfer = transfer;

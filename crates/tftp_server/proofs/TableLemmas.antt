@@ -1,5 +1,6 @@
 -- The joined list of an index and a slab under look-ups, insertions, removals and writes.
-use Rattle.std.proofs.Common.{arith, ◌≡◌, ◌≢◌, ℕ, suc, Bool, true, false, List, [], ◌∷◌, length, get_or, Option, Some, None, IsSome, is_some, cond, Result, Ok, Err, OnErr, refl, sym, ap, subst, ◌∙◌, inl, inr}
+use Rattle.std.proofs.Common.{arith, ◌≡◌, ◌≢◌, ℕ, suc, Bool, true, false, List, [], ◌∷◌, length, get_or, Option, Some}
+use Rattle.std.proofs.Common.{None, IsSome, is_some, cond, Result, Ok, Err, OnErr, refl, sym, ap, subst, ◌∙◌, inl, inr}
 use Rattle.std.proofs.lemmas.Bool.{cases_eq}
 use Rattle.std.proofs.lemmas.Bool.Decides.{nat_tests}
 use Rattle.std.specs.List.{AllByRecursion}
@@ -17,35 +18,48 @@ use Rattle.tftp_server.specs.Table.{joined, with_found, IsJoined, IsKeyFor}
 abbrev pub IsFree : ℕ → List (ℕ × ℕ) → Type 0
 IsFree key index = AllByRecursion (λ f. f.1 ≢ key) index
 
-free-inserted : (o : Ordering) (key k : ℕ) (tid : ℕ) (e : ℕ × ℕ) (index more : List (ℕ × ℕ)) → k ≢ key → IsFree key (e ∷ index) → IsFree key more → IsFree key (match_ordering o ((tid, k) ∷ e ∷ index) ((e.0, k) ∷ index) (e ∷ more))
+free-inserted : (o : Ordering) (key k : ℕ) (tid : ℕ) (e : ℕ × ℕ) (index more : List (ℕ × ℕ)) → k ≢ key →
+    IsFree key (e ∷ index) → IsFree key more →
+    IsFree key (match_ordering o ((tid, k) ∷ e ∷ index) ((e.0, k) ∷ index) (e ∷ more))
 free-inserted Less key k tid e index more differs free rest = (differs, free)
 free-inserted Equal key k tid e index more differs free rest = (differs, free.1)
 free-inserted Greater key k tid e index more differs free rest = (free.0, rest)
 
-IsFree-insert : (index : List (ℕ × ℕ)) (tid key k : ℕ) → k ≢ key → IsFree key index → IsFree key (insert_entry nat_cmp index tid k)
+IsFree-insert : (index : List (ℕ × ℕ)) (tid key k : ℕ) → k ≢ key → IsFree key index →
+    IsFree key (insert_entry nat_cmp index tid k)
 IsFree-insert [] tid key k differs free = (differs, tt)
-IsFree-insert (e ∷ index) tid key k differs free = free-inserted (nat_cmp tid e.0) key k tid e index _ differs free (IsFree-insert index tid key k differs free.1)
+IsFree-insert (e ∷ index) tid key k differs free =
+    free-inserted (nat_cmp tid e.0) key k tid e index _ differs free (IsFree-insert index tid key k differs free.1)
 
-differs_there : (b : Bool) (k key other : ℕ) (m : Option ℕ) → k ≢ other → (m ≡ Some key → key ≢ other) → cond b (Some k) m ≡ Some key → key ≢ other
+differs_there : (b : Bool) (k key other : ℕ) (m : Option ℕ) → k ≢ other → (m ≡ Some key → key ≢ other) →
+    cond b (Some k) m ≡ Some key → key ≢ other
 differs_there true k key other m here more found = λ same. here (let e : k ≡ key = cc in e ∙ same)
 differs_there false k key other m here more found = more found
 
 -- what a look-up finds is not a free key
-found_differs : (test : ℕ → Bool) (index : List (ℕ × ℕ)) (key other : ℕ) → IsFree other index → lookup test index ≡ Some key → key ≢ other
+found_differs : (test : ℕ → Bool) (index : List (ℕ × ℕ)) (key other : ℕ) → IsFree other index →
+    lookup test index ≡ Some key → key ≢ other
 found_differs test [] key other free found = absurd (cc)
-found_differs test (e ∷ index) key other free found = differs_there (test e.0) e.1 key other (lookup test index) free.0 (found_differs test index key other free.1) found
+found_differs test (e ∷ index) key other free found =
+    differs_there (test e.0) e.1 key other (lookup test index) free.0 (found_differs test index key other free.1) found
 
-free-removed : (b : Bool) (key : ℕ) (e : ℕ × ℕ) (index more : List (ℕ × ℕ)) → IsFree key (e ∷ index) → IsFree key more → IsFree key (cond b index (e ∷ more))
+free-removed : (b : Bool) (key : ℕ) (e : ℕ × ℕ) (index more : List (ℕ × ℕ)) → IsFree key (e ∷ index) → IsFree key more →
+    IsFree key (cond b index (e ∷ more))
 free-removed true key e index more free rest = free.1
 free-removed false key e index more free rest = (free.0, rest)
 
-IsFree-remove : (test : ℕ → Bool) (index : List (ℕ × ℕ)) (key : ℕ) → IsFree key index → IsFree key (remove_entry test index)
+IsFree-remove : (test : ℕ → Bool) (index : List (ℕ × ℕ)) (key : ℕ) → IsFree key index →
+    IsFree key (remove_entry test index)
 IsFree-remove test [] key free = tt
-IsFree-remove test (e ∷ index) key free = free-removed (test e.0) key e index _ free (IsFree-remove test index key free.1)
+IsFree-remove test (e ∷ index) key free =
+    free-removed (test e.0) key e index _ free (IsFree-remove test index key free.1)
 
 -- a removed key is free
-removed_at : (b : Bool) (key : ℕ) (e : ℕ × ℕ) (index more : List (ℕ × ℕ)) (m : Option ℕ) → IsFree e.1 index → (m ≡ Some key → IsFree key more) → (m ≡ Some key → e.1 ≢ key) → cond b (Some e.1) m ≡ Some key → IsFree key (cond b index (e ∷ more))
-removed_at true key e index more m free rest differs found = let same : e.1 ≡ key = cc in subst (λ (x : ℕ). IsFree x index) same free
+removed_at : (b : Bool) (key : ℕ) (e : ℕ × ℕ) (index more : List (ℕ × ℕ)) (m : Option ℕ) → IsFree e.1 index →
+    (m ≡ Some key → IsFree key more) → (m ≡ Some key → e.1 ≢ key) → cond b (Some e.1) m ≡ Some key →
+    IsFree key (cond b index (e ∷ more))
+removed_at true key e index more m free rest differs found =
+    let same : e.1 ≡ key = cc in subst (λ (x : ℕ). IsFree x index) same free
 removed_at false key e index more m free rest differs found = (differs found, rest found)
 
 -- what holds holds beside an error
@@ -57,7 +71,8 @@ on_err (Err e) p = p
 same_key : (tid : ℕ) → is_eq (nat_cmp tid tid) ≡ true
 same_key tid = grind (arith, nat_tests)
 
-removes_new : (o : Ordering) (tid key : ℕ) (e : ℕ × ℕ) (es more : List (ℕ × ℕ)) → nat_cmp tid e.0 ≡ o → lookup (is_at (nat_cmp tid)) (e ∷ es) ≡ None →
+removes_new : (o : Ordering) (tid key : ℕ) (e : ℕ × ℕ) (es more : List (ℕ × ℕ)) → nat_cmp tid e.0 ≡ o →
+    lookup (is_at (nat_cmp tid)) (e ∷ es) ≡ None →
     (lookup (is_at (nat_cmp tid)) es ≡ None → remove_entry (is_at (nat_cmp tid)) more ≡ es) →
     remove_entry (is_at (nat_cmp tid)) (match_ordering o ((tid, key) ∷ e ∷ es) ((e.0, key) ∷ es) (e ∷ more)) ≡ e ∷ es
 removes_new Less tid key e es more o absent rest = rw same_key refl
@@ -67,248 +82,339 @@ removes_new Greater tid key e es more o absent rest =
     let there : lookup (is_at (nat_cmp tid)) es ≡ None = rw o at absent in
     rw (o, rest there) refl
 
-pub removes_inserted : (index : List (ℕ × ℕ)) (tid key : ℕ) → lookup (is_at (nat_cmp tid)) index ≡ None → remove_entry (is_at (nat_cmp tid)) (insert_entry nat_cmp index tid key) ≡ index
+pub removes_inserted : (index : List (ℕ × ℕ)) (tid key : ℕ) → lookup (is_at (nat_cmp tid)) index ≡ None →
+    remove_entry (is_at (nat_cmp tid)) (insert_entry nat_cmp index tid key) ≡ index
 removes_inserted [] tid key absent = rw same_key refl
-removes_inserted (e ∷ es) tid key absent = removes_new (nat_cmp tid e.0) tid key e es (insert_entry nat_cmp es tid key) refl absent (removes_inserted es tid key)
+removes_inserted (e ∷ es) tid key absent =
+    removes_new (nat_cmp tid e.0) tid key e es (insert_entry nat_cmp es tid key) refl absent
+    (removes_inserted es tid key)
 
 module _ {T : Type 0} where
-  with_found-lookup : (test : ℕ → Bool) (tid : ℕ) (o : Option T) (others : List (ℕ × T)) → IsSome o → lookup test (with_found tid o others) ≡ cond (test tid) o (lookup test others)
+  with_found-lookup : (test : ℕ → Bool) (tid : ℕ) (o : Option T) (others : List (ℕ × T)) → IsSome o →
+      lookup test (with_found tid o others) ≡ cond (test tid) o (lookup test others)
   with_found-lookup test tid None others h = absurd (cc)
   with_found-lookup test tid (Some v) others h = refl
 
-  with_found-keys : (tid : ℕ) (o : Option T) (others : List (ℕ × T)) → IsSome o → keys_of (with_found tid o others) ≡ tid ∷ keys_of others
+  with_found-keys : (tid : ℕ) (o : Option T) (others : List (ℕ × T)) → IsSome o →
+      keys_of (with_found tid o others) ≡ tid ∷ keys_of others
   with_found-keys tid None others h = absurd (cc)
   with_found-keys tid (Some v) others h = refl
 
-  with_found-length : (tid : ℕ) (o : Option T) (others : List (ℕ × T)) → IsSome o → length (with_found tid o others) ≡ suc (length others)
+  with_found-length : (tid : ℕ) (o : Option T) (others : List (ℕ × T)) → IsSome o →
+      length (with_found tid o others) ≡ suc (length others)
   with_found-length tid None others h = absurd (cc)
   with_found-length tid (Some v) others h = refl
 
-  with_found-remove : (test : ℕ → Bool) (tid : ℕ) (o : Option T) (others : List (ℕ × T)) → IsSome o → remove_entry test (with_found tid o others) ≡ cond (test tid) others (with_found tid o (remove_entry test others))
+  with_found-remove : (test : ℕ → Bool) (tid : ℕ) (o : Option T) (others : List (ℕ × T)) → IsSome o →
+      remove_entry test (with_found tid o others) ≡ cond (test tid) others (with_found tid o (remove_entry test others))
   with_found-remove test tid None others h = absurd (cc)
   with_found-remove test tid (Some v) others h = refl
 
-  with_found-set : (test : ℕ → Bool) (tid : ℕ) (o : Option T) (others : List (ℕ × T)) (w : T) → IsSome o → set_value test (with_found tid o others) w ≡ cond (test tid) ((tid, w) ∷ others) (with_found tid o (set_value test others w))
+  with_found-set : (test : ℕ → Bool) (tid : ℕ) (o : Option T) (others : List (ℕ × T)) (w : T) → IsSome o →
+      set_value test (with_found tid o others) w ≡ cond (test tid) ((tid, w) ∷ others)
+      (with_found tid o (set_value test others w))
   with_found-set test tid None others w h = absurd (cc)
   with_found-set test tid (Some v) others w h = refl
 
-  with_found-insert : (tid k : ℕ) (o : Option T) (others : List (ℕ × T)) (v : T) → IsSome o → insert_entry nat_cmp (with_found k o others) tid v ≡ match_ordering (nat_cmp tid k) ((tid, v) ∷ with_found k o others) ((k, v) ∷ others) (with_found k o (insert_entry nat_cmp others tid v))
+  with_found-insert : (tid k : ℕ) (o : Option T) (others : List (ℕ × T)) (v : T) → IsSome o →
+      insert_entry nat_cmp (with_found k o others) tid v ≡ match_ordering (nat_cmp tid k)
+      ((tid, v) ∷ with_found k o others) ((k, v) ∷ others) (with_found k o (insert_entry nat_cmp others tid v))
   with_found-insert tid k None others v h = absurd (cc)
   with_found-insert tid k (Some u) others v h = refl
 
-  pub joined-length : (index : List (ℕ × ℕ)) (slots : Slab T) → IsJoined index slots → length (joined index slots) ≡ length index
+  pub joined-length : (index : List (ℕ × ℕ)) (slots : Slab T) → IsJoined index slots →
+      length (joined index slots) ≡ length index
   joined-length [] slots h = refl
-  joined-length (e ∷ index) slots h = with_found-length e.0 (get slots e.1) (joined index slots) h.0 ∙ ap suc (joined-length index slots h.2)
+  joined-length (e ∷ index) slots h =
+      with_found-length e.0 (get slots e.1) (joined index slots) h.0 ∙ ap suc (joined-length index slots h.2)
 
-  pub joined-keys : (index : List (ℕ × ℕ)) (slots : Slab T) → IsJoined index slots → keys_of (joined index slots) ≡ keys_of index
+  pub joined-keys : (index : List (ℕ × ℕ)) (slots : Slab T) → IsJoined index slots →
+      keys_of (joined index slots) ≡ keys_of index
   joined-keys [] slots h = refl
-  joined-keys (e ∷ index) slots h = with_found-keys e.0 (get slots e.1) (joined index slots) h.0 ∙ ap (λ ks. e.0 ∷ ks) (joined-keys index slots h.2)
+  joined-keys (e ∷ index) slots h =
+      with_found-keys e.0 (get slots e.1) (joined index slots) h.0 ∙ ap (λ ks. e.0 ∷ ks) (joined-keys index slots h.2)
 
   -- a look-up of an identifier finds what the slab has under its key
-  found_there : (b : Bool) (k key : ℕ) (m : Option ℕ) (l : Option T) (slots : Slab T) → (m ≡ Some key → l ≡ get slots key) → cond b (Some k) m ≡ Some key → cond b (get slots k) l ≡ get slots key
+  found_there : (b : Bool) (k key : ℕ) (m : Option ℕ) (l : Option T) (slots : Slab T) →
+      (m ≡ Some key → l ≡ get slots key) → cond b (Some k) m ≡ Some key → cond b (get slots k) l ≡ get slots key
   found_there true k key m l slots more found = ap (get slots) (cc)
   found_there false k key m l slots more found = more found
 
-  pub joined-lookup : (test : ℕ → Bool) (index : List (ℕ × ℕ)) (slots : Slab T) (key : ℕ) → IsJoined index slots → lookup test index ≡ Some key → lookup test (joined index slots) ≡ get slots key
+  pub joined-lookup : (test : ℕ → Bool) (index : List (ℕ × ℕ)) (slots : Slab T) (key : ℕ) → IsJoined index slots →
+      lookup test index ≡ Some key → lookup test (joined index slots) ≡ get slots key
   joined-lookup test [] slots key h found = absurd (cc)
   joined-lookup test (e ∷ index) slots key h found =
       with_found-lookup test e.0 (get slots e.1) (joined index slots) h.0
-      ∙ found_there (test e.0) e.1 key (lookup test index) (lookup test (joined index slots)) slots (joined-lookup test index slots key h.2) found
+      ∙ found_there (test e.0) e.1 key (lookup test index) (lookup test (joined index slots)) slots
+      (joined-lookup test index slots key h.2) found
 
-  absent_there : (b : Bool) (k : ℕ) (m : Option ℕ) (o l : Option T) → (m ≡ None → l ≡ None) → cond b (Some k) m ≡ None → cond b o l ≡ None
+  absent_there : (b : Bool) (k : ℕ) (m : Option ℕ) (o l : Option T) → (m ≡ None → l ≡ None) → cond b (Some k) m ≡ None →
+      cond b o l ≡ None
   absent_there true k m o l more found = absurd (cc)
   absent_there false k m o l more found = more found
 
-  pub joined-absent : (test : ℕ → Bool) (index : List (ℕ × ℕ)) (slots : Slab T) → IsJoined index slots → lookup test index ≡ None → lookup test (joined index slots) ≡ None
+  pub joined-absent : (test : ℕ → Bool) (index : List (ℕ × ℕ)) (slots : Slab T) → IsJoined index slots →
+      lookup test index ≡ None → lookup test (joined index slots) ≡ None
   joined-absent test [] slots h found = refl
   joined-absent test (e ∷ index) slots h found =
       with_found-lookup test e.0 (get slots e.1) (joined index slots) h.0
-      ∙ absent_there (test e.0) e.1 (lookup test index) (get slots e.1) (lookup test (joined index slots)) (joined-absent test index slots h.2) found
+      ∙ absent_there (test e.0) e.1 (lookup test index) (get slots e.1) (lookup test (joined index slots))
+      (joined-absent test index slots h.2) found
 
   -- the list and the index have the same identifiers
-  has_there : (b : Bool) (k : ℕ) (m : Option ℕ) (o l : Option T) → IsSome o → is_some l ≡ is_some m → is_some (cond b o l) ≡ is_some (cond b (Some k) m)
+  has_there : (b : Bool) (k : ℕ) (m : Option ℕ) (o l : Option T) → IsSome o → is_some l ≡ is_some m →
+      is_some (cond b o l) ≡ is_some (cond b (Some k) m)
   has_there true k m o l here more = here
   has_there false k m o l here more = more
 
-  pub joined-has : (test : ℕ → Bool) (index : List (ℕ × ℕ)) (slots : Slab T) → IsJoined index slots → is_some (lookup test (joined index slots)) ≡ is_some (lookup test index)
+  pub joined-has : (test : ℕ → Bool) (index : List (ℕ × ℕ)) (slots : Slab T) → IsJoined index slots →
+      is_some (lookup test (joined index slots)) ≡ is_some (lookup test index)
   joined-has test [] slots h = refl
   joined-has test (e ∷ index) slots h =
       ap is_some (with_found-lookup test e.0 (get slots e.1) (joined index slots) h.0)
-      ∙ has_there (test e.0) e.1 (lookup test index) (get slots e.1) (lookup test (joined index slots)) h.0 (joined-has test index slots h.2)
+      ∙ has_there (test e.0) e.1 (lookup test index) (get slots e.1) (lookup test (joined index slots)) h.0
+      (joined-has test index slots h.2)
 
-  present_there : (b : Bool) (k key : ℕ) (m : Option ℕ) (slots : Slab T) → IsSome (get slots k) → (m ≡ Some key → IsSome (get slots key)) → cond b (Some k) m ≡ Some key → IsSome (get slots key)
-  present_there true k key m slots here more found = let same : k ≡ key = cc in subst (λ (x : ℕ). IsSome (get slots x)) same here
+  present_there : (b : Bool) (k key : ℕ) (m : Option ℕ) (slots : Slab T) → IsSome (get slots k) →
+      (m ≡ Some key → IsSome (get slots key)) → cond b (Some k) m ≡ Some key → IsSome (get slots key)
+  present_there true k key m slots here more found =
+      let same : k ≡ key = cc in subst (λ (x : ℕ). IsSome (get slots x)) same here
   present_there false k key m slots here more found = more found
 
   -- a key in the index has a value
-  pub joined-present : (test : ℕ → Bool) (index : List (ℕ × ℕ)) (slots : Slab T) (key : ℕ) → IsJoined index slots → lookup test index ≡ Some key → IsSome (get slots key)
+  pub joined-present : (test : ℕ → Bool) (index : List (ℕ × ℕ)) (slots : Slab T) (key : ℕ) → IsJoined index slots →
+      lookup test index ≡ Some key → IsSome (get slots key)
   joined-present test [] slots key h found = absurd (cc)
-  joined-present test (e ∷ index) slots key h found = present_there (test e.0) e.1 key (lookup test index) slots h.0 (joined-present test index slots key h.2) found
+  joined-present test (e ∷ index) slots key h found =
+      present_there (test e.0) e.1 key (lookup test index) slots h.0 (joined-present test index slots key h.2) found
 
   -- a vacant key is free
-  pub vacant_is_free : (index : List (ℕ × ℕ)) (slots : Slab T) (key : ℕ) → IsJoined index slots → get slots key ≡ None → IsFree key index
+  pub vacant_is_free : (index : List (ℕ × ℕ)) (slots : Slab T) (key : ℕ) → IsJoined index slots → get slots key ≡ None →
+      IsFree key index
   vacant_is_free [] slots key h vacant = tt
-  vacant_is_free (e ∷ index) slots key h vacant =
-      (λ same. let here : IsSome (get slots key) = subst (λ (x : ℕ). IsSome (get slots x)) same h.0 in let none : is_some (get slots key) ≡ false = ap is_some vacant in cc, vacant_is_free index slots key h.2 vacant)
+  vacant_is_free (e ∷ index) slots key h vacant = (
+    λ same. let here : IsSome (get slots key) = subst (λ (x : ℕ). IsSome (get slots x)) same
+        h.0 in let none : is_some (get slots key) ≡ false = ap is_some vacant in cc,
+    vacant_is_free index slots key
+        h.2 vacant,
+  )
 
   -- a change under a free key changes nothing
-  pub joined-apart : (index : List (ℕ × ℕ)) (old new : Slab T) (key : ℕ) (slot : Option T) → Updates old new key slot → IsFree key index → joined index new ≡ joined index old
+  pub joined-apart : (index : List (ℕ × ℕ)) (old new : Slab T) (key : ℕ) (slot : Option T) → Updates old new key slot →
+      IsFree key index → joined index new ≡ joined index old
   joined-apart [] old new key slot updates free = refl
   joined-apart (e ∷ index) old new key slot updates free =
       ap (λ o. with_found e.0 o (joined index new)) (updates.others e.1 free.0)
       ∙ ap (λ xs. with_found e.0 (get old e.1) xs) (joined-apart index old new key slot updates free.1)
 
-  pub IsJoined-apart : (index : List (ℕ × ℕ)) (old new : Slab T) (key : ℕ) (slot : Option T) → Updates old new key slot → IsFree key index → IsJoined index old → IsJoined index new
+  pub IsJoined-apart : (index : List (ℕ × ℕ)) (old new : Slab T) (key : ℕ) (slot : Option T) →
+      Updates old new key slot → IsFree key index → IsJoined index old → IsJoined index new
   IsJoined-apart [] old new key slot updates free h = tt
   IsJoined-apart (e ∷ index) old new key slot updates free h =
       (ap is_some (updates.others e.1 free.0) ∙ h.0, h.1, IsJoined-apart index old new key slot updates free.1 h.2)
 
   -- ---- an insertion
-  joins-inserted : (o : Ordering) (tid key : ℕ) (e : ℕ × ℕ) (index more : List (ℕ × ℕ)) (new : Slab T) → IsSome (get new key) → IsFree key (e ∷ index) → IsJoined (e ∷ index) new → IsFree e.1 more → IsJoined more new → IsJoined (match_ordering o ((tid, key) ∷ e ∷ index) ((e.0, key) ∷ index) (e ∷ more)) new
+  joins-inserted : (o : Ordering) (tid key : ℕ) (e : ℕ × ℕ) (index more : List (ℕ × ℕ)) (new : Slab T) →
+      IsSome (get new key) → IsFree key (e ∷ index) → IsJoined (e ∷ index) new → IsFree e.1 more → IsJoined more new →
+      IsJoined (match_ordering o ((tid, key) ∷ e ∷ index) ((e.0, key) ∷ index) (e ∷ more)) new
   joins-inserted Less tid key e index more new here free h apart rest = (here, free, h)
   joins-inserted Equal tid key e index more new here free h apart rest = (here, free.1, h.2)
   joins-inserted Greater tid key e index more new here free h apart rest = (h.0, apart, rest)
 
-  IsJoined-inserted : (index : List (ℕ × ℕ)) (new : Slab T) (tid key : ℕ) → IsSome (get new key) → IsFree key index → IsJoined index new → IsJoined (insert_entry nat_cmp index tid key) new
+  IsJoined-inserted : (index : List (ℕ × ℕ)) (new : Slab T) (tid key : ℕ) → IsSome (get new key) → IsFree key index →
+      IsJoined index new → IsJoined (insert_entry nat_cmp index tid key) new
   IsJoined-inserted [] new tid key here free h = (here, tt, tt)
   IsJoined-inserted (e ∷ index) new tid key here free h =
       joins-inserted (nat_cmp tid e.0) tid key e index _ new here free h
       (IsFree-insert index tid e.1 key (λ same. free.0 (sym same)) h.1)
       (IsJoined-inserted index new tid key here free.1 h.2)
 
-  pub IsJoined-insert : (index : List (ℕ × ℕ)) (old new : Slab T) (tid key : ℕ) (v : T) → IsJoined index old → get old key ≡ None → Updates old new key (Some v) → IsJoined (insert_entry nat_cmp index tid key) new
+  pub IsJoined-insert : (index : List (ℕ × ℕ)) (old new : Slab T) (tid key : ℕ) (v : T) → IsJoined index old →
+      get old key ≡ None → Updates old new key (Some v) → IsJoined (insert_entry nat_cmp index tid key) new
   IsJoined-insert index old new tid key v h vacant updates =
       let free = vacant_is_free index old key h vacant in
-      IsJoined-inserted index new tid key (ap is_some updates.changed) free (IsJoined-apart index old new key (Some v) updates free h)
+      IsJoined-inserted index new tid key (ap is_some updates.changed) free
+      (IsJoined-apart index old new key (Some v) updates free h)
 
-  match-joined : (o : Ordering) (tid key : ℕ) (v : T) (e : ℕ × ℕ) (index more : List (ℕ × ℕ)) (new : Slab T) → get new key ≡ Some v → joined (match_ordering o ((tid, key) ∷ e ∷ index) ((e.0, key) ∷ index) (e ∷ more)) new ≡ match_ordering o ((tid, v) ∷ joined (e ∷ index) new) ((e.0, v) ∷ joined index new) (with_found e.0 (get new e.1) (joined more new))
+  match-joined : (o : Ordering) (tid key : ℕ) (v : T) (e : ℕ × ℕ) (index more : List (ℕ × ℕ)) (new : Slab T) →
+      get new key ≡ Some v → joined (match_ordering o ((tid, key) ∷ e ∷ index) ((e.0, key) ∷ index) (e ∷ more)) new
+      ≡ match_ordering o ((tid, v) ∷ joined (e ∷ index) new) ((e.0, v) ∷ joined index new)
+      (with_found e.0 (get new e.1) (joined more new))
   match-joined Less tid key v e index more new here = ap (λ o. with_found tid o (joined (e ∷ index) new)) here
   match-joined Equal tid key v e index more new here = ap (λ o. with_found e.0 o (joined index new)) here
   match-joined Greater tid key v e index more new here = refl
 
-  joined-inserted : (index : List (ℕ × ℕ)) (new : Slab T) (tid key : ℕ) (v : T) → get new key ≡ Some v → IsJoined index new → joined (insert_entry nat_cmp index tid key) new ≡ insert_entry nat_cmp (joined index new) tid v
+  joined-inserted : (index : List (ℕ × ℕ)) (new : Slab T) (tid key : ℕ) (v : T) → get new key ≡ Some v →
+      IsJoined index new → joined (insert_entry nat_cmp index tid key) new ≡ insert_entry nat_cmp (joined index new) tid
+      v
   joined-inserted [] new tid key v here h = ap (λ o. with_found tid o []) here
   joined-inserted (e ∷ index) new tid key v here h =
       match-joined (nat_cmp tid e.0) tid key v e index _ new here
-      ∙ ap (λ xs. match_ordering (nat_cmp tid e.0) ((tid, v) ∷ joined (e ∷ index) new) ((e.0, v) ∷ joined index new) (with_found e.0 (get new e.1) xs)) (joined-inserted index new tid key v here h.2)
+      ∙ ap (λ xs. match_ordering (nat_cmp tid e.0) ((tid, v) ∷ joined (e ∷ index) new) ((e.0, v) ∷ joined index new)
+      (with_found e.0 (get new e.1) xs)) (joined-inserted index new tid key v here h.2)
       ∙ sym (with_found-insert tid e.0 (get new e.1) (joined index new) v h.0)
 
-  pub joined-insert : (index : List (ℕ × ℕ)) (old new : Slab T) (tid key : ℕ) (v : T) → IsJoined index old → get old key ≡ None → Updates old new key (Some v) → joined (insert_entry nat_cmp index tid key) new ≡ insert_entry nat_cmp (joined index old) tid v
+  pub joined-insert : (index : List (ℕ × ℕ)) (old new : Slab T) (tid key : ℕ) (v : T) → IsJoined index old →
+      get old key ≡ None → Updates old new key (Some v) →
+      joined (insert_entry nat_cmp index tid key) new ≡ insert_entry nat_cmp (joined index old) tid v
   joined-insert index old new tid key v h vacant updates =
       let free = vacant_is_free index old key h vacant in
       joined-inserted index new tid key v updates.changed (IsJoined-apart index old new key (Some v) updates free h)
       ∙ ap (λ xs. insert_entry nat_cmp xs tid v) (joined-apart index old new key (Some v) updates free)
 
   -- ---- a removal
-  removed_is_free : (test : ℕ → Bool) (index : List (ℕ × ℕ)) (slots : Slab T) (key : ℕ) → IsJoined index slots → lookup test index ≡ Some key → IsFree key (remove_entry test index)
+  removed_is_free : (test : ℕ → Bool) (index : List (ℕ × ℕ)) (slots : Slab T) (key : ℕ) → IsJoined index slots →
+      lookup test index ≡ Some key → IsFree key (remove_entry test index)
   removed_is_free test [] slots key h found = absurd (cc)
   removed_is_free test (e ∷ index) slots key h found =
-      removed_at (test e.0) key e index _ (lookup test index) h.1 (removed_is_free test index slots key h.2) (λ m same. found_differs test index key e.1 h.1 m (sym same)) found
+      removed_at (test e.0) key e index _ (lookup test index) h.1 (removed_is_free test index slots key h.2)
+      (λ m same. found_differs test index key e.1 h.1 m (sym same)) found
 
-  joins-removed : (b : Bool) (e : ℕ × ℕ) (index more : List (ℕ × ℕ)) (slots : Slab T) → IsJoined (e ∷ index) slots → IsFree e.1 more → IsJoined more slots → IsJoined (cond b index (e ∷ more)) slots
+  joins-removed : (b : Bool) (e : ℕ × ℕ) (index more : List (ℕ × ℕ)) (slots : Slab T) → IsJoined (e ∷ index) slots →
+      IsFree e.1 more → IsJoined more slots → IsJoined (cond b index (e ∷ more)) slots
   joins-removed true e index more slots h free rest = h.2
   joins-removed false e index more slots h free rest = (h.0, free, rest)
 
-  IsJoined-removed : (test : ℕ → Bool) (index : List (ℕ × ℕ)) (slots : Slab T) → IsJoined index slots → IsJoined (remove_entry test index) slots
+  IsJoined-removed : (test : ℕ → Bool) (index : List (ℕ × ℕ)) (slots : Slab T) → IsJoined index slots →
+      IsJoined (remove_entry test index) slots
   IsJoined-removed test [] slots h = tt
-  IsJoined-removed test (e ∷ index) slots h = joins-removed (test e.0) e index _ slots h (IsFree-remove test index e.1 h.1) (IsJoined-removed test index slots h.2)
+  IsJoined-removed test (e ∷ index) slots h =
+      joins-removed (test e.0) e index _ slots h (IsFree-remove test index e.1 h.1)
+      (IsJoined-removed test index slots h.2)
 
-  pub IsJoined-remove : (test : ℕ → Bool) (index : List (ℕ × ℕ)) (old new : Slab T) (key : ℕ) → IsJoined index old → lookup test index ≡ Some key → Updates old new key None → IsJoined (remove_entry test index) new
+  pub IsJoined-remove : (test : ℕ → Bool) (index : List (ℕ × ℕ)) (old new : Slab T) (key : ℕ) → IsJoined index old →
+      lookup test index ≡ Some key → Updates old new key None → IsJoined (remove_entry test index) new
   IsJoined-remove test index old new key h found updates =
-      IsJoined-apart (remove_entry test index) old new key None updates (removed_is_free test index old key h found) (IsJoined-removed test index old h)
+      IsJoined-apart (remove_entry test index) old new key None updates (removed_is_free test index old key h found)
+      (IsJoined-removed test index old h)
 
-  cond-joined : (b : Bool) (e : ℕ × ℕ) (index more : List (ℕ × ℕ)) (slots : Slab T) → joined (cond b index (e ∷ more)) slots ≡ cond b (joined index slots) (with_found e.0 (get slots e.1) (joined more slots))
+  cond-joined : (b : Bool) (e : ℕ × ℕ) (index more : List (ℕ × ℕ)) (slots : Slab T) →
+      joined (cond b index (e ∷ more)) slots ≡ cond b (joined index slots)
+      (with_found e.0 (get slots e.1) (joined more slots))
   cond-joined true e index more slots = refl
   cond-joined false e index more slots = refl
 
-  joined-removed : (test : ℕ → Bool) (index : List (ℕ × ℕ)) (slots : Slab T) → IsJoined index slots → joined (remove_entry test index) slots ≡ remove_entry test (joined index slots)
+  joined-removed : (test : ℕ → Bool) (index : List (ℕ × ℕ)) (slots : Slab T) → IsJoined index slots →
+      joined (remove_entry test index) slots ≡ remove_entry test (joined index slots)
   joined-removed test [] slots h = refl
   joined-removed test (e ∷ index) slots h =
       cond-joined (test e.0) e index _ slots
-      ∙ ap (λ xs. cond (test e.0) (joined index slots) (with_found e.0 (get slots e.1) xs)) (joined-removed test index slots h.2)
+      ∙ ap (λ xs. cond (test e.0) (joined index slots) (with_found e.0 (get slots e.1) xs))
+      (joined-removed test index slots h.2)
       ∙ sym (with_found-remove test e.0 (get slots e.1) (joined index slots) h.0)
 
-  pub joined-remove : (test : ℕ → Bool) (index : List (ℕ × ℕ)) (old new : Slab T) (key : ℕ) → IsJoined index old → lookup test index ≡ Some key → Updates old new key None → joined (remove_entry test index) new ≡ remove_entry test (joined index old)
+  pub joined-remove : (test : ℕ → Bool) (index : List (ℕ × ℕ)) (old new : Slab T) (key : ℕ) → IsJoined index old →
+      lookup test index ≡ Some key → Updates old new key None →
+      joined (remove_entry test index) new ≡ remove_entry test (joined index old)
   joined-remove test index old new key h found updates =
-      joined-apart (remove_entry test index) old new key None updates (removed_is_free test index old key h found) ∙ joined-removed test index old h
+      joined-apart (remove_entry test index) old new key None updates (removed_is_free test index old key h found)
+      ∙ joined-removed test index old h
 
   -- ---- a write
-  cond-apart : (b : Bool) (tid key : ℕ) (e : ℕ × ℕ) (w : T) (index : List (ℕ × ℕ)) (old new : Slab T) (m : Option ℕ) (rest : List (ℕ × T)) → Updates old new key (Some w) → IsFree e.1 index → (m ≡ Some key → key ≢ e.1) → (m ≡ Some key → joined index new ≡ rest) → cond b (Some e.1) m ≡ Some key → with_found e.0 (get new e.1) (joined index new) ≡ cond b ((e.0, w) ∷ joined index old) (with_found e.0 (get old e.1) rest)
+  cond-apart : (b : Bool) (tid key : ℕ) (e : ℕ × ℕ) (w : T) (index : List (ℕ × ℕ)) (old new : Slab T) (m : Option ℕ)
+      (rest : List (ℕ × T)) → Updates old new key (Some w) → IsFree e.1 index → (m ≡ Some key → key ≢ e.1) →
+      (m ≡ Some key → joined index new ≡ rest) → cond b (Some e.1) m ≡ Some key →
+      with_found e.0 (get new e.1) (joined index new) ≡ cond b ((e.0, w) ∷ joined index old)
+      (with_found e.0 (get old e.1) rest)
   cond-apart true tid key e w index old new m rest updates free differs more found =
       let same : e.1 ≡ key = cc in
       let here : get new e.1 ≡ Some w = ap (get new) same ∙ updates.changed in
       ap (λ o. with_found e.0 o (joined index new)) here
-      ∙ ap (λ xs. (e.0, w) ∷ xs) (joined-apart index old new key (Some w) updates (subst (λ (x : ℕ). IsFree x index) same free))
+      ∙ ap (λ xs. (e.0, w) ∷ xs) (joined-apart index old new key (Some w) updates
+      (subst (λ (x : ℕ). IsFree x index) same free))
   cond-apart false tid key e w index old new m rest updates free differs more found =
       ap (λ o. with_found e.0 o (joined index new)) (updates.others e.1 (λ same. differs found (sym same)))
       ∙ ap (λ xs. with_found e.0 (get old e.1) xs) (more found)
 
-  pub joined-write : (test : ℕ → Bool) (index : List (ℕ × ℕ)) (old new : Slab T) (key : ℕ) (w : T) → IsJoined index old → lookup test index ≡ Some key → Updates old new key (Some w) → joined index new ≡ set_value test (joined index old) w
+  pub joined-write : (test : ℕ → Bool) (index : List (ℕ × ℕ)) (old new : Slab T) (key : ℕ) (w : T) →
+      IsJoined index old → lookup test index ≡ Some key → Updates old new key (Some w) →
+      joined index new ≡ set_value test (joined index old) w
   joined-write test [] old new key w h found updates = absurd (cc)
   joined-write test (e ∷ index) old new key w h found updates =
-      cond-apart (test e.0) e.0 key e w index old new (lookup test index) (set_value test (joined index old) w) updates h.1
+      cond-apart (test e.0) e.0 key e w index old new (lookup test index) (set_value test (joined index old) w) updates
+      h.1
       (found_differs test index key e.1 h.1) (λ m. joined-write test index old new key w h.2 m updates) found
       ∙ sym (with_found-set test e.0 (get old e.1) (joined index old) w h.0)
 
   -- a key that had a value still has one
-  kept_there : (old new : Slab T) (key k : ℕ) (w : T) → Updates old new key (Some w) → IsSome (get old k) → IsSome (get new k)
+  kept_there : (old new : Slab T) (key k : ℕ) (w : T) → Updates old new key (Some w) → IsSome (get old k) →
+      IsSome (get new k)
   kept_there old new key k w updates here =
       elim (cases_eq k key) [
         | inl same ↦ ap is_some (ap (get new) same ∙ updates.changed)
         | inr differs ↦ ap is_some (updates.others k differs) ∙ here
       ]
 
-  pub IsJoined-write : (index : List (ℕ × ℕ)) (old new : Slab T) (key : ℕ) (w : T) → IsJoined index old → Updates old new key (Some w) → IsJoined index new
+  pub IsJoined-write : (index : List (ℕ × ℕ)) (old new : Slab T) (key : ℕ) (w : T) → IsJoined index old →
+      Updates old new key (Some w) → IsJoined index new
   IsJoined-write [] old new key w h updates = tt
-  IsJoined-write (e ∷ index) old new key w h updates = (kept_there old new key e.1 w updates h.0, h.1, IsJoined-write index old new key w h.2 updates)
+  IsJoined-write (e ∷ index) old new key w h updates =
+      (kept_there old new key e.1 w updates h.0, h.1, IsJoined-write index old new key w h.2 updates)
 
   -- ---- slots with equal values
-  pub joined-same : (index : List (ℕ × ℕ)) (old new : Slab T) → new.slots ≡ old.slots → joined index new ≡ joined index old
+  pub joined-same : (index : List (ℕ × ℕ)) (old new : Slab T) → new.slots ≡ old.slots →
+      joined index new ≡ joined index old
   joined-same [] old new same = refl
   joined-same (e ∷ index) old new same =
       ap (λ s. with_found e.0 (get_or s e.1 None) (joined index new)) same
       ∙ ap (λ xs. with_found e.0 (get old e.1) xs) (joined-same index old new same)
 
-  pub IsJoined-same : (index : List (ℕ × ℕ)) (old new : Slab T) → new.slots ≡ old.slots → IsJoined index old → IsJoined index new
+  pub IsJoined-same : (index : List (ℕ × ℕ)) (old new : Slab T) → new.slots ≡ old.slots → IsJoined index old →
+      IsJoined index new
   IsJoined-same [] old new same h = tt
   IsJoined-same (e ∷ index) old new same h =
       (ap (λ s. is_some (get_or s e.1 None)) same ∙ h.0, h.1, IsJoined-same index old new same h.2)
 
-  pub updates_at : (old new : Slab T) (key at : ℕ) (slot : Option T) → at ≡ key → Updates old new at slot → Updates old new key slot
+  pub updates_at : (old new : Slab T) (key at : ℕ) (slot : Option T) → at ≡ key → Updates old new at slot →
+      Updates old new key slot
   updates_at old new key at slot same updates = subst (λ (k : ℕ). Updates old new k slot) same updates
 
   -- ---- the new index as a list
-  pub IsJoined-kept : (index after : List (ℕ × ℕ)) (old new : Slab T) → after ≡ index → new.slots ≡ old.slots → IsJoined index old → IsJoined after new
-  IsJoined-kept index after old new same slots h = subst (λ (es : List (ℕ × ℕ)). IsJoined es new) (sym same) (IsJoined-same index old new slots h)
+  pub IsJoined-kept : (index after : List (ℕ × ℕ)) (old new : Slab T) → after ≡ index → new.slots ≡ old.slots →
+      IsJoined index old → IsJoined after new
+  IsJoined-kept index after old new same slots h =
+      subst (λ (es : List (ℕ × ℕ)). IsJoined es new) (sym same) (IsJoined-same index old new slots h)
 
-  pub joined-kept : (index after : List (ℕ × ℕ)) (old new : Slab T) → after ≡ index → new.slots ≡ old.slots → joined after new ≡ joined index old
+  pub joined-kept : (index after : List (ℕ × ℕ)) (old new : Slab T) → after ≡ index → new.slots ≡ old.slots →
+      joined after new ≡ joined index old
   joined-kept index after old new same slots = ap (λ es. joined es new) same ∙ joined-same index old new slots
 
-  pub IsJoined-after_insert : (index after : List (ℕ × ℕ)) (old mid new : Slab T) (tid key : ℕ) (v : T) → after ≡ insert_entry nat_cmp index tid key → mid.slots ≡ old.slots → IsJoined index old → get mid key ≡ None → Updates mid new key (Some v) → IsJoined after new
+  pub IsJoined-after_insert : (index after : List (ℕ × ℕ)) (old mid new : Slab T) (tid key : ℕ) (v : T) →
+      after ≡ insert_entry nat_cmp index tid key → mid.slots ≡ old.slots → IsJoined index old → get mid key ≡ None →
+      Updates mid new key (Some v) → IsJoined after new
   IsJoined-after_insert index after old mid new tid key v same slots h vacant updates =
-      subst (λ (es : List (ℕ × ℕ)). IsJoined es new) (sym same) (IsJoined-insert index mid new tid key v (IsJoined-same index old mid slots h) vacant updates)
+      subst (λ (es : List (ℕ × ℕ)). IsJoined es new) (sym same)
+      (IsJoined-insert index mid new tid key v (IsJoined-same index old mid slots h) vacant updates)
 
-  pub joined-after_insert : (index after : List (ℕ × ℕ)) (old mid new : Slab T) (tid key : ℕ) (v : T) → after ≡ insert_entry nat_cmp index tid key → mid.slots ≡ old.slots → IsJoined index old → get mid key ≡ None → Updates mid new key (Some v) → joined after new ≡ insert_entry nat_cmp (joined index old) tid v
+  pub joined-after_insert : (index after : List (ℕ × ℕ)) (old mid new : Slab T) (tid key : ℕ) (v : T) →
+      after ≡ insert_entry nat_cmp index tid key → mid.slots ≡ old.slots → IsJoined index old → get mid key ≡ None →
+      Updates mid new key (Some v) → joined after new ≡ insert_entry nat_cmp (joined index old) tid v
   joined-after_insert index after old mid new tid key v same slots h vacant updates =
       ap (λ es. joined es new) same
       ∙ joined-insert index mid new tid key v (IsJoined-same index old mid slots h) vacant updates
       ∙ ap (λ xs. insert_entry nat_cmp xs tid v) (joined-same index old mid slots)
 
-  pub IsJoined-after_remove : (test : ℕ → Bool) (index after : List (ℕ × ℕ)) (old new : Slab T) (key : ℕ) → after ≡ remove_entry test index → IsJoined index old → lookup test index ≡ Some key → Updates old new key None → IsJoined after new
+  pub IsJoined-after_remove : (test : ℕ → Bool) (index after : List (ℕ × ℕ)) (old new : Slab T) (key : ℕ) →
+      after ≡ remove_entry test index → IsJoined index old → lookup test index ≡ Some key → Updates old new key None →
+      IsJoined after new
   IsJoined-after_remove test index after old new key same h found updates =
       subst (λ (es : List (ℕ × ℕ)). IsJoined es new) (sym same) (IsJoined-remove test index old new key h found updates)
 
-  pub joined-after_remove : (test : ℕ → Bool) (index after : List (ℕ × ℕ)) (old new : Slab T) (key : ℕ) → after ≡ remove_entry test index → IsJoined index old → lookup test index ≡ Some key → Updates old new key None → joined after new ≡ remove_entry test (joined index old)
+  pub joined-after_remove : (test : ℕ → Bool) (index after : List (ℕ × ℕ)) (old new : Slab T) (key : ℕ) →
+      after ≡ remove_entry test index → IsJoined index old → lookup test index ≡ Some key → Updates old new key None →
+      joined after new ≡ remove_entry test (joined index old)
   joined-after_remove test index after old new key same h found updates =
       ap (λ es. joined es new) same ∙ joined-remove test index old new key h found updates
 
-  remove_nothing_there : (b : Bool) (e : ℕ × T) (es more : List (ℕ × T)) (m : Option T) → (m ≡ None → more ≡ es) → cond b (Some e.1) m ≡ None → cond b es (e ∷ more) ≡ e ∷ es
+  remove_nothing_there : (b : Bool) (e : ℕ × T) (es more : List (ℕ × T)) (m : Option T) → (m ≡ None → more ≡ es) →
+      cond b (Some e.1) m ≡ None → cond b es (e ∷ more) ≡ e ∷ es
   remove_nothing_there true e es more m rest found = absurd (cc)
   remove_nothing_there false e es more m rest found = ap (λ xs. e ∷ xs) (rest found)
 
   pub remove_nothing : (test : ℕ → Bool) (es : List (ℕ × T)) → lookup test es ≡ None → remove_entry test es ≡ es
   remove_nothing test [] found = refl
-  remove_nothing test (e ∷ es) found = remove_nothing_there (test e.0) e es _ (lookup test es) (remove_nothing test es) found
+  remove_nothing test (e ∷ es) found =
+      remove_nothing_there (test e.0) e es _ (lookup test es) (remove_nothing test es) found
 
   -- ---- a write through a borrow, under the key of an identifier or under a vacant key
   others_kept : (s : Slab T) (key other : ℕ) (w : T) → other ≢ key → get (with_value s key w) other ≡ get s other
@@ -323,37 +429,48 @@ module _ {T : Type 0} where
         | inr differs ↦ ap is_some (others_kept s key k w differs) ∙ here
       ]
 
-  pub IsJoined-lent : (index : List (ℕ × ℕ)) (s : Slab T) (key : ℕ) (w : T) → IsJoined index s → IsJoined index (with_value s key w)
+  pub IsJoined-lent : (index : List (ℕ × ℕ)) (s : Slab T) (key : ℕ) (w : T) → IsJoined index s →
+      IsJoined index (with_value s key w)
   IsJoined-lent [] s key w h = tt
   IsJoined-lent (e ∷ index) s key w h = (has_still s key e.1 w h.0, h.1, IsJoined-lent index s key w h.2)
 
-  joined-free : (index : List (ℕ × ℕ)) (s : Slab T) (key : ℕ) (w : T) → IsFree key index → joined index (with_value s key w) ≡ joined index s
+  joined-free : (index : List (ℕ × ℕ)) (s : Slab T) (key : ℕ) (w : T) → IsFree key index →
+      joined index (with_value s key w) ≡ joined index s
   joined-free [] s key w free = refl
   joined-free (e ∷ index) s key w free =
       ap (λ o. with_found e.0 o (joined index (with_value s key w))) (others_kept s key e.1 w free.0)
       ∙ ap (λ xs. with_found e.0 (get s e.1) xs) (joined-free index s key w free.1)
 
-  set_nothing_there : (b : Bool) (e : ℕ × T) (es more : List (ℕ × T)) (w : T) (m : Option T) → (m ≡ None → more ≡ es) → cond b (Some e.1) m ≡ None → cond b ((e.0, w) ∷ es) (e ∷ more) ≡ e ∷ es
+  set_nothing_there : (b : Bool) (e : ℕ × T) (es more : List (ℕ × T)) (w : T) (m : Option T) → (m ≡ None → more ≡ es) →
+      cond b (Some e.1) m ≡ None → cond b ((e.0, w) ∷ es) (e ∷ more) ≡ e ∷ es
   set_nothing_there true e es more w m rest found = absurd (cc)
   set_nothing_there false e es more w m rest found = ap (λ xs. e ∷ xs) (rest found)
 
   set_nothing : (test : ℕ → Bool) (es : List (ℕ × T)) (w : T) → lookup test es ≡ None → set_value test es w ≡ es
   set_nothing test [] w found = refl
-  set_nothing test (e ∷ es) w found = set_nothing_there (test e.0) e es _ w (lookup test es) (set_nothing test es w) found
+  set_nothing test (e ∷ es) w found =
+      set_nothing_there (test e.0) e es _ w (lookup test es) (set_nothing test es w) found
 
-  pub joined-lent_for : (test : ℕ → Bool) (index : List (ℕ × ℕ)) (s : Slab T) (key : ℕ) (w : T) (found : Option ℕ) → IsJoined index s → lookup test index ≡ found → IsKeyFor found key s → joined index (with_value s key w) ≡ set_value test (joined index s) w
+  pub joined-lent_for : (test : ℕ → Bool) (index : List (ℕ × ℕ)) (s : Slab T) (key : ℕ) (w : T) (found : Option ℕ) →
+      IsJoined index s → lookup test index ≡ found → IsKeyFor found key s →
+      joined index (with_value s key w) ≡ set_value test (joined index s) w
   joined-lent_for test index s key w None h looked vacant =
-      joined-free index s key w (vacant_is_free index s key h vacant) ∙ sym (set_nothing test (joined index s) w (joined-absent test index s h looked))
+      joined-free index s key w (vacant_is_free index s key h vacant)
+      ∙ sym (set_nothing test (joined index s) w (joined-absent test index s h looked))
   joined-lent_for test index s key w (Some found) h looked same =
       let at : lookup test index ≡ Some key = looked ∙ ap Some (sym same) in
-      joined-write test index s (with_value s key w) key w h at (Updates-with_value s key w (joined-present test index s key h at))
+      joined-write test index s (with_value s key w) key w h at
+      (Updates-with_value s key w (joined-present test index s key h at))
 
-  pub joined-lookup_for : (test : ℕ → Bool) (index : List (ℕ × ℕ)) (s : Slab T) (key : ℕ) (found : Option ℕ) → IsJoined index s → lookup test index ≡ found → IsKeyFor found key s → get s key ≡ lookup test (joined index s)
+  pub joined-lookup_for : (test : ℕ → Bool) (index : List (ℕ × ℕ)) (s : Slab T) (key : ℕ) (found : Option ℕ) →
+      IsJoined index s → lookup test index ≡ found → IsKeyFor found key s → get s key ≡ lookup test (joined index s)
   joined-lookup_for test index s key None h looked vacant = vacant ∙ sym (joined-absent test index s h looked)
-  joined-lookup_for test index s key (Some found) h looked same = sym (joined-lookup test index s key h (looked ∙ ap Some (sym same)))
+  joined-lookup_for test index s key (Some found) h looked same =
+      sym (joined-lookup test index s key h (looked ∙ ap Some (sym same)))
 
   -- ---- reserved capacity for a value at an identifier that holds none
-  pub index_absent : (test : ℕ → Bool) (index : List (ℕ × ℕ)) (s : Slab T) → IsJoined index s → lookup test (joined index s) ≡ None → lookup test index ≡ None
+  pub index_absent : (test : ℕ → Bool) (index : List (ℕ × ℕ)) (s : Slab T) → IsJoined index s →
+      lookup test (joined index s) ≡ None → lookup test index ≡ None
   index_absent test index s h none = by (lookup test index) refl
     where
       by : (m : Option ℕ) → lookup test index ≡ m → m ≡ None

@@ -8,12 +8,19 @@ loop-port-preserved c =
     let port = c.loop-port.port in
     let before = c.loop-port.invariant in
     let forward : range.first ≤ port + 1 = omega (arith, before.1) in
-    let within : (port + 1) - range.first ≤ range.last - range.first = omega (arith, before.1, c.loop-port-test.true) in
-    (next_listed range.first port c.loop-port.ports.items c.push.new.self.items before.1 before.0 c.in_ok-push.ensures.items, forward, within)
+    let within : (port + 1) - range.first ≤ range.last - range.first =
+    omega (arith, before.1, c.loop-port-test.true) in (
+      next_listed range.first port c.loop-port.ports.items c.push.new.self.items before.1 before.0
+          c.in_ok-push.ensures.items,
+      forward,
+      within,
+    )
 
 pub returns : goal.returns
 returns c =
     let range = c.args.range in
     let before = c.loop-port.invariant in
-    let ended : c.loop-port.port - range.first ≡ range.last - range.first = omega (arith, before.1, before.2, c.loop-port-test.false) in
-    all_listed range.first range.last c.loop-port.port c.loop-port.ports.items c.push-2.new.self.items before.0 ended c.in_ok-push-2.ensures.items
+    let ended : c.loop-port.port - range.first ≡ range.last - range.first =
+    omega (arith, before.1, before.2, c.loop-port-test.false) in
+    all_listed range.first range.last c.loop-port.port c.loop-port.ports.items c.push-2.new.self.items before.0 ended
+    c.in_ok-push-2.ensures.items

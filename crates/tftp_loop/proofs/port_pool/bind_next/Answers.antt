@@ -20,5 +20,6 @@ loop-port-preserved g c =
       ports = c.next_port.ensures.ports;
       tries =
           tried_more port c.args.journal.now.events c.loop-port.journal.events _
-          (subst (λ (range : PortRange). IsOneOf (Some range) port) before.range c.in_ok-port.ensures.port) noted before.tries;
+          (subst (λ (range : PortRange). IsOneOf (Some range) port) before.range c.in_ok-port.ensures.port) noted
+          before.tries;
     }

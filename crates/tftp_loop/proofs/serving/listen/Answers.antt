@@ -11,7 +11,9 @@ use Rattle.tftp_loop.proofs.serving.listen.Goals as goal
 
 pub returns-in-Ok-clause-serves : goal.returns-in-Ok-clause-serves
 returns-in-Ok-clause-serves g c =
-    let line = c.print_line.ensures ∙ ap (λ (e : Endpoint). Printed (line_text (Listening e)) ∷ c.args.journal.events) c.listening.ensures in
+    let line =
+    c.print_line.ensures ∙ ap (λ (e : Endpoint). Printed (line_text (Listening e)) ∷ c.args.journal.events)
+    c.listening.ensures in
     let At : List Event → Type 0 = λ es. ServesFromIn g.S.Store.meaning g.S.Source.Source.meaning
     c.args.config.now.ports c.args.sockets.requests.port c.args.config.now.ending c.args.server es
     c.run.result.1.events in
@@ -19,7 +21,9 @@ returns-in-Ok-clause-serves g c =
 
 pub returns-in-Ok-clause-end : goal.returns-in-Ok-clause-end
 returns-in-Ok-clause-end g c =
-    let line = c.print_line.ensures ∙ ap (λ (e : Endpoint). Printed (line_text (Listening e)) ∷ c.args.journal.events) c.listening.ensures in
+    let line =
+    c.print_line.ensures ∙ ap (λ (e : Endpoint). Printed (line_text (Listening e)) ∷ c.args.journal.events)
+    c.listening.ensures in
     let At : List Event → Type 0 = λ es. ServesToEndIn g.S.Store.meaning g.S.Source.Source.meaning
     c.args.config.now.ports c.args.sockets.requests.port c.args.config.now.ending c.args.server es
     c.run.result.1.events in
@@ -27,7 +31,9 @@ returns-in-Ok-clause-end g c =
 
 pub returns-in-Err-clause-serves : goal.returns-in-Err-clause-serves
 returns-in-Err-clause-serves g c =
-    let line = c.print_line.ensures ∙ ap (λ (e : Endpoint). Printed (line_text (Listening e)) ∷ c.args.journal.events) c.listening.ensures in (
+    let line =
+    c.print_line.ensures ∙ ap (λ (e : Endpoint). Printed (line_text (Listening e)) ∷ c.args.journal.events)
+    c.listening.ensures in (
       at_start_in c.args.config.now.ports c.args.sockets.requests.port c.args.config.now.ending c.args.server
           (listening c.args.sockets.requests.ip c.args.sockets.requests.port c.args.journal.events),
       Start,

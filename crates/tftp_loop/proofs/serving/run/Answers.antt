@@ -34,7 +34,8 @@ returns-clause-serves g c =
           (ap (λ (s : Sockets). s.requests.port) made.sockets)
           (ap (λ (s : Sockets). s.pool.range) made.sockets ∙ c.requires.range) made.server
           (ap (λ (p : Option (Endpoint × ℕ)). pending_in p request) made.pending) (ap (map timer_of) made.ports)
-          (ap (λ (s : Sockets). s.watch.now) made.sockets ∙ c.requires.time) (ap (λ (s : Sockets). s.is_ready) made.sockets ∙ c.requires.marked) made.left made.rounds
+          (ap (λ (s : Sockets). s.watch.now) made.sockets ∙ c.requires.time)
+          (ap (λ (s : Sockets). s.is_ready) made.sockets ∙ c.requires.marked) made.left made.rounds
           (ap (λ (j : Journal). j.events) made.journal)))
           c.take_rounds-result.ensures.serves,
       refl,
@@ -54,7 +55,8 @@ returns-clause-end g c =
           (ap (λ (s : Sockets). s.requests.port) made.sockets)
           (ap (λ (s : Sockets). s.pool.range) made.sockets ∙ c.requires.range) made.server
           (ap (λ (p : Option (Endpoint × ℕ)). pending_in p request) made.pending) (ap (map timer_of) made.ports)
-          (ap (λ (s : Sockets). s.watch.now) made.sockets ∙ c.requires.time) (ap (λ (s : Sockets). s.is_ready) made.sockets ∙ c.requires.marked) made.left made.rounds
+          (ap (λ (s : Sockets). s.watch.now) made.sockets ∙ c.requires.time)
+          (ap (λ (s : Sockets). s.is_ready) made.sockets ∙ c.requires.marked) made.left made.rounds
           (ap (λ (j : Journal). j.events) made.journal)))
           c.take_rounds-result.ensures.serves,
       refl,
@@ -63,4 +65,5 @@ returns-clause-end g c =
     c.take_rounds-result.ensures.end
 
 pub returns-clause-fault : goal.returns-clause-fault
-returns-clause-fault g c = IfErr-weaker c.take_rounds-result.result _ _ (λ fault fails. inr fails) c.take_rounds-result.ensures.fault
+returns-clause-fault g c =
+    IfErr-weaker c.take_rounds-result.result _ _ (λ fault fails. inr fails) c.take_rounds-result.ensures.fault

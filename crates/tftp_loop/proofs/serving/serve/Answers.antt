@@ -15,7 +15,8 @@ returns-in-Ok-clause-ports g c =
     let At : List ℕ → Type 0 = λ ip. ServesFromIn g.S.Store.meaning g.S.Source.Source.meaning c.args.config.now.ports
     port c.args.config.now.ending c.args.server (listening ip port c.args.journal.events) c.listen.result.1.events
     in
-    Bound port (record { same_ip = refl; same_port = c.in-Ok.ensures.bound.same_port }) (subst At c.in-Ok.ensures.bound.same_ip c.listen.ensures.serves)
+    Bound port (record { same_ip = refl; same_port = c.in-Ok.ensures.bound.same_port })
+    (subst At c.in-Ok.ensures.bound.same_ip c.listen.ensures.serves)
 
 pub returns-in-Ok-clause-serves : goal.returns-in-Ok-clause-serves
 returns-in-Ok-clause-serves g c =

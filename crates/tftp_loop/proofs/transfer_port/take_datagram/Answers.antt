@@ -11,17 +11,21 @@ returns-in-Datagram-clause-tried g c =
     let answer = c.answer_received.ensures in
     let noted = c.in-Datagram.ensures.noted in
     let same : c.answer_received.new.port.socket.udp.port ≡ c.args.port.now.socket.udp.port =
-    (stays_along g.S.Store.meaning g.S.Source.Source.meaning c.args.now _ _ (answer.serves c.args.journal.now.events noted)).port in
+    (stays_along g.S.Store.meaning g.S.Source.Source.meaning c.args.now _ _
+    (answer.serves c.args.journal.now.events noted)).port in
     subst (λ (p : ℕ). was_tried p c.answer_received.new.journal.events ≡ true) (sym same)
-    (received_tried c.args.port.now.socket.udp.port c.in-Datagram.from (take c.in-Datagram.count c.receive.new.buffer) c.args.journal.now.events c.receive.new.journal.events
+    (received_tried c.args.port.now.socket.udp.port c.in-Datagram.from (take c.in-Datagram.count c.receive.new.buffer)
+    c.args.journal.now.events c.receive.new.journal.events
     c.answer_received.new.journal.events noted answer.tries)
 
 pub returns-in-Nothing-clause-serves : goal.returns-in-Nothing-clause-serves
 returns-in-Nothing-clause-serves g c =
-    finds_nothing g.S.Store.meaning g.S.Source.Source.meaning c.args.now c.args.server.now (timer_of c.args.port.now) (timer_of c.mark.new.port) c.args.journal.now.events c.receive.new.journal.events
+    finds_nothing g.S.Store.meaning g.S.Source.Source.meaning c.args.now c.args.server.now (timer_of c.args.port.now)
+    (timer_of c.mark.new.port) c.args.journal.now.events c.receive.new.journal.events
     c.in-Nothing.ensures.noted c.mark.ensures
 
 pub returns-in-Failed-clause-serves : goal.returns-in-Failed-clause-serves
 returns-in-Failed-clause-serves g c =
-    fails_to_receive g.S.Store.meaning g.S.Source.Source.meaning c.args.now c.args.server.now (timer_of c.args.port.now) (timer_of c.mark-in-Failed.new.port) c.args.journal.now.events c.receive.new.journal.events
+    fails_to_receive g.S.Store.meaning g.S.Source.Source.meaning c.args.now c.args.server.now (timer_of c.args.port.now)
+    (timer_of c.mark-in-Failed.new.port) c.args.journal.now.events c.receive.new.journal.events
     c.in-Failed.ensures.noted c.mark-in-Failed.ensures

@@ -10,30 +10,45 @@ use Rattle.tftp_server.proofs.one_file.on_datagram_of_sink.Goals as goal
 
 pub returns-clause-steps : goal.returns-clause-steps
 returns-clause-steps g c =
-    let first : MutBor g.row.K.Denot = record { ref_ptr = c.args.sink.ref_ptr; ghost_name = _; now = c.args.sink.now } in
-    let back = sink_back g.S.Source.is_same g.K.Sink.is_same first c.in-Sink._sink c.on_datagram-result.new.files _ c.in-Sink.is c.on_datagram-result.ensures.same c.in-Sink.sink-1-own.given.1 in
+    let first : MutBor g.row.K.Denot =
+    record { ref_ptr = c.args.sink.ref_ptr; ghost_name = _; now = c.args.sink.now } in
+    let back =
+    sink_back g.S.Source.is_same g.K.Sink.is_same first c.in-Sink._sink c.on_datagram-result.new.files _
+    c.in-Sink.is c.on_datagram-result.ensures.same c.in-Sink.sink-1-own.given.1 in
     sink_steps
     g.S.Source.meaning g.K.Sink.meaning
     (λ (step : Step). step) (λ step. appends c.args.out.now.items c.on_datagram-result.new.out.items)
-    c.args.from c.args.bytes.now c.args.end.now c.on_datagram-result.new.self first c.in-Sink._sink c.on_datagram-result.new.files _ c.on_datagram-result.result
+    c.args.from c.args.bytes.now c.args.end.now c.on_datagram-result.new.self first c.in-Sink._sink
+    c.on_datagram-result.new.files _ c.on_datagram-result.result
     c.in-Sink.is back.0 c.on_datagram-result.ensures.steps
 
 pub returns-clause-err : goal.returns-clause-err
 returns-clause-err g c =
-    let first : MutBor g.row.K.Denot = record { ref_ptr = c.args.sink.ref_ptr; ghost_name = _; now = c.args.sink.now } in
-    let back = sink_back g.S.Source.is_same g.K.Sink.is_same first c.in-Sink._sink c.on_datagram-result.new.files _ c.in-Sink.is c.on_datagram-result.ensures.same c.in-Sink.sink-1-own.given.1 in
-    sink_kept g.S.Source.meaning g.K.Sink.meaning first c.in-Sink._sink c.on_datagram-result.new.files _ _ _ c.on_datagram-result.result
+    let first : MutBor g.row.K.Denot =
+    record { ref_ptr = c.args.sink.ref_ptr; ghost_name = _; now = c.args.sink.now } in
+    let back =
+    sink_back g.S.Source.is_same g.K.Sink.is_same first c.in-Sink._sink c.on_datagram-result.new.files _
+    c.in-Sink.is c.on_datagram-result.ensures.same c.in-Sink.sink-1-own.given.1 in
+    sink_kept g.S.Source.meaning g.K.Sink.meaning first c.in-Sink._sink c.on_datagram-result.new.files _ _ _
+    c.on_datagram-result.result
     c.in-Sink.is back.0 (λ h. h.2) (λ h kept. (h.0, h.1, kept)) c.on_datagram-result.ensures.err
 
 pub returns-clause-same : goal.returns-clause-same
 returns-clause-same g c =
-    let first : MutBor g.row.K.Denot = record { ref_ptr = c.args.sink.ref_ptr; ghost_name = _; now = c.args.sink.now } in
-    let back = sink_back g.S.Source.is_same g.K.Sink.is_same first c.in-Sink._sink c.on_datagram-result.new.files _ c.in-Sink.is c.on_datagram-result.ensures.same c.in-Sink.sink-1-own.given.1 in
+    let first : MutBor g.row.K.Denot =
+    record { ref_ptr = c.args.sink.ref_ptr; ghost_name = _; now = c.args.sink.now } in
+    let back =
+    sink_back g.S.Source.is_same g.K.Sink.is_same first c.in-Sink._sink c.on_datagram-result.new.files _
+    c.in-Sink.is c.on_datagram-result.ensures.same c.in-Sink.sink-1-own.given.1 in
     rw (back.0) back.1
 
 pub returns-clause-why : goal.returns-clause-why
 returns-clause-why g c = λ memory.
-    let first : MutBor g.row.K.Denot = record { ref_ptr = c.args.sink.ref_ptr; ghost_name = _; now = c.args.sink.now } in
-    let back = sink_back g.S.Source.is_same g.K.Sink.is_same first c.in-Sink._sink c.on_datagram-result.new.files _ c.in-Sink.is c.on_datagram-result.ensures.same c.in-Sink.sink-1-own.given.1 in
-    sink_lacks g.S.Source.meaning g.K.Sink.meaning (HasNoRoom (vec_capacity c.args.out.now) (vec_len c.args.out.now)) c.args.from c.args.bytes.now c.args.end.now first c.in-Sink._sink c.on_datagram-result.new.files _
+    let first : MutBor g.row.K.Denot =
+    record { ref_ptr = c.args.sink.ref_ptr; ghost_name = _; now = c.args.sink.now } in
+    let back =
+    sink_back g.S.Source.is_same g.K.Sink.is_same first c.in-Sink._sink c.on_datagram-result.new.files _
+    c.in-Sink.is c.on_datagram-result.ensures.same c.in-Sink.sink-1-own.given.1 in
+    sink_lacks g.S.Source.meaning g.K.Sink.meaning (HasNoRoom (vec_capacity c.args.out.now) (vec_len c.args.out.now))
+    c.args.from c.args.bytes.now c.args.end.now first c.in-Sink._sink c.on_datagram-result.new.files _
     c.in-Sink.is back.0 (c.on_datagram-result.ensures.why memory)

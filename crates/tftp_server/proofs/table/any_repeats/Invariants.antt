@@ -8,5 +8,7 @@ abbrev pub invariant-loop-key : goal.invariant-loop-key
 invariant-loop-key g l =
     (goal.iterator-loop-key g).can_next l.key-iterator
     × (goal.iterator-loop-key g).is_finite l.key-iterator
-    × (AnyKeyRepeats l.from (owned l.packet) l.slots l.key-iterator → AnyKeyRepeats l.from (owned l.packet) l.slots (map (λ e. e.1) l.index.entries))
-    × (AnyKeyRepeats l.from (owned l.packet) l.slots (map (λ e. e.1) l.index.entries) → AnyKeyRepeats l.from (owned l.packet) l.slots l.key-iterator)
+    × (AnyKeyRepeats l.from (owned l.packet) l.slots l.key-iterator →
+    AnyKeyRepeats l.from (owned l.packet) l.slots (map (λ e. e.1) l.index.entries))
+    × (AnyKeyRepeats l.from (owned l.packet) l.slots (map (λ e. e.1) l.index.entries) →
+    AnyKeyRepeats l.from (owned l.packet) l.slots l.key-iterator)

@@ -5,7 +5,8 @@ use Rattle.tftp_loop.proofs.port_order.PortOrder.index.Goals as goal
 pub returns-else-self-len-clause-same : goal.returns-else-self-len-clause-same
 returns-else-self-len-clause-same c =
     let ports = c.args.self.now.ports in
-    let past : length ports.items ≤ c.args.self.now.next = omega (arith, ports.ok.0, c.len.ensures, c.if-self-len.false) in
+    let past : length ports.items ≤ c.args.self.now.next =
+    omega (arith, ports.ok.0, c.len.ensures, c.if-self-len.false) in
     begins_again ports.items c.args.self.now.next past
 
 pub returns-else-self-len-clause-none : goal.returns-else-self-len-clause-none

@@ -6,12 +6,17 @@ use Rattle.tftp_loop.proofs.port_order.PortOrder.next.Goals as goal
 pub returns : goal.returns
 returns c =
     let ports = c.args.self.now.ports in
-    let within : c.index-index.result < length ports.items = omega (arith, ports.ok.0, c.len.ensures, c.if-index-len.false) in
+    let within : c.index-index.result < length ports.items =
+    omega (arith, ports.ok.0, c.len.ensures, c.if-index-len.false) in
     record {
       range = refl;
       others = drop (suc c.index-index.result) ports.items ++ take c.index-index.result ports.items;
-      was = c.index-index.ensures.same ∙ comes_first ports.items c.index-index.result c.index-port.result.now within c.index-port.ensures;
-      is = comes_next ports.items c.index-index.result _ c.index-port.result.now within c.index-port.ensures (omega arith);
+      was =
+          c.index-index.ensures.same ∙ comes_first ports.items c.index-index.result c.index-port.result.now within
+          c.index-port.ensures;
+      is =
+          comes_next ports.items c.index-index.result _ c.index-port.result.now within c.index-port.ensures
+          (omega arith);
     }
 
 pub returns-then-index-len : goal.returns-then-index-len

@@ -7,5 +7,6 @@ use Rattle.tftp_loop.proofs.server_loop.ServerLoop.answer_pending.Goals as goal
 
 pub returns-in_default-clause-answers : goal.returns-in_default-clause-answers
 returns-in_default-clause-answers g c =
-    loses_as g.S.Store.meaning g.S.Source.Source.meaning (loop_state (Some (c.args.from, c.args.bytes.now)) c.args.self.now) _ c.args.from c.args.bytes.now refl
+    loses_as g.S.Store.meaning g.S.Source.Source.meaning
+    (loop_state (Some (c.args.from, c.args.bytes.now)) c.args.self.now) _ c.args.from c.args.bytes.now refl
     (No_memory 0 (inl c.in_default.ensures.why)) refl

@@ -10,7 +10,8 @@ use Rattle.tftp_loop.proofs.server_loop.ServerLoop.finish.Goals as goal
 pub returns-then-is_none-clause-finishes : goal.returns-then-is_none-clause-finishes
 returns-then-is_none-clause-finishes g c =
     let taken = c.record_of_closed-closed in
-    stays_by g.S.Store.meaning g.S.Source.Source.meaning c.args.self.now _ c.args.index c.index-port.result.now c.port.result taken.result c.requires.within c.index-port.ensures c.port.ensures
+    stays_by g.S.Store.meaning g.S.Source.Source.meaning c.args.self.now _ c.args.index c.index-port.result.now
+    c.port.result taken.result c.requires.within c.index-port.ensures c.port.ensures
     taken.ensures.found taken.ensures.held taken.ensures.rest (c.is_none.ensures ∙ ap not c.if-is_none.true) refl
 
 pub returns-clause-finishes : goal.returns-clause-finishes
@@ -19,10 +20,15 @@ returns-clause-finishes g c =
     let taken = c.record_of_closed-closed in
     let new = c.close_port.new.self in
     let closes = c.close_port.ensures.closes in
-    let after : ServerLoop _ _ _ = record old { server = taken.new.server; ports = new.ports; journal = new.journal; left = old.left - 1 } in
+    let after : ServerLoop _ _ _ =
+    record old { server = taken.new.server; ports = new.ports; journal = new.journal; left = old.left - 1 } in
     let same : c.index-port.result.now ≡ closes.port =
-    one_at old.ports.items c.args.index c.index-port.result.now closes.port c.requires.within c.index-port.ensures closes.is_port in
-    subst (λ (d : ServerLoop _ _ _). Finishes g.S.Store.meaning g.S.Source.Source.meaning c.args.index old d) (sym closes.rest)
-    (goes_by g.S.Store.meaning g.S.Source.Source.meaning old after c.args.index closes.port c.port.result taken.result c.requires.within closes.is_port
-    (c.port.ensures ∙ ap (λ (p : Port TransferSocket). p.socket.udp.port) same) taken.ensures.found taken.ensures.held taken.ensures.rest (c.is_none.ensures ∙ ap not c.if-is_none.false)
+    one_at old.ports.items c.args.index c.index-port.result.now closes.port c.requires.within c.index-port.ensures
+    closes.is_port in
+    subst (λ (d : ServerLoop _ _ _). Finishes g.S.Store.meaning g.S.Source.Source.meaning c.args.index old d)
+    (sym closes.rest)
+    (goes_by g.S.Store.meaning g.S.Source.Source.meaning old after c.args.index closes.port c.port.result taken.result
+    c.requires.within closes.is_port
+    (c.port.ensures ∙ ap (λ (p : Port TransferSocket). p.socket.udp.port) same) taken.ensures.found taken.ensures.held
+    taken.ensures.rest (c.is_none.ensures ∙ ap not c.if-is_none.false)
     c.requires.left closes.items closes.events refl)

@@ -9,5 +9,6 @@ pub returns-clause-transfers : goal.returns-clause-transfers
 returns-clause-transfers g c =
     let ps = c.args.self.now.ports.items in
     let whole = with_items_is c.args.self.now.ports c.mark_all.new.ports (search (rules, places)) in
-    ap (map timer_of) (whole ∙ (c.mark_all.ensures ∙ ap (map (marked_if c.args.reported.now)) c.as_mut_slice.ensures.value))
+    ap (map timer_of) (whole ∙ (c.mark_all.ensures ∙ ap (map (marked_if c.args.reported.now))
+    c.as_mut_slice.ensures.value))
     ∙ timers_marked c.args.reported.now ps

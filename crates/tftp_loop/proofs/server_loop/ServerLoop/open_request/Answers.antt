@@ -16,7 +16,9 @@ returns-in_default-clause-answers g c =
     let full = c.in_default.ensures.full in
     let long = length-map ports.items timer_of in
     let same : vec_len ports ≡ length ports.items = search rules in
-    let opens = may_open g.S.Store.meaning g.S.Source.Source.meaning c.args.self.now.server c.args.self.now.server c.args.from c.args.bytes.now c.args.admission refl c.requires.admitted c.requires.may_open in
+    let opens =
+    may_open g.S.Store.meaning g.S.Source.Source.meaning c.args.self.now.server c.args.self.now.server c.args.from
+    c.args.bytes.now c.args.admission refl c.requires.admitted c.requires.may_open in
     loses_as g.S.Store.meaning g.S.Source.Source.meaning s _ c.args.from c.args.bytes.now refl
     (No_room opens (vec_capacity ports) (omega (arith, full, long, same)))
     (same_state _ _ refl refl refl refl (ap (map timer_of) c.in_default.ensures.items) refl refl refl refl refl)
@@ -25,8 +27,11 @@ pub returns-in_default-port_for-clause-answers : goal.returns-in_default-port_fo
 returns-in_default-port_for-clause-answers g c =
     let same = c.port_for.ensures.same in
     let s = loop_state (Some (c.args.from, c.args.bytes.now)) c.args.self.now in
-    let opens = may_open g.S.Store.meaning g.S.Source.Source.meaning c.args.self.now.server c.args.self.now.server c.args.from c.args.bytes.now c.args.admission refl c.requires.admitted c.requires.may_open in
-    tries_in_vain g.S.Store.meaning g.S.Source.Source.meaning s _ c.args.from c.args.bytes.now c.port_for.new.journal.events refl opens
+    let opens =
+    may_open g.S.Store.meaning g.S.Source.Source.meaning c.args.self.now.server c.args.self.now.server c.args.from
+    c.args.bytes.now c.args.admission refl c.requires.admitted c.requires.may_open in
+    tries_in_vain g.S.Store.meaning g.S.Source.Source.meaning s _ c.args.from c.args.bytes.now
+    c.port_for.new.journal.events refl opens
     c.in_default-port_for.ensures.tries
     (same_state _ _ (ap (λ (s : Sockets). s.requests.port) same) (ap (λ (s : Sockets). s.pool.range) same) refl refl
     (ap (map timer_of) c.try_reserve.ensures.items)
@@ -36,10 +41,15 @@ pub returns-clause-answers : goal.returns-clause-answers
 returns-clause-answers g c =
     let same = c.port_for.ensures.same in
     let s = loop_state (Some (c.args.from, c.args.bytes.now)) c.args.self.now in
-    let opens = may_open g.S.Store.meaning g.S.Source.Source.meaning c.args.self.now.server c.args.self.now.server c.args.from c.args.bytes.now c.args.admission refl c.requires.admitted c.requires.may_open in
+    let opens =
+    may_open g.S.Store.meaning g.S.Source.Source.meaning c.args.self.now.server c.args.self.now.server c.args.from
+    c.args.bytes.now c.args.admission refl c.requires.admitted c.requires.may_open in
     let tried : LoopState _ _ _ = record s { events = c.port_for.new.journal.events } in
-    tries_first g.S.Store.meaning g.S.Source.Source.meaning s tried _ (tried_as g.S.Store.meaning g.S.Source.Source.meaning s c.args.from c.args.bytes.now refl opens c.in-Some.ensures.tries)
-    (subst (λ (u : LoopState _ _ _). Concludes g.S.Store.meaning g.S.Source.Source.meaning u (loop_state None c.open_at.new.self))
+    tries_first g.S.Store.meaning g.S.Source.Source.meaning s tried _
+    (tried_as g.S.Store.meaning g.S.Source.Source.meaning s c.args.from c.args.bytes.now refl opens
+    c.in-Some.ensures.tries)
+    (subst (λ (u : LoopState _ _ _). Concludes g.S.Store.meaning g.S.Source.Source.meaning u
+    (loop_state None c.open_at.new.self))
     (same_state _ tried (ap (λ (s : Sockets). s.requests.port) same) (ap (λ (s : Sockets). s.pool.range) same) refl refl
     (ap (map timer_of) c.try_reserve.ensures.items)
     (ap (λ (s : Sockets). s.watch.now) same) (ap (λ (s : Sockets). s.is_ready) same) refl refl refl)

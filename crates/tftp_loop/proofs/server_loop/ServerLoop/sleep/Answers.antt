@@ -10,7 +10,8 @@ returns-clause-serves g c =
     let ports = c.wait_for_ports.new.reports.ports.items in
     let slept = c.wait_for_ports.ensures in
     λ buffer.
-    waits_as g.S.Store.meaning g.S.Source.Source.meaning buffer old c.wait_for_ports.new.self c.wake.new.self millis ports
+    waits_as g.S.Store.meaning g.S.Source.Source.meaning buffer old c.wait_for_ports.new.self c.wake.new.self millis
+    ports
     (may_wait buffer old millis ports c.requires.tended c.requires.left c.requires.rounds (omega arith) (λ h. inl h))
     (record {
       requests = slept.requests;
@@ -27,5 +28,7 @@ returns-clause-serves g c =
 
 pub returns-clause-settled : goal.returns-clause-settled
 returns-clause-settled g c =
-    woken_settled g.S.Store.meaning g.S.Source.Source.meaning c.wait_for_ports.new.self c.wake.new.self c.wait_for_ports.new.reports.ports.items c.wake.ensures
-    (slept_settled g.S.Store.meaning g.S.Source.Source.meaning _ c.wait_for_ports.new.self _ _ c.wait_for_ports.ensures c.requires.tended.settled)
+    woken_settled g.S.Store.meaning g.S.Source.Source.meaning c.wait_for_ports.new.self c.wake.new.self
+    c.wait_for_ports.new.reports.ports.items c.wake.ensures
+    (slept_settled g.S.Store.meaning g.S.Source.Source.meaning _ c.wait_for_ports.new.self _ _ c.wait_for_ports.ensures
+    c.requires.tended.settled)

@@ -16,13 +16,18 @@ pub returns-clause-works : goal.returns-clause-works
 returns-clause-works g c =
     let ports = c.args.self.now.ports in
     let port = c.index-port.result.now in
-    let within : c.in-Some.index < length ports.items = omega (arith, ports.ok.0, c.len.ensures, c.if-index-len.false) in
-    λ buffer. works g.S.Store.meaning g.S.Source.Source.meaning (state_of buffer c.args.self.now) c.in-Some.index (timer_of port) c.work_at.new.server
-    (map_within timer_of ports.items c.in-Some.index within) (map_is timer_of ports.items c.in-Some.index port c.index-port.ensures) c.work_at.ensures
+    let within : c.in-Some.index < length ports.items =
+    omega (arith, ports.ok.0, c.len.ensures, c.if-index-len.false) in
+    λ buffer. works g.S.Store.meaning g.S.Source.Source.meaning (state_of buffer c.args.self.now) c.in-Some.index
+    (timer_of port) c.work_at.new.server
+    (map_within timer_of ports.items c.in-Some.index within)
+    (map_is timer_of ports.items c.in-Some.index port c.index-port.ensures) c.work_at.ensures
 
 pub returns-clause-settled : goal.returns-clause-settled
 returns-clause-settled g c =
     let ports = c.args.self.now.ports in
     let port = c.index-port.result.now in
-    let within : c.in-Some.index < length ports.items = omega (arith, ports.ok.0, c.len.ensures, c.if-index-len.false) in
-    λ settled. works_settled g.S.Store.meaning g.S.Source.Source.meaning c.args.self.now _ c.in-Some.index port within c.index-port.ensures c.work_at.ensures Rattle.std.proofs.Common.refl settled
+    let within : c.in-Some.index < length ports.items =
+    omega (arith, ports.ok.0, c.len.ensures, c.if-index-len.false) in
+    λ settled. works_settled g.S.Store.meaning g.S.Source.Source.meaning c.args.self.now _ c.in-Some.index port within
+    c.index-port.ensures c.work_at.ensures Rattle.std.proofs.Common.refl settled

@@ -12,10 +12,12 @@ returns-then-look-clause-serves g c =
     let ports = c.look.new.reports.ports.items in
     let es = c.args.self.now.journal.events in
     let found = c.if-look.true in
-    let noted = c.look.ensures.noted ∙ ap (λ (b : Bool). if b then Quiet (Woke ports) ∷ Quiet (Slept 0) ∷ es else es) found in
+    let noted =
+    c.look.ensures.noted ∙ ap (λ (b : Bool). if b then Quiet (Woke ports) ∷ Quiet (Slept 0) ∷ es else es) found in
     λ buffer.
     waits_as g.S.Store.meaning g.S.Source.Source.meaning buffer c.args.self.now _ c.wake.new.self 0 ports
-    (may_wait buffer c.args.self.now 0 ports c.requires.tended c.requires.left c.requires.rounds (omega arith) (λ h. inr (c.look.ensures.some found)))
+    (may_wait buffer c.args.self.now 0 ports c.requires.tended c.requires.left c.requires.rounds (omega arith)
+    (λ h. inr (c.look.ensures.some found)))
     (record {
       requests = refl;
       range = refl;
@@ -30,13 +32,18 @@ returns-then-look-clause-serves g c =
     }) c.wake.ensures
 
 pub returns-then-look-clause-settled : goal.returns-then-look-clause-settled
-returns-then-look-clause-settled g c = woken_settled g.S.Store.meaning g.S.Source.Source.meaning _ c.wake.new.self c.look.new.reports.ports.items c.wake.ensures c.requires.tended.settled
+returns-then-look-clause-settled g c =
+    woken_settled g.S.Store.meaning g.S.Source.Source.meaning _ c.wake.new.self c.look.new.reports.ports.items
+    c.wake.ensures c.requires.tended.settled
 
 pub returns-clause-serves : goal.returns-clause-serves
 returns-clause-serves g c =
     let ports = c.look.new.reports.ports.items in
     let es = c.args.self.now.journal.events in
-    let noted = c.look.ensures.noted ∙ ap (λ (b : Bool). if b then Quiet (Woke ports) ∷ Quiet (Slept 0) ∷ es else es) c.if-look.false in
+    let noted =
+    c.look.ensures.noted ∙ ap (λ (b : Bool). if b then Quiet (Woke ports) ∷ Quiet (Slept 0) ∷ es else es)
+    c.if-look.false in
     λ buffer.
     onward (idle (same_state _ _ refl refl refl refl refl refl refl refl refl noted))
-    (onward (runs_as g.S.Store.meaning g.S.Source.Source.meaning (c.sync.ensures.works buffer)) (c.sleep.ensures.serves buffer))
+    (onward (runs_as g.S.Store.meaning g.S.Source.Source.meaning (c.sync.ensures.works buffer))
+    (c.sleep.ensures.serves buffer))

@@ -8,10 +8,12 @@ returns-in_default-clause-works g c = Start
 
 pub returns-clause-works : goal.returns-clause-works
 returns-clause-works g c =
-    answered_run g.S.Store.meaning g.S.Source.Source.meaning c.args.request.now (take c.min.result c.args.request.now) c.args.self.now c.answer_pending.new.self c.in-Some.from c.in-Some.count
+    answered_run g.S.Store.meaning g.S.Source.Source.meaning c.args.request.now (take c.min.result c.args.request.now)
+    c.args.self.now c.answer_pending.new.self c.in-Some.from c.in-Some.count
     c.in-Some.is (ap (λ n. take n c.args.request.now) c.min.ensures) c.answer_pending.ensures.answers
 
 pub returns-clause-settled : goal.returns-clause-settled
 returns-clause-settled g c =
     λ settled.
-    answered_settled g.S.Store.meaning g.S.Source.Source.meaning (take c.min.result c.args.request.now) c.args.self.now c.answer_pending.new.self c.in-Some.from c.answer_pending.ensures.answers settled
+    answered_settled g.S.Store.meaning g.S.Source.Source.meaning (take c.min.result c.args.request.now) c.args.self.now
+    c.answer_pending.new.self c.in-Some.from c.answer_pending.ensures.answers settled

@@ -12,7 +12,8 @@ returns-then-self-eq0-clause-works g c = c.take_turns.ensures.works c.args.reque
 
 pub returns-clause-works : goal.returns-clause-works
 returns-clause-works g c =
-    onward (c.take_turns.ensures.works c.args.request.now) (onward c.take_request.ensures.works (c.take_turns-2.ensures.works c.take_request.new.request))
+    onward (c.take_turns.ensures.works c.args.request.now)
+    (onward c.take_request.ensures.works (c.take_turns-2.ensures.works c.take_request.new.request))
 
 pub returns-clause-tended : goal.returns-clause-tended
 returns-clause-tended g c =
@@ -24,8 +25,12 @@ returns-clause-tended g c =
     (λ due left.
     record {
       settled = c.take_turns-2.ensures.settled;
-      read = λ k d l h. timed.read (asked.read (λ k d h. c.in_ok-take_turns.ensures.turned (omega (arith, some)) k d (omega arith) h)) k d h;
+      read =
+          λ k d l h. timed.read (asked.read (λ k d h. c.in_ok-take_turns.ensures.turned (omega (arith, some)) k d
+          (omega arith) h)) k d h;
       timed = due left;
-      requests = from_state buffer c.take_turns-2.new.self (timed.tried (to_state buffer c.take_request.new.self c.take_request.ensures.tried));
+      requests =
+          from_state buffer c.take_turns-2.new.self
+          (timed.tried (to_state buffer c.take_request.new.self c.take_request.ensures.tried));
     })
     c.take_turns-2.ensures.turned

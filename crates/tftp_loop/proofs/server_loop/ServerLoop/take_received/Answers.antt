@@ -10,5 +10,6 @@ pub returns-in_default-clause-handles : goal.returns-in_default-clause-handles
 returns-in_default-clause-handles g c =
     let bytes = take c.args.count c.args.request.now in
     Concluded
-    (loses_as g.S.Store.meaning g.S.Source.Source.meaning (loop_state (Some (c.args.from, bytes)) c.args.self.now) _ c.args.from bytes refl (No_memory 0 (inl c.in_default.ensures.why)) refl)
+    (loses_as g.S.Store.meaning g.S.Source.Source.meaning (loop_state (Some (c.args.from, bytes)) c.args.self.now) _
+    c.args.from bytes refl (No_memory 0 (inl c.in_default.ensures.why)) refl)
     c.requires.pending

@@ -3,7 +3,8 @@ use Rattle.tftp_loop.proofs.RunLemmas.{onward}
 use Rattle.tftp_loop.proofs.server_loop.ServerLoop.take_rounds.Goals as goal
 
 pub returns-in_err-take_ports-clause-serves : goal.returns-in_err-take_ports-clause-serves
-returns-in_err-take_ports-clause-serves g c = runs_as g.S.Store.meaning g.S.Source.Source.meaning c.take_ports.ensures.works
+returns-in_err-take_ports-clause-serves g c =
+    runs_as g.S.Store.meaning g.S.Source.Source.meaning c.take_ports.ensures.works
 
 pub loop-self-init : goal.loop-self-init
 loop-self-init g c = record {
@@ -15,11 +16,13 @@ pub loop-self-preserved : goal.loop-self-preserved
 loop-self-preserved g c = record {
   serves =
       onward c.loop-self.invariant.serves
-      (onward (c.wait.ensures.serves c.loop-self.request) (runs_as g.S.Store.meaning g.S.Source.Source.meaning c.take_ports-in-loop-self.ensures.works));
+      (onward (c.wait.ensures.serves c.loop-self.request)
+      (runs_as g.S.Store.meaning g.S.Source.Source.meaning c.take_ports-in-loop-self.ensures.works));
   tended = c.in_ok-take_ports-2.ensures.tended;
 }
 
 pub returns-in_err-take_ports-2-clause-serves : goal.returns-in_err-take_ports-2-clause-serves
 returns-in_err-take_ports-2-clause-serves g c =
     onward c.loop-self.invariant.serves
-    (onward (c.wait.ensures.serves c.loop-self.request) (runs_as g.S.Store.meaning g.S.Source.Source.meaning c.take_ports-in-loop-self.ensures.works))
+    (onward (c.wait.ensures.serves c.loop-self.request)
+    (runs_as g.S.Store.meaning g.S.Source.Source.meaning c.take_ports-in-loop-self.ensures.works))

@@ -31,7 +31,8 @@ pub returns-then-self-eq0-clause-works : goal.returns-then-self-eq0-clause-works
 returns-then-self-eq0-clause-works g c = c.loop-index.invariant.works
 
 pub returns-in_err-visit-clause-works : goal.returns-in_err-visit-clause-works
-returns-in_err-visit-clause-works g c = λ buffer. onward (c.loop-index.invariant.works buffer) (c.visit.ensures.works buffer)
+returns-in_err-visit-clause-works g c =
+    λ buffer. onward (c.loop-index.invariant.works buffer) (c.visit.ensures.works buffer)
 
 pub returns-clause-turned : goal.returns-clause-turned
 returns-clause-turned g c =

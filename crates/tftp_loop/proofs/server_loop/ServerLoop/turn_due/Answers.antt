@@ -8,5 +8,8 @@ pub take_due-requires : goal.take_due-requires
 take_due-requires g c =
     let ports = c.args.self.now.ports.items in
     let port = c.index_mut-port.result.now in
-    let each = c.requires.settled.kept.each c.args.index (timer_of port) (map_within timer_of ports c.args.index c.requires.within) in
-    (subst (IsHeld c.args.self.now.server.held) (sym (map_is timer_of ports c.args.index port c.index_mut-port.ensures.value)) each).look
+    let each =
+    c.requires.settled.kept.each c.args.index (timer_of port)
+    (map_within timer_of ports c.args.index c.requires.within) in
+    (subst (IsHeld c.args.self.now.server.held)
+    (sym (map_is timer_of ports c.args.index port c.index_mut-port.ensures.value)) each).look

@@ -12,7 +12,8 @@ invariant_of-self c = (
   subst (λ (strayed : Bool). Refines strayed c.step.new.self) (sym c.strayed_after-strayed.ensures)
       (played_keeps c.self.inside.strayed c.self.inside.exchange c.step.new.self c.args.event c.in-Ok.report
       c.self.invariant.0 c.in-Ok.ensures.steps),
-  sends_each c.self.inside.exchange c.step.new.self c.args.event c.in-Ok.report c.in-Ok.ensures.steps c.self.invariant.1,
+  sends_each c.self.inside.exchange c.step.new.self c.args.event c.in-Ok.report c.in-Ok.ensures.steps
+      c.self.invariant.1,
 )
 
 pub returns-in-Ok-clause-safe : goal.returns-in-Ok-clause-safe

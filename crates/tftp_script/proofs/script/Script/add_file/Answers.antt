@@ -11,5 +11,7 @@ invariant_of-self c =
     let absent : is_some (file_at c.args.path (contents files)) ≡ false = search rules in
     record {
       valid = search rules;
-      distinct = has_distinct_paths-pushed (is_ok c.push.result) files c.push.new.self.items (c.args.path, c.args.bytes) c.push.ensures.items (search rules) absent;
+      distinct =
+          has_distinct_paths-pushed (is_ok c.push.result) files c.push.new.self.items (c.args.path, c.args.bytes)
+          c.push.ensures.items (search rules) absent;
     }

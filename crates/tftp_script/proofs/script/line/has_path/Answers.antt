@@ -9,6 +9,7 @@ use Rattle.tftp_script.proofs.script.line.has_path.Goals as goal
 pub returns : goal.returns
 returns c =
     let path = c.args.path.now in
-    any_from_yields_List (λ f. pointwise nat_eq path f.0) _ _ c.any.result c.any.ensures.ran (YieldsList-from_slice c.args.files.now cc)
+    any_from_yields_List (λ f. pointwise nat_eq path f.0) _ _ c.any.result c.any.ensures.ran
+    (YieldsList-from_slice c.args.files.now cc)
     (λ x b q k. search (rules, tests))
     ∙ list_any-file path c.args.files.now

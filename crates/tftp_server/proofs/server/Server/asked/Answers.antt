@@ -7,28 +7,45 @@ use Rattle.tftp_server.proofs.server.Server.asked.Goals as goal
 
 pub returns-else-is_repeated-clause-asks : goal.returns-else-is_repeated-clause-asks
 returns-else-is_repeated-clause-asks g c =
-    let same : c.self.inside.table ≡ c.args.self.now.held = ap (λ (s : ServerState g.row.S.Denot g.row.S-Source.Denot g.row.S-Draft.Denot). s.held) c.self.view_is in
-    let count : c.len.result ≡ length c.args.self.now.held = c.len.ensures ∙ ap (λ (held : List (ℕ × HeldTransfer g.row.S-Source.Denot g.row.S-Draft.Denot)). length held) same in
-    let repeats : IsRepeated c.is_repeated-is_repeated.result c.args.from (option_map owned c.decode_packet-decoded.result) c.args.self.now.held =
-    subst (λ (held : List (ℕ × HeldTransfer g.row.S-Source.Denot g.row.S-Draft.Denot)). IsRepeated c.is_repeated-is_repeated.result c.args.from (option_map owned c.decode_packet-decoded.result) held) same c.is_repeated-is_repeated.ensures in
-    asked_by_name c.args.self.now c.args.from c.args.bytes.now c.in-Some.kind (owned_request c.in-Some.request) _ c.is_repeated-is_repeated.result c.by_name.result
+    let same : c.self.inside.table ≡ c.args.self.now.held =
+    ap (λ (s : ServerState g.row.S.Denot g.row.S-Source.Denot g.row.S-Draft.Denot). s.held) c.self.view_is in
+    let count : c.len.result ≡ length c.args.self.now.held =
+    c.len.ensures ∙ ap (λ (held : List (ℕ × HeldTransfer g.row.S-Source.Denot g.row.S-Draft.Denot)). length held)
+    same in
+    let repeats : IsRepeated c.is_repeated-is_repeated.result c.args.from
+    (option_map owned c.decode_packet-decoded.result) c.args.self.now.held =
+    subst (λ (held : List (ℕ × HeldTransfer g.row.S-Source.Denot g.row.S-Draft.Denot)). IsRepeated
+    c.is_repeated-is_repeated.result c.args.from (option_map owned c.decode_packet-decoded.result) held) same
+    c.is_repeated-is_repeated.ensures in
+    asked_by_name c.args.self.now c.args.from c.args.bytes.now c.in-Some.kind (owned_request c.in-Some.request) _
+    c.is_repeated-is_repeated.result c.by_name.result
     (sym c.has_error_opcode.ensures ∙ c.if-has_error_opcode.false) c.decode_packet-decoded.ensures c.in-Some.ensures
     repeats c.if-is_repeated.false
     (rw (← count, ← c.self.view_is) c.by_name.ensures.named)
 
 pub returns-else-is_repeated-clause-acts : goal.returns-else-is_repeated-clause-acts
 returns-else-is_repeated-clause-acts g c =
-    let same : c.self.inside.table ≡ c.args.self.now.held = ap (λ (s : ServerState g.row.S.Denot g.row.S-Source.Denot g.row.S-Draft.Denot). s.held) c.self.view_is in
-    let repeats : IsRepeated c.is_repeated-is_repeated.result c.args.from (option_map owned c.decode_packet-decoded.result) c.args.self.now.held =
-    subst (λ (held : List (ℕ × HeldTransfer g.row.S-Source.Denot g.row.S-Draft.Denot)). IsRepeated c.is_repeated-is_repeated.result c.args.from (option_map owned c.decode_packet-decoded.result) held) same c.is_repeated-is_repeated.ensures in
-    acts_by_name c.args.self.now c.args.from c.args.bytes.now c.in-Some.kind (owned_request c.in-Some.request) _ c.is_repeated-is_repeated.result c.by_name.result
+    let same : c.self.inside.table ≡ c.args.self.now.held =
+    ap (λ (s : ServerState g.row.S.Denot g.row.S-Source.Denot g.row.S-Draft.Denot). s.held) c.self.view_is in
+    let repeats : IsRepeated c.is_repeated-is_repeated.result c.args.from
+    (option_map owned c.decode_packet-decoded.result) c.args.self.now.held =
+    subst (λ (held : List (ℕ × HeldTransfer g.row.S-Source.Denot g.row.S-Draft.Denot)). IsRepeated
+    c.is_repeated-is_repeated.result c.args.from (option_map owned c.decode_packet-decoded.result) held) same
+    c.is_repeated-is_repeated.ensures in
+    acts_by_name c.args.self.now c.args.from c.args.bytes.now c.in-Some.kind (owned_request c.in-Some.request) _
+    c.is_repeated-is_repeated.result c.by_name.result
     (sym c.has_error_opcode.ensures ∙ c.if-has_error_opcode.false) c.decode_packet-decoded.ensures c.in-Some.ensures
     repeats c.if-is_repeated.false
 
 pub returns-else-is_repeated-clause-why : goal.returns-else-is_repeated-clause-why
 returns-else-is_repeated-clause-why g c =
-    let same : c.self.inside.table ≡ c.args.self.now.held = ap (λ (s : ServerState g.row.S.Denot g.row.S-Source.Denot g.row.S-Draft.Denot). s.held) c.self.view_is in
-    let repeats : IsRepeated c.is_repeated-is_repeated.result c.args.from (option_map owned c.decode_packet-decoded.result) c.args.self.now.held =
-    subst (λ (held : List (ℕ × HeldTransfer g.row.S-Source.Denot g.row.S-Draft.Denot)). IsRepeated c.is_repeated-is_repeated.result c.args.from (option_map owned c.decode_packet-decoded.result) held) same c.is_repeated-is_repeated.ensures in
-    names_a_path c.args.self.now c.args.from c.args.bytes.now c.in-Some.kind (owned_request c.in-Some.request) _ c.is_repeated-is_repeated.result c.by_name.result
+    let same : c.self.inside.table ≡ c.args.self.now.held =
+    ap (λ (s : ServerState g.row.S.Denot g.row.S-Source.Denot g.row.S-Draft.Denot). s.held) c.self.view_is in
+    let repeats : IsRepeated c.is_repeated-is_repeated.result c.args.from
+    (option_map owned c.decode_packet-decoded.result) c.args.self.now.held =
+    subst (λ (held : List (ℕ × HeldTransfer g.row.S-Source.Denot g.row.S-Draft.Denot)). IsRepeated
+    c.is_repeated-is_repeated.result c.args.from (option_map owned c.decode_packet-decoded.result) held) same
+    c.is_repeated-is_repeated.ensures in
+    names_a_path c.args.self.now c.args.from c.args.bytes.now c.in-Some.kind (owned_request c.in-Some.request) _
+    c.is_repeated-is_repeated.result c.by_name.result
     c.decode_packet-decoded.ensures c.in-Some.ensures repeats c.if-is_repeated.false c.by_name.ensures.why

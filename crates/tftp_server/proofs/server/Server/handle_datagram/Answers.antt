@@ -13,13 +13,16 @@ use Rattle.tftp_server.proofs.server.Server.handle_datagram.Goals.{in-Ok, in-Err
 
 pub returns-clause-fault : goal.returns-clause-fault
 returns-clause-fault g c =
-    let same : c.self.inside.table ≡ c.args.self.now.held = ap (λ (s : ServerState g.row.S.Denot g.row.S-Source.Denot g.row.S-Draft.Denot). s.held) c.self.view_is in
+    let same : c.self.inside.table ≡ c.args.self.now.held =
+    ap (λ (s : ServerState g.row.S.Denot g.row.S-Source.Denot g.row.S-Draft.Denot). s.held) c.self.view_is in
     elim c.match-handle_datagram.branch [
       | in-Ok w ↦ rw w.result-is tt
       | in-Err w ↦
           rw w.result-is
-          (datagram_fault {R = Step × Outgoing} UsesFile c.args.from c.args.bytes.now (at c.args.tid c.args.self.now.held) c.in-Some.transfer.now w.in-Err.fault w.from.result
-          (found_now c.args.tid c.self.inside.table c.args.self.now.held c.in-Some.transfer.now same c.in-Some.ensures.value)
+          (datagram_fault {R = Step × Outgoing} UsesFile c.args.from c.args.bytes.now
+          (at c.args.tid c.args.self.now.held) c.in-Some.transfer.now w.in-Err.fault w.from.result
+          (found_now c.args.tid c.self.inside.table c.args.self.now.held c.in-Some.transfer.now same
+          c.in-Some.ensures.value)
           w.from.ensures w.in-Err.ensures.closed w.in-Err.ensures.memory)
     ]
 
@@ -28,18 +31,28 @@ returns-clause-takes g c =
     elim c.match-handle_datagram.branch [
       | in-Ok w ↦
           rw (w.result-is, ← c.self.view_is)
-          (takes_datagram g.S.Store.meaning g.S.Source.Source.meaning c.args.tid _ _ c.self.inside.table c.in-Some.transfer.now c.handle_datagram.new.self refl c.in-Some.ensures.value refl
+          (takes_datagram g.S.Store.meaning g.S.Source.Source.meaning c.args.tid _ _ c.self.inside.table
+          c.in-Some.transfer.now c.handle_datagram.new.self refl c.in-Some.ensures.value refl
           (lends w.in-Ok.answer.1) c.args.from c.args.bytes.now w.in-Ok.answer.0 w.in-Ok.ensures.takes)
       | in-Err w ↦ rw w.result-is tt
     ]
 
 pub returns-clause-err : goal.returns-clause-err
 returns-clause-err g c =
-    let old : ServerState g.row.S.Denot g.row.S-Source.Denot g.row.S-Draft.Denot = record { config = c.self.inside.config; store = c.self.inside.store; held = c.self.inside.table } in
-    let new : ServerState g.row.S.Denot g.row.S-Source.Denot g.row.S-Draft.Denot = record { config = c.self.inside.config; store = c.handle_datagram.new.store; held = with_next c.args.tid c.handle_datagram.new.self c.self.inside.table } in
+    let old : ServerState g.row.S.Denot g.row.S-Source.Denot g.row.S-Draft.Denot =
+    record { config = c.self.inside.config; store = c.self.inside.store; held = c.self.inside.table } in
+    let new : ServerState g.row.S.Denot g.row.S-Source.Denot g.row.S-Draft.Denot =
+    record {
+      config = c.self.inside.config;
+      store = c.handle_datagram.new.store;
+      held = with_next c.args.tid c.handle_datagram.new.self c.self.inside.table;
+    } in
     elim c.match-handle_datagram.branch [
       | in-Ok w ↦ rw w.result-is tt
-      | in-Err w ↦ rw (w.result-is, ← c.self.view_is) (keeps_held g.S.Store.meaning g.S.Source.Source.meaning c.args.tid old new c.self.inside.table c.in-Some.transfer.now c.handle_datagram.new.self refl c.in-Some.ensures.value refl w.in-Err.ensures.err)
+      | in-Err w ↦
+          rw (w.result-is, ← c.self.view_is) (keeps_held g.S.Store.meaning g.S.Source.Source.meaning c.args.tid old new
+          c.self.inside.table c.in-Some.transfer.now c.handle_datagram.new.self refl c.in-Some.ensures.value refl
+          w.in-Err.ensures.err)
     ]
 
 pub returns-clause-unmoved : goal.returns-clause-unmoved
@@ -48,19 +61,30 @@ returns-clause-unmoved g c =
       | in-Ok w ↦ rw w.result-is (λ e. absurd (cc))
       | in-Err w ↦
           rw w.result-is
-          (λ e. leaves_unmoved {R = Step × Outgoing} {Q = Step × Outgoing} c.self.inside.config c.self.inside.store c.handle_datagram.new.store c.args.tid c.self.inside.table
-          c.in-Some.transfer.now c.handle_datagram.new.self w.in-Err.fault w.from.result c.in-Some.ensures.value w.from.ensures w.in-Err.ensures.unmoved e
+          (λ e. leaves_unmoved {R = Step × Outgoing} {Q = Step × Outgoing} c.self.inside.config c.self.inside.store
+          c.handle_datagram.new.store c.args.tid c.self.inside.table
+          c.in-Some.transfer.now c.handle_datagram.new.self w.in-Err.fault w.from.result c.in-Some.ensures.value
+          w.from.ensures w.in-Err.ensures.unmoved e
           ∙ c.self.view_is)
     ]
 
 pub returns-clause-why : goal.returns-clause-why
 returns-clause-why g c =
-    let old : ServerState g.row.S.Denot g.row.S-Source.Denot g.row.S-Draft.Denot = record { config = c.self.inside.config; store = c.self.inside.store; held = c.self.inside.table } in
-    let new : ServerState g.row.S.Denot g.row.S-Source.Denot g.row.S-Draft.Denot = record { config = c.self.inside.config; store = c.handle_datagram.new.store; held = with_next c.args.tid c.handle_datagram.new.self c.self.inside.table } in
+    let old : ServerState g.row.S.Denot g.row.S-Source.Denot g.row.S-Draft.Denot =
+    record { config = c.self.inside.config; store = c.self.inside.store; held = c.self.inside.table } in
+    let new : ServerState g.row.S.Denot g.row.S-Source.Denot g.row.S-Draft.Denot =
+    record {
+      config = c.self.inside.config;
+      store = c.handle_datagram.new.store;
+      held = with_next c.args.tid c.handle_datagram.new.self c.self.inside.table;
+    } in
     elim c.match-handle_datagram.branch [
       | in-Ok w ↦ rw w.result-is (λ e. absurd (cc))
       | in-Err w ↦
           rw (w.result-is, ← c.self.view_is)
-          (λ memory. lacks_at g.S.Store.meaning g.S.Source.Source.meaning AppendsNothing c.args.tid c.args.from c.args.bytes.now old new c.self.inside.table c.in-Some.transfer.now c.handle_datagram.new.self refl c.in-Some.ensures.value refl
-          (w.in-Err.ensures.why (memory_of_end {R = Step × Outgoing} {Q = Step × Outgoing} w.in-Err.fault w.from.result w.from.ensures memory)))
+          (λ memory. lacks_at g.S.Store.meaning g.S.Source.Source.meaning AppendsNothing c.args.tid c.args.from
+          c.args.bytes.now old new c.self.inside.table c.in-Some.transfer.now c.handle_datagram.new.self refl
+          c.in-Some.ensures.value refl
+          (w.in-Err.ensures.why (memory_of_end {R = Step × Outgoing} {Q = Step × Outgoing} w.in-Err.fault w.from.result
+          w.from.ensures memory)))
     ]

@@ -10,14 +10,18 @@ pub invariant_of-result : goal.invariant_of-result
 invariant_of-result g c =
     let spot = c.requires.2 in
     IsJoined-after_insert
-    spot.before c.args.self.index.entries c.args.self.slots c.args.self.slots c.insert_reserved.new.self c.requires.0 _ c.args.value
-    spot.grown refl spot.is_joined (ap (get c.args.self.slots) (sym c.insert_reserved.ensures.key) ∙ c.insert_reserved.ensures.was_vacant)
+    spot.before c.args.self.index.entries c.args.self.slots c.args.self.slots c.insert_reserved.new.self c.requires.0 _
+    c.args.value
+    spot.grown refl spot.is_joined (ap (get c.args.self.slots) (sym c.insert_reserved.ensures.key)
+    ∙ c.insert_reserved.ensures.was_vacant)
     (updates_at _ _ _ _ _ c.insert_reserved.ensures.key c.insert_reserved.ensures.updates)
 
 pub returns : goal.returns
 returns g c tid held spot =
     joined-after_insert
-    spot.before c.args.self.index.entries c.args.self.slots c.args.self.slots c.insert_reserved.new.self tid _ c.args.value
-    spot.grown refl spot.is_joined (ap (get c.args.self.slots) (sym c.insert_reserved.ensures.key) ∙ c.insert_reserved.ensures.was_vacant)
+    spot.before c.args.self.index.entries c.args.self.slots c.args.self.slots c.insert_reserved.new.self tid _
+    c.args.value
+    spot.grown refl spot.is_joined (ap (get c.args.self.slots) (sym c.insert_reserved.ensures.key)
+    ∙ c.insert_reserved.ensures.was_vacant)
     (updates_at _ _ _ _ _ c.insert_reserved.ensures.key c.insert_reserved.ensures.updates)
     ∙ ap (λ xs. insert_entry nat_cmp xs tid c.args.value) spot.holds

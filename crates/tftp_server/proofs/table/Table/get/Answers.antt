@@ -9,10 +9,12 @@ use Rattle.tftp_server.proofs.table.Table.get.Goals as goal
 pub returns-in-Some : goal.returns-in-Some
 returns-in-Some g c =
     c.get-in-Some.ensures
-    ∙ sym (joined-lookup (is_at (nat_cmp c.args.tid)) c.self.inside.index.entries c.self.inside.slots c.in-Some.key.now c.self.invariant (sym c.in-Some.ensures.value))
+    ∙ sym (joined-lookup (is_at (nat_cmp c.args.tid)) c.self.inside.index.entries c.self.inside.slots c.in-Some.key.now
+    c.self.invariant (sym c.in-Some.ensures.value))
     ∙ ap (lookup (is_at (nat_cmp c.args.tid))) c.self.view_is
 
 pub returns-in-None : goal.returns-in-None
 returns-in-None g c =
-    sym (joined-absent (is_at (nat_cmp c.args.tid)) c.self.inside.index.entries c.self.inside.slots c.self.invariant (sym c.in-None.ensures.value))
+    sym (joined-absent (is_at (nat_cmp c.args.tid)) c.self.inside.index.entries c.self.inside.slots c.self.invariant
+    (sym c.in-None.ensures.value))
     ∙ ap (lookup (is_at (nat_cmp c.args.tid))) c.self.view_is

@@ -10,12 +10,18 @@ use Rattle.tftp_server.proofs.table.Table.get_mut.Goals as goal
 
 pub invariant_of-self-lent : goal.invariant_of-self-lent
 invariant_of-self-lent g c =
-    λ lent. (λ w. IsJoined-lent c.self.inside.index.entries c.self.inside.slots c.key_at-key.result w c.self.invariant, c.self.invariant)
+    λ lent. (
+      λ w. IsJoined-lent c.self.inside.index.entries c.self.inside.slots c.key_at-key.result w c.self.invariant,
+      c.self.invariant,
+    )
 
 pub returns : goal.returns
 returns g c =
-    let after : (w : g.row.T.Denot) → joined c.self.inside.index.entries (with_value c.self.inside.slots c.key_at-key.result w) ≡ set_value (is_at (nat_cmp c.args.tid)) c.args.self.now w =
-    λ w. joined-lent_for (is_at (nat_cmp c.args.tid)) c.self.inside.index.entries c.self.inside.slots c.key_at-key.result w _ c.self.invariant refl c.key_at-key.ensures
+    let after : (w : g.row.T.Denot) →
+    joined c.self.inside.index.entries (with_value c.self.inside.slots c.key_at-key.result w) ≡ set_value
+    (is_at (nat_cmp c.args.tid)) c.args.self.now w =
+    λ w. joined-lent_for (is_at (nat_cmp c.args.tid)) c.self.inside.index.entries c.self.inside.slots
+    c.key_at-key.result w _ c.self.invariant refl c.key_at-key.ensures
     ∙ ap (λ xs. set_value (is_at (nat_cmp c.args.tid)) xs w) c.self.view_is
     in (
       simp (after, c.self.view_is),
@@ -23,7 +29,8 @@ returns g c =
         writes_back = tt;
         value =
             c.get_mut.ensures.value
-            ∙ joined-lookup_for (is_at (nat_cmp c.args.tid)) c.self.inside.index.entries c.self.inside.slots c.key_at-key.result _ c.self.invariant refl c.key_at-key.ensures
+            ∙ joined-lookup_for (is_at (nat_cmp c.args.tid)) c.self.inside.index.entries c.self.inside.slots
+            c.key_at-key.result _ c.self.invariant refl c.key_at-key.ensures
             ∙ ap (lookup (is_at (nat_cmp c.args.tid))) c.self.view_is;
       },
     )

@@ -3,32 +3,39 @@ use Rattle.std.proofs.Common.{ap, sym, refl, ◌∙◌}
 use Rattle.std.specs.Map.{lookup, remove_entry}
 use Rattle.std.specs.BTreeMap.{is_at}
 use Rattle.std.specs.Ordering.{nat_cmp}
-use Rattle.tftp_server.proofs.TableLemmas.{joined-lookup, joined-absent, joined-after_remove, IsJoined-after_remove, remove_nothing, joined-kept}
+use Rattle.tftp_server.proofs.TableLemmas.{joined-lookup, joined-absent, joined-after_remove, IsJoined-after_remove}
+use Rattle.tftp_server.proofs.TableLemmas.{remove_nothing, joined-kept}
 use Rattle.tftp_server.proofs.table.Table.remove.Goals as goal
 
 pub invariant_of-self : goal.invariant_of-self
 invariant_of-self g c =
-    IsJoined-after_remove (is_at (nat_cmp c.args.tid)) c.self.inside.index.entries _ c.self.inside.slots _ c.in-Some.key c.remove.ensures.entries c.self.invariant (sym c.in-Some.ensures.value) c.try_remove.ensures.updates
+    IsJoined-after_remove (is_at (nat_cmp c.args.tid)) c.self.inside.index.entries _ c.self.inside.slots _ c.in-Some.key
+    c.remove.ensures.entries c.self.invariant (sym c.in-Some.ensures.value) c.try_remove.ensures.updates
 
 pub returns-in-Some-clause-value : goal.returns-in-Some-clause-value
 returns-in-Some-clause-value g c =
     c.try_remove.ensures.value
-    ∙ sym (joined-lookup (is_at (nat_cmp c.args.tid)) c.self.inside.index.entries c.self.inside.slots c.in-Some.key c.self.invariant (sym c.in-Some.ensures.value))
+    ∙ sym (joined-lookup (is_at (nat_cmp c.args.tid)) c.self.inside.index.entries c.self.inside.slots c.in-Some.key
+    c.self.invariant (sym c.in-Some.ensures.value))
     ∙ ap (lookup (is_at (nat_cmp c.args.tid))) c.self.view_is
 
 pub returns-in-Some-clause-others : goal.returns-in-Some-clause-others
 returns-in-Some-clause-others g c =
-    joined-after_remove (is_at (nat_cmp c.args.tid)) c.self.inside.index.entries _ c.self.inside.slots _ c.in-Some.key c.remove.ensures.entries c.self.invariant (sym c.in-Some.ensures.value) c.try_remove.ensures.updates
+    joined-after_remove (is_at (nat_cmp c.args.tid)) c.self.inside.index.entries _ c.self.inside.slots _ c.in-Some.key
+    c.remove.ensures.entries c.self.invariant (sym c.in-Some.ensures.value) c.try_remove.ensures.updates
     ∙ ap (remove_entry (is_at (nat_cmp c.args.tid))) c.self.view_is
 
 pub returns-in-None-clause-value : goal.returns-in-None-clause-value
 returns-in-None-clause-value g c =
-    sym (joined-absent (is_at (nat_cmp c.args.tid)) c.self.inside.index.entries c.self.inside.slots c.self.invariant (sym c.in-None.ensures.value))
+    sym (joined-absent (is_at (nat_cmp c.args.tid)) c.self.inside.index.entries c.self.inside.slots c.self.invariant
+    (sym c.in-None.ensures.value))
     ∙ ap (lookup (is_at (nat_cmp c.args.tid))) c.self.view_is
 
 pub returns-in-None-clause-others : goal.returns-in-None-clause-others
 returns-in-None-clause-others g c =
-    let absent = joined-absent (is_at (nat_cmp c.args.tid)) c.self.inside.index.entries c.self.inside.slots c.self.invariant (sym c.in-None.ensures.value) in
+    let absent =
+    joined-absent (is_at (nat_cmp c.args.tid)) c.self.inside.index.entries c.self.inside.slots c.self.invariant
+    (sym c.in-None.ensures.value) in
     joined-kept _ _ _ _ c.in-None.ensures.unchanged refl
     ∙ sym (remove_nothing (is_at (nat_cmp c.args.tid)) _ absent)
     ∙ ap (remove_entry (is_at (nat_cmp c.args.tid))) c.self.view_is
