@@ -82,7 +82,7 @@ module _ (from : Endpoint) (packet : Packet) where
           (kept_at held ps own.index (Server own.served) all own.there) in
           any_at from packet (ends_from 1024 held ps) own.index (end_at port held (Server own.served))
           (ends_get held ps own.index (Server own.served) own.there)
-          (subst (Repeats from packet) (sym here) (record { server = side; peer = r.peer; same = r.same }))
+          (subst (Repeats from packet) (sym here) (record { still = side; peer = r.peer; same = r.same }))
 
       any_owned : (es : List (ℕ × Transfer)) → AllByRecursion Has_end es → server.AnyRepeats from packet es →
           AnyRepeats from packet (ends_from 1024 held ps)
@@ -103,7 +103,7 @@ module _ (from : Endpoint) (packet : Packet) where
         server.AnyRepeats from packet held
     end_repeats port (Client c) kept r = absurd (by_case (outcome_of c.end.position.phase) r) where
       by_case : (o : Option Outcome) → Repeats from packet (by_outcome o (client_end port c)) → ⊥
-      by_case None asked = true≢false (sym kept.0 ∙ asked.server)
+      by_case None asked = true≢false (sym kept.0 ∙ asked.still)
       by_case (Some outcome) none = none
     end_repeats port (Server s) kept r = served_repeats port s s.ended kept r
 

@@ -98,17 +98,17 @@ sender_repeats :
     (w : WorldState) (from : Endpoint) (bytes : List ℕ) (mode : Mode) (path file : List ℕ) (agreed : List Known)
     (packet : Packet) → Spells packet bytes →
     WasAskedBy from packet (sending_end w from bytes mode path file agreed)
-sender_repeats w from bytes mode path file [] packet spells = record { server = refl; peer = refl; same = spells }
+sender_repeats w from bytes mode path file [] packet spells = record { still = refl; peer = refl; same = spells }
 sender_repeats w from bytes mode path file (known ∷ agreed) packet spells =
-    record { server = refl; peer = refl; same = spells }
+    record { still = refl; peer = refl; same = spells }
 
 receiver_repeats :
     (w : WorldState) (from : Endpoint) (bytes : List ℕ) (mode : Mode) (path : List ℕ) (agreed : List Known)
     (packet : Packet) → Spells packet bytes →
     WasAskedBy from packet (receiving_end w from bytes mode path agreed)
-receiver_repeats w from bytes mode path [] packet spells = record { server = refl; peer = refl; same = spells }
+receiver_repeats w from bytes mode path [] packet spells = record { still = refl; peer = refl; same = spells }
 receiver_repeats w from bytes mode path (known ∷ agreed) packet spells =
-    record { server = refl; peer = refl; same = spells }
+    record { still = refl; peer = refl; same = spells }
 
 module _ (old new : WorldState) (from : Endpoint) (bytes : List ℕ) (report : Report)
     (more : length old.ends < length new.ends) where
@@ -206,13 +206,13 @@ module _ (from : Endpoint) (packet : Packet) where
     by_files : (files : Files (List ℕ) Holding) → WasAskedBy from packet (end_after x turn files)
     by_files (Source left) =
         record {
-          server = r.server;
+          still = r.still;
           peer = same_peer x.state.position.phase turn.position.phase from r.peer stays;
           same = r.same;
         }
     by_files (Sink holding) =
         record {
-          server = r.server;
+          still = r.still;
           peer = same_peer x.state.position.phase turn.position.phase from r.peer stays;
           same = r.same;
         }
@@ -225,7 +225,7 @@ module _ (from : Endpoint) (packet : Packet) where
   armed_lasts (Open_end x) r = by_test (is_sender x.state.role.side) where
     by_test : (sender : Bool) → Repeats from packet (Open_end (if sender then x else record x { refuses = true }))
     by_test true = r
-    by_test false = record { server = r.server; peer = r.peer; same = r.same }
+    by_test false = record { still = r.still; peer = r.peer; same = r.same }
   armed_lasts (Closed_end x) r = r
 
   module _ (old new : WorldState) (report : Report) (k : ℕ) (x z : WorldEnd) (there : slice_get old.ends k ≡ Some x)

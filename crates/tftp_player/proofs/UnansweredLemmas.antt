@@ -20,7 +20,7 @@ any_at from packet (y ∷ ends) (suc k) x e r = inr (any_at from packet ends k x
 -- who answers a request is repeated by it
 answers_repeat : (from : Endpoint) (packet : Packet) (x : WorldEnd) → IsAnswering (view_of_end x) from packet →
     Repeats from packet x
-answers_repeat from packet (Open_end x) a = record { server = a.serving.0; peer = a.peer_is; same = a.spells }
+answers_repeat from packet (Open_end x) a = record { still = a.serving.0; peer = a.peer_is; same = a.spells }
 answers_repeat from packet (Closed_end x) a = absurd (true≢false (sym (ap not a.serving.1) ∙ a.serving.2))
 
 pub none_answers :

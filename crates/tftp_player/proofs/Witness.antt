@@ -449,7 +449,7 @@ module _ (kind : Kind) (s : Sample) (runs : Runs kind s) where
     first = (
       λ f. absurd (true≢false (sym f)),
       λ any. elim any [
-        | inl again ↦ absurd (true≢false (sym (is_of_client kind s) ∙ again.server))
+        | inl again ↦ absurd (true≢false (sym (is_of_client kind s) ∙ again.still))
         | inr none ↦ absurd none
       ],
     )

@@ -1,13 +1,13 @@
 -- The request port of a world's server: the server's tests, over the world's files.
-use Rattle.std.specs.Prelude.{ℕ, ◌≡◌, ◌⊎◌, ◌↔◌, IsTrue, Bool, false, not, List, [], ◌∷◌, count_by}
+use Rattle.std.specs.Prelude.{ℕ, Bool, false, not, List, count_by}
 use Rattle.std.specs.Prelude.{Option, Some, None, Result, Ok, Err}
 use Rattle.tftp_wire.specs.declared.mode.Mode.{Mode}
-use Rattle.tftp_wire.specs.Spelling.{Spells}
 use Rattle.tftp_wire.specs.declared.packet.Packet.{Packet}
 use Rattle.tftp_file.specs.declared.fault.StoreFault.{StoreFault}
 use Rattle.tftp_file.specs.declared.fault.StoreFault.TheVariants.{Missing, Exists}
 use Rattle.tftp_ends.specs.End.{is_client}
 use Rattle.tftp_server.specs.Port.{Ask, Service, answered, service as service_by}
+use Rattle.tftp_server.specs.State.{WasRequested, AnyByRecursion, RepeatsOne}
 use Rattle.tftp_store.specs.Store.{measured}
 use Rattle.tftp_machine.specs.Machine.{Endpoint}
 use Rattle.tftp_machine.specs.OpenEnds.{OpenEnd, peer_of}
@@ -48,11 +48,11 @@ service w repeated bytes decoded =
     (λ path. begun_of (in_the_way w.overwrite (file_at w.files path))) w.cap
     (open_transfers w.ends) repeated bytes decoded
 
--- an end of the server was requested from there by a datagram that spells this packet
-pub record WasAskedBy (from : Endpoint) (packet : Packet) (x : OpenEnd) : Type 0 where
-  pub server : is_client x.state.role.side ≡ false
-  pub peer : peer_of x.state.position.phase ≡ Some from
-  pub same : Spells packet x.request
+-- an end of the server was requested from there by a datagram that spells this packet; a client's
+-- end is left out
+abbrev pub WasAskedBy : Endpoint → Packet → OpenEnd → Type 0
+WasAskedBy from packet x =
+    WasRequested (is_client x.state.role.side) (peer_of x.state.position.phase) x.request from packet
 
 -- the same of an end that is open
 abbrev pub Repeats : Endpoint → Packet → WorldEnd → Type 0
@@ -61,10 +61,8 @@ Repeats from packet (Closed_end x) = ⊥
 
 -- the same of one of the ends
 abbrev pub AnyRepeats : Endpoint → Packet → List WorldEnd → Type 0
-AnyRepeats from packet [] = ⊥
-AnyRepeats from packet (x ∷ ends) = Repeats from packet x ⊎ AnyRepeats from packet ends
+AnyRepeats from packet ends = AnyByRecursion (Repeats from packet) ends
 
 -- whether a datagram repeats the request of an open transfer
 abbrev pub IsRepeated : Bool → Endpoint → Option Packet → List WorldEnd → Type 0
-IsRepeated repeated from None ends = repeated ≡ false
-IsRepeated repeated from (Some packet) ends = IsTrue repeated ↔ AnyRepeats from packet ends
+IsRepeated repeated from decoded ends = RepeatsOne (Repeats from) repeated decoded ends

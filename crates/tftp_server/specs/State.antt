@@ -64,23 +64,39 @@ module _ {F D : Type 0} where
   taken_of (Some held) =
       if is_closed held then Some (record_of held.end, draft_of held.files) else None
 
+-- what is still in was requested from this endpoint by a datagram that spells this packet, by its
+-- known peer and the bytes of its request; the case of the mode's letters is not part of a packet
+pub record WasRequested (out : Bool) (known : Option Endpoint) (bytes : List ℕ) (from : Endpoint)
+    (packet : Packet) : Type 0 where
+  pub still : out ≡ false
+  pub peer : known ≡ Some from
+  pub same : Spells packet bytes
+
+module _ {T : Type 0} where
+  -- it holds of one of them
+  abbrev pub AnyByRecursion : (T → Type 0) → List T → Type 0
+  AnyByRecursion Holds [] = ⊥
+  AnyByRecursion Holds (x ∷ xs) = Holds x ⊎ AnyByRecursion Holds xs
+
+  -- whether a datagram repeats the request of one of them
+  abbrev pub RepeatsOne : (Packet → T → Type 0) → Bool → Option Packet → List T → Type 0
+  RepeatsOne Asked repeated None xs = repeated ≡ false
+  RepeatsOne Asked repeated (Some packet) xs = IsTrue repeated ↔ AnyByRecursion (Asked packet) xs
+
 module _ {F D : Type 0} where
-  -- an open transfer was requested from this endpoint by a datagram that spells this packet; the
-  -- case of the mode's letters is not part of a packet
-  pub record Repeats (from : Endpoint) (packet : Packet) (held : HeldTransfer F D) : Type 0 where
-    pub still : is_closed held ≡ false
-    pub peer : (record_of held.end).peer ≡ Some from
-    pub same : Spells packet held.request
+  -- an open transfer was requested from this endpoint by a datagram that spells this packet
+  abbrev pub Repeats : Endpoint → Packet → HeldTransfer F D → Type 0
+  Repeats from packet held =
+      WasRequested (is_closed held) (record_of held.end).peer held.request from packet
 
   -- one of the transfers was so requested
   abbrev pub AnyRepeats : Endpoint → Packet → List (ℕ × HeldTransfer F D) → Type 0
-  AnyRepeats from packet [] = ⊥
-  AnyRepeats from packet (e ∷ held) = Repeats from packet e.1 ⊎ AnyRepeats from packet held
+  AnyRepeats from packet held = AnyByRecursion (λ e. Repeats from packet e.1) held
 
   -- whether a datagram repeats the request of an open transfer
   abbrev pub IsRepeated : Bool → Endpoint → Option Packet → List (ℕ × HeldTransfer F D) → Type 0
-  IsRepeated repeated from None held = repeated ≡ false
-  IsRepeated repeated from (Some packet) held = IsTrue repeated ↔ AnyRepeats from packet held
+  IsRepeated repeated from decoded held =
+      RepeatsOne (λ packet e. Repeats from packet e.1) repeated decoded held
 
 module _ {T : Type 0} where
   -- the transfer at an identifier
