@@ -52,7 +52,8 @@ service w repeated bytes decoded =
 -- end is left out
 abbrev pub WasAskedBy : Endpoint → Packet → OpenEnd → Type 0
 WasAskedBy from packet x =
-    WasRequested (is_client x.state.role.side) (peer_of x.state.position.phase) x.request from packet
+    WasRequested (is_client x.state.role.side) (peer_of x.state.position.phase) x.request from
+    packet
 
 -- the same of an end that is open
 abbrev pub Repeats : Endpoint → Packet → WorldEnd → Type 0

@@ -64,7 +64,7 @@ module _ {F D : Type 0} where
   taken_of (Some held) =
       if is_closed held then Some (record_of held.end, draft_of held.files) else None
 
--- what is still in was requested from this endpoint by a datagram that spells this packet, by its
+-- what is not out was requested from this endpoint by a datagram that spells this packet, by its
 -- known peer and the bytes of its request; the case of the mode's letters is not part of a packet
 pub record WasRequested (out : Bool) (known : Option Endpoint) (bytes : List ℕ) (from : Endpoint)
     (packet : Packet) : Type 0 where
