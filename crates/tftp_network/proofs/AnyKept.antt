@@ -41,10 +41,6 @@ use Rattle.tftp_network.proofs.KeptViews.{view_there}
 use Rattle.tftp_network.proofs.Places.{strangers_elsewhere}
 use Rattle.tftp_network.proofs.Texts.{begin_each_other, begins_unpadded, pad_length, pad_to}
 
--- the endpoint of its peer
-abbrev peer_of : ProgramEnd → Option Endpoint
-peer_of x = (record_of x.state).peer
-
 module _ {S F D G K : Type 0} {stores : StoreMeaning S D} {sources : SourceMeaning F} {inputs : SourceMeaning G}
     {outputs : SinkMeaning K}
     (programs : Programs stores sources inputs outputs) (kept : (pad : ℕ) →

@@ -14,6 +14,7 @@ use Rattle.tftp_negotiate.specs.Ranges.{IsBlockSize}
 use Rattle.tftp_file.specs.Memory.{memory_source}
 use Rattle.tftp_file.specs.Sink.{SinkMeaning}
 use Rattle.tftp_file.specs.Source.{SourceMeaning}
+use Rattle.tftp_file.specs.declared.fault.StoreFault.TheVariants.{Memory}
 use Rattle.tftp_file.specs.declared.files.Files.{Files}
 use Rattle.tftp_file.specs.declared.files.Files.TheVariants.{Source, Sink}
 use Rattle.tftp_ends.specs.declared.action.Response.TheVariants.{Complete, Stranger}
@@ -485,8 +486,10 @@ stores_block = record {
         refl,
         tt,
         record { path = refl; replace = refl; files = refl },
-        record { refused = λ e. absurd (true≢false (sym e)); cleared = refl },
-        λ e. absurd (cc),
+        (
+          record { refused = λ e. absurd (true≢false (sym e)); cleared = refl },
+          λ e. absurd (let f : Some Memory ≡ None = sym e in cc),
+        ),
       );
       memory = λ e. absurd (cc);
       rest = record {

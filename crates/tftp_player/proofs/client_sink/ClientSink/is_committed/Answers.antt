@@ -2,7 +2,7 @@
 -- minute.
 use Rattle.std.proofs.Common.{ap, ◌∙◌}
 use Rattle.tftp_file.specs.Sink.{Holding}
-use Rattle.tftp_player.proofs.shelf.ClientSink.is_committed.Goals as goal
+use Rattle.tftp_player.proofs.client_sink.ClientSink.is_committed.Goals as goal
 
 pub returns : goal.returns
 returns c = c.is_committed.ensures ∙ ap (λ (h : Holding). h.committed) c.self.view_is
