@@ -1,5 +1,6 @@
 -- The first fault of a datagram, text by text.
-use Rattle.std.proofs.Common.{ℕ, ◌≡◌, ◌≢◌, ◌+◌, ◌-◌, ◌≤◌, Bool, true, false, cond, not, eqb, ltb, ⊎_elim, refl, ap, sym, ◌∙◌, arith, List, [], ◌∷◌, ◌++◌, length, drop, Option, Some, None, MatchOption}
+use Rattle.std.proofs.Common.{ℕ, ◌≡◌, ◌≢◌, ◌+◌, ◌-◌, ◌≤◌, Bool, true, false, cond, not, eqb, ltb, ⊎_elim, refl, ap, sym}
+use Rattle.std.proofs.Common.{◌∙◌, arith, List, [], ◌∷◌, ◌++◌, length, drop, Option, Some, None, MatchOption}
 use Rattle.std.specs.Borrow.{Bor}
 use Rattle.std.specs.Option.{ok_or}
 use Rattle.std.specs.List.{AllByRecursion, flat_map}
@@ -13,12 +14,15 @@ use Rattle.tftp_wire.specs.declared.options.RawOption.{RawOption}
 use Rattle.tftp_wire.specs.declared.mode.Mode.{Mode}
 use Rattle.tftp_wire.specs.Texts.{IsText, zero_ended, texts, with_first, unended, unended_with}
 use Rattle.tftp_wire.specs.Options.{IsOption, options_bytes, paired, options_in, AreOptions}
-use Rattle.tftp_wire.specs.Reading.{options_fault, texts_fault, mode_fault, mode_in, request_fault, message_fault, number_fault, error_fault}
+use Rattle.tftp_wire.specs.Reading.{options_fault, texts_fault, mode_fault, mode_in, request_fault, message_fault}
+use Rattle.tftp_wire.specs.Reading.{number_fault, error_fault}
 use Rattle.tftp_wire.specs.Parts.{bytes_fault, request_of, BeginsWith, SplitsText}
 use Rattle.tftp_wire.proofs.TextsLemmas.{texts_first, texts_none, unended_rest, unended_all}
 
 -- the two parts at the first zero byte, as a reader returns them
-pub text_split : (at : ℕ) (bytes : List ℕ) (r : Option (Bor (List ℕ) × Bor (List ℕ))) → MatchOption r (IsText bytes) (λ parts. IsText parts.0.now × (bytes ≡ zero_ended parts.0.now ++ parts.1.now)) → SplitsText at bytes (ok_or r (record { kind = Unterminated; at = at }))
+pub text_split : (at : ℕ) (bytes : List ℕ) (r : Option (Bor (List ℕ) × Bor (List ℕ)))
+    → MatchOption r (IsText bytes) (λ parts. IsText parts.0.now × (bytes ≡ zero_ended parts.0.now ++ parts.1.now))
+    → SplitsText at bytes (ok_or r (record { kind = Unterminated; at = at }))
 text_split at bytes None h = (texts_none bytes h, unended_all bytes h, refl)
 text_split at bytes (Some parts) h = (
   rw h.1 (texts_first parts.0.now parts.1.now h.0),
@@ -27,34 +31,48 @@ text_split at bytes (Some parts) h = (
 )
 
 -- an option with a name
-pub named_option : (at : ℕ) (name value : List ℕ) (others : List (List ℕ)) (rest : List ℕ) → length name ≢ 0 → options_fault at (name ∷ value ∷ others) rest ≡ options_fault (at + (length name + 1) + (length value + 1)) others rest
+pub named_option : (at : ℕ) (name value : List ℕ) (others : List (List ℕ)) (rest : List ℕ) → length name ≢ 0
+    → options_fault at (name ∷ value ∷ others) rest
+        ≡ options_fault (at + (length name + 1) + (length value + 1)) others rest
 named_option at [] value others rest h = absurd (h refl)
 named_option at (c ∷ name) value others rest h = refl
 
 -- a request with a file name
-pub named_texts : (name : List ℕ) (others : List (List ℕ)) (rest : List ℕ) → length name ≢ 0 → texts_fault (name ∷ others) rest ≡ mode_fault (2 + (length name + 1)) others rest
+pub named_texts : (name : List ℕ) (others : List (List ℕ)) (rest : List ℕ) → length name ≢ 0
+    → texts_fault (name ∷ others) rest ≡ mode_fault (2 + (length name + 1)) others rest
 named_texts [] others rest h = absurd (h refl)
 named_texts (c ∷ name) others rest h = refl
 
 -- past an option the first fault is that of the rest
-pub option_skipped : (at : ℕ) (bytes name after value rest : List ℕ) → BeginsWith bytes name after → length name ≢ 0 → BeginsWith after value rest → bytes_fault at bytes ≡ bytes_fault (at + (length bytes - length rest)) rest
+pub option_skipped : (at : ℕ) (bytes name after value rest : List ℕ) → BeginsWith bytes name after → length name ≢ 0
+    → BeginsWith after value rest → bytes_fault at bytes ≡ bytes_fault (at + (length bytes - length rest)) rest
 option_skipped at bytes name after value rest n h v =
-    let offset : at + (length name + 1) + (length value + 1) ≡ at + (length bytes - length rest) = omega (arith, n.2, v.2) in
-    rw (n.0, n.1, v.0, v.1) (named_option at name value (texts rest) (unended rest) h ∙ ap (λ k. options_fault k (texts rest) (unended rest)) offset)
+    let offset : at + (length name + 1) + (length value + 1) ≡ at + (length bytes - length rest) =
+        omega (arith, n.2, v.2) in
+    rw (n.0, n.1, v.0, v.1)
+        (named_option at name value (texts rest) (unended rest) h
+            ∙ ap (λ k. options_fault k (texts rest) (unended rest)) offset)
 
 -- past the mode of a request the first fault is that of its options
-pub request_skipped : (bytes name after word rest : List ℕ) (mode : Mode) → 2 ≤ length bytes → length bytes ≤ MAX_REQUEST → length (drop 2 bytes) ≡ length bytes - 2 → BeginsWith (drop 2 bytes) name after → length name ≢ 0 → BeginsWith after word rest → mode_in word ≡ Some mode → request_fault bytes ≡ bytes_fault (length bytes - length rest) rest
+pub request_skipped : (bytes name after word rest : List ℕ) (mode : Mode) → 2 ≤ length bytes
+    → length bytes ≤ MAX_REQUEST → length (drop 2 bytes) ≡ length bytes - 2 → BeginsWith (drop 2 bytes) name after
+    → length name ≢ 0 → BeginsWith after word rest → mode_in word ≡ Some mode
+    → request_fault bytes ≡ bytes_fault (length bytes - length rest) rest
 request_skipped bytes name after word rest mode least most shorter n h w m =
     let offset : 2 + (length name + 1) + (length word + 1) ≡ length bytes - length rest = omega (arith, n.2, w.2) in
-    rw (le-ltb MAX_REQUEST (length bytes) most, n.0, n.1, named_texts name (texts after) (unended after) h, w.0, w.1, m) (ap (λ k. options_fault k (texts rest) (unended rest)) offset)
+    rw (le-ltb MAX_REQUEST (length bytes) most, n.0, n.1, named_texts name (texts after) (unended after) h, w.0, w.1, m)
+        (ap (λ k. options_fault k (texts rest) (unended rest)) offset)
 
 -- the request of a file name, a mode and options
-pub request_parts : (bytes name after word rest : List ℕ) (mode : Mode) (options : List RawOption) → BeginsWith bytes name after → BeginsWith after word rest → mode_in word ≡ Some mode → options ≡ options_in rest → record { name = name; mode = mode; options = options } ≡ request_of (texts bytes)
+pub request_parts : (bytes name after word rest : List ℕ) (mode : Mode) (options : List RawOption)
+    → BeginsWith bytes name after → BeginsWith after word rest → mode_in word ≡ Some mode → options ≡ options_in rest
+    → record { name = name; mode = mode; options = options } ≡ request_of (texts bytes)
 request_parts bytes name after word rest mode options n w m o = rw (n.0, w.0, m, o) refl
 
 -- ---- the texts of bytes, joined
 
-first_joined : (b : ℕ) (ts : List (List ℕ)) (u : List ℕ) → flat_map zero_ended (with_first b ts) ++ unended_with b u ts ≡ b ∷ (flat_map zero_ended ts ++ u)
+first_joined : (b : ℕ) (ts : List (List ℕ)) (u : List ℕ)
+    → flat_map zero_ended (with_first b ts) ++ unended_with b u ts ≡ b ∷ (flat_map zero_ended ts ++ u)
 first_joined b [] u = refl
 first_joined b (t ∷ ts) u = refl
 
@@ -62,7 +80,8 @@ first_joined b (t ∷ ts) u = refl
 pub texts_joined : (bs : List ℕ) → flat_map zero_ended (texts bs) ++ unended bs ≡ bs
 texts_joined [] = refl
 texts_joined (b ∷ bs) = ⊎_elim
-    (λ q. rw q.0 (ap (λ c. c ∷ (flat_map zero_ended (texts bs) ++ unended bs)) (sym q.1) ∙ ap (λ r. b ∷ r) (texts_joined bs)))
+    (λ q. rw q.0
+        (ap (λ c. c ∷ (flat_map zero_ended (texts bs) ++ unended bs)) (sym q.1) ∙ ap (λ r. b ∷ r) (texts_joined bs)))
     (λ q. rw q.0 (first_joined b (texts bs) (unended bs) ∙ ap (λ r. b ∷ r) (texts_joined bs)))
     (eqb_tells b 0)
 
@@ -84,7 +103,8 @@ cons_named : (c : ℕ) (name : List ℕ) → (c ∷ name) ≢ []
 cons_named c name h = cc
 
 -- they are options, and nothing else
-pub options_whole : (at : ℕ) (ts : List (List ℕ)) (u : List ℕ) → AllByRecursion IsText ts → options_fault at ts u ≡ None → (u ≡ []) × (options_bytes (paired ts) ≡ flat_map zero_ended ts) × AllByRecursion IsOption (paired ts)
+pub options_whole : (at : ℕ) (ts : List (List ℕ)) (u : List ℕ) → AllByRecursion IsText ts → options_fault at ts u ≡ None
+    → (u ≡ []) × (options_bytes (paired ts) ≡ flat_map zero_ended ts) × AllByRecursion IsOption (paired ts)
 options_whole at [] [] t h = (refl, refl, tt)
 options_whole at [] (b ∷ u) t h = cc
 options_whole at ([] ∷ ts) u t h = cc
@@ -93,7 +113,8 @@ options_whole at ((c ∷ name) ∷ []) (b ∷ u) t h = cc
 options_whole at ((c ∷ name) ∷ value ∷ ts) u t h =
     let r = options_whole (at + (length (c ∷ name) + 1) + (length value + 1)) ts u t.1.1 h in (
       r.0,
-      append_assoc (zero_ended (c ∷ name)) (zero_ended value) (options_bytes (paired ts)) ∙ ap (λ more. zero_ended (c ∷ name) ++ (zero_ended value ++ more)) r.1,
+      append_assoc (zero_ended (c ∷ name)) (zero_ended value) (options_bytes (paired ts))
+          ∙ ap (λ more. zero_ended (c ∷ name) ++ (zero_ended value ++ more)) r.1,
       (record { named = cons_named c name; name = t.0; value = t.1.0 }, r.2),
     )
 
@@ -101,7 +122,8 @@ pub options_fine : (at : ℕ) (bytes : List ℕ) → bytes_fault at bytes ≡ No
 options_fine at bytes h =
     let r = options_whole at (texts bytes) (unended bytes) (texts_each bytes) h in
     record {
-      whole = r.1 ∙ sym (append-nil _) ∙ ap (λ u. flat_map zero_ended (texts bytes) ++ u) (sym r.0) ∙ texts_joined bytes;
+      whole =
+          r.1 ∙ sym (append-nil _) ∙ ap (λ u. flat_map zero_ended (texts bytes) ++ u) (sym r.0) ∙ texts_joined bytes;
       each = r.2;
     }
 
@@ -112,26 +134,36 @@ nothing_left at (b ∷ bytes) h = absurd (omega arith)
 
 -- ---- the cases that a test excludes
 
-pub guard_none : (b : Bool) (e : PacketFault) (y : Option PacketFault) → cond b (Some e) y ≡ None → (b ≡ false) × (y ≡ None)
+pub guard_none : (b : Bool) (e : PacketFault) (y : Option PacketFault) → cond b (Some e) y ≡ None
+    → (b ≡ false) × (y ≡ None)
 guard_none true e y h = cc
 guard_none false e y h = (refl, h)
 
-text_left : (text : List ℕ) (ts : List (List ℕ)) (u rest : List ℕ) → flat_map zero_ended ts ++ u ≡ rest → length rest ≢ 0 → message_fault (text ∷ ts) u ≡ Some (record { kind = Trailing; at = 4 + (length text + 1) })
+text_left : (text : List ℕ) (ts : List (List ℕ)) (u rest : List ℕ) → flat_map zero_ended ts ++ u ≡ rest
+    → length rest ≢ 0 → message_fault (text ∷ ts) u ≡ Some (record { kind = Trailing; at = 4 + (length text + 1) })
 text_left text [] [] rest e h = absurd (h (sym (ap length e)))
 text_left text [] (b ∷ u) rest e h = refl
 text_left text (t ∷ ts) [] rest e h = refl
 text_left text (t ∷ ts) (b ∷ u) rest e h = refl
 
 -- the bytes after a packet
-trailing_is : (b : Bool) (x fault : PacketFault) → cond (not b) (Some x) None ≡ Some fault → (b ≡ false) × (Some x ≡ Some fault)
+trailing_is : (b : Bool) (x fault : PacketFault) → cond (not b) (Some x) None ≡ Some fault
+    → (b ≡ false) × (Some x ≡ Some fault)
 trailing_is true x fault h = cc
 trailing_is false x fault h = (refl, h)
 
 -- bytes after the text of an ERROR
-pub error_trailing : (bytes text rest : List ℕ) (fault : PacketFault) → length bytes ≤ MAX_REQUEST → number_fault bytes ≡ None → length (drop 4 bytes) ≡ length bytes - 4 → BeginsWith (drop 4 bytes) text rest → cond (not (eqb (length rest) 0)) (Some (record { kind = Trailing; at = length bytes - length rest })) None ≡ Some fault → error_fault bytes ≡ Some fault
+pub error_trailing : (bytes text rest : List ℕ) (fault : PacketFault) → length bytes ≤ MAX_REQUEST
+    → number_fault bytes ≡ None → length (drop 4 bytes) ≡ length bytes - 4 → BeginsWith (drop 4 bytes) text rest
+    → cond (not (eqb (length rest) 0)) (Some (record { kind = Trailing; at = length bytes - length rest })) None
+        ≡ Some fault
+    → error_fault bytes ≡ Some fault
 error_trailing bytes text rest fault most number shorter t found =
     let long : ltb (length bytes) 4 ≡ false = (guard_none _ _ _ number).0 in
     let least : 4 ≤ length bytes = ltb-false _ _ long in
-    let f = trailing_is (eqb (length rest) 0) (record { kind = Trailing; at = length bytes - length rest }) fault found in
+    let f =
+        trailing_is (eqb (length rest) 0) (record { kind = Trailing; at = length bytes - length rest }) fault found in
     let offset : 4 + (length text + 1) ≡ length bytes - length rest = omega (arith, t.2) in
-    rw (le-ltb MAX_REQUEST (length bytes) most, long, t.0, t.1) (text_left text (texts rest) (unended rest) rest (texts_joined rest) (eqb-false _ _ f.0) ∙ ap (λ k. Some (record { kind = Trailing; at = k })) offset ∙ f.1)
+    rw (le-ltb MAX_REQUEST (length bytes) most, long, t.0, t.1)
+        (text_left text (texts rest) (unended rest) rest (texts_joined rest) (eqb-false _ _ f.0)
+            ∙ ap (λ k. Some (record { kind = Trailing; at = k })) offset ∙ f.1)

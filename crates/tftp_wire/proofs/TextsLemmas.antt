@@ -1,5 +1,6 @@
 -- The end of a text, and the bytes after it.
-use Rattle.std.proofs.Common.{ℕ, suc, ◌≡◌, ◌+◌, ◌-◌, ◌<◌, ◌≤◌, Bool, true, false, cond, eqb, ltb, refl, ap, sym, ◌∙◌, arith, List, [], ◌∷◌, ◌++◌, length, get_or, take, drop, Some, None, add-one}
+use Rattle.std.proofs.Common.{ℕ, suc, ◌≡◌, ◌+◌, ◌-◌, ◌<◌, ◌≤◌, Bool, true, false, cond, eqb, ltb, refl, ap, sym, ◌∙◌}
+use Rattle.std.proofs.Common.{arith, List, [], ◌∷◌, ◌++◌, length, get_or, take, drop, Some, None, add-one}
 use Rattle.std.proofs.lemmas.Bool.{ltb-false, eqb-false, eqb-true, ne_eqb}
 use Rattle.std.proofs.lemmas.List.{take-append-drop, append_assoc, get_or-take, length-take-le, take_rest}
 use Rattle.std.proofs.lemmas.List.Quantifiers.{position-Some}
@@ -14,24 +15,32 @@ is_zero b = eqb b 0
 -- no byte of it is zero
 text_from_indices : (bs : List ℕ) → ((k : ℕ) → k < length bs → is_zero (get_or bs k 0) ≡ false) → IsText bs
 text_from_indices [] h = tt
-text_from_indices (b ∷ bs) h = (eqb-false b 0 (h 0 (omega arith)), text_from_indices bs (λ k l. h (suc k) (omega arith)))
+text_from_indices (b ∷ bs) h =
+    (eqb-false b 0 (h 0 (omega arith)), text_from_indices bs (λ k l. h (suc k) (omega arith)))
 
 -- without a zero byte, the bytes are a text
 pub text_from_none : (bs : List ℕ) → position is_zero bs ≡ None → IsText bs
-text_from_none bs h = text_from_indices bs (λ k l. fails_before_first is_zero bs k 0 (past (ltb (position_or_len is_zero bs) (length bs)) refl h k l)) where
-  past : (b : Bool) → ltb (position_or_len is_zero bs) (length bs) ≡ b → cond b (Some (position_or_len is_zero bs)) None ≡ None → (k : ℕ) → k < length bs → k < position_or_len is_zero bs
+text_from_none bs h =
+    text_from_indices bs
+        (λ k l. fails_before_first is_zero bs k 0
+            (past (ltb (position_or_len is_zero bs) (length bs)) refl h k l)) where
+  past : (b : Bool) → ltb (position_or_len is_zero bs) (length bs) ≡ b
+      → cond b (Some (position_or_len is_zero bs)) None ≡ None → (k : ℕ) → k < length bs
+      → k < position_or_len is_zero bs
   past true e n k l = absurd (cc)
   past false e n k l = let m : length bs ≤ position_or_len is_zero bs = ltb-false _ _ e in omega arith
 
 -- the index of the first zero byte splits the bytes
-pub text_from_some : (bs : List ℕ) (n : ℕ) → position is_zero bs ≡ Some n → IsText (take n bs) × (bs ≡ zero_ended (take n bs) ++ take (length bs - (n + 1)) (drop (n + 1) bs))
+pub text_from_some : (bs : List ℕ) (n : ℕ) → position is_zero bs ≡ Some n
+    → IsText (take n bs) × (bs ≡ zero_ended (take n bs) ++ take (length bs - (n + 1)) (drop (n + 1) bs))
 text_from_some bs n h =
     let p = position-Some is_zero bs n 0 h in
     let l : n < length bs = p.0 in
     let z : get_or bs n 0 ≡ 0 = eqb-true _ _ p.1 in
     let shorter : length (take n bs) ≡ n = length-take-le n bs (omega arith) in (
       text_from_indices (take n bs) (λ k m. let m' : k < n = omega arith in rw get_or-take (p.2 k m')),
-      sym (take-append-drop n bs) ∙ ap (λ r. take n bs ++ r) (drop-cons bs n 0 l ∙ rw (z, ← add-one, take_rest) refl) ∙ sym (append_assoc (take n bs) (0 ∷ []) (take (length bs - (n + 1)) (drop (n + 1) bs))),
+      sym (take-append-drop n bs) ∙ ap (λ r. take n bs ++ r) (drop-cons bs n 0 l ∙ rw (z, ← add-one, take_rest) refl)
+          ∙ sym (append_assoc (take n bs) (0 ∷ []) (take (length bs - (n + 1)) (drop (n + 1) bs))),
     )
 
 -- the first of the texts

@@ -21,7 +21,8 @@ returns-in-Write c =
 pub returns-in-Error : goal.returns-in-Error
 returns-in-Error c =
     let p = owned c.args.packet.now in
-    let fits : length (line p) ≤ 3 * length (canonical p) + 40 = rw c.in-Error.is (error_fits c.in-Error.code _ (omega arith)) in
+    let fits : length (line p) ≤ 3 * length (canonical p) + 40 =
+        rw c.in-Error.is (error_fits c.in-Error.code _ (omega arith)) in
     omega (arith, fits, c.canonical_len_ref-in-Error.ensures, c.shown_room-in-Error.ensures)
 
 pub returns-in-Oack : goal.returns-in-Oack
@@ -31,7 +32,8 @@ returns-in-Oack c =
     omega (arith, fits, c.canonical_len_ref-in-Oack.ensures, c.shown_room-in-Oack.ensures)
 
 pub returns-in-Data : goal.returns-in-Data
-returns-in-Data c = rw c.in-Data.is (omega (arith, data_fits c.in-Data.block c.in-Data.bytes.now (omega arith) (omega arith)))
+returns-in-Data c =
+    rw c.in-Data.is (omega (arith, data_fits c.in-Data.block c.in-Data.bytes.now (omega arith) (omega arith)))
 
 pub returns-in-Ack : goal.returns-in-Ack
 returns-in-Ack c = rw c.in-Ack.is (omega (arith, ack_fits c.in-Ack.block (omega arith)))

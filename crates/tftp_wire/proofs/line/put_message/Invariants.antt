@@ -8,7 +8,8 @@ use Rattle.tftp_wire.proofs.line.put_message.Given as goal
 abbrev pub invariant-loop-byte : goal.invariant-loop-byte
 invariant-loop-byte l = record {
   written : string_bytes l.out ≡ string_bytes l.initial.out ++ flat_map shown_message_byte (take l.byte-index l.text);
-  len : string_len l.out + length (flat_map shown_message_byte (drop l.byte-index l.text)) ≡ string_len l.initial.out + length (flat_map shown_message_byte l.text);
+  len : string_len l.out + length (flat_map shown_message_byte (drop l.byte-index l.text))
+      ≡ string_len l.initial.out + length (flat_map shown_message_byte l.text);
   room : string_len l.out + length (flat_map shown_message_byte (drop l.byte-index l.text)) ≤ string_capacity l.out;
   grown : string_capacity l.initial.out ≤ string_capacity l.out;
 }

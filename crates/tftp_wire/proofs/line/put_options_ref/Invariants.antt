@@ -7,8 +7,10 @@ use Rattle.tftp_wire.proofs.line.put_options_ref.Given as goal
 
 abbrev pub invariant-loop-option : goal.invariant-loop-option
 invariant-loop-option l = record {
-  written : string_bytes l.out ++ flat_map option_words l.option-iterator ≡ string_bytes l.initial.out ++ flat_map option_words l.options;
-  len : string_len l.out + length (flat_map option_words l.option-iterator) ≡ string_len l.initial.out + length (flat_map option_words l.options);
+  written : string_bytes l.out ++ flat_map option_words l.option-iterator
+      ≡ string_bytes l.initial.out ++ flat_map option_words l.options;
+  len : string_len l.out + length (flat_map option_words l.option-iterator)
+      ≡ string_len l.initial.out + length (flat_map option_words l.options);
   room : string_len l.out + length (flat_map option_words l.option-iterator) ≤ string_capacity l.out;
   grown : string_capacity l.initial.out ≤ string_capacity l.out;
 }

@@ -10,12 +10,17 @@ returns-in_err-options c =
     let p = err_from_is_err_and c.from_residual-in_err-options.result c.from_residual-in_err-options.ensures.1 in
     let name = rw c.split_at.ensures.back at c.in_ok-name.ensures in
     let mode = sym c.mode_of.ensures ∙ c.in_ok-mode.ensures.ok_part in
-    rw (p.1, p.2) (request_skipped _ _ _ _ _ _ c.requires (omega arith) (length-drop 2 _) name (eqb-false _ _ (sym c.if-is_empty.ensures)) c.in_ok-word.ensures mode ∙ c.in_err-options.ensures)
+    rw (p.1, p.2)
+        (request_skipped _ _ _ _ _ _ c.requires (omega arith) (length-drop 2 _) name
+            (eqb-false _ _ (sym c.if-is_empty.ensures)) c.in_ok-word.ensures mode
+            ∙ c.in_err-options.ensures)
 
 pub returns : goal.returns
 returns c =
     let name = rw c.split_at.ensures.back at c.in_ok-name.ensures in
     let mode = sym c.mode_of.ensures ∙ c.in_ok-mode.ensures.ok_part in (
-      request_skipped _ _ _ _ _ _ c.requires (omega arith) (length-drop 2 _) name (eqb-false _ _ (sym c.if-is_empty.ensures)) c.in_ok-word.ensures mode ∙ c.in_ok-options.ensures.0,
+      request_skipped _ _ _ _ _ _ c.requires (omega arith) (length-drop 2 _) name
+          (eqb-false _ _ (sym c.if-is_empty.ensures)) c.in_ok-word.ensures mode
+          ∙ c.in_ok-options.ensures.0,
       request_parts _ _ _ _ _ _ _ name c.in_ok-word.ensures mode c.in_ok-options.ensures.1,
     )
