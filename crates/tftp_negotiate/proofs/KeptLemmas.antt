@@ -1,10 +1,13 @@
 -- A negotiation drops no option: each agreed option is in the result, unless one is refused.
-use Rattle.std.proofs.Common.{◌≡◌, ◌⊎◌, inl, inr, ℕ, ◌^◌, ◌<◌, ◌≤◌, Bool, true, false, cond, min, nat_le, ◌==◌, ◌&&◌, List, [], ◌∷◌, ◌++◌, Option, Some, None, Result, Ok, Err, IsSome, Contains, decimal, bytes_eq, refl, sym, ◌∙◌, ap, subst, arith, eq-eqb}
+use Rattle.std.proofs.Common.{◌≡◌, ◌⊎◌, inl, inr, ℕ, ◌^◌, ◌<◌, ◌≤◌, Bool, true, false, cond, min, nat_le, ◌==◌, ◌&&◌}
+use Rattle.std.proofs.Common.{List, [], ◌∷◌, ◌++◌, Option, Some, None, Result, Ok, Err, IsSome, Contains, decimal}
+use Rattle.std.proofs.Common.{bytes_eq, refl, sym, ◌∙◌, ap, subst, arith, eq-eqb}
 use Rattle.std.specs.List.{AllByRecursion}
 use Rattle.std.specs.Str.{str_to_ascii_lowercase}
 use Rattle.std.proofs.lemmas.Bool.{cond-true, cond-false, le-leb}
 use Rattle.std.proofs.lemmas.Bool.Decides.{nat_tests}
-use Rattle.std.proofs.lemmas.List.Elements.{Contains-append_cases, Contains-append_right, Contains-push_cases, All-contains, All-from_recursion}
+use Rattle.std.proofs.lemmas.List.Elements.{Contains-append_cases, Contains-append_right, Contains-push_cases}
+use Rattle.std.proofs.lemmas.List.Elements.{All-contains, All-from_recursion}
 use Rattle.tftp_wire.specs.declared.options.RawOption.{RawOption}
 use Rattle.tftp_wire.specs.declared.mode.Mode.{Mode}
 use Rattle.tftp_wire.specs.declared.mode.Mode.TheVariants.{Octet, Netascii}
@@ -22,9 +25,12 @@ use Rattle.tftp_negotiate.specs.Options.{name_of, number_of, name_text}
 use Rattle.tftp_negotiate.specs.Ranges.{is_in, block_sizes, timeouts, IsBlockSize, IsTimeout}
 use Rattle.tftp_negotiate.specs.Negotiation.{repeats, AreOnce, kept_before, each_judged, negotiated}
 use Rattle.tftp_negotiate.specs.Asked.{asked_value}
-use Rattle.tftp_negotiate.specs.Answer.{answer, answered, answered_option, answered_blksize, answered_timeout, answered_tsize}
+use Rattle.tftp_negotiate.specs.Answer.{answer, answered, answered_option, answered_blksize, answered_timeout}
+use Rattle.tftp_negotiate.specs.Answer.{answered_tsize}
 use Rattle.tftp_negotiate.specs.Agreement.{agreement, taken, taken_option, taken_blksize, taken_timeout, taken_tsize}
-use Rattle.tftp_negotiate.specs.Laws.{Requests, Says, HasOption, MayRequest, granted, AnswersWhatIsKnown, TooLargeForWrites, TakesLength, IsWithinAsked, known_of, AnswersAsked, TakesWhatWasAsked}
+use Rattle.tftp_negotiate.specs.Laws.{Requests, Says, HasOption, MayRequest, granted, AnswersWhatIsKnown}
+use Rattle.tftp_negotiate.specs.Laws.{TooLargeForWrites, TakesLength, IsWithinAsked, known_of, AnswersAsked}
+use Rattle.tftp_negotiate.specs.Laws.{TakesWhatWasAsked}
 use Rattle.tftp_negotiate.proofs.OptionsLemmas.{number_of-decimal}
 use Rattle.tftp_negotiate.proofs.NegotiationLemmas.{repeats_none}
 
@@ -60,14 +66,19 @@ module _ (judgement : RawOption → Result (Option Known) Refusal) where
   KeepsAll os (Err e) = (o : RawOption) × Contains os o × (judgement o ≡ Err e)
   KeepsAll os (Ok ks) = (o : RawOption) → Contains os o → Kept ks (judgement o)
 
-  keeps_cons : (o : RawOption) (os : List RawOption) (one : Result (Option Known) Refusal) (others : Result (List Known) Refusal) → judgement o ≡ one → KeepsAll os others → KeepsAll (o ∷ os) (kept_before one others)
+  keeps_cons : (o : RawOption) (os : List RawOption) (one : Result (Option Known) Refusal)
+      (others : Result (List Known) Refusal)
+      → judgement o ≡ one → KeepsAll os others → KeepsAll (o ∷ os) (kept_before one others)
   keeps_cons o os (Err e) others is below = (o, head o os, is)
   keeps_cons o os (Ok None) (Err e) is below = (below.0, tail below.0 o os below.1, below.2)
   keeps_cons o os (Ok None) (Ok ks) is below = λ x h.
       elim (cases x o os h) [ inl same ↦ subst (Kept ks) (sym is ∙ ap judgement same) tt | inr others ↦ below x others ]
   keeps_cons o os (Ok (Some k)) (Err e) is below = (below.0, tail below.0 o os below.1, below.2)
   keeps_cons o os (Ok (Some k)) (Ok ks) is below = λ x h.
-      elim (cases x o os h) [ inl same ↦ subst (Kept (k ∷ ks)) (sym is ∙ ap judgement same) (head k ks) | inr others ↦ kept_more k ks (judgement x) (below x others) ]
+      elim (cases x o os h) [
+        inl same ↦ subst (Kept (k ∷ ks)) (sym is ∙ ap judgement same) (head k ks)
+        | inr others ↦ kept_more k ks (judgement x) (below x others)
+      ]
 
   keeps_all : (os : List RawOption) → KeepsAll os (each_judged judgement os)
   keeps_all [] = λ o h. absurd (none_of_none o h)
@@ -89,13 +100,15 @@ named text name.Tsize h = ap named_by h
 numbered : (text : List ℕ) (n : ℕ) → text ≡ decimal n → n < 2 ^ 64 → number_of text ≡ Some n
 numbered text n h fits = ap number_of h ∙ number_of-decimal n fits
 
-answered-reads : (kind : Kind) (mode : Mode) (length : ℕ) (limits : Limits) (o : RawOption) (one : Name) (n : ℕ) → Says o one n → answered_option kind mode length limits o ≡ answered kind mode length limits (Some one) (Some n)
+answered-reads : (kind : Kind) (mode : Mode) (length : ℕ) (limits : Limits) (o : RawOption) (one : Name) (n : ℕ)
+    → Says o one n → answered_option kind mode length limits o ≡ answered kind mode length limits (Some one) (Some n)
 unfolding answered_option
 answered-reads kind mode length limits o one n s =
     ap (λ a. answered kind mode length limits a (number_of o.value)) (named o.name one s.name)
     ∙ ap (answered kind mode length limits (Some one)) (numbered o.value n s.value s.fits)
 
-taken-reads : (asked : Asked) (kind : Kind) (mode : Mode) (limit : ℕ) (o : RawOption) (one : Name) (n : ℕ) → Says o one n → taken_option asked kind mode limit o ≡ taken asked kind mode limit (Some one) (Some n)
+taken-reads : (asked : Asked) (kind : Kind) (mode : Mode) (limit : ℕ) (o : RawOption) (one : Name) (n : ℕ)
+    → Says o one n → taken_option asked kind mode limit o ≡ taken asked kind mode limit (Some one) (Some n)
 unfolding taken_option
 taken-reads asked kind mode limit o one n s =
     ap (λ a. taken asked kind mode limit a (number_of o.value)) (named o.name one s.name)
@@ -106,7 +119,8 @@ cond_err : {A E : Type 0} (b : Bool) (x : A) (e f : E) → cond b (Ok x) (Err e)
 cond_err true x e f h = cc
 cond_err false x e f h = (refl, cc)
 
-either_way : {A E : Type 0} (b : Bool) (x : A) (e : E) → (cond b (Ok x) (Err e) ≡ Ok x) ⊎ (cond b (Ok x) (Err e) ≡ Err e)
+either_way : {A E : Type 0} (b : Bool) (x : A) (e : E)
+    → (cond b (Ok x) (Err e) ≡ Ok x) ⊎ (cond b (Ok x) (Err e) ≡ Err e)
 either_way true x e = inl refl
 either_way false x e = inr refl
 
@@ -118,14 +132,18 @@ abbrev IsTooLong : Kind → Mode → Limits → Option Name → Option ℕ → R
 IsTooLong kind mode limits one value e = (e ≡ TooLarge) × (kind ≡ Write) × (mode ≡ Octet)
     × (one ≡ Some name.Tsize) × (n : ℕ) × (value ≡ Some n) × (limits.max_file < n)
 
-too_long-tsize : (kind : Kind) (mode : Mode) (length : ℕ) (limits : Limits) (n : ℕ) (e : Refusal) → answered_tsize mode kind length limits.max_file n ≡ Err e → IsTooLong kind mode limits (Some name.Tsize) (Some n) e
+too_long-tsize : (kind : Kind) (mode : Mode) (length : ℕ) (limits : Limits) (n : ℕ) (e : Refusal)
+    → answered_tsize mode kind length limits.max_file n ≡ Err e
+    → IsTooLong kind mode limits (Some name.Tsize) (Some n) e
 too_long-tsize kind Netascii length limits n e h = cc
 too_long-tsize Read Octet length limits n e h = cc
 too_long-tsize Write Octet length limits n e h =
     let test : (nat_le n limits.max_file ≡ false) × (TooLarge ≡ e) = cond_err _ _ _ _ h in
     (sym test.1, refl, refl, refl, n, refl, above n limits.max_file test.0)
 
-too_long : (kind : Kind) (mode : Mode) (length : ℕ) (limits : Limits) (one : Option Name) (value : Option ℕ) (e : Refusal) → answered kind mode length limits one value ≡ Err e → IsTooLong kind mode limits one value e
+too_long : (kind : Kind) (mode : Mode) (length : ℕ) (limits : Limits) (one : Option Name) (value : Option ℕ)
+    (e : Refusal)
+    → answered kind mode length limits one value ≡ Err e → IsTooLong kind mode limits one value e
 too_long kind mode length limits None value e h = cc
 too_long kind mode length limits (Some name.Blksize) None e h = cc
 too_long kind mode length limits (Some name.Timeout) None e h = cc
@@ -134,9 +152,12 @@ too_long kind mode length limits (Some name.Blksize) (Some n) e h = cc
 too_long kind mode length limits (Some name.Timeout) (Some n) e h = cc
 too_long kind mode length limits (Some name.Tsize) (Some n) e h = too_long-tsize kind mode length limits n e h
 
-too_long-option : (kind : Kind) (mode : Mode) (length : ℕ) (limits : Limits) (o : RawOption) (e : Refusal) → answered_option kind mode length limits o ≡ Err e → IsTooLong kind mode limits (name_of o.name) (number_of o.value) e
+too_long-option : (kind : Kind) (mode : Mode) (length : ℕ) (limits : Limits) (o : RawOption) (e : Refusal)
+    → answered_option kind mode length limits o ≡ Err e
+    → IsTooLong kind mode limits (name_of o.name) (number_of o.value) e
 unfolding answered_option
-too_long-option kind mode length limits o e h = too_long kind mode length limits (name_of o.name) (number_of o.value) e h
+too_long-option kind mode length limits o e h =
+    too_long kind mode length limits (name_of o.name) (number_of o.value) e h
 
 in_block_sizes : (n : ℕ) → IsBlockSize n → is_in block_sizes n ≡ true
 in_block_sizes n h = let least = h.0 in let most = h.1 in grind (arith, nat_tests)
@@ -145,7 +166,9 @@ in_timeouts : (n : ℕ) → IsTimeout n → is_in timeouts n ≡ true
 in_timeouts n h = let least = h.0 in let most = h.1 in grind (arith, nat_tests)
 
 -- a value in its range is granted, or too large
-grants : (kind : Kind) (mode : Mode) (length : ℕ) (limits : Limits) (one : Name) (n : ℕ) → MayRequest kind mode one n → (answered kind mode length limits (Some one) (Some n) ≡ Ok (Some (granted kind length limits.max_block one n))) ⊎ (answered kind mode length limits (Some one) (Some n) ≡ Err TooLarge)
+grants : (kind : Kind) (mode : Mode) (length : ℕ) (limits : Limits) (one : Name) (n : ℕ) → MayRequest kind mode one n
+    → (answered kind mode length limits (Some one) (Some n) ≡ Ok (Some (granted kind length limits.max_block one n)))
+        ⊎ (answered kind mode length limits (Some one) (Some n) ≡ Err TooLarge)
 grants kind mode length limits name.Blksize n h = inl (ap Ok (cond-true _ _ _ (in_block_sizes n h)))
 grants kind mode length limits name.Timeout n h = inl (ap Ok (cond-true _ _ _ (in_timeouts n h)))
 grants kind Netascii length limits name.Tsize n h = let octet = h.0 in cc
@@ -153,10 +176,13 @@ grants Read Octet length limits name.Tsize n h = inl (ap Ok (cond-true _ _ _ (eq
 grants Write Octet length limits name.Tsize n h = either_way (nat_le n limits.max_file) (Some (Tsize n)) TooLarge
 
 -- the answer to a request that repeats no name
-answers : (options : List RawOption) (kind : Kind) (mode : Mode) (length : ℕ) (limits : Limits) (r : Result (List Known) Refusal) → answer options kind mode length limits ≡ r → KeepsAll (answered_option kind mode length limits) options r
+answers : (options : List RawOption) (kind : Kind) (mode : Mode) (length : ℕ) (limits : Limits)
+    (r : Result (List Known) Refusal)
+    → answer options kind mode length limits ≡ r → KeepsAll (answered_option kind mode length limits) options r
     → (answer options kind mode length limits ≡ Err TooLarge)
     ⊎ ((known : List Known) × (answer options kind mode length limits ≡ Ok known)
-    × ((one : Name) (n : ℕ) → HasOption options one n → MayRequest kind mode one n → Contains known (granted kind length limits.max_block one n)))
+    × ((one : Name) (n : ℕ) → HasOption options one n → MayRequest kind mode one n
+        → Contains known (granted kind length limits.max_block one n)))
 answers options kind mode length limits (Err e) is refused =
     inl (is ∙ ap Err (too_long-option kind mode length limits refused.0 e refused.2).0)
 answers options kind mode length limits (Ok ks) is keeps = inr (
@@ -165,12 +191,16 @@ answers options kind mode length limits (Ok ks) is keeps = inr (
   λ one n has may.
       let reads = answered-reads kind mode length limits has.0 one n has.2 in
       let here = keeps has.0 has.1 in
-      elim (grants kind mode length limits one n may) [ inl good ↦ subst (Kept ks) (reads ∙ good) here | inr large ↦ absurd (subst (Kept ks) (reads ∙ large) here) ],
+      elim (grants kind mode length limits one n may) [
+        inl good ↦ subst (Kept ks) (reads ∙ good) here
+        | inr large ↦ absurd (subst (Kept ks) (reads ∙ large) here)
+      ],
 )
 
 pub answers_what_is_known : AnswersWhatIsKnown
 answers_what_is_known options kind mode length limits once =
-    answers options kind mode length limits (each_judged (answered_option kind mode length limits) options) (cond-false _ _ _ (repeats_none options once))
+    answers options kind mode length limits (each_judged (answered_option kind mode length limits) options)
+        (cond-false _ _ _ (repeats_none options once))
     (keeps_all (answered_option kind mode length limits) options)
 
 refused_for : (b : Bool) (r : Result (List Known) Refusal) → cond b (Err Repeated) r ≡ Err TooLarge → r ≡ Err TooLarge
@@ -180,12 +210,15 @@ refused_for false r h = h
 pub too_large_for_writes : TooLargeForWrites
 too_large_for_writes options kind mode length limits h =
     let judgement = answered_option kind mode length limits in
-    let one = subst (KeepsAll judgement options) (refused_for (repeats options) (each_judged judgement options) h) (keeps_all judgement options) in
+    let one =
+        subst (KeepsAll judgement options) (refused_for (repeats options) (each_judged judgement options) h)
+            (keeps_all judgement options) in
     let why = too_long-option kind mode length limits one.0 TooLarge one.2 in
     (why.1, why.2, why.4, (one.0, one.1, why.3, why.5), why.6)
 
 -- the agreement on an answer within the request
-takes-tsize : (asked : Option ℕ) (kind : Kind) (limit n : ℕ) → TakesLength asked kind limit n → taken_tsize asked kind limit (Some n) ≡ Ok (Some (Tsize n))
+takes-tsize : (asked : Option ℕ) (kind : Kind) (limit n : ℕ) → TakesLength asked kind limit n
+    → taken_tsize asked kind limit (Some n) ≡ Ok (Some (Tsize n))
 takes-tsize None Read limit n h = let some = h.0 in cc
 takes-tsize None Write limit n h = cc
 takes-tsize (Some length) Read limit n h = cond-true _ _ _ (le-leb n limit h.1)
@@ -194,13 +227,17 @@ takes-tsize (Some length) Write limit n h = let same : n ≡ length = cc in cond
 in_sizes_to : (n most : ℕ) → 8 ≤ n → n ≤ most → (nat_le 8 n && nat_le n most) ≡ true
 in_sizes_to n most h k = grind (arith, nat_tests)
 
-takes : (asked : Asked) (kind : Kind) (mode : Mode) (limit : ℕ) (one : Name) (n : ℕ) → IsWithinAsked asked kind mode limit (known_of one n) → taken asked kind mode limit (Some one) (Some n) ≡ Ok (Some (known_of one n))
-takes asked kind mode limit name.Blksize n h = ap (λ a. taken_blksize a (Some n)) h.2 ∙ cond-true _ _ _ (in_sizes_to n h.1 h.0 h.3)
+takes : (asked : Asked) (kind : Kind) (mode : Mode) (limit : ℕ) (one : Name) (n : ℕ)
+    → IsWithinAsked asked kind mode limit (known_of one n)
+    → taken asked kind mode limit (Some one) (Some n) ≡ Ok (Some (known_of one n))
+takes asked kind mode limit name.Blksize n h =
+    ap (λ a. taken_blksize a (Some n)) h.2 ∙ cond-true _ _ _ (in_sizes_to n h.1 h.0 h.3)
 takes asked kind mode limit name.Timeout n h = ap (λ a. taken_timeout a (Some n)) h ∙ cond-true _ _ _ (eq-eqb n n refl)
 takes asked kind mode limit name.Tsize n h = takes-tsize (asked_value mode asked name.Tsize) kind limit n h
 
 -- an option has one name and one number
-says_one : (o : RawOption) (one other : Name) (n m : ℕ) → Says o one n → Says o other m → known_of one n ≡ known_of other m
+says_one : (o : RawOption) (one other : Name) (n m : ℕ) → Says o one n → Says o other m
+    → known_of one n ≡ known_of other m
 says_one o one other n m s t =
     let a : Some one ≡ Some other = sym (named o.name one s.name) ∙ named o.name other t.name in
     let b : Some n ≡ Some m = sym (numbered o.value n s.value s.fits) ∙ numbered o.value m t.value t.fits in
@@ -209,11 +246,16 @@ says_one o one other n m s t =
     ap (λ a. known_of a n) c ∙ ap (known_of other) d
 
 -- the agreement on an OACK that repeats no name
-agrees : (asked : Asked) (kind : Kind) (mode : Mode) (options : List RawOption) (limit : ℕ) (r : Result (List Known) Refusal) → agreement asked kind mode options limit ≡ r → KeepsAll (taken_option asked kind mode limit) options r → AllByRecursion (AnswersAsked asked kind mode limit) options
+agrees : (asked : Asked) (kind : Kind) (mode : Mode) (options : List RawOption) (limit : ℕ)
+    (r : Result (List Known) Refusal)
+    → agreement asked kind mode options limit ≡ r → KeepsAll (taken_option asked kind mode limit) options r
+    → AllByRecursion (AnswersAsked asked kind mode limit) options
     → (known : List Known) × (agreement asked kind mode options limit ≡ Ok known)
     × ((one : Name) (n : ℕ) → HasOption options one n → Contains known (known_of one n))
 agrees asked kind mode options limit (Err e) is refused all =
-    let w = All-contains (AnswersAsked asked kind mode limit) options refused.0 (All-from_recursion (AnswersAsked asked kind mode limit) options all) refused.1 in
+    let w =
+        All-contains (AnswersAsked asked kind mode limit) options refused.0
+            (All-from_recursion (AnswersAsked asked kind mode limit) options all) refused.1 in
     let good = taken-reads asked kind mode limit refused.0 w.0 w.1 w.2 ∙ takes asked kind mode limit w.0 w.1 w.3 in
     let bad = refused.2 in
     cc
@@ -221,12 +263,15 @@ agrees asked kind mode options limit (Ok ks) is keeps all = (
   ks,
   is,
   λ one n has.
-      let w = All-contains (AnswersAsked asked kind mode limit) options has.0 (All-from_recursion (AnswersAsked asked kind mode limit) options all) has.1 in
+      let w =
+          All-contains (AnswersAsked asked kind mode limit) options has.0
+              (All-from_recursion (AnswersAsked asked kind mode limit) options all) has.1 in
       let good = taken-reads asked kind mode limit has.0 w.0 w.1 w.2 ∙ takes asked kind mode limit w.0 w.1 w.3 in
       subst (Contains ks) (says_one has.0 w.0 one w.1 n w.2 has.2) (subst (Kept ks) good (keeps has.0 has.1)),
 )
 
 pub takes_what_was_asked : TakesWhatWasAsked
 takes_what_was_asked asked kind mode options limit once all =
-    agrees asked kind mode options limit (each_judged (taken_option asked kind mode limit) options) (cond-false _ _ _ (repeats_none options once))
+    agrees asked kind mode options limit (each_judged (taken_option asked kind mode limit) options)
+        (cond-false _ _ _ (repeats_none options once))
     (keeps_all (taken_option asked kind mode limit) options) all

@@ -1,5 +1,6 @@
 -- The results of either side for an option.
-use Rattle.std.proofs.Common.{◌≡◌, ℕ, Bool, true, false, cond, min, nat_le, ◌==◌, ◌&&◌, Option, Some, None, Ok, Err, IfSome, refl, sym, subst, arith}
+use Rattle.std.proofs.Common.{◌≡◌, ℕ, Bool, true, false, cond, min, nat_le, ◌==◌, ◌&&◌, Option, Some, None, Ok, Err}
+use Rattle.std.proofs.Common.{IfSome, refl, sym, subst, arith}
 use Rattle.std.proofs.lemmas.Option.{cond_some}
 use Rattle.std.proofs.lemmas.Bool.{eqb-true}
 use Rattle.std.proofs.lemmas.Bool.Decides.{nat_tests}
@@ -42,7 +43,8 @@ Bears one k = (one ≡ Some (name_of_known k)) × IsAgreeable k
 smaller : (n m : ℕ) → IsBlockSize n → IsBlockSize m → IsBlockSize (min n m)
 smaller n m a b = (omega arith, omega arith)
 
-answered_tsize-Bears : (mode : Mode) (kind : Kind) (length max_file n : ℕ) (k : Known) → answered_tsize mode kind length max_file n ≡ Ok (Some k) → Bears (Some name.Tsize) k
+answered_tsize-Bears : (mode : Mode) (kind : Kind) (length max_file n : ℕ) (k : Known)
+    → answered_tsize mode kind length max_file n ≡ Ok (Some k) → Bears (Some name.Tsize) k
 answered_tsize-Bears Netascii kind length max_file n k h = cc
 answered_tsize-Bears Octet Read length max_file n k h =
     let same : cond (n == 0) (Some (Tsize length)) None ≡ Some k = cc in
@@ -52,7 +54,9 @@ answered_tsize-Bears Octet Write length max_file n k h =
     let same : Tsize n ≡ k = cc in
     subst (Bears (Some name.Tsize)) same (refl, tt)
 
-answered-Bears : (kind : Kind) (mode : Mode) (length : ℕ) (limits : Limits) (one : Option Name) (value : Option ℕ) (k : Known) → IsBlockSize limits.max_block → answered kind mode length limits one value ≡ Ok (Some k) → Bears one k
+answered-Bears : (kind : Kind) (mode : Mode) (length : ℕ) (limits : Limits) (one : Option Name) (value : Option ℕ)
+    (k : Known)
+    → IsBlockSize limits.max_block → answered kind mode length limits one value ≡ Ok (Some k) → Bears one k
 answered-Bears kind mode length limits None value k max h = cc
 answered-Bears kind mode length limits (Some name.Blksize) None k max h = cc
 answered-Bears kind mode length limits (Some name.Timeout) None k max h = cc
@@ -65,12 +69,14 @@ answered-Bears kind mode length limits (Some name.Timeout) (Some n) k max h =
     let some : answered_timeout n ≡ Some k = cc in
     let test = cond_some _ _ _ some in
     subst (Bears (Some name.Timeout)) test.1 (refl, timeout_from_test n test.0)
-answered-Bears kind mode length limits (Some name.Tsize) (Some n) k max h = answered_tsize-Bears mode kind length limits.max_file n k h
+answered-Bears kind mode length limits (Some name.Tsize) (Some n) k max h =
+    answered_tsize-Bears mode kind length limits.max_file n k h
 
 within : (n most : ℕ) → (nat_le 8 n && nat_le n most) ≡ true → IsBlockSize most → IsBlockSize n
 within n most test b = (grind (arith, nat_tests), grind (arith, nat_tests))
 
-taken_blksize-Bears : (asked : Option ℕ) (value : Option ℕ) (k : Known) → IfSome asked IsBlockSize → taken_blksize asked value ≡ Ok (Some k) → Bears (Some name.Blksize) k
+taken_blksize-Bears : (asked : Option ℕ) (value : Option ℕ) (k : Known) → IfSome asked IsBlockSize
+    → taken_blksize asked value ≡ Ok (Some k) → Bears (Some name.Blksize) k
 taken_blksize-Bears None value k ok h = cc
 taken_blksize-Bears (Some most) None k ok h = cc
 taken_blksize-Bears (Some most) (Some n) k ok h =
@@ -79,7 +85,8 @@ taken_blksize-Bears (Some most) (Some n) k ok h =
     let same : Blksize n ≡ k = cc in
     subst (Bears (Some name.Blksize)) same (refl, within n most test.0 ok)
 
-taken_timeout-Bears : (asked : Option ℕ) (value : Option ℕ) (k : Known) → IfSome asked IsTimeout → taken_timeout asked value ≡ Ok (Some k) → Bears (Some name.Timeout) k
+taken_timeout-Bears : (asked : Option ℕ) (value : Option ℕ) (k : Known) → IfSome asked IsTimeout
+    → taken_timeout asked value ≡ Ok (Some k) → Bears (Some name.Timeout) k
 taken_timeout-Bears None value k ok h = cc
 taken_timeout-Bears (Some seconds) None k ok h = cc
 taken_timeout-Bears (Some seconds) (Some n) k ok h =
@@ -89,7 +96,8 @@ taken_timeout-Bears (Some seconds) (Some n) k ok h =
     let equal : n ≡ seconds = eqb-true n seconds test.0 in
     subst (Bears (Some name.Timeout)) same (refl, subst IsTimeout (sym equal) ok)
 
-taken_tsize-Bears : (asked : Option ℕ) (kind : Kind) (limit : ℕ) (value : Option ℕ) (k : Known) → taken_tsize asked kind limit value ≡ Ok (Some k) → Bears (Some name.Tsize) k
+taken_tsize-Bears : (asked : Option ℕ) (kind : Kind) (limit : ℕ) (value : Option ℕ) (k : Known)
+    → taken_tsize asked kind limit value ≡ Ok (Some k) → Bears (Some name.Tsize) k
 taken_tsize-Bears None kind limit value k h = cc
 taken_tsize-Bears (Some length) Read limit None k h = cc
 taken_tsize-Bears (Some length) Write limit None k h = cc
@@ -102,20 +110,26 @@ taken_tsize-Bears (Some length) Write limit (Some n) k h =
     let same : Tsize n ≡ k = cc in
     subst (Bears (Some name.Tsize)) same (refl, tt)
 
-taken-Bears : (asked : Asked) (kind : Kind) (mode : Mode) (limit : ℕ) (one : Option Name) (value : Option ℕ) (k : Known) → IsAskable asked → taken asked kind mode limit one value ≡ Ok (Some k) → Bears one k
+taken-Bears : (asked : Asked) (kind : Kind) (mode : Mode) (limit : ℕ) (one : Option Name) (value : Option ℕ) (k : Known)
+    → IsAskable asked → taken asked kind mode limit one value ≡ Ok (Some k) → Bears one k
 taken-Bears asked kind mode limit None value k ok h = cc
-taken-Bears asked kind mode limit (Some name.Blksize) value k ok h = taken_blksize-Bears asked.blksize value k ok.blksize h
-taken-Bears asked kind mode limit (Some name.Timeout) value k ok h = taken_timeout-Bears asked.timeout value k ok.timeout h
-taken-Bears asked kind mode limit (Some name.Tsize) value k ok h = taken_tsize-Bears (asked_tsize mode asked) kind limit value k h
+taken-Bears asked kind mode limit (Some name.Blksize) value k ok h =
+    taken_blksize-Bears asked.blksize value k ok.blksize h
+taken-Bears asked kind mode limit (Some name.Timeout) value k ok h =
+    taken_timeout-Bears asked.timeout value k ok.timeout h
+taken-Bears asked kind mode limit (Some name.Tsize) value k ok h =
+    taken_tsize-Bears (asked_tsize mode asked) kind limit value k h
 
-pub answered_option-Keeps : (kind : Kind) (mode : Mode) (length : ℕ) (limits : Limits) → IsBlockSize limits.max_block → Keeps (answered_option kind mode length limits)
+pub answered_option-Keeps : (kind : Kind) (mode : Mode) (length : ℕ) (limits : Limits) → IsBlockSize limits.max_block
+    → Keeps (answered_option kind mode length limits)
 unfolding answered_option
 answered_option-Keeps kind mode length limits ok = record {
   names = λ o k h. (answered-Bears kind mode length limits (name_of o.name) (number_of o.value) k ok h).0;
   values = λ o k h. (answered-Bears kind mode length limits (name_of o.name) (number_of o.value) k ok h).1;
 }
 
-pub taken_option-Keeps : (asked : Asked) (kind : Kind) (mode : Mode) (limit : ℕ) → IsAskable asked → Keeps (taken_option asked kind mode limit)
+pub taken_option-Keeps : (asked : Asked) (kind : Kind) (mode : Mode) (limit : ℕ) → IsAskable asked
+    → Keeps (taken_option asked kind mode limit)
 unfolding taken_option
 taken_option-Keeps asked kind mode limit ok = record {
   names = λ o k h. (taken-Bears asked kind mode limit (name_of o.name) (number_of o.value) k ok h).0;

@@ -1,5 +1,6 @@
 -- Known options as they are sent are options of a packet.
-use Rattle.std.proofs.Common.{◌≡◌, ℕ, ◌+◌, ◌^◌, ◌<◌, ◌≤◌, List, [], ◌∷◌, ◌++◌, length, map, Option, Some, None, IfSome, decimal, sym, ap, ◌∙◌, subst, arith, inl, inr}
+use Rattle.std.proofs.Common.{◌≡◌, ℕ, ◌+◌, ◌^◌, ◌<◌, ◌≤◌, List, [], ◌∷◌, ◌++◌, length, map, Option, Some, None, IfSome}
+use Rattle.std.proofs.Common.{decimal, sym, ap, ◌∙◌, subst, arith, inl, inr}
 use Rattle.std.specs.Prelude.{◌≢◌}
 use Rattle.std.specs.List.{AllByRecursion}
 use Rattle.std.proofs.lemmas.Bool.{cases_eq}
@@ -26,13 +27,20 @@ digits_text (d ∷ digits) = ((let z : 48 + d ≢ 0 = omega arith in z), digits_
 
 number_text : (n : ℕ) → n < 2 ^ 64 → IsText (decimal n)
 number_text n fits = elim (cases_eq n 0) [
-  | inl e ↦ subst IsText (sym (ap decimal e ∙ decimal_digit 0 (omega arith))) ((let z : 48 + 0 ≢ 0 = omega arith in z), tt)
+  | inl e ↦
+      subst IsText (sym (ap decimal e ∙ decimal_digit 0 (omega arith))) ((let z : 48 + 0 ≢ 0 = omega arith in z), tt)
   | inr s ↦ subst IsText (sym (decimal-digits_of n (omega (arith, s)) fits)) (digits_text _)
 ]
 
 name_is : (name : Name) → (name_text name ≢ []) × IsText (name_text name) × (length (name_text name) ≤ 7)
-name_is Blksize = ((λ e. cc), (omega arith, (omega arith, (omega arith, (omega arith, (omega arith, (omega arith, (omega arith, tt))))))), omega arith)
-name_is Timeout = ((λ e. cc), (omega arith, (omega arith, (omega arith, (omega arith, (omega arith, (omega arith, (omega arith, tt))))))), omega arith)
+name_is Blksize =
+    ((λ e. cc),
+        (omega arith, (omega arith, (omega arith, (omega arith, (omega arith, (omega arith, (omega arith, tt))))))),
+        omega arith)
+name_is Timeout =
+    ((λ e. cc),
+        (omega arith, (omega arith, (omega arith, (omega arith, (omega arith, (omega arith, (omega arith, tt))))))),
+        omega arith)
 name_is Tsize = ((λ e. cc), (omega arith, (omega arith, (omega arith, (omega arith, (omega arith, tt))))), omega arith)
 
 -- an option as it is sent with its number
@@ -48,7 +56,10 @@ spelled_option name n fits =
     let b = length-append (decimal n) (0 ∷ []) in
     let c = length-append (name_text name ++ 0 ∷ []) (decimal n ++ 0 ∷ []) in
     let short = h.2 in
-    record { option = record { named = h.0; name = h.1; value = number_text n fits }; short = omega (arith, a, b, c, l, short) }
+    record {
+      option = record { named = h.0; name = h.1; value = number_text n fits };
+      short = omega (arith, a, b, c, l, short)
+    }
 
 spelled_known : (k : Known) → HasWord k → Spelled (known_option k)
 spelled_known (known.Blksize n) f = spelled_option Blksize n f
@@ -66,16 +77,19 @@ known_are_options (k ∷ ks) h =
     ((one.option, others.0), omega (arith, a, b, c))
 
 -- the number, if there is one, fits 64 bits
-word_if : (P : ℕ → Type 0) → ((n : ℕ) → P n → n < 2 ^ 64) → (value : Option ℕ) → IfSome value P → IfSome value (λ n. n < 2 ^ 64)
+word_if : (P : ℕ → Type 0) → ((n : ℕ) → P n → n < 2 ^ 64) → (value : Option ℕ) → IfSome value P
+    → IfSome value (λ n. n < 2 ^ 64)
 word_if P fits None h = tt
 word_if P fits (Some n) h = fits n h
 
 -- an option, if there is a number, and others after it
-options_if : (name : Name) (value : Option ℕ) (others : List RawOption) → IfSome value (λ n. n < 2 ^ 64) → AllByRecursion IsOption others → AllByRecursion IsOption (option_if name value ++ others)
+options_if : (name : Name) (value : Option ℕ) (others : List RawOption) → IfSome value (λ n. n < 2 ^ 64)
+    → AllByRecursion IsOption others → AllByRecursion IsOption (option_if name value ++ others)
 options_if name None others h rest = rest
 options_if name (Some n) others h rest = (let s = spelled_option name n h in s.option, rest)
 
-last_if : (name : Name) (value : Option ℕ) → IfSome value (λ n. n < 2 ^ 64) → AllByRecursion IsOption (option_if name value)
+last_if : (name : Name) (value : Option ℕ) → IfSome value (λ n. n < 2 ^ 64)
+    → AllByRecursion IsOption (option_if name value)
 last_if name None h = tt
 last_if name (Some n) h = (let s = spelled_option name n h in s.option, tt)
 
@@ -85,6 +99,9 @@ request_word Write length n fits e = omega (arith, e)
 
 pub asked_are_options : AskedAreOptions
 asked_are_options asked kind mode length fits is =
-    options_if Blksize asked.blksize _ (word_if _ (λ n r. let b = r.1 in omega (arith, b)) asked.blksize is.askable.blksize)
-    (options_if Timeout asked.timeout _ (word_if _ (λ n r. let b = r.1 in omega (arith, b)) asked.timeout is.askable.timeout)
-    (last_if Tsize (asked_tsize mode asked) (word_if _ (λ n e. request_word kind length n fits e) (asked_tsize mode asked) is.tsize)))
+    options_if Blksize asked.blksize _
+        (word_if _ (λ n r. let b = r.1 in omega (arith, b)) asked.blksize is.askable.blksize)
+    (options_if Timeout asked.timeout _
+        (word_if _ (λ n r. let b = r.1 in omega (arith, b)) asked.timeout is.askable.timeout)
+        (last_if Tsize (asked_tsize mode asked)
+            (word_if _ (λ n e. request_word kind length n fits e) (asked_tsize mode asked) is.tsize)))

@@ -1,5 +1,6 @@
 -- The lemmas that are the law.
-use Rattle.tftp_negotiate.proofs.LawsLemmas.{answers_may_be_agreed, taken_may_be_agreed, agreements_are_short, agreements_have_block_sizes}
+use Rattle.tftp_negotiate.proofs.LawsLemmas.{answers_may_be_agreed, taken_may_be_agreed, agreements_are_short}
+use Rattle.tftp_negotiate.proofs.LawsLemmas.{agreements_have_block_sizes}
 use Rattle.tftp_negotiate.proofs.laws.agreements.Goals as goal
 
 pub returns-clause-answered : goal.returns-clause-answered

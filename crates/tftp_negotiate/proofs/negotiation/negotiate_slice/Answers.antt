@@ -8,7 +8,8 @@ use Rattle.tftp_negotiate.specs.Negotiation.{negotiated}
 use Rattle.tftp_negotiate.specs.Policy.{judged}
 use Rattle.tftp_negotiate.proofs.negotiation.negotiate_slice.Goals as goal
 
-runs_of : {S A B : Type 0} {steps : S → Option A → S → Type 0} {v : A → B} {s : S} {ys : List B} → YieldsList steps v s ys → AlwaysYields steps v s ys
+runs_of : {S A B : Type 0} {steps : S → Option A → S → Type 0} {v : A → B} {s : S} {ys : List B}
+    → YieldsList steps v s ys → AlwaysYields steps v s ys
 runs_of yields = yields.runs
 
 pub returns-clause-agreed : goal.returns-clause-agreed
