@@ -1,4 +1,4 @@
-//! A store that keeps its files in memory.
+//! A store whose files are in memory.
 
 ghost use Rattle.std.specs.Prelude.{◌≡◌, IfOk, IfErr, option_copied, option_map, true, false, List};
 ghost use Rattle.std.specs.Prelude.{ℕ, OnOk, OnErr};
@@ -17,7 +17,7 @@ use tftp_wire::Mode;
 /// A store in memory. Its model is its files in the order of their paths, and whether it is set to
 /// refuse its next append or commit.
 ///
-/// It keeps each file once: the sources that it opens and a committed draft share its bytes.
+/// It stores each file once: the sources that it opens and a committed draft share its bytes.
 #[derive(Drop)]
 pub struct MemStore {
     files: BTreeMap<Path, SharedBytes>,
