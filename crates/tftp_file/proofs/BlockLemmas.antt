@@ -1,17 +1,21 @@
 -- The blocks of a text.
-use Rattle.std.proofs.Common.{◌≡◌, ℕ, zero, suc, ◌+◌, ◌-◌, ◌*◌, ◌<◌, ◌≤◌, List, [], ◌++◌, sym, ap, ◌∙◌, arith, length, take, drop}
+use Rattle.std.proofs.Common.{◌≡◌, ℕ, zero, suc, ◌+◌, ◌-◌, ◌*◌, ◌<◌, ◌≤◌, List, [], ◌++◌, sym, ap, ◌∙◌, arith, length}
+use Rattle.std.proofs.Common.{take, drop}
 use Rattle.std.specs.Prelude.{◌/◌, ◌%◌}
-use Rattle.std.proofs.lemmas.List.{length-take, length-drop, take-append-drop, take-take, drop-take, take_all, nil_from_length}
+use Rattle.std.proofs.lemmas.List.{length-take, length-drop, take-append-drop, take-take, drop-take, take_all}
+use Rattle.std.proofs.lemmas.List.{nil_from_length}
 use Rattle.std.proofs.lemmas.Nat.{row_fits, div-add-mod', mod_below, mod-mul-add}
 use Rattle.tftp_file.specs.Block.{block, block_count, first_blocks}
 
 pub take-add : (m n : ℕ) (xs : List ℕ) → take (m + n) xs ≡ take m xs ++ take n (drop m xs)
 take-add m n xs =
     sym (take-append-drop m (take (m + n) xs))
-    ∙ (ap (λ (t : List ℕ). t ++ drop m (take (m + n) xs)) (take-take m (m + n) xs (omega arith)) ∙ ap (λ (t : List ℕ). take m xs ++ t) (drop-take m n xs))
+    ∙ (ap (λ (t : List ℕ). t ++ drop m (take (m + n) xs)) (take-take m (m + n) xs (omega arith))
+        ∙ ap (λ (t : List ℕ). take m xs ++ t) (drop-take m n xs))
 
 -- one block more
-pub take_block : (text : List ℕ) (size n : ℕ) → take (n * size) text ++ block text size (suc n) ≡ take (suc n * size) text
+pub take_block : (text : List ℕ) (size n : ℕ)
+    → take (n * size) text ++ block text size (suc n) ≡ take (suc n * size) text
 take_block text size n =
     let e : (suc n - 1) * size ≡ n * size = ap (λ (k : ℕ). k * size) (let f : suc n - 1 ≡ n = omega arith in f) in
     let s : n * size + size ≡ suc n * size = omega arith in
@@ -21,14 +25,16 @@ take_block text size n =
 -- the first n blocks are the first n times the size bytes
 pub first_blocks_is : (text : List ℕ) (size n : ℕ) → first_blocks text size n ≡ take (n * size) text
 first_blocks_is text size zero = ap (λ (k : ℕ). take k text) (let z : 0 ≡ 0 * size = omega arith in z)
-first_blocks_is text size (suc n) = ap (λ (t : List ℕ). t ++ block text size (suc n)) (first_blocks_is text size n) ∙ take_block text size n
+first_blocks_is text size (suc n) =
+    ap (λ (t : List ℕ). t ++ block text size (suc n)) (first_blocks_is text size n) ∙ take_block text size n
 
 module _ (text : List ℕ) (size : ℕ) (some : 0 < size) where
   count_covers : length text ≤ block_count text size * size
   count_covers = omega (arith, div-add-mod' (length text) size, mod_below (length text) size some)
 
   pub blocks_join : first_blocks text size (block_count text size) ≡ text
-  blocks_join = first_blocks_is text size (block_count text size) ∙ take_all (block_count text size * size) text count_covers
+  blocks_join =
+      first_blocks_is text size (block_count text size) ∙ take_all (block_count text size * size) text count_covers
 
   last_offset : (block_count text size - 1) * size ≡ length text / size * size
   last_offset = ap (λ (k : ℕ). k * size) (let e : block_count text size - 1 ≡ length text / size = omega arith in e)
@@ -37,7 +43,9 @@ module _ (text : List ℕ) (size : ℕ) (some : 0 < size) where
   pub length-last : length (block text size (block_count text size)) ≡ length text % size
   length-last =
       length-take size (drop ((block_count text size - 1) * size) text)
-      ∙ omega (arith, last_offset, length-drop ((block_count text size - 1) * size) text, div-add-mod' (length text) size, mod_below (length text) size some)
+      ∙ omega
+          (arith, last_offset, length-drop ((block_count text size - 1) * size) text, div-add-mod' (length text) size,
+              mod_below (length text) size some)
 
   pub last_short : length (block text size (block_count text size)) < size
   last_short = omega (arith, length-last, mod_below (length text) size some)
@@ -45,7 +53,14 @@ module _ (text : List ℕ) (size : ℕ) (some : 0 < size) where
   pub others_full : (n : ℕ) → 1 ≤ n → n < block_count text size → length (block text size n) ≡ size
   others_full n low high =
       length-take size (drop ((n - 1) * size) text)
-      ∙ omega (arith, length-drop ((n - 1) * size) text, row_fits (n - 1) size (length text / size) size (omega arith) (omega arith), div-add-mod' (length text) size)
+      ∙ omega
+          (arith, length-drop ((n - 1) * size) text,
+              row_fits (n - 1) size (length text / size) size (omega arith) (omega arith),
+              div-add-mod' (length text) size)
 
   pub last_empty : (n : ℕ) → length text ≡ n * size → block text size (block_count text size) ≡ []
-  last_empty n e = nil_from_length (block text size (block_count text size)) (length-last ∙ (ap (λ (k : ℕ). k % size) (let f : length text ≡ n * size + 0 = omega (arith, e) in f) ∙ mod-mul-add n size 0 some))
+  last_empty n e =
+      nil_from_length (block text size (block_count text size))
+          (length-last
+              ∙ (ap (λ (k : ℕ). k % size) (let f : length text ≡ n * size + 0 = omega (arith, e) in f)
+                  ∙ mod-mul-add n size 0 some))

@@ -1,5 +1,6 @@
 -- A text is decoded in the same way wherever it is cut.
-use Rattle.std.proofs.Common.{◌≡◌, ℕ, ◌+◌, ◌<◌, ◌≤◌, List, [], ◌∷◌, ◌++◌, sym, refl, ap, ◌∙◌, subst, arith, inl, inr, append_assoc, length}
+use Rattle.std.proofs.Common.{◌≡◌, ℕ, ◌+◌, ◌<◌, ◌≤◌, List, [], ◌∷◌, ◌++◌, sym, refl, ap, ◌∙◌, subst, arith, inl, inr}
+use Rattle.std.proofs.Common.{append_assoc, length}
 use Rattle.std.specs.Prelude.{◌⊎◌}
 use Rattle.std.specs.List.{concat}
 use Rattle.std.proofs.lemmas.List.{append-nil, length-append}
@@ -8,21 +9,31 @@ use Rattle.tftp_file.specs.Decoding.{IsHeld, DecodesPiece, IsWrong, FirstWrong, 
 use Rattle.tftp_file.specs.declared.netascii.NetFault.{NetFault}
 use Rattle.tftp_file.specs.declared.netascii.NetFault.TheVariants.{LoneCr, LoneLf, EndsInCr, Memory}
 use Rattle.tftp_file.proofs.NetasciiLemmas.{Line, Return, Itself, byte_form}
-use Rattle.tftp_file.proofs.DecodingLemmas.{stop_held, stop_lone_cr, stop_lf, one_way, begins_or_wrong, Begins, Wrong, read, front_joins, first_wrong_after, first_wrong_before, wrong_after}
+use Rattle.tftp_file.proofs.DecodingLemmas.{stop_held, stop_lone_cr, stop_lf, one_way, begins_or_wrong, Begins, Wrong}
+use Rattle.tftp_file.proofs.DecodingLemmas.{read, front_joins, first_wrong_after, first_wrong_before, wrong_after}
 
 -- two pieces, one after the other
-joins : (held piece between bytes next : List ℕ) → held ++ piece ≡ netascii_text bytes ++ between → held ++ (piece ++ next) ≡ netascii_text bytes ++ (between ++ next)
-joins held piece between bytes next e = sym (append_assoc held piece next) ∙ (ap (λ (t : List ℕ). t ++ next) e ∙ append_assoc (netascii_text bytes) between next)
+joins : (held piece between bytes next : List ℕ) → held ++ piece ≡ netascii_text bytes ++ between
+    → held ++ (piece ++ next) ≡ netascii_text bytes ++ (between ++ next)
+joins held piece between bytes next e =
+    sym (append_assoc held piece next)
+        ∙ (ap (λ (t : List ℕ). t ++ next) e ∙ append_assoc (netascii_text bytes) between next)
 
-decodes_joined : (held piece between next after first rest : List ℕ) → DecodesPiece held piece first between → DecodesPiece between next rest after → DecodesPiece held (piece ++ next) (first ++ rest) after
+decodes_joined : (held piece between next after first rest : List ℕ) → DecodesPiece held piece first between
+    → DecodesPiece between next rest after → DecodesPiece held (piece ++ next) (first ++ rest) after
 decodes_joined held piece between next after first rest d k =
-    (k.0, joins held piece between first next d.1 ∙ (ap (λ (t : List ℕ). netascii_text first ++ t) k.1 ∙ front_joins first rest after))
+    (k.0,
+        joins held piece between first next d.1
+            ∙ (ap (λ (t : List ℕ). netascii_text first ++ t) k.1 ∙ front_joins first rest after))
 
 -- a text has one list of bytes, and one rest
-pub once : (held text bytes after others left : List ℕ) → DecodesPiece held text bytes after → DecodesPiece held text others left → (bytes ≡ others) × (after ≡ left)
-once held text bytes after others left d k = one_way bytes others after left (stop_held after d.0) (stop_held left k.0) (sym d.1 ∙ k.1)
+pub once : (held text bytes after others left : List ℕ) → DecodesPiece held text bytes after
+    → DecodesPiece held text others left → (bytes ≡ others) × (after ≡ left)
+once held text bytes after others left d k =
+    one_way bytes others after left (stop_held after d.0) (stop_held left k.0) (sym d.1 ∙ k.1)
 
-pub pieces_join : (held : List ℕ) (pieces : List (List ℕ)) (bytes after : List ℕ) → IsHeld held → TakesAll held pieces bytes after → DecodesPiece held (concat pieces) bytes after
+pub pieces_join : (held : List ℕ) (pieces : List (List ℕ)) (bytes after : List ℕ) → IsHeld held
+    → TakesAll held pieces bytes after → DecodesPiece held (concat pieces) bytes after
 pieces_join held [] bytes after h t = (
   subst (λ (l : List ℕ). IsHeld l) (sym t.1) h,
   append-nil held ∙ (sym t.1 ∙ ap (λ (l : List ℕ). netascii_text l ++ after) (sym t.0)),
@@ -35,18 +46,28 @@ pieces_join held (piece ∷ pieces) bytes after h t =
 begins_cut : (held text bytes after : List ℕ) → DecodesPiece held text bytes after → BeginsWireText (held ++ text)
 begins_cut held text bytes after d = (bytes, after, d)
 
-pub whole_taken : (held : List ℕ) (pieces : List (List ℕ)) (bytes after : List ℕ) → IsHeld held → DecodesPiece held (concat pieces) bytes after → TakesAll held pieces bytes after
+pub whole_taken : (held : List ℕ) (pieces : List (List ℕ)) (bytes after : List ℕ) → IsHeld held
+    → DecodesPiece held (concat pieces) bytes after → TakesAll held pieces bytes after
 whole_taken held [] bytes after h d =
     let o = one_way bytes [] after held (stop_held after d.0) (stop_held held h) (sym d.1 ∙ append-nil held) in
     (o.0, o.1)
 whole_taken held (piece ∷ pieces) bytes after h d = elim (read (held ++ piece)) [
-  | Wrong fault w ↦ absurd (begins_or_wrong (held ++ (piece ++ concat pieces)) fault (begins_cut held (piece ++ concat pieces) bytes after d)
-      (w.0, subst (λ (t : List ℕ). FirstWrong t w.0 fault) (append_assoc held piece (concat pieces)) (first_wrong_before (held ++ piece) (concat pieces) w.0 fault w.1)))
+  | Wrong fault w ↦
+      absurd (begins_or_wrong (held ++ (piece ++ concat pieces)) fault
+          (begins_cut held (piece ++ concat pieces) bytes after d)
+          (w.0,
+              subst (λ (t : List ℕ). FirstWrong t w.0 fault) (append_assoc held piece (concat pieces))
+                  (first_wrong_before (held ++ piece) (concat pieces) w.0 fault w.1)))
   | Begins b ↦ elim (read (b.1 ++ concat pieces)) [
-    | Wrong fault w ↦ absurd (begins_or_wrong (held ++ (piece ++ concat pieces)) fault (begins_cut held (piece ++ concat pieces) bytes after d)
-        (subst (λ (t : List ℕ). IsWrong t fault) (sym (joins held piece b.1 b.0 (concat pieces) b.2.1)) (wrong_after b.0 (b.1 ++ concat pieces) fault w)))
+    | Wrong fault w ↦
+        absurd (begins_or_wrong (held ++ (piece ++ concat pieces)) fault
+            (begins_cut held (piece ++ concat pieces) bytes after d)
+            (subst (λ (t : List ℕ). IsWrong t fault) (sym (joins held piece b.1 b.0 (concat pieces) b.2.1))
+                (wrong_after b.0 (b.1 ++ concat pieces) fault w)))
     | Begins r ↦
-        let o = once held (piece ++ concat pieces) bytes after (b.0 ++ r.0) r.1 d (decodes_joined held piece b.1 (concat pieces) r.1 b.0 r.0 b.2 r.2) in (
+        let o =
+            once held (piece ++ concat pieces) bytes after (b.0 ++ r.0) r.1 d
+                (decodes_joined held piece b.1 (concat pieces) r.1 b.0 r.0 b.2 r.2) in (
           b.0,
           b.1,
           r.0,
@@ -59,8 +80,10 @@ whole_taken held (piece ∷ pieces) bytes after h d = elim (read (held ++ piece)
 
 -- the first wrong byte is within the text
 pub wrong_within : (text : List ℕ) (at : ℕ) (fault : NetFault) → FirstWrong text at fault → at < length text
-wrong_within text at LoneCr h = omega (arith, h.offset, ap length h.split, length-append (netascii_text h.bytes) (13 ∷ h.byte ∷ h.rest))
-wrong_within text at LoneLf h = omega (arith, h.offset, ap length h.split, length-append (netascii_text h.bytes) (10 ∷ h.rest))
+wrong_within text at LoneCr h =
+    omega (arith, h.offset, ap length h.split, length-append (netascii_text h.bytes) (13 ∷ h.byte ∷ h.rest))
+wrong_within text at LoneLf h =
+    omega (arith, h.offset, ap length h.split, length-append (netascii_text h.bytes) (10 ∷ h.rest))
 wrong_within text at EndsInCr h = absurd h
 wrong_within text at Memory h = absurd h
 
@@ -71,33 +94,47 @@ some_wire x xs = elim (byte_form x) [
   | Itself _ _ w _ ↦ omega (arith, ap length w, length-append (wire_byte x) (netascii_text xs))
 ]
 
-lf_after : (bytes piece rest : List ℕ) → 13 ∷ piece ≡ netascii_text bytes ++ (10 ∷ rest) → 1 ≤ length (netascii_text bytes)
+lf_after : (bytes piece rest : List ℕ) → 13 ∷ piece ≡ netascii_text bytes ++ (10 ∷ rest)
+    → 1 ≤ length (netascii_text bytes)
 lf_after [] piece rest e = absurd (let g : ◌≡◌ {A = ℕ} 13 10 = cc in omega arith)
 lf_after (x ∷ xs) piece rest e = some_wire x xs
 
 -- the first wrong byte is not a byte held back
-wrong_after_held : (held piece : List ℕ) (at : ℕ) (fault : NetFault) → IsHeld held → FirstWrong (held ++ piece) at fault → length held ≤ at
-wrong_after_held held piece at LoneCr h w = elim h [ inl e ↦ omega (arith, ap length e) | inr e ↦ omega (arith, ap length e, w.offset) ]
+wrong_after_held : (held piece : List ℕ) (at : ℕ) (fault : NetFault) → IsHeld held → FirstWrong (held ++ piece) at fault
+    → length held ≤ at
+wrong_after_held held piece at LoneCr h w =
+    elim h [ inl e ↦ omega (arith, ap length e) | inr e ↦ omega (arith, ap length e, w.offset) ]
 wrong_after_held held piece at LoneLf h w = elim h [
   | inl e ↦ omega (arith, ap length e)
-  | inr e ↦ omega (arith, ap length e, w.offset, lf_after w.bytes piece w.rest (ap (λ (t : List ℕ). t ++ piece) (sym e) ∙ w.split))
+  | inr e ↦
+      omega (arith, ap length e, w.offset,
+          lf_after w.bytes piece w.rest (ap (λ (t : List ℕ). t ++ piece) (sym e) ∙ w.split))
 ]
 wrong_after_held held piece at EndsInCr h w = absurd w
 wrong_after_held held piece at Memory h w = absurd w
 
 -- a text has one first wrong byte, with one fault
-pub wrong_once : (text : List ℕ) (at other : ℕ) (fault wrong : NetFault) → FirstWrong text at fault → FirstWrong text other wrong → (at ≡ other) × (fault ≡ wrong)
+pub wrong_once : (text : List ℕ) (at other : ℕ) (fault wrong : NetFault) → FirstWrong text at fault
+    → FirstWrong text other wrong → (at ≡ other) × (fault ≡ wrong)
 wrong_once text at other LoneCr LoneCr h k =
-    let o = one_way h.bytes k.bytes (13 ∷ h.byte ∷ h.rest) (13 ∷ k.byte ∷ k.rest) (stop_lone_cr h.byte h.rest h.no_lf h.no_nul) (stop_lone_cr k.byte k.rest k.no_lf k.no_nul) (sym h.split ∙ k.split) in
+    let o =
+        one_way h.bytes k.bytes (13 ∷ h.byte ∷ h.rest) (13 ∷ k.byte ∷ k.rest)
+            (stop_lone_cr h.byte h.rest h.no_lf h.no_nul) (stop_lone_cr k.byte k.rest k.no_lf k.no_nul)
+            (sym h.split ∙ k.split) in
     (omega (arith, h.offset, k.offset, ap (λ (t : List ℕ). length (netascii_text t)) o.0), refl)
 wrong_once text at other LoneLf LoneLf h k =
-    let o = one_way h.bytes k.bytes (10 ∷ h.rest) (10 ∷ k.rest) (stop_lf h.rest) (stop_lf k.rest) (sym h.split ∙ k.split) in
+    let o =
+        one_way h.bytes k.bytes (10 ∷ h.rest) (10 ∷ k.rest) (stop_lf h.rest) (stop_lf k.rest) (sym h.split ∙ k.split) in
     (omega (arith, h.offset, k.offset, ap (λ (t : List ℕ). length (netascii_text t)) o.0), refl)
 wrong_once text at other LoneCr LoneLf h k =
-    let o = one_way h.bytes k.bytes (13 ∷ h.byte ∷ h.rest) (10 ∷ k.rest) (stop_lone_cr h.byte h.rest h.no_lf h.no_nul) (stop_lf k.rest) (sym h.split ∙ k.split) in
+    let o =
+        one_way h.bytes k.bytes (13 ∷ h.byte ∷ h.rest) (10 ∷ k.rest) (stop_lone_cr h.byte h.rest h.no_lf h.no_nul)
+            (stop_lf k.rest) (sym h.split ∙ k.split) in
     absurd (let e : 13 ∷ h.byte ∷ h.rest ≡ 10 ∷ k.rest = o.1 in let g : ◌≡◌ {A = ℕ} 13 10 = cc in omega arith)
 wrong_once text at other LoneLf LoneCr h k =
-    let o = one_way h.bytes k.bytes (10 ∷ h.rest) (13 ∷ k.byte ∷ k.rest) (stop_lf h.rest) (stop_lone_cr k.byte k.rest k.no_lf k.no_nul) (sym h.split ∙ k.split) in
+    let o =
+        one_way h.bytes k.bytes (10 ∷ h.rest) (13 ∷ k.byte ∷ k.rest) (stop_lf h.rest)
+            (stop_lone_cr k.byte k.rest k.no_lf k.no_nul) (sym h.split ∙ k.split) in
     absurd (let e : 10 ∷ h.rest ≡ 13 ∷ k.byte ∷ k.rest = o.1 in let g : ◌≡◌ {A = ℕ} 10 13 = cc in omega arith)
 wrong_once text at other EndsInCr wrong h k = absurd h
 wrong_once text at other Memory wrong h k = absurd h
@@ -117,11 +154,15 @@ begins_front text rest b = elim (read text) [
   | Wrong fault w ↦ absurd (begins_or_wrong (text ++ rest) fault b (w.0, first_wrong_before text rest w.0 fault w.1))
 ]
 
-pub refused_at : (held : List ℕ) (pieces : List (List ℕ)) (at : ℕ) (fault : NetFault) → IsHeld held → FirstWrong (held ++ concat pieces) at fault → RefusesAt held pieces at fault
+pub refused_at : (held : List ℕ) (pieces : List (List ℕ)) (at : ℕ) (fault : NetFault) → IsHeld held
+    → FirstWrong (held ++ concat pieces) at fault → RefusesAt held pieces at fault
 refused_at held [] at fault h w = absurd (begins_or_wrong (held ++ []) fault ([], held, (h, append-nil held)) (at, w))
 refused_at held (piece ∷ pieces) at fault h w = elim (read (held ++ piece)) [
   | Wrong wrong v ↦
-      let o = wrong_once (held ++ (piece ++ concat pieces)) at v.0 fault wrong w (subst (λ (t : List ℕ). FirstWrong t v.0 wrong) (append_assoc held piece (concat pieces)) (first_wrong_before (held ++ piece) (concat pieces) v.0 wrong v.1)) in
+      let o =
+          wrong_once (held ++ (piece ++ concat pieces)) at v.0 fault wrong w
+              (subst (λ (t : List ℕ). FirstWrong t v.0 wrong) (append_assoc held piece (concat pieces))
+                  (first_wrong_before (held ++ piece) (concat pieces) v.0 wrong v.1)) in
       record {
         before = [];
         piece = piece;
@@ -136,12 +177,19 @@ refused_at held (piece ∷ pieces) at fault h w = elim (read (held ++ piece)) [
       }
   | Begins b ↦ elim (read (b.1 ++ concat pieces)) [
     | Begins r ↦ absurd (begins_or_wrong (held ++ (piece ++ concat pieces)) fault
-        (begins_cut held (piece ++ concat pieces) (b.0 ++ r.0) r.1 (decodes_joined held piece b.1 (concat pieces) r.1 b.0 r.0 b.2 r.2)) (at, w))
+        (begins_cut held (piece ++ concat pieces) (b.0 ++ r.0) r.1
+            (decodes_joined held piece b.1 (concat pieces) r.1 b.0 r.0 b.2 r.2))
+            (at, w))
     | Wrong wrong v ↦
         let o = wrong_once (held ++ (piece ++ concat pieces)) at (length (netascii_text b.0) + v.0) fault wrong w
-        (subst (λ (t : List ℕ). FirstWrong t (length (netascii_text b.0) + v.0) wrong) (sym (joins held piece b.1 b.0 (concat pieces) b.2.1)) (first_wrong_after b.0 (b.1 ++ concat pieces) v.0 wrong v.1)) in
-        let i = refused_at b.1 pieces v.0 fault b.2.0 (subst (λ (f : NetFault). FirstWrong (b.1 ++ concat pieces) v.0 f) (sym o.1) v.1) in
-        let l : length held + length piece ≡ length (netascii_text b.0) + length b.1 = sym (length-append held piece) ∙ (ap length b.2.1 ∙ length-append (netascii_text b.0) b.1) in
+        (subst (λ (t : List ℕ). FirstWrong t (length (netascii_text b.0) + v.0) wrong)
+            (sym (joins held piece b.1 b.0 (concat pieces) b.2.1))
+            (first_wrong_after b.0 (b.1 ++ concat pieces) v.0 wrong v.1)) in
+        let i =
+            refused_at b.1 pieces v.0 fault b.2.0
+                (subst (λ (f : NetFault). FirstWrong (b.1 ++ concat pieces) v.0 f) (sym o.1) v.1) in
+        let l : length held + length piece ≡ length (netascii_text b.0) + length b.1 =
+            sym (length-append held piece) ∙ (ap length b.2.1 ∙ length-append (netascii_text b.0) b.1) in
         record {
           before = piece ∷ i.before;
           piece = i.piece;

@@ -19,6 +19,8 @@ kept_first bytes piece n committed refuses = record {
 }
 
 -- the bytes of the piece that fit fill the capacity
-pub kept_room : (bytes piece : List ℕ) (room n : ℕ) → length bytes + n ≡ room → bytes ++ take n piece ≡ take room (bytes ++ piece)
+pub kept_room : (bytes piece : List ℕ) (room n : ℕ) → length bytes + n ≡ room
+    → bytes ++ take n piece ≡ take room (bytes ++ piece)
 kept_room bytes piece room n full =
-    rw (← full, take-add (length bytes) n (bytes ++ piece), take_at bytes piece (length bytes) refl, drop_at bytes piece (length bytes) refl) refl
+    rw (← full, take-add (length bytes) n (bytes ++ piece), take_at bytes piece (length bytes) refl,
+        drop_at bytes piece (length bytes) refl) refl

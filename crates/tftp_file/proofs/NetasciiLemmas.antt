@@ -1,5 +1,6 @@
 -- Bytes and their wire text in netascii.
-use Rattle.std.proofs.Common.{◌≡◌, ◌≢◌, ℕ, ◌+◌, List, [], ◌∷◌, ◌++◌, true, false, cond, refl, ap, ◌∙◌, arith, inl, inr, length, take, drop}
+use Rattle.std.proofs.Common.{◌≡◌, ◌≢◌, ℕ, ◌+◌, List, [], ◌∷◌, ◌++◌, true, false, cond, refl, ap, ◌∙◌, arith, inl, inr}
+use Rattle.std.proofs.Common.{length, take, drop}
 use Rattle.std.specs.Prelude.{◌==◌, count_by, ltb, not, Option, Some, None, unwrap_or}
 use Rattle.std.specs.List.{position_or_len}
 use Rattle.std.proofs.lemmas.List.{length-append}
@@ -31,7 +32,8 @@ pub netascii-append : (xs ys : List ℕ) → netascii_text (xs ++ ys) ≡ netasc
 netascii-append xs ys = flat_map-append wire_byte xs ys
 
 -- the bytes before the first CR or LF are sent unchanged
-pub unescaped_front : (xs : List ℕ) → netascii_text (take (position_or_len is_line_byte xs) xs) ≡ take (position_or_len is_line_byte xs) xs
+pub unescaped_front : (xs : List ℕ)
+    → netascii_text (take (position_or_len is_line_byte xs) xs) ≡ take (position_or_len is_line_byte xs) xs
 unescaped_front [] = refl
 unescaped_front (x ∷ xs) = elim (byte_form x) [
   | Line _ _ t ↦ rw t
@@ -49,14 +51,20 @@ run_ends (x ∷ xs) = elim (byte_form x) [
 ]
 
 -- the index that `position` returns, or else the length
-pub first_index : (xs : List ℕ) (r : Option ℕ) → r ≡ cond (ltb (position_or_len is_line_byte xs) (length xs)) (Some (position_or_len is_line_byte xs)) None → unwrap_or r (length xs) ≡ position_or_len is_line_byte xs
+pub first_index : (xs : List ℕ) (r : Option ℕ)
+    → r ≡ cond (ltb (position_or_len is_line_byte xs) (length xs)) (Some (position_or_len is_line_byte xs)) None
+    → unwrap_or r (length xs) ≡ position_or_len is_line_byte xs
 first_index xs r e =
     let p = position_or_len is_line_byte xs in
     elim (cases_lt p (length xs)) [
-      | inl l ↦ ap (λ (o : Option ℕ). unwrap_or o (length xs)) (e ∙ cond-true (ltb p (length xs)) (Some p) None (lt-ltb p (length xs) l))
+      | inl l ↦
+          ap (λ (o : Option ℕ). unwrap_or o (length xs))
+              (e ∙ cond-true (ltb p (length xs)) (Some p) None (lt-ltb p (length xs) l))
       | inr n ↦
           let m : length xs ≡ p = omega (arith, n, prefix_len-le-length (λ (x : ℕ). not (is_line_byte x)) xs) in
-          ap (λ (o : Option ℕ). unwrap_or o (length xs)) (e ∙ cond-false (ltb p (length xs)) (Some p) None (le-ltb p (length xs) n)) ∙ m
+          ap (λ (o : Option ℕ). unwrap_or o (length xs))
+              (e ∙ cond-false (ltb p (length xs)) (Some p) None (le-ltb p (length xs) n))
+              ∙ m
     ]
 
 length-wire_byte : (x : ℕ) → length (wire_byte x) ≡ cond (is_line_byte x) 1 0 + 1
@@ -69,4 +77,6 @@ length-wire_byte x = elim (byte_form x) [
 -- each CR and LF has one more byte
 pub length-netascii : (xs : List ℕ) → length (netascii_text xs) ≡ length xs + count_by is_line_byte xs
 length-netascii [] = refl
-length-netascii (x ∷ xs) = omega (arith, length-append (wire_byte x) (netascii_text xs), length-wire_byte x, length-netascii xs, sum_by-cons (λ (n : ℕ). cond (is_line_byte n) 1 0) x xs)
+length-netascii (x ∷ xs) =
+    omega (arith, length-append (wire_byte x) (netascii_text xs), length-wire_byte x, length-netascii xs,
+        sum_by-cons (λ (n : ℕ). cond (is_line_byte n) 1 0) x xs)

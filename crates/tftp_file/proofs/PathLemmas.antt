@@ -1,9 +1,11 @@
 -- The names that are paths, and the faults of the others.
-use Rattle.std.proofs.Common.{◌≡◌, ◌≢◌, ℕ, ◌<◌, ◌≤◌, Bool, true, false, cond, List, [], ◌∷◌, sym, refl, ap, ◌∙◌, subst, arith, inl, inr, length, get_or, Result, Ok, Err}
+use Rattle.std.proofs.Common.{◌≡◌, ◌≢◌, ℕ, ◌<◌, ◌≤◌, Bool, true, false, cond, List, [], ◌∷◌, sym, refl, ap, ◌∙◌, subst}
+use Rattle.std.proofs.Common.{arith, inl, inr, length, get_or, Result, Ok, Err}
 use Rattle.std.specs.Prelude.{◌==◌, ◌&&◌, not, nat_lt, nat_le, count_by}
 use Rattle.std.specs.List.{list_all, slice_split, join_with_byte, All}
 use Rattle.std.proofs.lemmas.Bool.{cases_eq, ltb-false, lt-ltb, le-ltb, lt-leb, le-leb, ne_eqb, eq-eqb}
-use Rattle.std.proofs.lemmas.List.Splits.{length-slice_split, join_with_byte-slice_split, slice_split_none, slice_split_at}
+use Rattle.std.proofs.lemmas.List.Splits.{length-slice_split, join_with_byte-slice_split, slice_split_none}
+use Rattle.std.proofs.lemmas.List.Splits.{slice_split_at}
 use Rattle.std.proofs.lemmas.List.Elements.{All-weaker}
 use Rattle.std.proofs.lemmas.List.Sums.{AllPass-from_list_all, list_all-from_AllPass}
 use Rattle.tftp_file.specs.Path.{is_segment, is_name_byte, without_slash, checked_path, path_of_name, IsPath}
@@ -20,12 +22,14 @@ pub segment_cases : (part : List ℕ) → (nat_le (length part) 64 ≡ nat_le (l
     × (1 ≤ length part → get_or part 0 0 ≡ 46 → is_segment part ≡ false)
     × (64 < length part → is_segment part ≡ false)
     × (1 ≤ length part → get_or part 0 0 ≢ 46 → length part ≤ 64 → is_segment part ≡ list_all is_name_byte part)
-segment_cases [] = (refl, λ _. refl, λ l e. absurd (omega arith), λ l. absurd (omega arith), λ l n m. absurd (omega arith))
+segment_cases [] =
+    (refl, λ _. refl, λ l e. absurd (omega arith), λ l. absurd (omega arith), λ l n m. absurd (omega arith))
 segment_cases (x ∷ xs) = (
   refl,
   λ l. absurd (omega arith),
   λ l e. let a : (x == 46) ≡ true = eq-eqb x 46 e in rw a,
-  λ l. let a : nat_le (length (x ∷ xs)) 64 ≡ false = lt-leb (length (x ∷ xs)) 64 l in rw a (and_no (not (x == 46)) (list_all is_name_byte (x ∷ xs))),
+  λ l. let a : nat_le (length (x ∷ xs)) 64 ≡ false = lt-leb (length (x ∷ xs)) 64 l in
+      rw a (and_no (not (x == 46)) (list_all is_name_byte (x ∷ xs))),
   λ l n m.
       let a : (x == 46) ≡ false = ne_eqb x 46 n in
       let b : nat_le (length (x ∷ xs)) 64 ≡ true = le-leb (length (x ∷ xs)) 64 m in
@@ -36,19 +40,27 @@ module _ (path : List ℕ) (some : (length path == 0) ≡ false) (short : length
   pub deep : 8 ≤ count_by (λ byte. byte == 47) path → checked_path path ≡ Err Depth
   deep many =
       let a : nat_lt 255 (length path) ≡ false = le-ltb 255 (length path) short in
-      let b : nat_lt 8 (length (slice_split (λ byte. byte == 47) path)) ≡ true = lt-ltb 8 (length (slice_split (λ byte. byte == 47) path)) (omega (arith, many, length-slice_split (λ byte. byte == 47) path)) in
+      let b : nat_lt 8 (length (slice_split (λ byte. byte == 47) path)) ≡ true =
+          lt-ltb 8 (length (slice_split (λ byte. byte == 47) path))
+              (omega (arith, many, length-slice_split (λ byte. byte == 47) path)) in
       rw (some, a, b)
 
-  pub bad_segment : count_by (λ byte. byte == 47) path < 8 → list_all is_segment (slice_split (λ byte. byte == 47) path) ≡ false → checked_path path ≡ Err Segment
+  pub bad_segment : count_by (λ byte. byte == 47) path < 8
+      → list_all is_segment (slice_split (λ byte. byte == 47) path) ≡ false → checked_path path ≡ Err Segment
   bad_segment few bad =
       let a : nat_lt 255 (length path) ≡ false = le-ltb 255 (length path) short in
-      let b : nat_lt 8 (length (slice_split (λ byte. byte == 47) path)) ≡ false = le-ltb 8 (length (slice_split (λ byte. byte == 47) path)) (omega (arith, few, length-slice_split (λ byte. byte == 47) path)) in
+      let b : nat_lt 8 (length (slice_split (λ byte. byte == 47) path)) ≡ false =
+          le-ltb 8 (length (slice_split (λ byte. byte == 47) path))
+              (omega (arith, few, length-slice_split (λ byte. byte == 47) path)) in
       rw (some, a, b, bad)
 
-  pub good : count_by (λ byte. byte == 47) path < 8 → list_all is_segment (slice_split (λ byte. byte == 47) path) ≡ true → (checked_path path ≡ Ok path) × IsPath path
+  pub good : count_by (λ byte. byte == 47) path < 8 → list_all is_segment (slice_split (λ byte. byte == 47) path) ≡ true
+      → (checked_path path ≡ Ok path) × IsPath path
   good few all =
       let a : nat_lt 255 (length path) ≡ false = le-ltb 255 (length path) short in
-      let b : nat_lt 8 (length (slice_split (λ byte. byte == 47) path)) ≡ false = le-ltb 8 (length (slice_split (λ byte. byte == 47) path)) (omega (arith, few, length-slice_split (λ byte. byte == 47) path)) in (
+      let b : nat_lt 8 (length (slice_split (λ byte. byte == 47) path)) ≡ false =
+          le-ltb 8 (length (slice_split (λ byte. byte == 47) path))
+              (omega (arith, few, length-slice_split (λ byte. byte == 47) path)) in (
         rw (some, a, b, all),
         record {
           segments = slice_split (λ byte. byte == 47) path;
@@ -74,7 +86,8 @@ both_parts false b h = (h, cc)
 -- a segment has no slash
 segment_bytes : (part : List ℕ) → is_segment part ≡ true → list_all is_name_byte part ≡ true
 segment_bytes [] h = cc
-segment_bytes (x ∷ xs) h = (both_parts (not (x == 46) && nat_le (length (x ∷ xs)) 64) (list_all is_name_byte (x ∷ xs)) h).1
+segment_bytes (x ∷ xs) h =
+    (both_parts (not (x == 46) && nat_le (length (x ∷ xs)) 64) (list_all is_name_byte (x ∷ xs)) h).1
 
 segment_free : (part : List ℕ) → is_segment part ≡ true → All (λ byte. (byte == 47) ≡ false) part
 segment_free part h =
@@ -93,7 +106,8 @@ split_joined (s ∷ t ∷ ts) h some =
     ∙ ap (λ (parts : List (List ℕ)). s ∷ parts) (split_joined (t ∷ ts) b.1 (omega arith))
 
 -- a path is not empty
-not_empty : (path : List ℕ) → list_all is_segment (slice_split (λ byte. byte == 47) path) ≡ true → (length path == 0) ≡ false
+not_empty : (path : List ℕ) → list_all is_segment (slice_split (λ byte. byte == 47) path) ≡ true
+    → (length path == 0) ≡ false
 not_empty [] h = cc
 not_empty (x ∷ xs) h = ne_eqb (length (x ∷ xs)) 0 (λ e. absurd (omega (arith, e)))
 
@@ -101,15 +115,18 @@ not_empty (x ∷ xs) h = ne_eqb (length (x ∷ xs)) 0 (λ e. absurd (omega (arit
 path_passes : (path : List ℕ) → IsPath path → checked_path path ≡ Ok path
 path_passes path p =
     let all : list_all is_segment p.segments ≡ true = list_all-from_AllPass is_segment p.segments p.allowed in
-    let split : slice_split (λ byte. byte == 47) path ≡ p.segments = ap (slice_split (λ byte. byte == 47)) p.joined ∙ split_joined p.segments all p.some in
-    let good_parts : list_all is_segment (slice_split (λ byte. byte == 47) path) ≡ true = ap (list_all is_segment) split ∙ all in
+    let split : slice_split (λ byte. byte == 47) path ≡ p.segments =
+        ap (slice_split (λ byte. byte == 47)) p.joined ∙ split_joined p.segments all p.some in
+    let good_parts : list_all is_segment (slice_split (λ byte. byte == 47) path) ≡ true =
+        ap (list_all is_segment) split ∙ all in
     let count = length-slice_split (λ byte. byte == 47) path in
     let same = ap length split in
     let most = p.few in
     (good path (not_empty path good_parts) p.short (omega (arith, count, same, most)) good_parts).0
 
 -- a test that was passed
-passed : (b : Bool) (fault : PathFault) (rest : Result (List ℕ) PathFault) (path : List ℕ) → cond b (Err fault) rest ≡ Ok path → (b ≡ false) × (rest ≡ Ok path)
+passed : (b : Bool) (fault : PathFault) (rest : Result (List ℕ) PathFault) (path : List ℕ)
+    → cond b (Err fault) rest ≡ Ok path → (b ≡ false) × (rest ≡ Ok path)
 passed true fault rest path h = cc
 passed false fault rest path h = (refl, h)
 
@@ -128,7 +145,9 @@ passes_path path answer h =
     let same : path ≡ answer = let e = d.1 in cc in
     let few : length parts ≤ 8 = ltb-false 8 (length parts) c.0 in
     let count = length-slice_split (λ byte. byte == 47) path in
-    let whole = (good path a.0 (ltb-false 255 (length path) b.0) (omega (arith, few, count)) (negated (list_all is_segment parts) d.0)).1 in
+    let whole =
+        (good path a.0 (ltb-false 255 (length path) b.0) (omega (arith, few, count))
+            (negated (list_all is_segment parts) d.0)).1 in
     (subst IsPath same whole, same)
 
 pub path_from_name : (name path : List ℕ) → path_of_name name ≡ Ok path → IsPath path × (without_slash name ≡ path)

@@ -12,14 +12,19 @@ loop-remaining-preserved c =
     let i = c.loop-remaining.invariant in
     let pair = rw c.in-Some.is at c.in_ok-remaining.ensures.ok in (
       i.0 ++ (c.split_run.result.0.now ++ c.in-Some.field-0-0 ∷ []),
-      pair_taken c.args.text.now c.loop-remaining.left.now c.split_run.result.0.now c.split_run.result.1.now c.in-Some.remaining.now i.0 c.in-Some.field-0-0 i.1 c.split_run.ensures.parts c.split_run.ensures.unescaped pair.0,
+      pair_taken c.args.text.now c.loop-remaining.left.now c.split_run.result.0.now c.split_run.result.1.now
+          c.in-Some.remaining.now i.0 c.in-Some.field-0-0 i.1 c.split_run.ensures.parts c.split_run.ensures.unescaped
+          pair.0,
     )
 
 pub returns-in_err-remaining-clause-wrong : goal.returns-in_err-remaining-clause-wrong
 returns-in_err-remaining-clause-wrong c =
     let i = c.loop-remaining.invariant in
     let p = err_from_is_err_and c.from_residual.result c.from_residual.ensures.1 in
-    rw (p.1, p.2) (wrong_taken c.args.text.now c.loop-remaining.left.now c.split_run.result.0.now c.split_run.result.1.now i.0 c.in_err-remaining.field-0.0 i.1 c.split_run.ensures.parts c.split_run.ensures.unescaped c.in_err-remaining.ensures.wrong)
+    rw (p.1, p.2)
+        (wrong_taken c.args.text.now c.loop-remaining.left.now c.split_run.result.0.now c.split_run.result.1.now i.0
+            c.in_err-remaining.field-0.0 i.1 c.split_run.ensures.parts c.split_run.ensures.unescaped
+            c.in_err-remaining.ensures.wrong)
 
 pub returns-in-None-clause-ok : goal.returns-in-None-clause-ok
 returns-in-None-clause-ok c =
@@ -28,8 +33,10 @@ returns-in-None-clause-ok c =
       i.0 ++ c.split_run.result.0.now,
       (
         inl refl,
-        run_taken c.args.text.now c.loop-remaining.left.now c.split_run.result.0.now c.split_run.result.1.now i.0 i.1 c.split_run.ensures.parts c.split_run.ensures.unescaped
-            ∙ ap (λ (t : List ℕ). netascii_text (i.0 ++ c.split_run.result.0.now) ++ t) (nil_from_length c.split_run.result.1.now z),
+        run_taken c.args.text.now c.loop-remaining.left.now c.split_run.result.0.now c.split_run.result.1.now i.0 i.1
+            c.split_run.ensures.parts c.split_run.ensures.unescaped
+            ∙ ap (λ (t : List ℕ). netascii_text (i.0 ++ c.split_run.result.0.now) ++ t)
+                (nil_from_length c.split_run.result.1.now z),
       ),
     )
 
@@ -38,12 +45,16 @@ returns-in-None-2-clause-ok c =
     let i = c.loop-remaining.invariant in
     let held = rw c.in-None-2.is at c.in_ok-remaining.ensures.ok in
     elim held [
-      | inl e ↦ absurd (let f : false ≡ true = c.if-is_empty.ensures ∙ eq-eqb (length c.split_run.result.1.now) 0 (ap length e) in cc)
+      | inl e ↦
+          absurd (let f : false ≡ true =
+              c.if-is_empty.ensures ∙ eq-eqb (length c.split_run.result.1.now) 0 (ap length e) in
+              cc)
       | inr e ↦ (
         i.0 ++ c.split_run.result.0.now,
         (
           inr refl,
-          run_taken c.args.text.now c.loop-remaining.left.now c.split_run.result.0.now c.split_run.result.1.now i.0 i.1 c.split_run.ensures.parts c.split_run.ensures.unescaped
+          run_taken c.args.text.now c.loop-remaining.left.now c.split_run.result.0.now c.split_run.result.1.now i.0 i.1
+              c.split_run.ensures.parts c.split_run.ensures.unescaped
               ∙ ap (λ (t : List ℕ). netascii_text (i.0 ++ c.split_run.result.0.now) ++ t) e,
         ),
       )
