@@ -3,15 +3,17 @@ use Rattle.std.specs.Prelude.{ℕ, ◌≡◌, ◌⊎◌, Bool, true, false, List
 use Rattle.std.specs.Io.KnownBytes.{prepend_known}
 use Rattle.tftp_file.specs.Source.{SourceMeaning}
 
--- the source below, the bytes read ahead, and whether a read ahead failed
+-- the source below, the bytes read ahead, the number of bytes that the last fill requested, and
+-- whether a read ahead failed
 pub record AheadState (S : Type 0) : Type 0 where
   pub source : S
   pub held : List ℕ
+  pub size : ℕ
   pub failed : Bool
 
 -- a source with nothing read ahead
 abbrev pub new_ahead : {S : Type 0} → S → AheadState S
-new_ahead source = record { source = source; held = []; failed = false }
+new_ahead source = record { source = source; held = []; size = 0; failed = false }
 
 -- the source below may fail at some fill, now or later
 pub record MayFailLater {S : Type 0} (sources : SourceMeaning S) (is_same : S → S → Type 0)

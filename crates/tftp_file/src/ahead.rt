@@ -21,7 +21,8 @@ use tftp_wire::HEADER;
 /// fill requests exactly the bytes read ahead, and its buffer holds the header of a datagram, the
 /// two buffers are exchanged, and no byte of the block is copied.
 ///
-/// Its model is the source below, the bytes read ahead, and whether a read ahead failed.
+/// Its model is the source below, the bytes read ahead, the number of bytes that the last fill
+/// requested, and whether a read ahead failed.
 #[derive(Drop)]
 pub struct Ahead<S> {
     source: S,
@@ -43,6 +44,7 @@ impl<S> Model for Ahead<S> {
     ghost view = { λ a. record {
       source = a.source;
       held = drop a.at a.buffer.items;
+      size = a.size;
       failed = a.failed;
     } };
 
@@ -72,8 +74,10 @@ impl<S> Ahead<S> {
 }
 
 impl<S: Source> Source for Ahead<S> {
-    ghost use Rattle.std.specs.Prelude.{◌≡◌, true};
-    ghost use Rattle.tftp_file.specs.Ahead.{ahead_meaning};
+    ghost use Rattle.std.specs.Prelude.{◌≡◌, ◌≤◌, ◌⊎◌, [], true, false, length, Err, vec_capacity};
+    ghost use Rattle.std.specs.Io.KnownBytes.{prepend_known};
+    ghost use Rattle.tftp_file.specs.Source.{Fills, ReadsAhead};
+    ghost use Rattle.tftp_file.specs.Ahead.{ahead_meaning, MayFailLater};
 
     ghost meaning = { ahead_meaning S.meaning S.is_same };
 
@@ -87,7 +91,23 @@ impl<S: Source> Source for Ahead<S> {
       λ failed. q.1 (p.1 failed),
     ) };
 
-    fn fill(&mut self, want: usize, out: &mut Vec<u8>) -> Result<usize, FileFault> {
+    /// After a failed read ahead it returns `Read`, and nothing changes.
+    fn fill(&mut self, want: usize, out: &mut Vec<u8>) -> Result<usize, FileFault>
+        ensures fills { Fills
+            (prepend_known self.old.held (S.meaning.left self.old.source))
+            (prepend_known self.new.held (S.meaning.left self.new.source)) want
+            out.old.items out.new.items result }
+        ensures read { result ≡ Err FileFault.Read → (self.old.failed ≡ true)
+            ⊎ MayFailLater S.meaning S.is_same self.old.source }
+        ensures fails { (self.old.failed ≡ true)
+            ⊎ ((self.old.held ≡ []) × S.meaning.fails self.old.source want)
+            → result ≡ Err FileFault.Read }
+        ensures capacity { vec_capacity out.old ≤ vec_capacity out.new }
+        ensures same { S.is_same self.old.source self.new.source
+            × (self.old.failed ≡ true → self.new.failed ≡ true) }
+        ensures failed { self.old.failed ≡ true → self.new ≡ self.old }
+        ensures size { self.old.failed ≡ false → self.new.size ≡ want }
+    {
         if self.failed {
             return Err(FileFault::Read);
         }
@@ -95,7 +115,15 @@ impl<S: Source> Source for Ahead<S> {
         fill_ahead(&mut self.source, &mut self.buffer, &mut self.at, want, out)
     }
 
-    fn read_ahead(&mut self) {
+    /// After a failed read ahead it does nothing. It reads at most as many bytes as the last fill
+    /// requested.
+    fn read_ahead(&mut self)
+        ensures ahead { ReadsAhead (ahead_meaning S.meaning S.is_same) self.old self.new }
+        ensures same { S.is_same self.old.source self.new.source
+            × (self.old.failed ≡ true → self.new.failed ≡ true) }
+        ensures failed { self.old.failed ≡ true → self.new ≡ self.old }
+        ensures few { (self.new ≡ self.old) ⊎ (length self.new.held ≤ self.old.size) }
+    {
         if self.failed || self.size == 0 || self.at < self.buffer.len() {
             return;
         }
@@ -232,6 +260,7 @@ fn read_block<S: Source>(source: &mut S, buffer: &mut Vec<u8>, at: &mut usize, s
     ensures read { result ≡ true → S.meaning.may_fail source.old size }
     ensures fails { S.meaning.fails source.old size → (result ≡ true)
         ⊎ ((source.new ≡ source.old) × (drop at.new buffer.new.items ≡ [])) }
+    ensures few { length (drop at.new buffer.new.items) ≤ size }
     ensures same { S.is_same source.old source.new }
 {
     buffer.clear();
