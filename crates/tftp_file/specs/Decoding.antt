@@ -1,4 +1,4 @@
--- The bytes that a netascii decoder gives for the pieces of a text, and its faults (RFC 764).
+-- The bytes that a netascii decoder decodes from the pieces of a text, and its faults (RFC 764).
 use Rattle.std.specs.Prelude.{◌≡◌, refl, ◌≢◌, ℕ, ◌+◌, ◌<◌, ◌≤◌, ◌⊎◌, List, [], ◌∷◌, ◌++◌, length}
 use Rattle.std.specs.List.{concat}
 use Rattle.tftp_file.specs.Netascii.{netascii_text}
@@ -77,7 +77,7 @@ Refuses text LoneLf = IsWrong text LoneLf
 Refuses text EndsInCr = ⊥
 Refuses text Memory = BeginsWireText text
 
--- the pieces are decoded in order: they give the host bytes, and the bytes held back after them
+-- the pieces are decoded in order to the host bytes, with the bytes held back after them
 abbrev pub TakesAll : List ℕ → List (List ℕ) → List ℕ → List ℕ → Type 0
 TakesAll held [] bytes after = (bytes ≡ []) × (after ≡ held)
 TakesAll held (piece ∷ pieces) bytes after = (first : List ℕ) × (between : List ℕ) × (rest : List ℕ)

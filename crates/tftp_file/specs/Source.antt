@@ -59,8 +59,8 @@ abbrev pub StaysKnown : {A : Type 0} → Option A → Option A → Type 0
 StaysKnown None after = ⊤
 StaysKnown (Some known) after = after ≡ Some known
 
--- the text that is left is unchanged, or a read has failed and each later fill fails; no more fills
--- may fail; and if each fill failed before, each fill fails
+-- the text that is left is unchanged if it is known, or each fill then fails, as after a failed
+-- read; no more fills may fail than before; and if each fill had to fail, each still has to
 pub record ReadsAhead {S : Type 0} (sources : SourceMeaning S) (before after : S) : Type 0 where
   pub left : StaysKnown (sources.left before) (sources.left after)
       ⊎ ((want : ℕ) → sources.fails after want)

@@ -35,8 +35,9 @@ pub trait Source {
     /// Reads ahead the bytes that the next fill may request, while its caller is idle. Most sources
     /// do nothing.
     ///
-    /// The text that is left is unchanged, and no more fills may fail than before. If it fails to
-    /// read, each later fill returns `Read`.
+    /// If the text that is left is known, it is unchanged, unless a read has failed: then a fill of
+    /// any length returns `Read`. No more fills may fail than before, and if each fill had to fail,
+    /// each still has to.
     fn read_ahead(&mut self)
         ensures ahead { ReadsAhead meaning self.old self.new }
         ensures same { is_same self.old self.new }
