@@ -25,7 +25,7 @@ is_plain b = nat_lt 32 b && nat_lt b 127 && not (b == 37) && not (b == 61)
 abbrev pub shown_byte : ℕ → List ℕ
 shown_byte b = if is_plain b then b ∷ [] else percent b
 
--- a byte of the text of an ERROR, which keeps the space and `=`
+-- a byte of the text of an ERROR, in which the space and `=` are unchanged
 abbrev pub shown_message_byte : ℕ → List ℕ
 shown_message_byte b = if is_plain b || b == 32 || b == 61 then b ∷ [] else percent b
 

@@ -39,7 +39,7 @@ packet_of opcode bytes =
 abbrev pub packet_in : List ℕ → Packet
 packet_in bytes = packet_of (big_number 2 bytes) bytes
 
--- a reader returns the value, as `view` shows it, if there is no fault, and else the fault
+-- a reader returns a value whose `view` is the given one if there is no fault, and else the fault
 abbrev pub Reads : {T U E : Type 0} → (T → U) → U → Option E → Result T E → Type 0
 Reads view value fault (Ok x) = (fault ≡ None) × (view x ≡ value)
 Reads view value fault (Err e) = fault ≡ Some e

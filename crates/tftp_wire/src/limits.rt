@@ -14,7 +14,7 @@ pub const MAX_BLOCK: u16 = 65_464;
 /// The maximum length of a DATA, and so of any packet, in bytes.
 pub const MAX_DATA: usize = HEADER + MAX_BLOCK as usize;
 
-// The values that the standards give.
+// The values of the standards.
 const _: () = prove!(HEADER == 4);
 
 const _: () = prove!(MAX_REQUEST == 512);

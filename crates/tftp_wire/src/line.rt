@@ -27,7 +27,7 @@ const WORDS: usize = 40;
 
 /// Appends the packet as one line, without a line end.
 ///
-/// `%`, `=` and each byte that is not visible ASCII are shown as `%` and two hexadecimal digits,
+/// `%`, `=` and each byte that is not visible ASCII are written as `%` and two hexadecimal digits,
 /// except spaces and `=` in the text of an ERROR. It fails only when out of memory, and the content
 /// of `out` is then unchanged.
 pub fn show(packet: &Packet, out: &mut String) -> Result<(), PacketFault>
