@@ -17,7 +17,7 @@ pub const MIN_TIMEOUT: u8 = 1;
 /// The maximum timeout, in seconds (RFC 2349, "Timeout Interval Option Specification").
 pub const MAX_TIMEOUT: u8 = 255;
 
-// The values that the standards give.
+// The values of the standards.
 const _: () = prove!(MIN_BLOCK == 8);
 
 const _: () = prove!(MAX_BLOCK == 65_464);
