@@ -74,7 +74,8 @@ impl<S> Ahead<S> {
 }
 
 impl<S: Source> Source for Ahead<S> {
-    ghost use Rattle.std.specs.Prelude.{◌≡◌, ◌≤◌, ◌⊎◌, [], true, false, length, Err, vec_capacity};
+    ghost use Rattle.std.specs.Prelude.{◌≡◌, ◌≤◌, ◌+◌, ◌⊎◌, [], true, false, length, Err};
+    ghost use Rattle.std.specs.Prelude.{vec_capacity};
     ghost use Rattle.std.specs.Io.KnownBytes.{prepend_known};
     ghost use Rattle.tftp_file.specs.Source.{Fills, ReadsAhead};
     ghost use Rattle.tftp_file.specs.Ahead.{ahead_meaning, MayFailLater};
@@ -122,7 +123,7 @@ impl<S: Source> Source for Ahead<S> {
         ensures same { S.is_same self.old.source self.new.source
             × (self.old.failed ≡ true → self.new.failed ≡ true) }
         ensures failed { self.old.failed ≡ true → self.new ≡ self.old }
-        ensures few { (self.new ≡ self.old) ⊎ (length self.new.held ≤ self.old.size) }
+        ensures few { length self.new.held ≤ length self.old.held + self.old.size }
     {
         if self.failed || self.size == 0 || self.at < self.buffer.len() {
             return;
