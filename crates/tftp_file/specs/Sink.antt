@@ -26,8 +26,8 @@ pub record SinkMeaning (K : Type 0) : Type 1 where
   -- the effect of a call on the state of the sink besides its content: true after a successful
   -- commit, false after every other call
   pub becomes : K → K → Bool → Type 0
-  -- what an append of these bytes leaves, if refused with this fault or not refused: it states which
-  -- appends must be refused
+  -- what an append of these bytes leaves, if refused with this fault or not refused: it states
+  -- which appends must be refused
   pub after_append : K → List ℕ → K → Option StoreFault → Type 0
   -- the same, of a commit
   pub after_commit : K → K → Option StoreFault → Type 0
