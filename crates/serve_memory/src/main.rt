@@ -7,10 +7,9 @@ use std::process::ExitCode;
 use std::time::Clock;
 use tftp_arguments::own_words;
 use tftp_file::{Path, StoreFault, path_of};
-use tftp_host::endpoint_in;
 use tftp_loop::{Ending, LoopConfig, LoopFault, ServerUdp, serve};
 use tftp_server::{Config, Server};
-use tftp_sockets::Journal;
+use tftp_sockets::{Journal, endpoint_in};
 use tftp_store::MemStore;
 
 const USAGE: &str = "usage: serve_memory ADDR:PORT TRANSFERS";

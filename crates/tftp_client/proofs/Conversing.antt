@@ -24,7 +24,7 @@ use Rattle.tftp_ends.specs.declared.phase.Dally.TheVariants.{Fresh, Waited}
 use Rattle.tftp_ends.specs.declared.phase.Phase.{Phase}
 use Rattle.tftp_ends.specs.declared.phase.Phase.TheVariants as phases
 use Rattle.tftp_ends.specs.declared.phase.Terms.{Terms}
-use Rattle.tftp_host.specs.Watch.{deadline_of}
+use Rattle.tftp_sockets.specs.Watch.{deadline_of}
 use Rattle.tftp_client.specs.declared.transfer.Job.{Job}
 use Rattle.tftp_client.specs.Converses.{Converses, HandlesReceived, IsLost, IsOpen, MayElapse}
 use Rattle.tftp_client.specs.Converses.{State, deadline_at}

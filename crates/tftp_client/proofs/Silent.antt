@@ -21,7 +21,7 @@ use Rattle.tftp_ends.specs.declared.outcome.Outcome.{Outcome}
 use Rattle.tftp_ends.specs.declared.outcome.Outcome.TheVariants.{TimedOut}
 use Rattle.tftp_ends.specs.declared.phase.Phase.{Phase}
 use Rattle.tftp_ends.specs.declared.phase.Phase.TheVariants.{Waiting}
-use Rattle.tftp_host.specs.Watch.{deadline_of, last_moment}
+use Rattle.tftp_sockets.specs.Watch.{deadline_of, last_moment}
 use Rattle.tftp_sockets.specs.Journal.{Event, QuietEvent}
 use Rattle.tftp_sockets.specs.Journal.QuietEvent.{Empty, Failed}
 use Rattle.tftp_sockets.specs.Quiet.{waits, waits_in}

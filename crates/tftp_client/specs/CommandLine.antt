@@ -6,7 +6,7 @@ use Rattle.tftp_negotiate.specs.declared.asked.Asked.{Asked}
 use Rattle.tftp_negotiate.specs.declared.known.Kind.{Kind}
 use Rattle.tftp_negotiate.specs.declared.known.Kind.TheVariants.{Read, Write}
 use Rattle.tftp_arguments.specs.Read.{IsChosen, IsFlag, IsNumber, Reads}
-use Rattle.tftp_host.specs.Address.{Names}
+use Rattle.tftp_sockets.specs.Address.{Names}
 use Rattle.tftp_client.specs.declared.local.Existing.TheVariants.{Refused, Replaced}
 use Rattle.tftp_client.specs.declared.transfer.Job.{Job}
 

@@ -14,8 +14,8 @@ use Rattle.tftp_ends.specs.Step.{DatagramStep, Turn, UsesFile, after_turn, timeo
 use Rattle.tftp_ends.specs.declared.endpoint.Endpoint.{Endpoint}
 use Rattle.tftp_ends.specs.declared.outcome.Outcome.{Outcome}
 use Rattle.tftp_ends.specs.declared.outcome.Outcome.TheVariants.{TimedOut}
-use Rattle.tftp_host.specs.Watch.{deadline_of}
-use Rattle.tftp_host.specs.declared.watch.TheConstants.{LONGEST_WAIT}
+use Rattle.tftp_sockets.specs.Watch.{deadline_of}
+use Rattle.tftp_sockets.specs.declared.watch.TheConstants.{LONGEST_WAIT}
 use Rattle.tftp_sockets.specs.Journal.{Event, QuietEvent, answered}
 use Rattle.tftp_sockets.specs.Journal.Event.{Received, Watched, Elapsed, Quiet}
 use Rattle.tftp_sockets.specs.Journal.QuietEvent.{Empty, Failed, Slept}

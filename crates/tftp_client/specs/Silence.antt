@@ -7,7 +7,7 @@ use Rattle.tftp_file.specs.declared.files.Files.{Files}
 use Rattle.tftp_ends.specs.End.{outcome_of}
 use Rattle.tftp_ends.specs.declared.outcome.Outcome.{Outcome}
 use Rattle.tftp_ends.specs.declared.outcome.Outcome.TheVariants.{TimedOut}
-use Rattle.tftp_host.specs.Watch.{last_moment}
+use Rattle.tftp_sockets.specs.Watch.{last_moment}
 use Rattle.tftp_sockets.specs.Journal.{Event}
 use Rattle.tftp_sockets.specs.Quiet.{waits}
 use Rattle.tftp_client.specs.declared.transfer.Job.{Job}

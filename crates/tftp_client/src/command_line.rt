@@ -18,8 +18,8 @@ use clap::{Arg, ArgMatches, Command, value_parser};
 use std::alloc::{AllocError, Global};
 use std::convert::AsStr;
 use tftp_arguments::{VERSION, flag, is_set, number, print_usage, word};
-use tftp_host::endpoint_in;
 use tftp_negotiate::{Asked, DEFAULT_BLOCK, Kind, MAX_BLOCK, MIN_BLOCK};
+use tftp_sockets::endpoint_in;
 use tftp_wire::Mode;
 
 const EXAMPLES: &str = "\

@@ -3,7 +3,7 @@ use Rattle.std.specs.Prelude.{ℕ, ◌≡◌, ◌≤◌, true, false, List, ◌�
 use Rattle.std.specs.Prelude.{Option, Some, None, option_map}
 use Rattle.tftp_server.specs.declared.config.Config.{Config}
 use Rattle.tftp_arguments.specs.Read.{IsFlag, IsNumber, Reads}
-use Rattle.tftp_host.specs.Address.{Names}
+use Rattle.tftp_sockets.specs.Address.{Names}
 use Rattle.tftp_loop.specs.declared.port_order.PortRange.{PortRange}
 use Rattle.tftp_loop.specs.declared.serving.Ending.{Ending}
 use Rattle.tftp_daemon.specs.declared.daemon.DaemonConfig.{DaemonConfig}

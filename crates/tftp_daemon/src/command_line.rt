@@ -23,10 +23,10 @@ use clap::{Arg, ArgMatches, Command, value_parser};
 use std::alloc::{AllocError, Global};
 use std::convert::AsStr;
 use tftp_arguments::{VERSION, flag, is_set, number, print_usage, word};
-use tftp_host::endpoint_in;
 use tftp_loop::{Ending, LoopConfig, PortRange};
 use tftp_negotiate::{Limits, MAX_BLOCK, MIN_BLOCK};
 use tftp_server::Config;
+use tftp_sockets::endpoint_in;
 
 const EXAMPLES: &str = "\
 Examples:

@@ -1,4 +1,3 @@
-pub mod Address
 pub mod ClientOutcome
 pub mod DiskFault
 pub mod Fallback
@@ -6,4 +5,3 @@ pub mod LogLine
 pub mod Printed
 pub mod ProgressLine
 pub mod Reason
-pub mod Watch

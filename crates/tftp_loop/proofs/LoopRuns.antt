@@ -11,7 +11,7 @@ use Rattle.tftp_ends.specs.declared.outcome.Outcome.{Outcome}
 use Rattle.tftp_ends.specs.End.{record_of}
 use Rattle.std.proofs.lemmas.Option.{none-some, cond_some}
 use Rattle.tftp_server.specs.State.{HeldTransfer, ServerState, at, draft_of, is_closed, taken_of, without}
-use Rattle.tftp_host.specs.declared.server.port.Port.{Port}
+use Rattle.tftp_sockets.specs.declared.port.Port.{Port}
 use Rattle.tftp_sockets.specs.Journal.{Event}
 use Rattle.tftp_loop.specs.declared.transfer_port.TransferSocket.{TransferSocket}
 use Rattle.tftp_loop.specs.Run.{Run}

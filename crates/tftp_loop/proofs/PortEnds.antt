@@ -15,7 +15,7 @@ use Rattle.tftp_server.specs.Draft.{drafting_sink}
 use Rattle.tftp_server.specs.State.{HeldTransfer, ServerState, at, is_closed, is_open, with_next}
 use Rattle.tftp_server.specs.Steps.{KeepsHeld, with_end}
 use Rattle.tftp_server.specs.Work.{WorksAt}
-use Rattle.tftp_host.specs.Watch.{deadline_of}
+use Rattle.tftp_sockets.specs.Watch.{deadline_of}
 use Rattle.tftp_loop.specs.Serves.{Timer, PortState, AtPort, marked_as, restarted, timer_after}
 use Rattle.tftp_loop.specs.Serves.AtPort.{A_datagram, A_lost_datagram, Nothing_found, A_failed_receive, A_timeout}
 use Rattle.tftp_loop.specs.Serves.AtPort.{A_missed_timeout, Work}

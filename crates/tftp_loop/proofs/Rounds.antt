@@ -6,7 +6,7 @@ use Rattle.tftp_file.specs.Source.{SourceMeaning}
 use Rattle.tftp_ends.specs.declared.endpoint.Endpoint.{Endpoint}
 use Rattle.tftp_ends.specs.Step.{Reply}
 use Rattle.tftp_store.specs.Store.{StoreMeaning}
-use Rattle.tftp_host.specs.declared.watch.TheConstants.{LONGEST_WAIT}
+use Rattle.tftp_sockets.specs.declared.watch.TheConstants.{LONGEST_WAIT}
 use Rattle.tftp_sockets.specs.Journal.{Event, answered, replied}
 use Rattle.tftp_sockets.specs.Journal.Event.{Received, Elapsed}
 use Rattle.tftp_sockets.specs.Quiet.{has_woken}

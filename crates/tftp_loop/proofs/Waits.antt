@@ -8,9 +8,9 @@ use Rattle.tftp_file.specs.Source.{SourceMeaning}
 use Rattle.tftp_ends.specs.declared.endpoint.Endpoint.{Endpoint}
 use Rattle.tftp_store.specs.Store.{StoreMeaning}
 use Rattle.tftp_server.specs.State.{HeldTransfer, ServerState}
-use Rattle.tftp_host.specs.Watch.{wait_of}
-use Rattle.tftp_host.specs.declared.watch.TheConstants.{LONGEST_WAIT}
-use Rattle.tftp_host.specs.declared.server.port.Port.{Port}
+use Rattle.tftp_sockets.specs.Watch.{wait_of}
+use Rattle.tftp_sockets.specs.declared.watch.TheConstants.{LONGEST_WAIT}
+use Rattle.tftp_sockets.specs.declared.port.Port.{Port}
 use Rattle.tftp_sockets.specs.Journal.{Event}
 use Rattle.tftp_sockets.specs.Journal.Event.{Watched, Quiet}
 use Rattle.tftp_sockets.specs.Journal.QuietEvent.{Slept, Woke}

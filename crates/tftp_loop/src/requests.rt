@@ -20,9 +20,9 @@ use crate::server_udp::ServerUdp;
 use crate::store::ServedStore;
 use crate::transfer_port::{TransferPort, TransferSocket, next_look, reply};
 use tftp_ends::{DEFAULT_INTERVAL, Endpoint};
-use tftp_host::{Lost, Port, Reason, deadline};
+use tftp_host::{Lost, Reason};
 use tftp_server::{Admission, Opened, Server, Store};
-use tftp_sockets::{Receipt, ServerSocket};
+use tftp_sockets::{Port, Receipt, ServerSocket, deadline};
 
 /// The identifier passed to the server for a datagram that opens no transfer.
 const NO_PORT: u16 = 0;

@@ -20,9 +20,8 @@ use crate::transfer_port::{TransferPort, count_active, mark_all, take_due, take_
 use std::alloc::{AllocError, Global};
 use std::time::Clock;
 use tftp_ends::{Endpoint, Record};
-use tftp_host::{DATAGRAM_BUFFER, index_of, wait_for};
 use tftp_server::{Server, Store};
-use tftp_sockets::{Journal, Reports, look, read_watch, wait};
+use tftp_sockets::{DATAGRAM_BUFFER, Journal, Reports, index_of, look, read_watch, wait, wait_for};
 
 /// The most ports that one wait reports.
 const MOST_REPORTS: usize = 128;

@@ -14,9 +14,8 @@ use std::alloc::Global;
 use std::io;
 use std::time::Clock;
 use tftp_ends::Endpoint;
-use tftp_host::{Watch, read_clock};
 use tftp_server::Admission;
-use tftp_sockets::{Journal, ServerSocket};
+use tftp_sockets::{Journal, ServerSocket, Watch, read_clock};
 
 /// The request port, the poll of all ports, and the time.
 #[derive(Drop)]

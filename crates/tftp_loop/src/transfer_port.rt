@@ -7,7 +7,7 @@ ghost use Rattle.tftp_sockets.specs.Journal.{replied};
 ghost use Rattle.tftp_sockets.specs.Quiet.{was_tried};
 ghost use Rattle.tftp_loop.specs.Fair.{ReceivesAtMost, ReceivesFew};
 ghost use Rattle.tftp_loop.specs.Serves.{AnswersDatagram, AnswersTimeout, LosesDatagram};
-ghost use Rattle.tftp_host.specs.Watch.{last_moment};
+ghost use Rattle.tftp_sockets.specs.Watch.{last_moment};
 ghost use Rattle.tftp_loop.specs.Serves.{WorksAtPort, look_after, marked_as, restarted};
 ghost use Rattle.tftp_loop.specs.Serves.{Timer, timer_after};
 ghost use Rattle.tftp_loop.specs.Served.{AnswersReceived, OnlyServesPort, timer_of};
@@ -16,9 +16,9 @@ ghost use Rattle.tftp_loop.specs.Tended.{marked_if};
 
 use crate::log_entry::LogEntry;
 use tftp_ends::{Endpoint, Step};
-use tftp_host::{Port, Reason, deadline, is_due};
+use tftp_host::Reason;
 use tftp_server::{Server, Store};
-use tftp_sockets::{Journal, Receipt, ServerSocket};
+use tftp_sockets::{Journal, Port, Receipt, ServerSocket, deadline, is_due};
 
 /// The most datagrams received from one socket in a wake-up, so that a flood at one port does not
 /// starve the others.

@@ -2,8 +2,9 @@
 
 use crate::expect::{expect, expect_equal};
 use tftp_ends::Outcome;
-use tftp_host::{Port, Watch, deadline, fallback, index_of, is_due, wait_for};
+use tftp_host::fallback;
 use tftp_negotiate::Asked;
+use tftp_sockets::{Port, Watch, deadline, index_of, is_due, wait_for};
 
 /// Readings of a clock, from 5,000 on, and the time in milliseconds: a wait counts for a second at
 /// most, and a clock that goes back counts for nothing.

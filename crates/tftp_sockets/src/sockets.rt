@@ -16,14 +16,17 @@ ghost use Rattle.std.specs.Prelude.{◌≡◌, ◌≢◌, ◌≤◌, ◌+◌, �
 ghost use Rattle.std.specs.Prelude.{IfOk, OnErr, OnOk, if◌then◌else◌};
 ghost use Rattle.tftp_host.specs.ClientOutcome.{end_text};
 ghost use Rattle.tftp_host.specs.Printed.{line_text};
-ghost use Rattle.tftp_host.specs.declared.watch.TheConstants.{LONGEST_WAIT};
+ghost use Rattle.tftp_sockets.specs.declared.watch.TheConstants.{LONGEST_WAIT};
 ghost use Rattle.tftp_sockets.specs.Journal.Event.{Sent, Watched, Printed as Line, Quiet};
 ghost use Rattle.tftp_sockets.specs.Journal.QuietEvent.{No_socket, Slept, Woke};
 ghost use Rattle.tftp_sockets.specs.Bound.{IsBoundTo};
 ghost use Rattle.tftp_sockets.specs.Receipt.{Fits, receive_event};
 
+use crate::address::{address_of, endpoint_of};
+use crate::clock::read_clock;
 use crate::journal::Journal;
 use crate::receipt::Receipt;
+use crate::watch::{LONGEST_WAIT, Watch};
 use mio::net::UdpSocket as ReadySocket;
 use mio::{Events, Interest, Poll, Registry, Token};
 use std::alloc::{AllocError, Global};
@@ -31,10 +34,7 @@ use std::io::{self, ErrorKind};
 use std::net::{Net, SocketAddr, UdpSocket};
 use std::time::{Clock, Duration};
 use tftp_ends::Endpoint;
-use tftp_host::{
-    ClientOutcome, LONGEST_WAIT, Printed, Reason, Watch, address_of, endpoint_of, read_clock,
-    reason_of,
-};
+use tftp_host::{ClientOutcome, Printed, Reason, reason_of};
 
 /// A non-blocking socket of a server.
 #[derive(Drop)]

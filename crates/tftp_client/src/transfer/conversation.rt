@@ -19,11 +19,12 @@ use std::alloc::{AllocError, Global};
 use std::time::Clock;
 use tftp_ends::{End, Endpoint, Outcome, Step, decode_packet};
 use tftp_file::{Files, Sink, Source};
-use tftp_host::{
-    DATAGRAM_BUFFER, LONGEST_WAIT, LineClock, ProgressLine, Watch, deadline, is_due, read_clock,
-};
+use tftp_host::{LineClock, ProgressLine};
 use tftp_negotiate::stated_tsize;
-use tftp_sockets::{ClientSocket, Journal, Receipt, read_watch};
+use tftp_sockets::{
+    ClientSocket, DATAGRAM_BUFFER, Journal, LONGEST_WAIT, Receipt, Watch, deadline, is_due,
+    read_clock, read_watch,
+};
 use tftp_wire::{PacketRef, show_ref};
 
 /// The limit of waits in a run.

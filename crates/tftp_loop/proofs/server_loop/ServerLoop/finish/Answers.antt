@@ -1,5 +1,5 @@
 use Rattle.std.proofs.Common.{◌≡◌, ◌-◌, not, refl, sym, ap, subst, ◌∙◌}
-use Rattle.tftp_host.specs.declared.server.port.Port.{Port}
+use Rattle.tftp_sockets.specs.declared.port.Port.{Port}
 use Rattle.tftp_loop.specs.declared.transfer_port.TransferSocket.{TransferSocket}
 use Rattle.tftp_loop.specs.declared.server_loop.ServerLoop.{ServerLoop}
 use Rattle.tftp_loop.specs.Tended.{Finishes}

@@ -2,7 +2,7 @@
 use Rattle.std.proofs.Common.{◌∙◌, ap, inr, refl, ◌∷◌, ℕ, sym, subst}
 use Rattle.tftp_ends.specs.End.{EndState}
 use Rattle.tftp_ends.specs.Step.{timeout_turn}
-use Rattle.tftp_host.specs.Watch.{deadline_of}
+use Rattle.tftp_sockets.specs.Watch.{deadline_of}
 use Rattle.tftp_client.specs.Conversation.{state_of}
 use Rattle.tftp_client.specs.Converses.{IsOpen, MayElapse, State, deadline_at}
 use Rattle.tftp_client.specs.Converses.MayElapse.{Stays, Elapses}

@@ -2,8 +2,8 @@
 
 ghost use Rattle.std.specs.Prelude.{◌≡◌, ◌≤◌, ◌+◌, ◌↔◌, IsTrue};
 ghost use Rattle.std.specs.Duration.{as_nanos};
-ghost use Rattle.tftp_host.specs.Watch.{deadline_of, later_by, whole_millis};
-ghost use Rattle.tftp_host.specs.declared.watch.TheConstants.{LONGEST_WAIT};
+ghost use Rattle.tftp_sockets.specs.Watch.{deadline_of, later_by, whole_millis};
+ghost use Rattle.tftp_sockets.specs.declared.watch.TheConstants.{LONGEST_WAIT};
 
 use std::time::Duration;
 

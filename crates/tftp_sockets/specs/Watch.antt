@@ -1,8 +1,8 @@
 -- The time of a program over UDP, and its deadlines (ours; RFC 2349, "Timeout Interval Option
 -- Specification").
 use Rattle.std.specs.Prelude.{ℕ, ◌+◌, ◌-◌, ◌*◌, ◌/◌, min, List, [], ◌∷◌}
-use Rattle.tftp_host.specs.declared.watch.Watch.{Watch}
-use Rattle.tftp_host.specs.declared.watch.TheConstants.{LONGEST_WAIT, MILLIS_PER_SECOND}
+use Rattle.tftp_sockets.specs.declared.watch.Watch.{Watch}
+use Rattle.tftp_sockets.specs.declared.watch.TheConstants.{LONGEST_WAIT, MILLIS_PER_SECOND}
 
 -- the greatest time
 abbrev pub last_moment : ℕ

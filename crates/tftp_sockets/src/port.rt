@@ -1,8 +1,8 @@
 //! The ports of a server's transfers, and how long to wait for them.
 
 ghost use Rattle.std.specs.Prelude.{◌≡◌, ◌==◌, ◌≤◌, ◌-◌, map, position, All};
-ghost use Rattle.tftp_host.specs.Watch.{wait_of};
-ghost use Rattle.tftp_host.specs.declared.watch.TheConstants.{LONGEST_WAIT};
+ghost use Rattle.tftp_sockets.specs.Watch.{wait_of};
+ghost use Rattle.tftp_sockets.specs.declared.watch.TheConstants.{LONGEST_WAIT};
 
 use crate::watch::LONGEST_WAIT;
 

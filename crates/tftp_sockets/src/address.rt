@@ -1,6 +1,6 @@
 //! Addresses, and the size of a datagram buffer, for the programs over UDP.
 
-ghost use Rattle.tftp_host.specs.Address.{IsAddressOf, IsEndpointOf, Names};
+ghost use Rattle.tftp_sockets.specs.Address.{IsAddressOf, IsEndpointOf, Names};
 
 use std::net::{SocketAddr, SocketAddrV4};
 use tftp_ends::Endpoint;
