@@ -15,8 +15,8 @@ use std::fs::{self, OpenFile, OpenOptions, Permissions};
 use std::io::{self, BufReader, ErrorKind, Read, Seek};
 use std::os::unix::fs::MetadataExt;
 use std::rt::Files;
+use tftp_disk::{BlockWriter, ErrorKeeper, Folder, check_length, length_on_wire, name_fault};
 use tftp_file::{Ahead, MAX_WIRE, ReadSource, Sink, StoreFault};
-use tftp_host::{BlockWriter, ErrorKeeper, Folder, check_length, length_on_wire, name_fault};
 use tftp_wire::Mode;
 
 /// The capacity of the read buffer, in bytes. Blocks of this size and more bypass it.

@@ -1,7 +1,7 @@
 //! Finds the files of a folder on the system.
 
 ghost use Rattle.std.specs.Prelude.{◌≡◌, IfErr, IfOk};
-ghost use Rattle.tftp_host.specs.DiskFault.{MayNotOpen, MayNotStore, MayNotBegin};
+ghost use Rattle.tftp_disk.specs.DiskFault.{MayNotOpen, MayNotStore, MayNotBegin};
 
 use crate::folder::FolderStore;
 use crate::naming::{FileId, folder_of, has_no_link};

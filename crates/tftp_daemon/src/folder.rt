@@ -4,7 +4,7 @@ ghost use Rattle.std.specs.Prelude.{◌≡◌, ◌≢◌, ℕ, List, true, false
 ghost use Rattle.std.specs.Prelude.{IfSome, OnErr};
 ghost use Rattle.std.specs.String.{string_bytes};
 ghost use Rattle.tftp_file.specs.Path.{path_of_name};
-ghost use Rattle.tftp_host.specs.DiskFault.{MayNotOpen, MayNotStore, MayNotName};
+ghost use Rattle.tftp_disk.specs.DiskFault.{MayNotOpen, MayNotStore, MayNotName};
 ghost use Rattle.tftp_daemon.specs.Settings.{SameSettings};
 ghost use Rattle.tftp_daemon.specs.Uploads.{IsBelow, path_below};
 
@@ -17,8 +17,9 @@ use std::cell::Cell;
 use std::fs::{self, Metadata};
 use std::io::{self, ErrorKind};
 use std::rt::Files;
+use tftp_disk::{check_length, name_fault, open_fault, write_fault};
 use tftp_file::{FileFault, MAX_WIRE, Path, PathFault, StoreFault, path_of};
-use tftp_host::{Reason, check_length, name_fault, open_fault, reason_of, write_fault};
+use tftp_host::{Reason, reason_of};
 use tftp_loop::ServedStore;
 use tftp_server::{Opening, Store};
 use tftp_wire::Mode;
@@ -262,7 +263,7 @@ impl<R: Files + Drop> ServedStore for FolderStore<R> {
 
 impl<R: Files + Drop> Store for FolderStore<R> {
     ghost use Rattle.std.specs.Prelude.{◌≡◌, refl, None, true, Err, IfOk, IfErr, IfSome, IsErrOf};
-    ghost use Rattle.tftp_host.specs.DiskFault.{MayNotOpen, MayNotStore, MayNotBegin, MayNotName};
+    ghost use Rattle.tftp_disk.specs.DiskFault.{MayNotOpen, MayNotStore, MayNotBegin, MayNotName};
     ghost use Rattle.tftp_daemon.specs.Settings.{SameSettings};
     ghost use Rattle.tftp_daemon.specs.Uploads.{IsBelow};
 

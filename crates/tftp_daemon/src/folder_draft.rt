@@ -6,7 +6,7 @@ use std::alloc::Global;
 use std::fs::{self, OpenFile};
 use std::io::{self, Write};
 use std::rt::Files;
-use tftp_host::BlockWriter;
+use tftp_disk::BlockWriter;
 
 /// The number of unsynced bytes from which on a draft is to be synced once no transfer waits: so
 /// few that those that come meanwhile do not wait long.

@@ -5,7 +5,8 @@ use std::fs::{self, Metadata};
 use std::io::{self, ErrorKind};
 use std::os::unix::fs::MetadataExt;
 use std::rt::Files;
-use tftp_host::{Folder, Reason};
+use tftp_disk::Folder;
+use tftp_host::Reason;
 
 /// The most folders on a path below the root.
 const MOST_FOLDERS: u32 = 8;

@@ -7,8 +7,8 @@ use std::fs::Metadata;
 use std::io::{Read, Seek};
 use std::num::NonZeroUsize;
 use std::os::unix::fs::MetadataExt;
+use tftp_disk::length_on_wire;
 use tftp_file::{FileFault, MAX_WIRE};
-use tftp_host::length_on_wire;
 use tftp_wire::Mode;
 
 /// How many lengths are remembered.

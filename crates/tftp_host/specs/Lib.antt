@@ -1,5 +1,4 @@
 pub mod ClientOutcome
-pub mod DiskFault
 pub mod Fallback
 pub mod LogLine
 pub mod Printed

@@ -4,7 +4,7 @@ ghost use Rattle.std.specs.Prelude.{◌≡◌, ◌≢◌, ◌<◌, ◌≤◌, mi
 ghost use Rattle.tftp_file.specs.Length.{up_to};
 ghost use Rattle.tftp_wire.specs.declared.mode.Mode.TheVariants.{Octet};
 ghost use Rattle.tftp_file.specs.declared.fault.StoreFault.TheVariants.{Memory};
-ghost use Rattle.tftp_host.specs.DiskFault.{MayNotOpen, MayNotStore, MayNotName};
+ghost use Rattle.tftp_disk.specs.DiskFault.{MayNotOpen, MayNotStore, MayNotName};
 
 use std::io::{self, ErrorKind, Read, Seek, SeekFrom};
 use tftp_file::{FileFault, MAX_WIRE, StoreFault, wire_length_up_to};
