@@ -1,6 +1,7 @@
 pub mod CommandLine
 pub mod Conversation
 pub mod Converses
+pub mod Fallback
 pub mod Ordered
 pub mod Reason
 pub mod Runs

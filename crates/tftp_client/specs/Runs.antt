@@ -17,7 +17,7 @@ use Rattle.tftp_ends.specs.Opening.{getting, putting}
 use Rattle.tftp_ends.specs.declared.endpoint.Endpoint.{Endpoint}
 use Rattle.tftp_ends.specs.declared.outcome.Outcome.{Outcome}
 use Rattle.tftp_host.specs.ClientOutcome.{end_text}
-use Rattle.tftp_host.specs.Fallback.{FallsBack}
+use Rattle.tftp_client.specs.Fallback.{FallsBack}
 use Rattle.tftp_host.specs.declared.client.client_outcome.ClientOutcome.{ClientOutcome}
 use Rattle.tftp_host.specs.declared.client.client_outcome.ClientOutcome.TheVariants as ends
 use Rattle.tftp_sockets.specs.Journal.{Event}

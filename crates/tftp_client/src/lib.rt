@@ -10,5 +10,7 @@ mod local;
 mod program;
 mod taken;
 mod transfer;
+mod without_options;
 
 pub use program::{tftp_command, tftp_with_journal, tftp_words};
+pub use without_options::fallback;

@@ -1,5 +1,4 @@
 pub mod ClientOutcome
-pub mod Fallback
 pub mod LogLine
 pub mod Printed
 pub mod ProgressLine

@@ -5,6 +5,6 @@ mod client;
 mod reason;
 mod server;
 
-pub use client::{ClientOutcome, LineClock, ProgressLine, fallback};
+pub use client::{ClientOutcome, LineClock, ProgressLine};
 pub use reason::{Reason, reason_of};
 pub use server::{LogLine, Lost, Printed};

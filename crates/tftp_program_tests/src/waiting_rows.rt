@@ -1,8 +1,8 @@
 //! The waiting times of the programs, and when a transfer is tried again without options.
 
 use crate::expect::{expect, expect_equal};
+use tftp_client::fallback;
 use tftp_ends::Outcome;
-use tftp_host::fallback;
 use tftp_negotiate::Asked;
 use tftp_sockets::{Port, Watch, deadline, index_of, is_due, wait_for};
 

@@ -1,7 +1,7 @@
 //! Whether to retry a transfer without options.
 
 ghost use Rattle.std.specs.Prelude.{◌≡◌, ◌↔◌, IsTrue};
-ghost use Rattle.tftp_host.specs.Fallback.{FallsBack};
+ghost use Rattle.tftp_client.specs.Fallback.{FallsBack};
 
 use tftp_ends::{ErrorReply, Outcome};
 use tftp_negotiate::Asked;
