@@ -2,8 +2,8 @@
 use Rattle.std.specs.Prelude.{ℕ, ◌≡◌, ◌≤◌, ◌⊎◌, List}
 use Rattle.tftp_file.specs.Sink.{SinkMeaning}
 use Rattle.tftp_file.specs.Source.{SourceMeaning}
-use Rattle.tftp_host.specs.ClientOutcome.{status_of}
-use Rattle.tftp_host.specs.declared.client.client_outcome.ClientOutcome.{ClientOutcome}
+use Rattle.tftp_lines.specs.ClientOutcome.{status_of}
+use Rattle.tftp_lines.specs.declared.client_outcome.ClientOutcome.{ClientOutcome}
 use Rattle.tftp_sockets.specs.Journal.{Event}
 use Rattle.tftp_client.specs.Runs.{Completes, FailsTransfer}
 use Rattle.tftp_client.specs.declared.transfer.Job.{Job}

@@ -16,10 +16,10 @@ use Rattle.tftp_ends.specs.End.{EndState, is_complete}
 use Rattle.tftp_ends.specs.Opening.{getting, putting}
 use Rattle.tftp_ends.specs.declared.endpoint.Endpoint.{Endpoint}
 use Rattle.tftp_ends.specs.declared.outcome.Outcome.{Outcome}
-use Rattle.tftp_host.specs.ClientOutcome.{end_text}
+use Rattle.tftp_lines.specs.ClientOutcome.{end_text}
 use Rattle.tftp_client.specs.Fallback.{FallsBack}
-use Rattle.tftp_host.specs.declared.client.client_outcome.ClientOutcome.{ClientOutcome}
-use Rattle.tftp_host.specs.declared.client.client_outcome.ClientOutcome.TheVariants as ends
+use Rattle.tftp_lines.specs.declared.client_outcome.ClientOutcome.{ClientOutcome}
+use Rattle.tftp_lines.specs.declared.client_outcome.ClientOutcome.TheVariants as ends
 use Rattle.tftp_sockets.specs.Journal.{Event}
 use Rattle.tftp_sockets.specs.Journal.Event.{Printed, Sent}
 use Rattle.tftp_client.specs.declared.transfer.Job.{Job}

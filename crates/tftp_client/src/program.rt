@@ -1,8 +1,8 @@
 //! Runs `tftp` by a command line.
 
 ghost use Rattle.std.specs.Prelude.{◌≡◌, ◌≤◌, ◌⊎◌, ◌∷◌, IfOk, IfErr, map};
-ghost use Rattle.tftp_host.specs.ClientOutcome.{end_text, status_of};
-ghost use Rattle.tftp_host.specs.declared.client.client_outcome.ClientOutcome.TheVariants as ends;
+ghost use Rattle.tftp_lines.specs.ClientOutcome.{end_text, status_of};
+ghost use Rattle.tftp_lines.specs.declared.client_outcome.ClientOutcome.TheVariants as ends;
 ghost use Rattle.tftp_sockets.specs.Journal.Event.{Printed as Line};
 ghost use Rattle.tftp_client.specs.Conversation.{state_of};
 ghost use Rattle.tftp_client.specs.Ordered.{RunsOrder, RunsWords};

@@ -6,7 +6,7 @@
 
 pub use tftp_client::{fallback, tftp_command, tftp_words};
 pub use tftp_daemon::{FolderDraft, FolderStore, tftpd_command, tftpd_words};
-pub use tftp_host::{ClientOutcome, LineClock, LogLine, Printed, ProgressLine};
+pub use tftp_lines::{ClientOutcome, LineClock, LogLine, Printed, ProgressLine};
 pub use tftp_play::{play_command, play_run, play_words};
 pub use tftp_show::{ShowFault, show_command, show_lines, show_reported, show_run, show_words};
 pub use tftp_sockets::{LONGEST_WAIT, Port, Watch, deadline, index_of, is_due, wait_for};

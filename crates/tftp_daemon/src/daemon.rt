@@ -13,7 +13,7 @@ use std::io::{self, ErrorKind};
 use std::rt::Files;
 use std::time::Clock;
 use tftp_file::Source;
-use tftp_host::{Reason, reason_of};
+use tftp_lines::{Reason, reason_of};
 use tftp_loop::{LoopConfig, LoopFault, ServerUdp};
 use tftp_server::{Config, Server, Store};
 use tftp_sockets::Journal;

@@ -11,7 +11,7 @@ use std::io::{self, ErrorKind};
 use std::os::unix::fs::{MetadataExt, PermissionsExt};
 use std::rt::Files;
 use tftp_file::{Path, StoreFault};
-use tftp_host::Reason;
+use tftp_lines::Reason;
 
 /// The bits of a file's mode that say who may read, write and run it.
 const PERMISSIONS: u32 = 0o777;

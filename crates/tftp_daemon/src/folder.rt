@@ -19,7 +19,7 @@ use std::io::{self, ErrorKind};
 use std::rt::Files;
 use tftp_disk::{check_length, name_fault, open_fault, write_fault};
 use tftp_file::{FileFault, MAX_WIRE, Path, PathFault, StoreFault, path_of};
-use tftp_host::{Reason, reason_of};
+use tftp_lines::{Reason, reason_of};
 use tftp_loop::ServedStore;
 use tftp_server::{Opening, Store};
 use tftp_wire::Mode;

@@ -5,7 +5,7 @@ use std::cell::Cell;
 use std::io::{self, BufReader, Read, Seek, SeekFrom};
 use std::rc::Rc;
 use tftp_file::{Ahead, FileFault, ReadSource, Source};
-use tftp_host::{Reason, reason_of};
+use tftp_lines::{Reason, reason_of};
 use tftp_wire::Mode;
 
 /// The capacity of a read buffer in bytes. Blocks of at least this size bypass it.

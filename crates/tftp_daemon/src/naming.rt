@@ -6,7 +6,7 @@ use std::io::{self, ErrorKind};
 use std::os::unix::fs::MetadataExt;
 use std::rt::Files;
 use tftp_disk::Folder;
-use tftp_host::Reason;
+use tftp_lines::Reason;
 
 /// The most folders on a path below the root.
 const MOST_FOLDERS: u32 = 8;

@@ -12,7 +12,7 @@ use std::rc::Rc;
 use std::rt::Files;
 use tftp_daemon::{FolderStore, ServedStore};
 use tftp_file::{MAX_WIRE, Path, StoreFault, path_of};
-use tftp_host::Reason;
+use tftp_lines::Reason;
 use tftp_server::Store;
 use tftp_wire::Mode;
 

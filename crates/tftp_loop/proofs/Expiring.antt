@@ -18,8 +18,8 @@ use Rattle.tftp_server.specs.State.{HeldTransfer, at, draft_of, is_closed, taken
 use Rattle.tftp_server.specs.Request.{Came, Left, Nothing, Error_reply, A_transfer, left_by}
 use Rattle.tftp_sockets.specs.Watch.{deadline_of, last_moment}
 use Rattle.tftp_sockets.specs.declared.watch.TheConstants.{LONGEST_WAIT}
-use Rattle.tftp_host.specs.Printed.{line_text}
-use Rattle.tftp_host.specs.declared.server.printed.Printed.TheVariants.{Closed}
+use Rattle.tftp_lines.specs.Printed.{line_text}
+use Rattle.tftp_lines.specs.declared.printed.Printed.TheVariants.{Closed}
 use Rattle.tftp_sockets.specs.Journal.{Event, replied}
 use Rattle.tftp_sockets.specs.Journal.Event.{Printed}
 use Rattle.tftp_loop.specs.Run.{Run}

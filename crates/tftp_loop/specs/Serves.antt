@@ -26,8 +26,8 @@ use Rattle.tftp_server.specs.Shortage.{LacksMemoryAt, RequestLacksMemory}
 use Rattle.tftp_server.specs.Work.{WorksAt}
 use Rattle.tftp_sockets.specs.Watch.{deadline_of, last_moment}
 use Rattle.tftp_sockets.specs.declared.watch.TheConstants.{LONGEST_WAIT}
-use Rattle.tftp_host.specs.Printed.{line_text}
-use Rattle.tftp_host.specs.declared.server.printed.Printed.TheVariants.{Closed, Listening}
+use Rattle.tftp_lines.specs.Printed.{line_text}
+use Rattle.tftp_lines.specs.declared.printed.Printed.TheVariants.{Closed, Listening}
 use Rattle.tftp_sockets.specs.Bound.{IsBoundTo}
 use Rattle.tftp_sockets.specs.Journal.{Event, replied, answered}
 use Rattle.tftp_sockets.specs.Journal.Event.{Received, Watched, Elapsed, Printed, Quiet}

@@ -3,7 +3,7 @@
 use std::alloc::Global;
 use std::cell::Cell;
 use tftp_ends::{Endpoint, Outcome};
-use tftp_host::{LogLine, Reason};
+use tftp_lines::{LogLine, Reason};
 use tftp_wire::{PacketRef, decode_ref, show_datagram};
 
 /// The content of a transfer's log lines.

@@ -9,7 +9,7 @@ use crate::serving::LoopFault;
 use crate::transfer_port::TransferPort;
 use std::alloc::Global;
 use tftp_ends::{Endpoint, Outcome, Record};
-use tftp_host::{LogLine, Lost, Printed, Reason};
+use tftp_lines::{LogLine, Lost, Printed, Reason};
 use tftp_server::{Server, Store};
 use tftp_sockets::{Journal, print_line};
 

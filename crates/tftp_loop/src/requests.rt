@@ -20,7 +20,7 @@ use crate::server_udp::ServerUdp;
 use crate::store::ServedStore;
 use crate::transfer_port::{TransferPort, TransferSocket, next_look, reply};
 use tftp_ends::{DEFAULT_INTERVAL, Endpoint};
-use tftp_host::{Lost, Reason};
+use tftp_lines::{Lost, Reason};
 use tftp_server::{Admission, Opened, Server, Store};
 use tftp_sockets::{Port, Receipt, ServerSocket, deadline};
 

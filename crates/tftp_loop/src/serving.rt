@@ -13,7 +13,7 @@ use crate::store::ServedStore;
 use std::alloc::Global;
 use std::time::Clock;
 use tftp_ends::Endpoint;
-use tftp_host::{Printed, Reason, reason_of};
+use tftp_lines::{Printed, Reason, reason_of};
 use tftp_server::Server;
 use tftp_sockets::{Journal, print_line};
 

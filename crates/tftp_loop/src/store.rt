@@ -2,7 +2,7 @@
 
 ghost use Rattle.std.specs.Prelude.{◌≡◌};
 
-use tftp_host::Reason;
+use tftp_lines::Reason;
 use tftp_server::Store;
 use tftp_store::MemStore;
 

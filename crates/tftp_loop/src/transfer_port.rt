@@ -16,7 +16,7 @@ ghost use Rattle.tftp_loop.specs.Tended.{marked_if};
 
 use crate::log_entry::LogEntry;
 use tftp_ends::{Endpoint, Step};
-use tftp_host::Reason;
+use tftp_lines::Reason;
 use tftp_server::{Server, Store};
 use tftp_sockets::{Journal, Port, Receipt, ServerSocket, deadline, is_due};
 

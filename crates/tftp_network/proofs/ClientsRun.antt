@@ -3,8 +3,8 @@ use Rattle.std.proofs.Common.{ℕ}
 use Rattle.tftp_file.specs.Sink.{SinkMeaning}
 use Rattle.tftp_file.specs.Source.{SourceMeaning}
 use Rattle.tftp_file.specs.declared.files.Files.{Files}
-use Rattle.tftp_host.specs.ClientOutcome.{end_text}
-use Rattle.tftp_host.specs.declared.client.client_outcome.ClientOutcome.TheVariants as ends
+use Rattle.tftp_lines.specs.ClientOutcome.{end_text}
+use Rattle.tftp_lines.specs.declared.client_outcome.ClientOutcome.TheVariants as ends
 use Rattle.tftp_client.specs.Converses.{State, Converses}
 use Rattle.tftp_client.specs.Converses.Converses.{Begins, Receives, Waits, Times, Rests}
 use Rattle.tftp_network.specs.ClientRuns.{ClientRun, ClientsAreRuns, Starts, Goes_on, Receives_one, Waits_until}

@@ -17,8 +17,8 @@ use Rattle.tftp_ends.specs.Opening.{getting, oack_bytes}
 use Rattle.tftp_ends.specs.Step.{DatagramStep, Done, Turn, after_turn, ack_bytes, committed_turn, data_bytes}
 use Rattle.tftp_ends.specs.Step.{response_turn}
 use Rattle.tftp_ends.specs.Waiting.{agreed_terms}
-use Rattle.tftp_host.specs.ClientOutcome.{end_text}
-use Rattle.tftp_host.specs.declared.client.client_outcome.ClientOutcome.TheVariants as ends
+use Rattle.tftp_lines.specs.ClientOutcome.{end_text}
+use Rattle.tftp_lines.specs.declared.client_outcome.ClientOutcome.TheVariants as ends
 use Rattle.tftp_sockets.specs.Journal.Event.{Received, Sent, Watched, Printed, Quiet}
 use Rattle.tftp_sockets.specs.Journal.QuietEvent.{Slept}
 use Rattle.tftp_client.specs.Converses.{State}

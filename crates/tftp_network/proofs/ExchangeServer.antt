@@ -29,8 +29,8 @@ use Rattle.tftp_ends.specs.Step.{filled_turn, reported, response_turn, timeout_t
 use Rattle.tftp_ends.specs.Waiting.{agreed_terms, default_terms}
 use Rattle.tftp_store.specs.Memory.{memory_meaning}
 use Rattle.tftp_store.specs.Store.{FileList, Stored, Drafted, new_draft}
-use Rattle.tftp_host.specs.Printed.{line_text}
-use Rattle.tftp_host.specs.declared.server.printed.Printed.TheVariants.{Closed}
+use Rattle.tftp_lines.specs.Printed.{line_text}
+use Rattle.tftp_lines.specs.declared.printed.Printed.TheVariants.{Closed}
 use Rattle.tftp_machine.specs.Machine.{Endpoint}
 use Rattle.tftp_server.specs.Draft.{Drafting}
 use Rattle.tftp_server.specs.Request.{A_transfer, AsksToRead, left_by}

@@ -12,8 +12,8 @@ use Rattle.tftp_ends.specs.End.{EndState}
 use Rattle.tftp_ends.specs.Opening.{putting}
 use Rattle.tftp_ends.specs.Step.{DatagramStep, Turn, after_turn, ack_bytes, data_bytes, filled_turn, response_turn}
 use Rattle.tftp_ends.specs.Waiting.{default_terms}
-use Rattle.tftp_host.specs.ClientOutcome.{end_text}
-use Rattle.tftp_host.specs.declared.client.client_outcome.ClientOutcome.TheVariants as ends
+use Rattle.tftp_lines.specs.ClientOutcome.{end_text}
+use Rattle.tftp_lines.specs.declared.client_outcome.ClientOutcome.TheVariants as ends
 use Rattle.tftp_sockets.specs.Journal.Event.{Received, Sent, Watched, Printed, Quiet}
 use Rattle.tftp_sockets.specs.Journal.QuietEvent.{Empty, Slept}
 use Rattle.tftp_client.specs.Converses.{State}

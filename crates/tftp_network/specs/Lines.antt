@@ -2,8 +2,8 @@
 use Rattle.std.specs.Prelude.{ℕ, ◌≡◌, List, [], ◌∷◌, ◌++◌}
 use Rattle.tftp_file.specs.Source.{SourceMeaning}
 use Rattle.tftp_store.specs.Store.{StoreMeaning}
-use Rattle.tftp_host.specs.Printed.{line_text}
-use Rattle.tftp_host.specs.declared.server.printed.Printed.TheVariants.{Closed}
+use Rattle.tftp_lines.specs.Printed.{line_text}
+use Rattle.tftp_lines.specs.declared.printed.Printed.TheVariants.{Closed}
 use Rattle.tftp_server.specs.State.{ServerState}
 use Rattle.tftp_sockets.specs.Journal.{Event}
 use Rattle.tftp_sockets.specs.Journal.Event.{Printed}

@@ -21,10 +21,10 @@ use Rattle.tftp_ends.specs.declared.error_reply.ErrorReply.TheVariants.{UnknownT
 use Rattle.tftp_ends.specs.declared.outcome.Outcome.TheVariants as outcomes
 use Rattle.tftp_store.specs.Memory.{memory_meaning}
 use Rattle.tftp_store.specs.Store.{Drafted}
-use Rattle.tftp_host.specs.ClientOutcome.{end_text}
-use Rattle.tftp_host.specs.Printed.{line_text}
-use Rattle.tftp_host.specs.declared.client.client_outcome.ClientOutcome.TheVariants as ends
-use Rattle.tftp_host.specs.declared.server.printed.Printed.TheVariants.{Closed}
+use Rattle.tftp_lines.specs.ClientOutcome.{end_text}
+use Rattle.tftp_lines.specs.Printed.{line_text}
+use Rattle.tftp_lines.specs.declared.client_outcome.ClientOutcome.TheVariants as ends
+use Rattle.tftp_lines.specs.declared.printed.Printed.TheVariants.{Closed}
 use Rattle.tftp_machine.specs.Machine.{Endpoint}
 use Rattle.tftp_server.specs.State.{HeldTransfer}
 use Rattle.tftp_sockets.specs.Journal.Event.{Received, Sent, Watched, Elapsed, Printed, Quiet}

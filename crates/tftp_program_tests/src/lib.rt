@@ -1,5 +1,5 @@
-//! The tests of the programs' functions, over the public calls of `tftp_show`,
-//! `tftp_play` and `tftp_host`.
+//! The tests of the programs' functions, over the public calls of `tftp_show`, `tftp_play`,
+//! `tftp_client`, `tftp_lines` and `tftp_sockets`.
 #![tactic(auto)]
 
 #[cfg(test)]

@@ -5,7 +5,7 @@ use std::fmt::Display;
 use std::process::Abort;
 use std::test::Fail;
 use tftp_ends::{Endpoint, OpenFault, Outcome};
-use tftp_host::{ClientOutcome, LineClock, LogLine, Lost, Printed, ProgressLine, Reason};
+use tftp_lines::{ClientOutcome, LineClock, LogLine, Lost, Printed, ProgressLine, Reason};
 
 /// A value prints this.
 fn prints<R: AllocGlobal + Abort, D: Display>(

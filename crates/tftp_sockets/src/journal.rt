@@ -2,8 +2,8 @@
 
 ghost use Rattle.std.specs.Prelude.{◌≡◌, List, [], ◌∷◌};
 ghost use Rattle.std.specs.Borrow.{ftrue};
-ghost use Rattle.tftp_host.specs.ClientOutcome.{end_text};
-ghost use Rattle.tftp_host.specs.Printed.{line_text};
+ghost use Rattle.tftp_lines.specs.ClientOutcome.{end_text};
+ghost use Rattle.tftp_lines.specs.Printed.{line_text};
 ghost use Rattle.tftp_sockets.specs.Journal.{Event};
 ghost use Rattle.tftp_sockets.specs.Journal.Event.{Received, Sent, Watched};
 ghost use Rattle.tftp_sockets.specs.Journal.Event.{Elapsed, Printed as Line, Quiet};
@@ -11,7 +11,7 @@ ghost use Rattle.tftp_sockets.specs.Journal.QuietEvent.{Empty, Failed, No_socket
 
 use std::marker::{Model, PhantomData};
 use tftp_ends::Endpoint;
-use tftp_host::{ClientOutcome, Printed};
+use tftp_lines::{ClientOutcome, Printed};
 
 /// What a program did over UDP, the newest event first.
 ///

@@ -14,8 +14,8 @@
 
 ghost use Rattle.std.specs.Prelude.{◌≡◌, ◌≢◌, ◌≤◌, ◌+◌, ◌∷◌, [], true, length, max};
 ghost use Rattle.std.specs.Prelude.{IfOk, OnErr, OnOk, if◌then◌else◌};
-ghost use Rattle.tftp_host.specs.ClientOutcome.{end_text};
-ghost use Rattle.tftp_host.specs.Printed.{line_text};
+ghost use Rattle.tftp_lines.specs.ClientOutcome.{end_text};
+ghost use Rattle.tftp_lines.specs.Printed.{line_text};
 ghost use Rattle.tftp_sockets.specs.declared.watch.TheConstants.{LONGEST_WAIT};
 ghost use Rattle.tftp_sockets.specs.Journal.Event.{Sent, Watched, Printed as Line, Quiet};
 ghost use Rattle.tftp_sockets.specs.Journal.QuietEvent.{No_socket, Slept, Woke};
@@ -34,7 +34,7 @@ use std::io::{self, ErrorKind};
 use std::net::{Net, SocketAddr, UdpSocket};
 use std::time::{Clock, Duration};
 use tftp_ends::Endpoint;
-use tftp_host::{ClientOutcome, Printed, Reason, reason_of};
+use tftp_lines::{ClientOutcome, Printed, Reason, reason_of};
 
 /// A non-blocking socket of a server.
 #[derive(Drop)]

@@ -3,7 +3,7 @@
 ghost use Rattle.std.specs.Prelude.{◌≡◌, true};
 ghost use Rattle.tftp_ends.specs.End.{is_complete};
 ghost use Rattle.tftp_ends.specs.Files.{AreFilesOf};
-ghost use Rattle.tftp_host.specs.declared.client.client_outcome.ClientOutcome.TheVariants as ends;
+ghost use Rattle.tftp_lines.specs.declared.client_outcome.ClientOutcome.TheVariants as ends;
 ghost use Rattle.tftp_client.specs.Conversation.{IsReady};
 
 use crate::local::{LocalFile, LocalSource};
@@ -11,7 +11,7 @@ use crate::transfer::conversation::Conversation;
 use std::rt::Files as FileSystem;
 use std::time::Clock;
 use tftp_file::{Files, Sink, Source};
-use tftp_host::ClientOutcome;
+use tftp_lines::ClientOutcome;
 use tftp_sockets::Journal;
 
 /// A complete transfer: the file is sent and acknowledged, or stored, named and acknowledged. The

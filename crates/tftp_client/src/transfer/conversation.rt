@@ -19,7 +19,7 @@ use std::alloc::{AllocError, Global};
 use std::time::Clock;
 use tftp_ends::{End, Endpoint, Outcome, Step, decode_packet};
 use tftp_file::{Files, Sink, Source};
-use tftp_host::{LineClock, ProgressLine};
+use tftp_lines::{LineClock, ProgressLine};
 use tftp_negotiate::stated_tsize;
 use tftp_sockets::{
     ClientSocket, DATAGRAM_BUFFER, Journal, LONGEST_WAIT, Receipt, Watch, deadline, is_due,

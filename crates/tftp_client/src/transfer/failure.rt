@@ -1,13 +1,13 @@
 //! The outcome and the reason of a client's failed transfer.
 
 ghost use Rattle.std.specs.Prelude.{◌≡◌, ◌≤◌};
-ghost use Rattle.tftp_host.specs.ClientOutcome.{status_of};
-ghost use Rattle.tftp_host.specs.declared.client.client_outcome.ClientOutcome.TheVariants as ends;
+ghost use Rattle.tftp_lines.specs.ClientOutcome.{status_of};
+ghost use Rattle.tftp_lines.specs.declared.client_outcome.ClientOutcome.TheVariants as ends;
 
 use std::alloc::AllocError;
 use std::{fmt, io};
 use tftp_ends::OpenFault;
-use tftp_host::ClientOutcome;
+use tftp_lines::ClientOutcome;
 
 /// The reason of a failure. `{}` writes it in words.
 #[derive(Drop)]

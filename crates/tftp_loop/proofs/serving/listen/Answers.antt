@@ -1,7 +1,7 @@
 use Rattle.std.proofs.Common.{List, ◌∷◌, ap, subst, ◌∙◌}
 use Rattle.tftp_ends.specs.declared.endpoint.Endpoint.{Endpoint}
-use Rattle.tftp_host.specs.Printed.{line_text}
-use Rattle.tftp_host.specs.declared.server.printed.Printed.TheVariants.{Listening}
+use Rattle.tftp_lines.specs.Printed.{line_text}
+use Rattle.tftp_lines.specs.declared.printed.Printed.TheVariants.{Listening}
 use Rattle.tftp_sockets.specs.Journal.{Event}
 use Rattle.tftp_sockets.specs.Journal.Event.{Printed}
 use Rattle.tftp_loop.specs.Run.Run.{Start}

@@ -27,9 +27,9 @@ use denote.Triple.Spec.{Meets, triple_of}
 use denote.Triple.Table.{entered}
 use denote.Triple.Walked.{says, Stays, stay_ref, walk_of, AllGo, Goes-ref, Walks, ends_at, walked, walk_Meets}
 use Rattle.tftp_sockets.specs.declared.journal.Journal.{Journal}
-use Rattle.tftp_host.specs.declared.server.printed.Printed.{Printed}
-use Rattle.tftp_host.specs.contracts.server.printed.Printed as E
-use Rattle.tftp_host.specs.Printed.{line_text}
+use Rattle.tftp_lines.specs.declared.printed.Printed.{Printed}
+use Rattle.tftp_lines.specs.contracts.printed.Printed as E
+use Rattle.tftp_lines.specs.Printed.{line_text}
 use Rattle.tftp_sockets.specs.Journal.Event.{Printed as Line}
 use Rattle.tftp_sockets.specs.contracts.journal.Journal as T
 use Rattle.tftp_sockets.specs.contracts.journal.Journal.listed.Key.{name as #it}

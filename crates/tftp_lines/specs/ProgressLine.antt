@@ -2,7 +2,7 @@
 use Rattle.std.specs.Prelude.{ℕ, ◌≤◌, ◌-◌, ◌*◌, ◌/◌, ◌%◌, nat_le, max, if◌then◌else◌, List, ◌++◌}
 use Rattle.std.specs.Prelude.{codes, Option, Some, None}
 use Rattle.std.specs.Fmt.{decimal}
-use Rattle.tftp_host.specs.declared.client.progress_line.ProgressLine.{ProgressLine}
+use Rattle.tftp_lines.specs.declared.progress_line.ProgressLine.{ProgressLine}
 
 -- a line is due: none was written yet, or the newest one at least a tenth of a second ago
 abbrev pub IsLineDue : Option ℕ → ℕ → Type 0

@@ -4,13 +4,13 @@ use Rattle.std.specs.Fmt.{decimal}
 use Rattle.tftp_ends.specs.Outcome.{outcome_text}
 use Rattle.tftp_ends.specs.declared.fault.OpenFault.{OpenFault}
 use Rattle.tftp_ends.specs.declared.fault.OpenFault.TheVariants as open_faults
-use Rattle.tftp_host.specs.declared.client.client_outcome.ClientOutcome.{ClientOutcome}
-use Rattle.tftp_host.specs.declared.client.client_outcome.ClientOutcome.TheVariants.{Complete}
-use Rattle.tftp_host.specs.declared.client.client_outcome.ClientOutcome.TheVariants.{Failed}
-use Rattle.tftp_host.specs.declared.client.client_outcome.ClientOutcome.TheVariants.{FileFault}
-use Rattle.tftp_host.specs.declared.client.client_outcome.ClientOutcome.TheVariants.{SocketFault}
-use Rattle.tftp_host.specs.declared.client.client_outcome.ClientOutcome.TheVariants.{NotOpened}
-use Rattle.tftp_host.specs.declared.client.client_outcome.ClientOutcome.TheVariants.{Memory}
+use Rattle.tftp_lines.specs.declared.client_outcome.ClientOutcome.{ClientOutcome}
+use Rattle.tftp_lines.specs.declared.client_outcome.ClientOutcome.TheVariants.{Complete}
+use Rattle.tftp_lines.specs.declared.client_outcome.ClientOutcome.TheVariants.{Failed}
+use Rattle.tftp_lines.specs.declared.client_outcome.ClientOutcome.TheVariants.{FileFault}
+use Rattle.tftp_lines.specs.declared.client_outcome.ClientOutcome.TheVariants.{SocketFault}
+use Rattle.tftp_lines.specs.declared.client_outcome.ClientOutcome.TheVariants.{NotOpened}
+use Rattle.tftp_lines.specs.declared.client_outcome.ClientOutcome.TheVariants.{Memory}
 
 -- the status: 0 for a complete transfer, 1 for one that failed, 2 if none was opened
 abbrev pub status_of : ClientOutcome → ℕ

@@ -15,7 +15,7 @@ pub enum Lost {
 
 impl fmt::Display for Lost {
     ghost use Rattle.std.specs.Prelude.{Some};
-    ghost use Rattle.tftp_host.specs.LogLine.{lost_text};
+    ghost use Rattle.tftp_lines.specs.LogLine.{lost_text};
 
     ghost output = { λ lost. Some (lost_text lost) };
 
@@ -85,7 +85,7 @@ struct Why(Option<Reason>);
 
 impl fmt::Display for Why {
     ghost use Rattle.std.specs.Prelude.{Some};
-    ghost use Rattle.tftp_host.specs.LogLine.{why_text};
+    ghost use Rattle.tftp_lines.specs.LogLine.{why_text};
 
     ghost output = { λ why. Some (why_text why.0) };
 
@@ -99,7 +99,7 @@ impl fmt::Display for Why {
 
 impl fmt::Display for LogLine<'_> {
     ghost use Rattle.std.specs.Prelude.{Some};
-    ghost use Rattle.tftp_host.specs.LogLine.{log_text};
+    ghost use Rattle.tftp_lines.specs.LogLine.{log_text};
 
     ghost output = { λ line. Some (log_text line) };
 

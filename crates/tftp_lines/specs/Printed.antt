@@ -3,8 +3,8 @@ use Rattle.std.specs.Prelude.{ℕ, List, ◌∷◌, ◌++◌, codes}
 use Rattle.std.specs.Fmt.{decimal}
 use Rattle.tftp_ends.specs.Endpoint.{endpoint_text}
 use Rattle.tftp_ends.specs.Outcome.{outcome_text}
-use Rattle.tftp_host.specs.declared.server.printed.Printed.{Printed}
-use Rattle.tftp_host.specs.declared.server.printed.Printed.TheVariants as line
+use Rattle.tftp_lines.specs.declared.printed.Printed.{Printed}
+use Rattle.tftp_lines.specs.declared.printed.Printed.TheVariants as line
 
 -- a line, without its end
 abbrev pub line_text : Printed → List ℕ

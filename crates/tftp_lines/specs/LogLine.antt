@@ -4,13 +4,13 @@ use Rattle.std.specs.Fmt.{decimal}
 use Rattle.tftp_ends.specs.Endpoint.{endpoint_text}
 use Rattle.tftp_ends.specs.Outcome.{outcome_text}
 use Rattle.tftp_ends.specs.declared.endpoint.Endpoint.{Endpoint}
-use Rattle.tftp_host.specs.declared.reason.Reason.{Reason}
-use Rattle.tftp_host.specs.declared.server.log_line.Lost.{Lost as LostReason}
-use Rattle.tftp_host.specs.declared.server.log_line.Lost.TheVariants as lost_reasons
-use Rattle.tftp_host.specs.declared.server.log_line.LogLine.{LogLine}
-use Rattle.tftp_host.specs.declared.server.log_line.LogLine.TheVariants.{Opened, Refused, Ignored}
-use Rattle.tftp_host.specs.declared.server.log_line.LogLine.TheVariants.{Lost, Unsent, Closed}
-use Rattle.tftp_host.specs.Reason.{reason_text}
+use Rattle.tftp_lines.specs.declared.reason.Reason.{Reason}
+use Rattle.tftp_lines.specs.declared.log_line.Lost.{Lost as LostReason}
+use Rattle.tftp_lines.specs.declared.log_line.Lost.TheVariants as lost_reasons
+use Rattle.tftp_lines.specs.declared.log_line.LogLine.{LogLine}
+use Rattle.tftp_lines.specs.declared.log_line.LogLine.TheVariants.{Opened, Refused, Ignored}
+use Rattle.tftp_lines.specs.declared.log_line.LogLine.TheVariants.{Lost, Unsent, Closed}
+use Rattle.tftp_lines.specs.Reason.{reason_text}
 
 -- what a lost request lacked
 abbrev pub lost_text : LostReason → List ℕ

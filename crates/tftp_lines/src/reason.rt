@@ -2,7 +2,7 @@
 
 ghost use Rattle.std.specs.Prelude.{◌≡◌};
 ghost use Rattle.std.specs.IoError.{raw_os_error};
-ghost use Rattle.tftp_host.specs.Reason.{reason_of, reason_of_number};
+ghost use Rattle.tftp_lines.specs.Reason.{reason_of, reason_of_number};
 
 use std::{fmt, io};
 
@@ -99,7 +99,7 @@ fn reason_of_number(number: u32) -> Reason
 
 impl fmt::Display for Reason {
     ghost use Rattle.std.specs.Prelude.{Some};
-    ghost use Rattle.tftp_host.specs.Reason.{reason_text};
+    ghost use Rattle.tftp_lines.specs.Reason.{reason_text};
 
     ghost output = { λ reason. Some (reason_text reason) };
 

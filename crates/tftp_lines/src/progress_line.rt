@@ -1,7 +1,7 @@
 //! The progress line of a client's transfer, and when one is due.
 
 ghost use Rattle.std.specs.Prelude.{◌≡◌, ◌↔◌, IsTrue, if◌then◌else◌, Some};
-ghost use Rattle.tftp_host.specs.ProgressLine.{IsLineDue, percent_of, tenths_of};
+ghost use Rattle.tftp_lines.specs.ProgressLine.{IsLineDue, percent_of, tenths_of};
 
 use std::fmt;
 
@@ -65,7 +65,7 @@ impl ProgressLine {
 
 impl fmt::Display for ProgressLine {
     ghost use Rattle.std.specs.Prelude.{Some};
-    ghost use Rattle.tftp_host.specs.ProgressLine.{progress_line_text};
+    ghost use Rattle.tftp_lines.specs.ProgressLine.{progress_line_text};
 
     ghost output = { λ line. Some (progress_line_text line) };
 

@@ -1,7 +1,7 @@
 //! How a run of `tftp` ended: its last line and its status.
 
 ghost use Rattle.std.specs.Prelude.{◌≡◌};
-ghost use Rattle.tftp_host.specs.ClientOutcome.{open_fault_word, status_of};
+ghost use Rattle.tftp_lines.specs.ClientOutcome.{open_fault_word, status_of};
 
 use std::fmt;
 use tftp_ends::{OpenFault, Outcome};
@@ -55,7 +55,7 @@ fn open_fault_word(fault: OpenFault) -> &'static str
 
 impl fmt::Display for ClientOutcome {
     ghost use Rattle.std.specs.Prelude.{Some};
-    ghost use Rattle.tftp_host.specs.ClientOutcome.{end_text};
+    ghost use Rattle.tftp_lines.specs.ClientOutcome.{end_text};
 
     ghost output = { λ end. Some (end_text end) };
 

@@ -18,7 +18,7 @@ pub enum Printed {
 
 impl fmt::Display for Printed {
     ghost use Rattle.std.specs.Prelude.{Some};
-    ghost use Rattle.tftp_host.specs.Printed.{line_text};
+    ghost use Rattle.tftp_lines.specs.Printed.{line_text};
 
     ghost output = { λ line. Some (line_text line) };
 

@@ -2,8 +2,8 @@
 use Rattle.std.specs.Prelude.{ℕ, ℤ, unsigned_abs, List, ◌++◌, codes, Option, Some, None}
 use Rattle.std.specs.Prelude.{if◌then◌else◌, ◌==◌}
 use Rattle.std.specs.Fmt.{decimal}
-use Rattle.tftp_host.specs.declared.reason.Reason.{Reason}
-use Rattle.tftp_host.specs.declared.reason.Reason.TheVariants as reasons
+use Rattle.tftp_lines.specs.declared.reason.Reason.{Reason}
+use Rattle.tftp_lines.specs.declared.reason.Reason.TheVariants as reasons
 
 -- the reason of an error number of Linux
 abbrev pub reason_of_number : ℕ → Reason

@@ -1,0 +1,18 @@
+//! The lines that `tftp` and `tftpd` print, and why the system refused a call, in words.
+//!
+//! It prints nothing itself, and decides no step of a transfer.
+//!
+//! Begin with [`LogLine`], a line of `tftpd --log`, and [`ClientOutcome`], the last line of `tftp`.
+#![tactic(auto)]
+
+mod client_outcome;
+mod log_line;
+mod printed;
+mod progress_line;
+mod reason;
+
+pub use client_outcome::ClientOutcome;
+pub use log_line::{LogLine, Lost};
+pub use printed::Printed;
+pub use progress_line::{LineClock, ProgressLine};
+pub use reason::{Reason, reason_of};
