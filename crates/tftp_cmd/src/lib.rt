@@ -5,7 +5,8 @@
 #![tactic(auto)]
 
 pub use tftp_client::{fallback, tftp_command, tftp_words};
-pub use tftp_daemon::{FolderDraft, FolderStore, tftpd_command, tftpd_words};
+pub use tftp_daemon::{tftpd_command, tftpd_words};
+pub use tftp_folder::{FolderDraft, FolderStore};
 pub use tftp_lines::{ClientOutcome, LineClock, LogLine, Printed, ProgressLine};
 pub use tftp_play::{play_command, play_run, play_words};
 pub use tftp_show::{ShowFault, show_command, show_lines, show_reported, show_run, show_words};

@@ -7,7 +7,7 @@ use Rattle.tftp_sockets.specs.Journal.{Event}
 use Rattle.tftp_daemon.specs.Configured.{MayServe, ServesWords, status_of}
 use Rattle.tftp_daemon.specs.Words.{WordsConfigure}
 use Rattle.tftp_daemon.specs.declared.daemon.DaemonConfig.{DaemonConfig}
-use Rattle.tftp_daemon.specs.declared.folder.FolderStore.{FolderStore}
+use Rattle.tftp_folder.specs.declared.folder_store.FolderStore.{FolderStore}
 
 -- a result with a status of 0 is a success
 pub on_zero : {A E : Type 0} (r : Result A E) (P : Type 0) → OnOk r P → status_of r ≡ 0 → P

@@ -1,4 +1,3 @@
-mod UploadLemmas
 mod ConfiguredLemmas
 mod Commands
 mod Keeping

@@ -9,7 +9,7 @@ use Rattle.tftp_sockets.specs.Journal.{Event}
 use Rattle.tftp_loop.specs.Serves.{Serves, ServesIn, ServesToEnd, listening}
 use Rattle.tftp_daemon.specs.Words.{WordsConfigure}
 use Rattle.tftp_daemon.specs.declared.daemon.DaemonConfig.{DaemonConfig}
-use Rattle.tftp_daemon.specs.declared.folder.FolderStore.{FolderStore}
+use Rattle.tftp_folder.specs.declared.folder_store.FolderStore.{FolderStore}
 
 -- the status of the program: 0, or 2 for a fault
 abbrev pub status_of : {A E : Type 0} → Result A E → ℕ

@@ -3,8 +3,8 @@ use Rattle.tftp_file.specs.Source.{SourceMeaning}
 use Rattle.tftp_store.specs.Store.{StoreMeaning}
 use Rattle.tftp_loop.specs.Run.{Run}
 use Rattle.tftp_loop.specs.Serves.{Does, LoopState}
-use Rattle.tftp_daemon.specs.Settings.{SameSettings}
-use Rattle.tftp_daemon.specs.declared.folder.FolderStore.{FolderStore}
+use Rattle.tftp_folder.specs.Settings.{SameSettings}
+use Rattle.tftp_folder.specs.declared.folder_store.FolderStore.{FolderStore}
 
 module _ {S F D : Type 0} (Same : S → S → Type 0) (meaning : StoreMeaning S D)
     (sources : SourceMeaning F) where

@@ -1,5 +1,3 @@
-pub mod Uploads
-pub mod Settings
 pub mod Kept
 pub mod CommandLine
 pub mod Words

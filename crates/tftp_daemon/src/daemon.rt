@@ -6,13 +6,12 @@ ghost use Rattle.tftp_loop.specs.Serves.{Serves, ServesIn, ServesToEnd, listenin
 ghost use Rattle.tftp_daemon.specs.Configured.{IsServerOf, IsUploads, MayServe};
 ghost use Rattle.tftp_daemon.specs.Configured.{status_of};
 
-use crate::folder::FolderStore;
-use crate::folder_source::FolderSource;
 use std::alloc::Global;
 use std::io::{self, ErrorKind};
 use std::rt::Files;
 use std::time::Clock;
 use tftp_file::Source;
+use tftp_folder::{FolderSource, FolderStore};
 use tftp_lines::{Reason, reason_of};
 use tftp_loop::{LoopConfig, LoopFault, ServerUdp};
 use tftp_server::{Config, Server, Store};

@@ -2,10 +2,9 @@
 
 ghost use Rattle.tftp_daemon.specs.Kept.{RunKeepsSettings};
 
-use crate::folder::FolderStore;
-use crate::folder_source::FolderSource;
 use std::rt::Files;
 use tftp_file::Source;
+use tftp_folder::{FolderSource, FolderStore};
 use tftp_server::Store;
 
 /// A run leaves the settings of its store: one that refuses writes refuses them to its end, and one

@@ -6,8 +6,6 @@ ghost use Rattle.tftp_daemon.specs.Configured.{MayServe, ServesWords, status_of}
 
 use crate::command_line::{Asked, Texts, read_words};
 use crate::daemon::{DaemonConfig, DaemonFault, serve};
-use crate::folder::FolderStore;
-use crate::folder_source::FolderSource;
 use std::alloc::Global;
 use std::convert::AsStr;
 use std::io;
@@ -17,6 +15,7 @@ use std::rt::{Files, Runtime};
 use std::time::Clock;
 use tftp_arguments::{own_words, print_no_memory};
 use tftp_file::Source;
+use tftp_folder::{FolderSource, FolderStore};
 use tftp_loop::{LoopConfig, LoopFault, ServerUdp};
 use tftp_server::Store;
 use tftp_sockets::Journal;

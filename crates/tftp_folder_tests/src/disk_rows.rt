@@ -10,10 +10,10 @@ use std::alloc::Global;
 use std::process::{self, Abort};
 use std::rc::Rc;
 use std::rt::Files;
-use tftp_daemon::{FolderStore, ServedStore};
 use tftp_file::{MAX_WIRE, Path, StoreFault, path_of};
+use tftp_folder::{FolderStore, ServedStore};
 use tftp_lines::Reason;
-use tftp_server::Store;
+use tftp_store::Store;
 use tftp_wire::Mode;
 
 fn path(rt: &impl Abort, alloc: Global, name: &str) -> Path {

@@ -8,9 +8,9 @@ use crate::scratch::{
 use std::alloc::Global;
 use std::process::{self, Abort, Processes};
 use std::rt::Runtime;
-use tftp_daemon::{FolderStore, ServedStore};
 use tftp_file::{Path, Source, StoreFault, path_of};
-use tftp_server::Store;
+use tftp_folder::{FolderStore, ServedStore};
+use tftp_store::Store;
 use tftp_wire::Mode;
 
 fn path(rt: &impl Abort, alloc: Global, name: &str) -> Path {

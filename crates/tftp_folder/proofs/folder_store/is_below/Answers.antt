@@ -1,5 +1,5 @@
-use Rattle.tftp_daemon.proofs.UploadLemmas.{below}
-use Rattle.tftp_daemon.proofs.folder.is_below.Goals as goal
+use Rattle.tftp_folder.proofs.UploadLemmas.{below}
+use Rattle.tftp_folder.proofs.folder_store.is_below.Goals as goal
 
 -- src/folder.rt:213:1
 pub returns-in-Some-len1-up : goal.returns-in-Some-len1-up

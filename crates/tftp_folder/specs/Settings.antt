@@ -1,6 +1,6 @@
 -- The settings of a store over a folder (ours).
 use Rattle.std.specs.Prelude.{◌≡◌}
-use Rattle.tftp_daemon.specs.declared.folder.FolderStore.{FolderStore}
+use Rattle.tftp_folder.specs.declared.folder_store.FolderStore.{FolderStore}
 
 -- the store refuses all writes if it did, and takes them below the same folder as before
 pub record SameSettings {R G H : Type 0} (before after : FolderStore R G H) : Type 0 where

@@ -4,7 +4,7 @@ use Rattle.std.proofs.Common.{drop, slice_index_or, sym, ap, arith}
 use Rattle.std.proofs.lemmas.Bool.{eqb-true}
 use Rattle.std.proofs.lemmas.List.{take-append-drop}
 use Rattle.std.specs.Cmp.Lexicographic.{pointwise, same_text}
-use Rattle.tftp_daemon.specs.Uploads.{IsBelow}
+use Rattle.tftp_folder.specs.Uploads.{IsBelow}
 
 pub below : (folder path rest : List ℕ)
     → pointwise nat_eq (take (length folder) path) folder ≡ true

@@ -5,8 +5,8 @@ ghost use Rattle.std.specs.Prelude.{IfSome, OnErr};
 ghost use Rattle.std.specs.String.{string_bytes};
 ghost use Rattle.tftp_file.specs.Path.{path_of_name};
 ghost use Rattle.tftp_disk.specs.DiskFault.{MayNotOpen, MayNotStore, MayNotName};
-ghost use Rattle.tftp_daemon.specs.Settings.{SameSettings};
-ghost use Rattle.tftp_daemon.specs.Uploads.{IsBelow, path_below};
+ghost use Rattle.tftp_folder.specs.Settings.{SameSettings};
+ghost use Rattle.tftp_folder.specs.Uploads.{IsBelow, path_below};
 
 use crate::folder_draft::FolderDraft;
 use crate::folder_source::{FolderSource, NotedFile, SharedReason};
@@ -21,7 +21,7 @@ use tftp_disk::{check_length, name_fault, open_fault, write_fault};
 use tftp_file::{FileFault, MAX_WIRE, Path, PathFault, StoreFault, path_of};
 use tftp_lines::{Reason, reason_of};
 use tftp_loop::ServedStore;
-use tftp_server::{Opening, Store};
+use tftp_store::{Opening, Store};
 use tftp_wire::Mode;
 
 /// The system's number of an error for a file that is missing.
@@ -264,8 +264,8 @@ impl<R: Files + Drop> ServedStore for FolderStore<R> {
 impl<R: Files + Drop> Store for FolderStore<R> {
     ghost use Rattle.std.specs.Prelude.{◌≡◌, refl, None, true, Err, IfOk, IfErr, IfSome, IsErrOf};
     ghost use Rattle.tftp_disk.specs.DiskFault.{MayNotOpen, MayNotStore, MayNotBegin, MayNotName};
-    ghost use Rattle.tftp_daemon.specs.Settings.{SameSettings};
-    ghost use Rattle.tftp_daemon.specs.Uploads.{IsBelow};
+    ghost use Rattle.tftp_folder.specs.Settings.{SameSettings};
+    ghost use Rattle.tftp_folder.specs.Uploads.{IsBelow};
 
     type Source = FolderSource<R::File>;
 

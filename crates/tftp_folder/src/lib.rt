@@ -1,0 +1,19 @@
+//! The files of a served folder, as the store of a server's loop.
+//!
+//! It touches only files within the folder, and opens no socket. A new file appears under its name
+//! whole or not at all.
+//!
+//! Begin with [`FolderStore`].
+#![tactic(auto)]
+
+mod finding;
+mod folder_draft;
+mod folder_source;
+mod folder_store;
+mod naming;
+mod wire_lengths;
+
+pub use folder_draft::FolderDraft;
+pub use folder_source::FolderSource;
+pub use folder_store::FolderStore;
+pub use tftp_loop::ServedStore;
