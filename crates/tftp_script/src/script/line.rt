@@ -1,6 +1,6 @@
 //! The parser of one line of a script.
 
-ghost use Rattle.std.specs.Prelude.{◌≡◌, ◌≢◌, is_some};
+ghost use Rattle.std.specs.Prelude.{◌≡◌, ◌≢◌, false, is_some};
 ghost use Rattle.tftp_script.specs.declared.script.line.LineFault.TheVariants.{Faulty, Memory};
 ghost use Rattle.tftp_file.specs.declared.path.PathFault.TheVariants as path_faults;
 ghost use Rattle.tftp_store.specs.Memory.{contents};
@@ -93,6 +93,12 @@ impl Script {
         if has_path(self.files.as_slice(), &path) {
             return Err(LineFault::Faulty);
         }
+        self.push_file(path, bytes)
+    }
+
+    fn push_file(&mut self, path: Path, bytes: Vec<u8>) -> Result<(), LineFault>
+        requires { is_some (file_at path (contents self.old.files.items)) ≡ false }
+    {
         self.files.push((path, bytes))?;
         Ok(())
     }

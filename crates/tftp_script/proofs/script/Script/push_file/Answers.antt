@@ -3,7 +3,7 @@ use Rattle.std.proofs.Common.{rules, ◌≡◌, is_some, is_ok, false}
 use Rattle.tftp_store.specs.Memory.{contents}
 use Rattle.tftp_store.specs.Store.{file_at}
 use Rattle.tftp_script.proofs.ScriptLemmas.{has_distinct_paths-pushed}
-use Rattle.tftp_script.proofs.script.Script.add_file.Goals as goal
+use Rattle.tftp_script.proofs.script.Script.push_file.Goals as goal
 
 pub invariant_of-self : goal.invariant_of-self
 invariant_of-self c =
