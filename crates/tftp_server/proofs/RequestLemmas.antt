@@ -32,7 +32,7 @@ use Rattle.std.proofs.lemmas.List.{append-nil}
 use Rattle.tftp_server.specs.declared.config.Config.{Config}
 use Rattle.tftp_server.specs.declared.fault.ServerFault.{ServerFault}
 use Rattle.tftp_server.specs.declared.opened.Opened.{Opened}
-use Rattle.tftp_server.specs.declared.server.request.PortAction.{PortAction}
+use Rattle.tftp_server.specs.declared.server.admission.PortAction.{PortAction}
 use Rattle.tftp_server.specs.declared.server.request.Decision.{Decision}
 use Rattle.tftp_server.specs.declared.server.request.Decision.TheVariants.{Refuse, Open}
 use Rattle.tftp_server.specs.Port.{Ask, Ignores, Refuses, asks, by_packet, by_repeat, by_name, by_options, by_kind}
@@ -115,6 +115,13 @@ name_acts : (cap count : ℕ) (next : List ℕ → Ask) → ((path : List ℕ) �
 name_acts cap count next h (Err fault) e = cc
 name_acts cap count next h (Ok path) e =
     either_acts (nat_le cap count) (Refuses ServerBusy) (next path) (λ e. cc) (h path) e
+
+-- whether a datagram repeats a request, in the server that this one is
+pub repeats_in : {S F D : Type 0} (old seen : ServerState S F D) (from : Endpoint) (repeated : Bool)
+    (decoded : Option Packet) → seen ≡ old → IsRepeated repeated from decoded seen.held →
+    IsRepeated repeated from decoded old.held
+repeats_in {S = S} {F = F} {D = D} old seen from repeated decoded is h =
+    subst (λ (s : ServerState S F D). IsRepeated repeated from decoded s.held) is h
 
 module _ {S F D : Type 0} (old : ServerState S F D) (from : Endpoint) (bytes : List ℕ) where
   -- the tests of the name in a request, in this state of the server

@@ -25,8 +25,8 @@ use Rattle.tftp_ends.specs.Opening.{ServesRead, CannotStart, serving_write}
 use Rattle.tftp_ends.specs.Action.{Decodes}
 use Rattle.tftp_ends.specs.Step.{error_bytes}
 use Rattle.tftp_server.specs.declared.opened.Opened.{Opened}
-use Rattle.tftp_server.specs.declared.server.request.PortAction.{PortAction}
-use Rattle.tftp_server.specs.declared.server.request.PortAction.TheVariants as asked
+use Rattle.tftp_server.specs.declared.server.admission.PortAction.{PortAction}
+use Rattle.tftp_server.specs.declared.server.admission.PortAction.TheVariants as actions
 use Rattle.tftp_server.specs.declared.server.request.Decision.{Decision}
 use Rattle.tftp_server.specs.declared.server.request.Decision.TheVariants.{Refuse, Open}
 use Rattle.tftp_store.specs.declared.store.Opening.{Opening}
@@ -190,10 +190,10 @@ kind_and_request asked = (asked.0, owned_request asked.1)
 
 -- what the port decides, from the value in the code
 abbrev pub ask_of : PortAction → Ask
-ask_of asked.Nothing = Ignores
-ask_of (asked.Refuse reply) = Refuses reply
-ask_of (asked.Read path request) = Reads path request.mode request.options
-ask_of (asked.Write path mode agreed) = Writes path mode agreed
+ask_of actions.Nothing = Ignores
+ask_of (actions.Refuse reply) = Refuses reply
+ask_of (actions.Read read) = Reads read.path read.mode read.options
+ask_of (actions.Write write) = Writes write.path write.mode write.agreed
 
 -- the result of a decision
 abbrev pub came_to : {S F D : Type 0} → Decision F D → S → Came S F D

@@ -1,48 +1,36 @@
 //! A server: its store and its transfers.
 
 mod admission;
+mod port;
+mod reply;
 mod request;
 
-ghost use Rattle.std.specs.Prelude.{◌≡◌, ◌≢◌, ◌↔◌, ◌⊎◌, ◌++◌, ◌+◌, ◌≤◌, vec_capacity, List, ℕ, []};
-ghost use Rattle.std.specs.Prelude.{length, Bool, Option, None, Some, option_copied, option_map};
-ghost use Rattle.std.specs.Prelude.{is_some, IsSome, if◌then◌else◌, false, IfOk, IfErr, IsErrOf};
-ghost use Rattle.std.specs.Prelude.{OnOk, OnErr, vec_len};
+ghost use Rattle.std.specs.Prelude.{◌≡◌, ◌↔◌, ◌++◌, vec_capacity, vec_len, List, ℕ, [], length};
+ghost use Rattle.std.specs.Prelude.{option_copied, option_map, is_some, if◌then◌else◌, false};
+ghost use Rattle.std.specs.Prelude.{IfOk, IfErr, IsErrOf, OnOk, OnErr};
 ghost use Rattle.std.specs.Map.{keys_of};
+ghost use Rattle.std.specs.Borrow.{Lends, sem};
 ghost use Rattle.tftp_ends.specs.End.{record_of};
+ghost use Rattle.tftp_ends.specs.Shortage.{AppendsNothing, HasNoRoom};
+ghost use Rattle.tftp_ends.specs.Step.{lent};
 ghost use Rattle.tftp_server.specs.Config.{IsConfig};
-ghost use Rattle.tftp_server.specs.Request.{Acts, Admits, AsksToRead, AsksToWrite, Came};
-ghost use Rattle.tftp_server.specs.Request.{CarriesOut, RequestStep, left_by};
-ghost use Rattle.tftp_ends.specs.Step.{error_bytes, lent};
-ghost use Rattle.tftp_wire.specs.declared.packet.Packet.{Packet};
-ghost use Rattle.tftp_ends.specs.Action.{Decodes};
-ghost use Rattle.tftp_server.specs.Port.{Ignores, asks, asks_store, granted_size};
-ghost use Rattle.tftp_server.specs.State.{IsRepeated, at, draft_at, is_open, open_records};
-ghost use Rattle.tftp_server.specs.State.{taken_of, without};
+ghost use Rattle.tftp_server.specs.Shortage.{LacksMemoryAt, TimeoutLacksMemory};
+ghost use Rattle.tftp_server.specs.State.{at, draft_at, is_open, open_records, taken_of, without};
 ghost use Rattle.tftp_server.specs.Steps.{TimesOut, TimesOutLent, TimeoutFault, TakesDatagram};
 ghost use Rattle.tftp_server.specs.Steps.{TakesDatagramLent, DatagramFault};
 ghost use Rattle.tftp_server.specs.Steps.{DatagramFaultLent, KeepsHeld};
 ghost use Rattle.tftp_server.specs.Work.{WorksAt};
-ghost use Rattle.tftp_ends.specs.Shortage.{AppendsNothing, HasNoRoom};
-ghost use Rattle.tftp_server.specs.Shortage.{AskLacksMemory, LacksMemoryAt, NamesAPath};
-ghost use Rattle.tftp_server.specs.Shortage.{ReadLacksMemory, RequestLacksMemory, TimeoutLacksMemory};
-ghost use Rattle.std.specs.Borrow.{Lends, sem};
 
 use crate::config::Config;
 use crate::fault::ServerFault;
 use crate::open_transfers::OpenTransfers;
-use crate::opened::Opened;
 pub use crate::server::admission::Admission;
-use crate::server::request::{Decision, PortAction, read_block_size};
 use crate::table::Table;
 use crate::transfer::Transfer;
 use std::alloc::Global;
 use std::marker::Model;
-use std::mem;
-use tftp_ends::{Endpoint, ErrorReply, MAX_ERROR, Outgoing, Record, Step};
-use tftp_file::Path;
-use tftp_negotiate::Agreed;
+use tftp_ends::{Endpoint, Outgoing, Record, Step};
 use tftp_store::Store;
-use tftp_wire::{Mode, RequestRef};
 
 /// A server: its configuration, its store and the transfers that it holds.
 ///
@@ -245,226 +233,6 @@ impl<S: Store> Server<S> {
         }
     }
 
-    /// What the request port decides for a datagram from `from`, by the tests that ask no store.
-    /// The caller binds the port of the transfer only if [`Admission::may_open`]; then
-    /// [`Server::open`] carries the admission out. `Memory` is its one fault, and never for a
-    /// datagram that is ignored.
-    pub fn admit<'a>(&self, from: Endpoint, bytes: &'a [u8]) -> Result<Admission<'a>, ServerFault>
-        ensures admits { IfOk result (λ admission. Admits self.now from bytes.now admission.ask) }
-        ensures from { IfOk result (λ admission. admission.from ≡ from) }
-        ensures bytes { IfOk result (λ admission. admission.bytes ≡ bytes.now) }
-        ensures memory { IfErr result (λ fault. fault ≡ ServerFault.Memory) }
-        ensures acts { OnErr result (Acts self.now from bytes.now) }
-        ensures why { OnErr result (NamesAPath self.now from bytes.now) }
-    {
-        match self.asked(from, bytes) {
-            Ok(asked) => Ok(Admission { from, bytes, asked }),
-            Err(_) => Err(ServerFault::Memory),
-        }
-    }
-
-    /// Whether a datagram from `from` to the request port could open a transfer, by the tests that
-    /// ask no store. If not, [`Server::on_request`] opens none, whatever the identifier. Its faults
-    /// are those of [`Server::admit`].
-    pub fn may_open(&self, from: Endpoint, bytes: &[u8]) -> Result<bool, ServerFault>
-        ensures asks { IfOk result (λ may. (decoded : Option Packet) × (repeated : Bool)
-            × Decodes bytes.now decoded × IsRepeated repeated from decoded self.now.held
-            × (may ≡ asks_store (asks self.now.config.cap (length self.now.held) repeated
-            self.now.config.limits bytes.now decoded))) }
-        ensures memory { IfErr result (λ fault. fault ≡ ServerFault.Memory) }
-        ensures acts { OnErr result (Acts self.now from bytes.now) }
-        ensures why { OnErr result (NamesAPath self.now from bytes.now) }
-    {
-        match self.admit(from, bytes) {
-            Ok(admission) => Ok(admission.may_open()),
-            Err(_) => Err(ServerFault::Memory),
-        }
-    }
-
-    /// The block size, in bytes, of the transfer that an admission may open, for every length of
-    /// the file (RFC 2348). `None` if no transfer can open, for example because its options are
-    /// refused.
-    pub fn block_size(&self, admission: &Admission<'_>) -> Option<u16>
-        ensures { result ≡ granted_size self.now.config.limits admission.now.ask }
-    {
-        match &admission.asked {
-            PortAction::Nothing | PortAction::Refuse(_) => None,
-            PortAction::Read(_, request) => read_block_size(request, &self.config.limits),
-            PortAction::Write(_, _, agreed) => Some(agreed.block_size()),
-        }
-    }
-
-    /// Carries an admission out. A transfer that opens gets the identifier `tid`, the port that
-    /// sends its datagrams (RFC 1350, section 4). At most one datagram is appended to `out`;
-    /// [`Opened::to`] is its destination.
-    ///
-    /// For a read the store opens the file; for a write it begins a draft. `TidInUse` if a transfer
-    /// has the identifier; `Memory`, but never for a datagram that is ignored. After a fault
-    /// nothing has changed.
-    pub fn open(
-        &mut self,
-        admission: Admission<'_>,
-        tid: u16,
-        out: &mut Vec<u8>,
-    ) -> Result<Opened, ServerFault>
-        ensures carries_out { IfOk result (λ opened. (sent : List ℕ)
-            × (out.new.items ≡ out.old.items ++ sent)
-            × CarriesOut S.meaning S.Source.meaning self.old admission.entry.from
-            admission.entry.bytes admission.entry.ask tid
-            (record { new = self.new; opened = opened; sent = sent })) }
-        ensures in_use { IsErrOf result ServerFault.TidInUse ↔ IsSome (at tid self.old.held) }
-        ensures fault { IfErr result (λ fault. (fault ≡ ServerFault.TidInUse) ⊎
-            (fault ≡ ServerFault.Memory)) }
-        ensures acts { IsErrOf result ServerFault.Memory → admission.entry.ask ≢ Ignores }
-        ensures why { IsErrOf result ServerFault.Memory → AskLacksMemory
-            (vec_capacity out.old) (vec_len out.old) S.meaning S.Source.meaning self.old
-            admission.entry.ask }
-        ensures err { OnErr result ((self.new ≡ self.old) × (out.new.items ≡ out.old.items)) }
-    {
-        if self.table.contains(tid) {
-            return Err(ServerFault::TidInUse);
-        }
-        let Admission { from, bytes, asked } = admission;
-        match asked {
-            PortAction::Nothing => Ok(Opened {
-                tid: None,
-                to: None,
-            }),
-            PortAction::Refuse(reply) => refuse(reply, from, out),
-            PortAction::Read(path, request) => self.read_from(
-                from, tid, path, bytes, &request, out,
-            ),
-            PortAction::Write(path, mode, agreed) => {
-                self.write_from(from, tid, path, mode, &agreed, bytes, out)
-            }
-        }
-    }
-
-    /// Handles a datagram from `from` to the request port: [`Server::admit`], then
-    /// [`Server::open`].
-    ///
-    /// `TidInUse` if a transfer has the identifier; `Memory`, but never for a datagram that is
-    /// ignored. After a fault nothing has changed.
-    pub fn on_request(
-        &mut self,
-        from: Endpoint,
-        tid: u16,
-        bytes: &[u8],
-        out: &mut Vec<u8>,
-    ) -> Result<Opened, ServerFault>
-        ensures steps { IfOk result (λ opened. (sent : List ℕ)
-            × (out.new.items ≡ out.old.items ++ sent)
-            × RequestStep S.meaning S.Source.meaning self.old from bytes.now tid
-            (record { new = self.new; opened = opened; sent = sent })) }
-        ensures in_use { IsErrOf result ServerFault.TidInUse ↔ IsSome (at tid self.old.held) }
-        ensures fault { IfErr result (λ fault. (fault ≡ ServerFault.TidInUse) ⊎
-            (fault ≡ ServerFault.Memory)) }
-        ensures acts { IsErrOf result ServerFault.Memory → Acts self.old from bytes.now }
-        ensures why { IsErrOf result ServerFault.Memory → RequestLacksMemory
-            (vec_capacity out.old) (vec_len out.old) S.meaning S.Source.meaning self.old
-            from bytes.now }
-        ensures err { OnErr result ((self.new ≡ self.old) × (out.new.items ≡ out.old.items)) }
-    {
-        match self.admit(from, bytes) {
-            Ok(admission) => self.open(admission, tid, out),
-            Err(_) if self.table.contains(tid) => Err(ServerFault::TidInUse),
-            Err(_) => Err(ServerFault::Memory),
-        }
-    }
-
-    /// Opens a read transfer of the file at the path, under an unused identifier.
-    fn read_from(
-        &mut self,
-        from: Endpoint,
-        tid: u16,
-        path: Path,
-        bytes: &[u8],
-        request: &RequestRef<'_>,
-        out: &mut Vec<u8>,
-    ) -> Result<Opened, ServerFault>
-        requires { at tid self.old.held ≡ None }
-        ensures reads { IfOk result (λ opened. (came : Came S S.Source S.Draft)
-            × (sent : List ℕ)
-            × AsksToRead S.meaning S.Source.meaning self.old from bytes.now path request.now.mode
-            request.now.options came
-            × (out.new.items ≡ out.old.items ++ sent) × (record {
-              new = self.new;
-              opened = opened;
-              sent = sent;
-            } ≡ left_by came self.old from tid)) }
-        ensures memory { IfErr result (λ fault. fault ≡ ServerFault.Memory) }
-        ensures why { OnErr result (ReadLacksMemory (vec_capacity out.old) (vec_len out.old)
-            S.meaning S.Source.meaning self.old path request.now.mode request.now.options) }
-        ensures err { OnErr result ((self.new ≡ self.old) × (out.new.items ≡ out.old.items)) }
-    {
-        let start = out.len();
-        match self.read(from, path, bytes, request, out) {
-            Ok(Decision::Refuse(reply)) => refuse(reply, from, out),
-            Ok(Decision::Open(transfer)) => {
-                let Ok(()) = self.table.insert(tid, transfer) else {
-                    out.truncate(start);
-                    return Err(ServerFault::Memory);
-                };
-                Ok(Opened {
-                    tid: Some(tid),
-                    to: Some(from),
-                })
-            }
-            Err(_) => Err(ServerFault::Memory),
-        }
-    }
-
-    /// Opens a write transfer to the path, under an unused identifier. The table reserves capacity
-    /// first, so that no draft is dropped for lack of memory after the store began it.
-    fn write_from(
-        &mut self,
-        from: Endpoint,
-        tid: u16,
-        path: Path,
-        mode: Mode,
-        agreed: &Agreed,
-        bytes: &[u8],
-        out: &mut Vec<u8>,
-    ) -> Result<Opened, ServerFault>
-        requires { at tid self.old.held ≡ None }
-        ensures writes { IfOk result (λ opened. (came : Came S S.Source S.Draft)
-            × (sent : List ℕ)
-            × AsksToWrite S.meaning S.Source.meaning self.old from bytes.now path mode agreed.now
-            came
-            × (out.new.items ≡ out.old.items ++ sent) × (record {
-              new = self.new;
-              opened = opened;
-              sent = sent;
-            } ≡ left_by came self.old from tid)) }
-        ensures memory { IfErr result (λ fault. fault ≡ ServerFault.Memory) }
-        ensures err { OnErr result ((self.new ≡ self.old) × (out.new.items ≡ out.old.items)) }
-    {
-        let table = mem::replace(&mut self.table, Table::new(self.alloc));
-        match table.reserve(tid) {
-            Ok(spot) => match self.write(from, path, mode, agreed, bytes, out) {
-                Ok(Decision::Open(transfer)) => {
-                    self.table = spot.fill(transfer);
-                    Ok(Opened {
-                        tid: Some(tid),
-                        to: Some(from),
-                    })
-                }
-                Ok(Decision::Refuse(reply)) => {
-                    self.table = spot.give_up(tid);
-                    Ok(refuse_in_room(reply, from, out))
-                }
-                Err(_) => {
-                    self.table = spot.give_up(tid);
-                    Err(ServerFault::Memory)
-                }
-            },
-            Err(table) => {
-                self.table = table;
-                Err(ServerFault::Memory)
-            }
-        }
-    }
-
     /// Appends the identifiers of all transfers that are held, open and closed, in rising order.
     /// `Memory` is its one fault; then it appends none.
     pub fn tids(&self, out: &mut Vec<u16>) -> Result<(), ServerFault>
@@ -522,38 +290,5 @@ impl<S: Store + Drop> Server<S> {
             unreachable!()
         };
         Some((transfer.record(), transfer.into_draft()))
-    }
-}
-
-/// Appends an ERROR, to be sent from the request port.
-fn refuse(reply: ErrorReply, from: Endpoint, out: &mut Vec<u8>) -> Result<Opened, ServerFault>
-    ensures opened { IfOk result (λ opened. opened ≡ record { tid = None; to = Some from }) }
-    ensures ok { OnOk result (out.new.items ≡ out.old.items ++ error_bytes reply) }
-    ensures memory { IfErr result (λ fault. fault ≡ ServerFault.Memory) }
-    ensures why { OnErr result (HasNoRoom (vec_capacity out.old) (vec_len out.old)
-        (length (error_bytes reply))) }
-    ensures err { OnErr result (out.new.items ≡ out.old.items) }
-{
-    let Ok(()) = reply.append_to(out) else {
-        return Err(ServerFault::Memory);
-    };
-    Ok(Opened {
-        tid: None,
-        to: Some(from),
-    })
-}
-
-/// As [`refuse`], into reserved capacity.
-fn refuse_in_room(reply: ErrorReply, from: Endpoint, out: &mut Vec<u8>) -> Opened
-    requires { length out.old.items + MAX_ERROR ≤ vec_capacity out.old }
-    ensures opened { result ≡ record { tid = None; to = Some from } }
-    ensures bytes { out.new.items ≡ out.old.items ++ error_bytes reply }
-{
-    let Ok(()) = reply.append_to(out) else {
-        unreachable!()
-    };
-    Opened {
-        tid: None,
-        to: Some(from),
     }
 }

@@ -7,8 +7,8 @@ use Rattle.tftp_server.proofs.server.Server.open.Goals as goal
 pub returns-in-Refuse-clause-carries_out : goal.returns-in-Refuse-clause-carries_out
 returns-in-Refuse-clause-carries_out g c =
     rw (← c.admission.view_is)
-    (refuses g.S.Store.meaning g.S.Source.Source.meaning c.args.self.now c.admission.inside.from
-    c.admission.inside.bytes.now
-    c.args.tid (ask_of c.admission.inside.asked) c.in-Refuse.reply c.args.out.now.items c.refuse.new.out.items
+    (refuses g.S.Store.meaning g.S.Source.Source.meaning c.args.self.now c.admission.inside.incoming.from
+    c.admission.inside.incoming.bytes.now
+    c.args.tid (ask_of c.admission.inside.action) c.in-Refuse.reply c.args.out.now.items c.refuse.new.out.items
     c.refuse.result
     (ap ask_of c.in-Refuse.is) c.refuse.ensures.opened c.refuse.ensures.ok)

@@ -1,0 +1,102 @@
+//! The tests of a request that ask no store, in order.
+
+ghost use Rattle.std.specs.Prelude.{◌≡◌, IfOk, IfErr, OnErr, IsOk, option_map};
+ghost use Rattle.tftp_wire.specs.Borrowed.{owned};
+ghost use Rattle.tftp_negotiate.specs.Answer.{answer};
+ghost use Rattle.tftp_negotiate.specs.Ranges.{IsBlockSize};
+ghost use Rattle.tftp_file.specs.Path.{path_of_name};
+ghost use Rattle.tftp_server.specs.Port.{by_kind, by_name, by_options, by_room};
+ghost use Rattle.tftp_server.specs.Request.{IsRequest, ask_of, kind_and_request};
+
+use crate::config::Config;
+use crate::fault::ServerFault;
+use crate::server::admission::{PortAction, ReadRequest, WriteRequest};
+use crate::server::reply::accept_reply;
+use std::alloc::Global;
+use tftp_ends::ErrorReply;
+use tftp_file::{Path, PathFault, path_of};
+use tftp_negotiate::{Kind, Limits, accept_ref};
+use tftp_wire::{PacketRef, RequestRef};
+
+/// The request and its kind, if it is one.
+pub(crate) fn request_of<'a>(decoded: Option<PacketRef<'a>>) -> Option<(Kind, RequestRef<'a>)>
+    ensures { IsRequest (option_map owned decoded.entry) (option_map kind_and_request result) }
+{
+    match decoded {
+        Some(PacketRef::Read(request)) => Some((Kind::Read, request)),
+        Some(PacketRef::Write(request)) => Some((Kind::Write, request)),
+        _ => None,
+    }
+}
+
+/// The name must be a path.
+pub(crate) fn by_name<'a>(
+    alloc: Global,
+    config: &Config,
+    count: usize,
+    kind: Kind,
+    request: RequestRef<'a>,
+) -> Result<PortAction<'a>, ServerFault>
+    requires { IsBlockSize config.now.limits.max_block }
+    ensures named { IfOk result (λ action. ask_of action ≡ by_name config.now.cap count
+        (by_kind kind request.entry.mode request.entry.options config.now.limits)
+        (path_of_name request.entry.name.now)) }
+    ensures memory { IfErr result (λ fault. fault ≡ ServerFault.Memory) }
+    ensures why { OnErr result (IsOk (path_of_name request.entry.name.now)) }
+{
+    match path_of(alloc, request.name) {
+        Ok(path) => Ok(by_room(config, count, kind, path, request)),
+        Err(PathFault::Memory) => Err(ServerFault::Memory),
+        Err(PathFault::Empty | PathFault::Segment | PathFault::Depth | PathFault::Length) => {
+            Ok(PortAction::Refuse(ErrorReply::AccessViolation))
+        }
+    }
+}
+
+/// The server must be below its limit of transfers.
+fn by_room<'a>(
+    config: &Config,
+    count: usize,
+    kind: Kind,
+    path: Path,
+    request: RequestRef<'a>,
+) -> PortAction<'a>
+    requires { IsBlockSize config.now.limits.max_block }
+    ensures { ask_of result ≡ by_room config.now.cap count
+        (by_kind kind request.entry.mode request.entry.options config.now.limits) path }
+{
+    if count >= usize::from(config.cap) {
+        return PortAction::Refuse(ErrorReply::ServerBusy);
+    }
+    by_kind(kind, path, request, &config.limits)
+}
+
+/// A read asks the store next, a write has its options answered first.
+fn by_kind<'a>(kind: Kind, path: Path, request: RequestRef<'a>, limits: &Limits) -> PortAction<'a>
+    requires { IsBlockSize limits.now.max_block }
+    ensures { ask_of result ≡ by_kind kind request.entry.mode request.entry.options limits.now
+        path }
+{
+    match kind {
+        Kind::Read => PortAction::Read(ReadRequest {
+            path,
+            mode: request.mode,
+            options: request.options,
+        }),
+        Kind::Write => by_options(path, request, limits),
+    }
+}
+
+/// The options of a write are answered before the store is asked: the length of its file is known
+/// from `tsize` alone (RFC 2349, "Transfer Size Option Specification").
+fn by_options<'a>(path: Path, request: RequestRef<'a>, limits: &Limits) -> PortAction<'a>
+    requires { IsBlockSize limits.now.max_block }
+    ensures { ask_of result ≡ by_options path request.entry.mode
+        (answer request.entry.options Kind.Write request.entry.mode 0 limits.now) }
+{
+    let mode = request.mode;
+    match accept_ref(&request.options, Kind::Write, mode, 0, limits) {
+        Ok(agreed) => PortAction::Write(WriteRequest { path, mode, agreed }),
+        Err(refusal) => PortAction::Refuse(accept_reply(refusal)),
+    }
+}
