@@ -41,8 +41,8 @@ module _ {S D : Type 0} (meaning : StoreMeaning S D) where
   abbrev pub MayRefuseCommit : Drafting S D → StoreFault → Type 0
   MayRefuseCommit d fault = meaning.may_refuse_commit d.store d.path d.draft d.replace fault
 
-  -- the effect of an append or a commit beside that on the draft: the path stays, and only a commit
-  -- changes the store's files
+  -- the effect of an append or a commit beside that on the draft: the path is unchanged, and only a
+  -- commit changes the store's files
   pub record DraftingBecomes (before after : Drafting S D) (committed : Bool) : Type 0 where
     pub path : after.path ≡ before.path
     pub replace : after.replace ≡ before.replace

@@ -58,14 +58,14 @@ module _ {F D : Type 0} where
       if is_closed e.1 then open_records held
       else (e.0, record_of e.1.end) ∷ open_records held
 
-  -- what taking a transfer returns: nothing unless it is closed
+  -- what `take_closed` returns of a transfer: nothing unless it is closed
   abbrev pub taken_of : Option (HeldTransfer F D) → Option (Record × Option D)
   taken_of None = None
   taken_of (Some held) =
       if is_closed held then Some (record_of held.end, draft_of held.files) else None
 
--- what is not out was requested from this endpoint by a datagram that spells this packet, by its
--- known peer and the bytes of its request; the case of the mode's letters is not part of a packet
+-- an open transfer (not `out`) was requested from this endpoint, its peer, by a datagram that
+-- spells this packet; the case of the mode's letters is not part of a packet
 pub record WasRequested (out : Bool) (known : Option Endpoint) (bytes : List ℕ) (from : Endpoint)
     (packet : Packet) : Type 0 where
   pub still : out ≡ false

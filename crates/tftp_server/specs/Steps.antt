@@ -19,7 +19,7 @@ use Rattle.tftp_server.specs.Draft.{Drafting, files_in, drafting_sink, KeepsDraf
 use Rattle.tftp_server.specs.State.{HeldTransfer, ServerState, at, is_open, is_closed, with_next}
 use Rattle.tftp_store.specs.Store.{StoreMeaning}
 
--- what a call returns for a turn of an end, by the end that it leaves and the answer's destination
+-- what a call returns for a step of an end, by the end that it leaves and the answer's destination
 abbrev pub Gives : Type 1
 Gives = EndState → Turn → EndState → Option Endpoint → Type 0
 
@@ -45,7 +45,7 @@ module _ {F D : Type 0} where
   abbrev pub with_end : EndState → HeldTransfer F D → HeldTransfer F D
   with_end e held = record held { end = e }
 
-  -- the step of the transfer at the identifier at a timeout; every other transfer stays
+  -- the step of the transfer at the identifier at a timeout; every other transfer is unchanged
   pub record TimesOutBy (gives : Gives) (tid : ℕ) (old new : List (ℕ × HeldTransfer F D))
       (step : Step) : Type 0 where
     pub transfer : HeldTransfer F D
@@ -111,7 +111,7 @@ module _ {S F D : Type 0} (meaning : StoreMeaning S D) (sources : SourceMeaning 
     pub path : next.path ≡ transfer.path
     pub request : next.request ≡ transfer.request
 
-  -- the step of the transfer at the identifier at a datagram; every other transfer stays
+  -- the step of the transfer at the identifier at a datagram; every other transfer is unchanged
   pub record TakesDatagramBy (gives : Gives) (tid : ℕ) (from : Endpoint) (bytes : List ℕ)
       (old new : ServerState S F D) (step : Step) : Type 0 where
     pub transfer : HeldTransfer F D
@@ -136,7 +136,7 @@ module _ {S F D : Type 0} (meaning : StoreMeaning S D) (sources : SourceMeaning 
   TakesDatagramLent tid from bytes old new step outgoing =
       TakesDatagramBy (lends outgoing) tid from bytes old new step
 
-  -- the transfer and the store stay, but for a source, which holds the same
+  -- the transfer and the store are unchanged, but for a source, which holds the same bytes
   pub record StaysAs (replace : Bool) (store store' : S)
       (transfer next : HeldTransfer F D) : Type 0 where
     pub end : next.end ≡ transfer.end
@@ -148,7 +148,7 @@ module _ {S F D : Type 0} (meaning : StoreMeaning S D) (sources : SourceMeaning 
         (files_in store transfer.path replace transfer.files)
         (files_in store' next.path replace next.files)
 
-  -- nothing changes but the source of the transfer at the identifier, which holds the same
+  -- nothing changes but the source of the transfer at the identifier, which holds the same bytes
   abbrev pub KeepsHeld : ℕ → Option (HeldTransfer F D) → ServerState S F D → ServerState S F D
       → Type 0
   KeepsHeld tid None old new = new ≡ old

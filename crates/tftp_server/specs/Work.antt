@@ -7,7 +7,7 @@ use Rattle.tftp_store.specs.Store.{StoreMeaning, WritesBehind}
 use Rattle.tftp_server.specs.State.{HeldTransfer, ServerState, with_next}
 
 module _ {S F D : Type 0} (meaning : StoreMeaning S D) (sources : SourceMeaning F) where
-  -- a source reads ahead, and the store stays; a draft is written back
+  -- a source reads ahead, and the store is unchanged; or a draft is written back
   abbrev pub FilesWork : S → S → Files F D → Files F D → Type 0
   FilesWork store store' (Source source) (Source source') =
       (store' ≡ store) × ReadsAhead sources source source'
@@ -20,7 +20,8 @@ module _ {S F D : Type 0} (meaning : StoreMeaning S D) (sources : SourceMeaning 
     pub files : FilesWork store store' transfer.files next.files
     pub rest : next ≡ record transfer { files = next.files }
 
-  -- the file of the transfer at the identifier works, if one is held; every other transfer stays
+  -- the file of the transfer at the identifier works, if one is held; every other transfer is
+  -- unchanged
   abbrev pub WorksAt : ℕ → Option (HeldTransfer F D) → ServerState S F D → ServerState S F D
       → Type 0
   WorksAt tid None old new = new ≡ old
