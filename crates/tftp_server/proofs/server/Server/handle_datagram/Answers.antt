@@ -1,6 +1,6 @@
 -- A fault is that of the transfer at the identifier, or there is no transfer.
 use Rattle.std.proofs.Common.{◌≡◌, ◌∙◌, refl, ap}
-use Rattle.tftp_server.specs.State.{ServerState, at, with_next}
+use Rattle.tftp_server.specs.State.{ServerState, at}
 use Rattle.tftp_ends.specs.Step.{UsesFile}
 use Rattle.tftp_ends.specs.declared.outgoing.Outgoing.{Outgoing}
 use Rattle.tftp_ends.specs.declared.record.Step.{Step}
@@ -39,18 +39,10 @@ returns-clause-takes g c =
 
 pub returns-clause-err : goal.returns-clause-err
 returns-clause-err g c =
-    let old : ServerState g.row.S.Denot g.row.S-Source.Denot g.row.S-Draft.Denot =
-    record { config = c.self.inside.config; store = c.self.inside.store; held = c.self.inside.table } in
-    let new : ServerState g.row.S.Denot g.row.S-Source.Denot g.row.S-Draft.Denot =
-    record {
-      config = c.self.inside.config;
-      store = c.handle_datagram.new.store;
-      held = with_next c.args.tid c.handle_datagram.new.self c.self.inside.table;
-    } in
     elim c.match-handle_datagram.branch [
       | in-Ok w ↦ rw w.result-is tt
       | in-Err w ↦
-          rw (w.result-is, ← c.self.view_is) (keeps_held g.S.Store.meaning g.S.Source.Source.meaning c.args.tid old new
+          rw (w.result-is, ← c.self.view_is) (keeps_held g.S.Store.meaning g.S.Source.Source.meaning c.args.tid _ _
           c.self.inside.table c.in-Some.transfer.now c.handle_datagram.new.self refl c.in-Some.ensures.value refl
           w.in-Err.ensures.err)
     ]
@@ -70,20 +62,12 @@ returns-clause-unmoved g c =
 
 pub returns-clause-why : goal.returns-clause-why
 returns-clause-why g c =
-    let old : ServerState g.row.S.Denot g.row.S-Source.Denot g.row.S-Draft.Denot =
-    record { config = c.self.inside.config; store = c.self.inside.store; held = c.self.inside.table } in
-    let new : ServerState g.row.S.Denot g.row.S-Source.Denot g.row.S-Draft.Denot =
-    record {
-      config = c.self.inside.config;
-      store = c.handle_datagram.new.store;
-      held = with_next c.args.tid c.handle_datagram.new.self c.self.inside.table;
-    } in
     elim c.match-handle_datagram.branch [
       | in-Ok w ↦ rw w.result-is (λ e. absurd (cc))
       | in-Err w ↦
           rw (w.result-is, ← c.self.view_is)
           (λ memory. lacks_at g.S.Store.meaning g.S.Source.Source.meaning AppendsNothing c.args.tid c.args.from
-          c.args.bytes.now old new c.self.inside.table c.in-Some.transfer.now c.handle_datagram.new.self refl
+          c.args.bytes.now _ _ c.self.inside.table c.in-Some.transfer.now c.handle_datagram.new.self refl
           c.in-Some.ensures.value refl
           (w.in-Err.ensures.why (memory_of_end {R = Step × Outgoing} {Q = Step × Outgoing} w.in-Err.fault w.from.result
           w.from.ensures memory)))

@@ -1,7 +1,7 @@
 -- A fault is that of the transfer at the identifier, or there is no transfer.
 use Rattle.std.proofs.Common.{◌≡◌, ◌∙◌, refl, ap}
 use Rattle.std.specs.Prelude.{vec_capacity, vec_len}
-use Rattle.tftp_server.specs.State.{ServerState, at, with_next}
+use Rattle.tftp_server.specs.State.{ServerState, at}
 use Rattle.tftp_ends.specs.Step.{IsAnswered}
 use Rattle.tftp_ends.specs.declared.record.Step.{Step}
 use Rattle.tftp_server.specs.Steps.{appends}
@@ -40,19 +40,11 @@ returns-clause-takes g c =
 
 pub returns-clause-err : goal.returns-clause-err
 returns-clause-err g c =
-    let old : ServerState g.row.S.Denot g.row.S-Source.Denot g.row.S-Draft.Denot =
-    record { config = c.self.inside.config; store = c.self.inside.store; held = c.self.inside.table } in
-    let new : ServerState g.row.S.Denot g.row.S-Source.Denot g.row.S-Draft.Denot =
-    record {
-      config = c.self.inside.config;
-      store = c.on_datagram.new.store;
-      held = with_next c.args.tid c.on_datagram.new.self c.self.inside.table;
-    } in
     elim c.match-on_datagram.branch [
       | in-Ok w ↦ rw w.result-is tt
       | in-Err w ↦
           rw (w.result-is, ← c.self.view_is) (
-            keeps_held g.S.Store.meaning g.S.Source.Source.meaning c.args.tid old new
+            keeps_held g.S.Store.meaning g.S.Source.Source.meaning c.args.tid _ _
                 c.self.inside.table c.in-Some.transfer.now c.on_datagram.new.self refl c.in-Some.ensures.value refl
                 w.in-Err.ensures.err.0,
             w.in-Err.ensures.err.1,
@@ -74,21 +66,13 @@ returns-clause-unmoved g c =
 
 pub returns-clause-why : goal.returns-clause-why
 returns-clause-why g c =
-    let old : ServerState g.row.S.Denot g.row.S-Source.Denot g.row.S-Draft.Denot =
-    record { config = c.self.inside.config; store = c.self.inside.store; held = c.self.inside.table } in
-    let new : ServerState g.row.S.Denot g.row.S-Source.Denot g.row.S-Draft.Denot =
-    record {
-      config = c.self.inside.config;
-      store = c.on_datagram.new.store;
-      held = with_next c.args.tid c.on_datagram.new.self c.self.inside.table;
-    } in
     elim c.match-on_datagram.branch [
       | in-Ok w ↦ rw w.result-is (λ e. absurd (cc))
       | in-Err w ↦
           rw (w.result-is, ← c.self.view_is)
           (λ memory. lacks_at g.S.Store.meaning g.S.Source.Source.meaning
           (HasNoRoom (vec_capacity c.args.out.now) (vec_len c.args.out.now)) c.args.tid c.args.from c.args.bytes.now
-          old new c.self.inside.table c.in-Some.transfer.now c.on_datagram.new.self refl c.in-Some.ensures.value
+          _ _ c.self.inside.table c.in-Some.transfer.now c.on_datagram.new.self refl c.in-Some.ensures.value
           refl
           (w.in-Err.ensures.why (memory_of_end {R = Step} {Q = Step} w.in-Err.fault w.from.result w.from.ensures
           memory)))
