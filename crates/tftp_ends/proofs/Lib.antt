@@ -8,6 +8,7 @@ pub mod ReceiverRowLemmas
 pub mod WaitingRowLemmas
 pub mod SharedRowLemmas
 pub mod RunLemmas
+pub mod RunMoves
 pub mod RunSteps
 pub mod Sending
 pub mod Storing

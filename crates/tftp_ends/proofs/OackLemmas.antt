@@ -8,7 +8,9 @@ use Rattle.tftp_negotiate.specs.Laws.{AgreementsAreShort}
 use Rattle.tftp_ends.specs.Opening.{oack_bytes}
 
 -- it has at most three options
-pub oack_short : AgreementsAreShort → (agreed : List Known) (bytes : List ℕ) → IsAgreement agreed → length (options_bytes (agreed_options agreed)) ≤ 49 * length agreed → bytes ≡ oack_bytes agreed → length bytes ≤ MAX_REQUEST
+pub oack_short : AgreementsAreShort → (agreed : List Known) (bytes : List ℕ) → IsAgreement agreed
+    → length (options_bytes (agreed_options agreed)) ≤ 49 * length agreed → bytes ≡ oack_bytes agreed
+    → length bytes ≤ MAX_REQUEST
 oack_short law agreed bytes rule short is =
     let three = law agreed rule in
     let len : length bytes ≡ suc (suc (length (options_bytes (agreed_options agreed)))) = ap length is in

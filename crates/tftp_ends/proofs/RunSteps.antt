@@ -1,7 +1,8 @@
 -- The end after one step.
-use Rattle.std.proofs.Common.{◌≡◌, ℕ, ◌+◌, ◌*◌, ◌/◌, ◌<◌, ◌≤◌, Bool, true, false, List, [], length, Option, Some, None, Result, Ok, Err, refl, sym, ap, ◌∙◌, subst, arith}
+use Rattle.std.proofs.Common.{◌≡◌, ℕ, ◌+◌, ◌*◌, ◌/◌, ◌<◌, ◌≤◌, Bool, true, false, List, [], length, Option, Some, None}
+use Rattle.std.proofs.Common.{Result, Ok, Err, refl, sym, ◌∙◌, subst, arith}
 use Rattle.std.specs.Prelude.{◌==◌, ◌&&◌, nat_lt, nat_le, if◌then◌else◌, is_some, is_none}
-use Rattle.std.proofs.lemmas.Bool.{true≢false, ltb-true, lt-ltb, le-ltb, eqb-true}
+use Rattle.std.proofs.lemmas.Bool.{true≢false, ltb-true, lt-ltb, eqb-true}
 use Rattle.std.proofs.Math.Nat.{div-lt_iff_lt-mul}
 use Rattle.tftp_wire.specs.declared.packet.Packet.{Packet}
 use Rattle.tftp_wire.specs.declared.packet.Packet.TheVariants.{Read, Write, Data, Ack, Error, Oack}
@@ -21,158 +22,40 @@ use Rattle.tftp_file.specs.declared.files.Files.TheVariants.{Source, Sink}
 use Rattle.tftp_ends.specs.declared.action.Action.{Action}
 use Rattle.tftp_ends.specs.declared.action.Action.TheVariants.{Respond, Send, Store}
 use Rattle.tftp_ends.specs.declared.action.Response.{Response}
-use Rattle.tftp_ends.specs.declared.action.Response.TheVariants.{Ignore, Stranger, ResendReply, Close, Refuse, Accept, Complete}
+use Rattle.tftp_ends.specs.declared.action.Response.TheVariants.{Ignore, Stranger, ResendReply, Close, Refuse, Accept}
+use Rattle.tftp_ends.specs.declared.action.Response.TheVariants.{Complete}
 use Rattle.tftp_ends.specs.declared.endpoint.Endpoint.{Endpoint}
 use Rattle.tftp_ends.specs.declared.error_reply.ErrorReply.{ErrorReply}
 use Rattle.tftp_ends.specs.declared.error_reply.ErrorReply.TheVariants as replies
 use Rattle.tftp_ends.specs.declared.outcome.Outcome.{Outcome}
 use Rattle.tftp_ends.specs.declared.outcome.Outcome.TheVariants as outcomes
 use Rattle.tftp_ends.specs.declared.phase.Dally.{Dally}
-use Rattle.tftp_ends.specs.declared.phase.Dally.TheVariants.{Fresh, Waited}
+use Rattle.tftp_ends.specs.declared.phase.Dally.TheVariants.{Fresh}
 use Rattle.tftp_ends.specs.declared.phase.Phase.{Phase}
 use Rattle.tftp_ends.specs.declared.phase.Phase.TheVariants.{Waiting, Sending, Receiving, Dallying, Closed}
 use Rattle.tftp_ends.specs.declared.phase.Terms.{Terms}
-use Rattle.tftp_ends.specs.declared.side.Side.{Side}
 use Rattle.tftp_ends.specs.Action.{Decodes, is_stranger, garbled_response, packet_action, datagram_action}
-use Rattle.tftp_ends.specs.End.{EndState, is_sender, is_client, is_progress, terms_of, number_of, outcome_of}
-use Rattle.tftp_ends.specs.Phase.{refused, completed}
+use Rattle.tftp_ends.specs.End.{EndState, is_sender, is_client, is_progress, terms_of, outcome_of}
+use Rattle.tftp_ends.specs.Phase.{completed}
 use Rattle.tftp_ends.specs.Receiver.{receiver_action, data_action, next_action, dally_response}
-use Rattle.tftp_ends.specs.Run.{IsOpen, count_if, is_data, is_oack}
+use Rattle.tftp_ends.specs.Run.{IsOpen}
 use Rattle.tftp_ends.specs.Sender.{sender_action, acked_action, illegal_action}
-use Rattle.tftp_ends.specs.Step.{Done, Reply, Turn, Acts, DatagramStep, GoesOn, with_position, response_turn, refused_turn, sent_turn, committed_turn, commit_reply, holding, ack_bytes, data_bytes, error_bytes, block_length, result_count_is}
+use Rattle.tftp_ends.specs.Step.{Done, Turn, Acts, DatagramStep, GoesOn, with_position, response_turn}
+use Rattle.tftp_ends.specs.Step.{refused_turn, sent_turn, committed_turn, commit_reply, holding, ack_bytes, data_bytes}
+use Rattle.tftp_ends.specs.Step.{error_bytes, block_length, result_count_is}
 use Rattle.tftp_ends.specs.Text.{is_readable}
-use Rattle.tftp_ends.specs.Waiting.{reader_action, writer_action, accept_action, begin_action, begin_with_action, refusal_action, default_terms, agreed_terms, no_answer}
-
--- ---- what every step of a run preserves
--- senders send blocks that can be numbered, receivers receive, and numbers stay below 65,536
-abbrev pub Kept : Side → ℕ → Phase → Type 0
-Kept side length (Waiting asked limit) = Unit {0}
-Kept side length (Sending terms number) = (number ≤ 65535) × (length < 65535 * terms.size)
-Kept side length (Receiving terms number) = (number ≤ 65535) × (is_sender side ≡ false)
-Kept side length (Dallying terms number dally) = (number ≤ 65535) × (is_sender side ≡ false)
-Kept side length (Closed terms number complete outcome) = number ≤ 65535
-
--- the measure of an end: progress increases it
-abbrev pub rank : Phase → ℕ
-rank (Waiting asked limit) = 0
-rank (Sending terms number) = number
-rank (Receiving terms number) = number + 1
-rank (Dallying terms number dally) = number + 1
-rank (Closed terms number complete outcome) = number + 1
-
--- a dally has had its first timeout
-abbrev pub waits : Phase → ℕ
-waits (Waiting asked limit) = 0
-waits (Sending terms number) = 0
-waits (Receiving terms number) = 0
-waits (Dallying terms number Fresh) = 0
-waits (Dallying terms number Waited) = 1
-waits (Closed terms number complete outcome) = 1
-
--- the end after a datagram
-pub record Moves (e : EndState) (turn : Turn) : Type 0 where
-  pub kept : Kept e.role.side e.role.length turn.position.phase
-  pub left : turn.position.retries_left ≡ (if is_progress e.position.phase turn.position.phase then e.role.retries else e.position.retries_left)
-  pub rises : rank e.position.phase + count_if (is_progress e.position.phase turn.position.phase) ≤ rank turn.position.phase
-  pub waiting : waits e.position.phase ≤ waits turn.position.phase
-  pub oack : is_sender e.role.side ≡ true → is_oack turn.reply ≡ false
-  pub sends : is_sender e.role.side ≡ true → is_data turn.reply ≡ true → is_progress e.position.phase turn.position.phase ≡ true
-
--- both cases of a test
-pub if_either : {A : Type 0} (P : A → Type 0) (b : Bool) (r s : A) → (b ≡ true → P r) → (b ≡ false → P s) → P (if b then r else s)
-if_either P true r s f g = f refl
-if_either P false r s f g = g refl
-
-pub one_at_most : (b : Bool) → count_if b ≤ 1
-one_at_most true = omega arith
-one_at_most false = omega arith
-
-pub not_below_itself : (n : ℕ) → nat_lt n n ≡ false
-not_below_itself n = le-ltb n n (omega arith)
-
--- the same phase is no progress
-pub no_progress : (p : Phase) → is_progress p p ≡ false
-no_progress (Waiting asked limit) = refl
-no_progress (Sending terms number) = rw (not_below_itself number) refl
-no_progress (Receiving terms number) = rw (not_below_itself number) refl
-no_progress (Dallying terms number dally) = rw (not_below_itself number) refl
-no_progress (Closed None number true outcome) = rw (not_below_itself number) refl
-no_progress (Closed None number false outcome) = rw (not_below_itself number) refl
-no_progress (Closed (Some terms) number true outcome) = rw (not_below_itself number) refl
-no_progress (Closed (Some terms) number false outcome) = rw (not_below_itself number) refl
-
--- an unchanged end; a sender sends no DATA and no OACK
-stays : (e : EndState) (reply : Option Reply) → Kept e.role.side e.role.length e.position.phase → (is_sender e.role.side ≡ true → (is_oack reply ≡ false) × (is_data reply ≡ false)) →
-    Moves e (record { position = e.position; reply = reply })
-stays e reply kept quiet =
-    let n : is_progress e.position.phase e.position.phase ≡ false = no_progress e.position.phase in
-    record {
-      kept = kept;
-      left = ap (λ (b : Bool). if b then e.role.retries else e.position.retries_left) (sym n);
-      rises = omega (arith, ap count_if n);
-      waiting = omega arith;
-      oack = λ s. (quiet s).0;
-      sends = λ s d. absurd (true≢false (sym d ∙ (quiet s).1));
-    }
-
--- ---- an end that closes
-pub waits_at_most : (p : Phase) → waits p ≤ 1
-waits_at_most (Waiting asked limit) = omega arith
-waits_at_most (Sending terms number) = omega arith
-waits_at_most (Receiving terms number) = omega arith
-waits_at_most (Dallying terms number Fresh) = omega arith
-waits_at_most (Dallying terms number Waited) = omega arith
-waits_at_most (Closed terms number complete outcome) = omega arith
-
-pub number_kept : (side : Side) (length : ℕ) (p : Phase) → Kept side length p → number_of p ≤ 65535
-number_kept side length (Waiting asked limit) k = omega arith
-number_kept side length (Sending terms number) k = k.0
-number_kept side length (Receiving terms number) k = k.0
-number_kept side length (Dallying terms number dally) k = k.0
-number_kept side length (Closed terms number complete outcome) k = k
-
--- closing an open end is progress only if it increases the measure
-pub refused_rises : (p : Phase) (terms : Option Terms) (outcome : Outcome) → is_some (outcome_of p) ≡ false →
-    rank p + count_if (is_progress p (refused terms outcome p)) ≤ rank (refused terms outcome p)
-refused_rises (Waiting asked limit) terms outcome o =
-    let h = one_at_most (is_progress (Waiting asked limit) (refused terms outcome (Waiting asked limit))) in omega arith
-refused_rises (Sending t number) terms outcome o =
-    let h = one_at_most (is_progress (Sending t number) (refused terms outcome (Sending t number))) in omega arith
-refused_rises (Receiving t number) terms outcome o =
-    let n : is_progress (Receiving t number) (refused terms outcome (Receiving t number)) ≡ false = rw (not_below_itself number) refl in
-    omega (arith, ap count_if n)
-refused_rises (Dallying t number dally) terms outcome o =
-    let n : is_progress (Dallying t number dally) (refused terms outcome (Dallying t number dally)) ≡ false = rw (not_below_itself number) refl in
-    omega (arith, ap count_if n)
-refused_rises (Closed t number complete was) terms outcome o = absurd (true≢false o)
-
--- an end that enters another phase
-goes_into : (e : EndState) (p : Phase) (sent : List ℕ) (to : Endpoint) (reply : Option Reply) → Kept e.role.side e.role.length p →
-    rank e.position.phase + count_if (is_progress e.position.phase p) ≤ rank p → waits e.position.phase ≤ waits p →
-    (is_sender e.role.side ≡ true → (is_oack reply ≡ false) × (is_data reply ≡ true → is_progress e.position.phase p ≡ true)) →
-    Moves e (record { position = record e.position { phase = p; retries_left = if is_progress e.position.phase p then e.role.retries else e.position.retries_left; last_sent = sent; last_sent_to = to }; reply = reply })
-goes_into e p sent to reply kept rises waiting quiet =
-    record {
-      kept = kept;
-      left = refl;
-      rises = rises;
-      waiting = waiting;
-      oack = λ s. (quiet s).0;
-      sends = λ s d. (quiet s).1 d;
-    }
-
-closes : (e : EndState) (terms : Option Terms) (outcome : Outcome) (reply : Option Reply) → IsOpen e → Kept e.role.side e.role.length e.position.phase → is_oack reply ≡ false → is_data reply ≡ false →
-    Moves e (record { position = record e.position { phase = refused terms outcome e.position.phase; retries_left = if is_progress e.position.phase (refused terms outcome e.position.phase) then e.role.retries else e.position.retries_left }; reply = reply })
-closes e terms outcome reply o kept oack sends =
-    goes_into e (refused terms outcome e.position.phase) e.position.last_sent e.position.last_sent_to reply (number_kept e.role.side e.role.length e.position.phase kept) (refused_rises e.position.phase terms outcome o) (waits_at_most e.position.phase)
-    (λ s. (oack, λ d. absurd (true≢false (sym d ∙ sends))))
+use Rattle.tftp_ends.specs.Waiting.{reader_action, writer_action, accept_action, begin_action, begin_with_action}
+use Rattle.tftp_ends.specs.Waiting.{refusal_action, default_terms, agreed_terms, no_answer}
+use Rattle.tftp_ends.proofs.RunMoves.{Kept, rank, waits, Moves, if_either, one_at_most, stays, goes_into, closes}
 
 -- ---- after a datagram
 module _ {S K : Type 0} (sources : SourceMeaning S) (sinks : SinkMeaning K)
-    (e : EndState) (from : Endpoint) (bytes : List ℕ) (open_now : IsOpen e) (kept : Kept e.role.side e.role.length e.position.phase) where
+    (e : EndState) (from : Endpoint) (bytes : List ℕ) (open_now : IsOpen e)
+    (kept : Kept e.role.side e.role.length e.position.phase) where
   -- the end after an action
   abbrev Moving : Action → Type 0
-  Moving action = (turn : Turn) (files files' : Files S K) → Acts sources sinks action from bytes e files turn files' → Moves e turn
+  Moving action =
+      (turn : Turn) (files files' : Files S K) → Acts sources sinks action from bytes e files turn files' → Moves e turn
 
   responds : (response : Response) → Moves e (response_turn response from e) → Moving (Respond response)
   responds response m turn files files' h = subst (λ (t : Turn). Moves e t) (sym h.0) m
@@ -181,28 +64,50 @@ module _ {S K : Type 0} (sources : SourceMeaning S) (sinks : SinkMeaning K)
   ignores = responds Ignore (stays e None kept (λ _. (refl, refl)))
 
   answers_stranger : Moving (Respond Stranger)
-  answers_stranger = responds Stranger (stays e (Some (record { to = from; bytes = error_bytes replies.UnknownTransferId })) kept (λ _. (refl, refl)))
+  answers_stranger =
+      responds Stranger
+      (stays e (Some (record { to = from; bytes = error_bytes replies.UnknownTransferId })) kept
+      (λ _. (refl, refl)))
 
   answers_again : is_sender e.role.side ≡ false → Moving (Respond ResendReply)
-  answers_again r = responds ResendReply (stays e (Some (record { to = from; bytes = e.position.last_sent })) kept (λ s. absurd (true≢false (sym s ∙ r))))
+  answers_again r =
+      responds ResendReply
+      (stays e (Some (record { to = from; bytes = e.position.last_sent })) kept
+      (λ s. absurd (true≢false (sym s ∙ r))))
 
   gives_up : (outcome : Outcome) → Moving (Respond (Close outcome))
-  gives_up outcome = responds (Close outcome) (closes e (terms_of e.position.phase) outcome None open_now kept refl refl)
+  gives_up outcome =
+      responds (Close outcome) (closes e (terms_of e.position.phase) outcome None open_now kept refl refl)
 
-  refuses : (terms : Option Terms) (reply : ErrorReply) (outcome : Outcome) → Moving (Respond (Refuse terms reply outcome))
-  refuses terms reply outcome = responds (Refuse terms reply outcome) (closes e terms outcome (Some (record { to = from; bytes = error_bytes reply })) open_now kept refl refl)
+  refuses : (terms : Option Terms) (reply : ErrorReply) (outcome : Outcome) →
+      Moving (Respond (Refuse terms reply outcome))
+  refuses terms reply outcome =
+      responds (Refuse terms reply outcome)
+      (closes e terms outcome (Some (record { to = from; bytes = error_bytes reply })) open_now kept refl refl)
 
   -- a block was read from a source
-  filled : (terms : Terms) (number : ℕ) (piece : List ℕ) (b : Bool) → number ≤ 65535 → e.role.length < 65535 * terms.size → rank e.position.phase + 1 ≤ number → waits e.position.phase ≡ 0 → is_progress e.position.phase (Sending terms number) ≡ true →
-      Moves e (if b then sent_turn (Sending terms number) from (data_bytes number piece) e else refused_turn terms replies.FileChanged outcomes.SourceFault from e)
+  filled : (terms : Terms) (number : ℕ) (piece : List ℕ) (b : Bool) → number ≤ 65535 →
+      e.role.length < 65535 * terms.size → rank e.position.phase + 1 ≤ number → waits e.position.phase ≡ 0 →
+      is_progress e.position.phase (Sending terms number) ≡ true →
+      Moves e
+      (if b then sent_turn (Sending terms number) from (data_bytes number piece) e
+      else refused_turn terms replies.FileChanged outcomes.SourceFault from e)
   filled terms number piece true n fits r w p =
       let one = one_at_most (is_progress e.position.phase (Sending terms number)) in
-      goes_into e (Sending terms number) (data_bytes number piece) from (Some (record { to = from; bytes = data_bytes number piece })) (n, fits) (omega arith) (omega (arith, w)) (λ s. (refl, λ d. p))
-  filled terms number piece false n fits r w p = closes e (Some terms) outcomes.SourceFault (Some (record { to = from; bytes = error_bytes replies.FileChanged })) open_now kept refl refl
+      goes_into e (Sending terms number) (data_bytes number piece) from
+      (Some (record { to = from; bytes = data_bytes number piece })) (n, fits) (omega arith) (omega (arith, w))
+      (λ s. (refl, λ d. p))
+  filled terms number piece false n fits r w p =
+      closes e (Some terms) outcomes.SourceFault
+      (Some (record { to = from; bytes = error_bytes replies.FileChanged })) open_now kept refl refl
 
-  sends : (terms : Terms) (number : ℕ) → number ≤ 65535 → e.role.length < 65535 * terms.size → rank e.position.phase + 1 ≤ number → waits e.position.phase ≡ 0 → is_progress e.position.phase (Sending terms number) ≡ true → Moving (Send terms number)
+  sends : (terms : Terms) (number : ℕ) → number ≤ 65535 → e.role.length < 65535 * terms.size →
+      rank e.position.phase + 1 ≤ number → waits e.position.phase ≡ 0 →
+      is_progress e.position.phase (Sending terms number) ≡ true → Moving (Send terms number)
   sends terms number n fits r w p turn (Source source) (Source source') h =
-      subst (λ (t : Turn). Moves e t) (sym h.answers) (filled terms number h.piece (result_count_is (block_length e.role.length terms.size number) h.answer) n fits r w p)
+      subst (λ (t : Turn). Moves e t) (sym h.answers)
+      (filled terms number h.piece
+      (result_count_is (block_length e.role.length terms.size number) h.answer) n fits r w p)
   sends terms number n fits r w p turn (Source source) (Sink sink') h = absurd h
   sends terms number n fits r w p turn (Sink sink) (Source source') h = absurd h
   sends terms number n fits r w p turn (Sink sink) (Sink sink') h = absurd h
@@ -212,32 +117,45 @@ module _ {S K : Type 0} (sources : SourceMeaning S) (sinks : SinkMeaning K)
   from_holding after turn m =
       record { kept = m.kept; left = m.left; rises = m.rises; waiting = m.waiting; oack = m.oack; sends = m.sends }
 
-  acknowledges : (p : Phase) (after : List ℕ) (number : ℕ) → is_sender e.role.side ≡ false → Kept e.role.side e.role.length p → rank e.position.phase + 1 ≤ rank p → waits e.position.phase ≤ waits p → Moves e (sent_turn p from (ack_bytes number) (holding after e))
+  acknowledges : (p : Phase) (after : List ℕ) (number : ℕ) → is_sender e.role.side ≡ false →
+      Kept e.role.side e.role.length p → rank e.position.phase + 1 ≤ rank p → waits e.position.phase ≤ waits p →
+      Moves e (sent_turn p from (ack_bytes number) (holding after e))
   acknowledges p after number r k l w =
       let one = one_at_most (is_progress e.position.phase p) in
       from_holding after (sent_turn p from (ack_bytes number) (holding after e))
-      (goes_into (holding after e) p (ack_bytes number) from (Some (record { to = from; bytes = ack_bytes number })) k (omega arith) w (λ s. absurd (true≢false (sym s ∙ r))))
+      (goes_into (holding after e) p (ack_bytes number) from (Some (record { to = from; bytes = ack_bytes number })) k
+      (omega arith) w (λ s. absurd (true≢false (sym s ∙ r))))
 
-  committed : (terms : Terms) (number : ℕ) (after : List ℕ) (answer : Result Done StoreFault) → is_sender e.role.side ≡ false → number ≤ 65535 → rank e.position.phase ≤ number → waits e.position.phase ≡ 0 →
+  committed : (terms : Terms) (number : ℕ) (after : List ℕ) (answer : Result Done StoreFault) →
+      is_sender e.role.side ≡ false → number ≤ 65535 → rank e.position.phase ≤ number → waits e.position.phase ≡ 0 →
       Moves e (committed_turn terms number from (holding after e) answer)
   committed terms number after (Ok done) r n l w =
       acknowledges (Dallying terms number Fresh) after number r (n, r) (omega arith) (omega (arith, w))
   committed terms number after (Err fault) r n l w =
       from_holding after (refused_turn terms (commit_reply fault) outcomes.StoreFault from (holding after e))
-      (closes (holding after e) (Some terms) outcomes.StoreFault (Some (record { to = from; bytes = error_bytes (commit_reply fault) })) open_now kept refl refl)
+      (closes (holding after e) (Some terms) outcomes.StoreFault
+      (Some (record { to = from; bytes = error_bytes (commit_reply fault) })) open_now kept refl refl)
 
-  stored : (terms : Terms) (number : ℕ) (last : Bool) (after : List ℕ) (mid sink' : K) (answer : Result Done StoreFault) (turn : Turn) → is_sender e.role.side ≡ false → number ≤ 65535 → rank e.position.phase ≤ number → waits e.position.phase ≡ 0 →
+  stored : (terms : Terms) (number : ℕ) (last : Bool) (after : List ℕ) (mid sink' : K) (answer : Result Done StoreFault)
+      (turn : Turn) →
+      is_sender e.role.side ≡ false → number ≤ 65535 → rank e.position.phase ≤ number → waits e.position.phase ≡ 0 →
       GoesOn sinks terms number from e last after mid answer turn sink' → Moves e turn
   stored terms number true after mid sink' (Err fault) turn r n l w h =
-      subst (λ (t : Turn). Moves e t) (sym h.0) (closes e (Some terms) outcomes.StoreFault (Some (record { to = from; bytes = error_bytes replies.DiskFull })) open_now kept refl refl)
+      subst (λ (t : Turn). Moves e t) (sym h.0)
+      (closes e (Some terms) outcomes.StoreFault
+      (Some (record { to = from; bytes = error_bytes replies.DiskFull })) open_now kept refl refl)
   stored terms number false after mid sink' (Err fault) turn r n l w h =
-      subst (λ (t : Turn). Moves e t) (sym h.0) (closes e (Some terms) outcomes.StoreFault (Some (record { to = from; bytes = error_bytes replies.DiskFull })) open_now kept refl refl)
+      subst (λ (t : Turn). Moves e t) (sym h.0)
+      (closes e (Some terms) outcomes.StoreFault
+      (Some (record { to = from; bytes = error_bytes replies.DiskFull })) open_now kept refl refl)
   stored terms number true after mid sink' (Ok done) turn r n l w h =
       subst (λ (t : Turn). Moves e t) (sym h.answers) (committed terms number after h.answer r n l w)
   stored terms number false after mid sink' (Ok done) turn r n l w h =
-      subst (λ (t : Turn). Moves e t) (sym h.0) (acknowledges (Receiving terms number) after number r (n, r) (omega arith) (omega (arith, w)))
+      subst (λ (t : Turn). Moves e t) (sym h.0)
+      (acknowledges (Receiving terms number) after number r (n, r) (omega arith) (omega (arith, w)))
 
-  stores : (terms : Terms) (number : ℕ) → is_sender e.role.side ≡ false → number ≤ 65535 → rank e.position.phase ≤ number → waits e.position.phase ≡ 0 → Moving (Store terms number)
+  stores : (terms : Terms) (number : ℕ) → is_sender e.role.side ≡ false → number ≤ 65535 →
+      rank e.position.phase ≤ number → waits e.position.phase ≡ 0 → Moving (Store terms number)
   stores terms number r n l w turn (Sink sink) (Sink sink') h =
       stored terms number (nat_lt (length h.0) terms.size) h.2.after h.2.mid sink' h.2.answer turn r n l w h.2.rest
   stores terms number r n l w turn (Sink sink) (Source source') h = absurd h.2
@@ -255,39 +173,56 @@ module _ {S K : Type 0} (sources : SourceMeaning S) (sinks : SinkMeaning K)
   abbrev Going : (p : Phase) → is_some (outcome_of p) ≡ false → Kept e0.role.side e0.role.length p → Action → Type 0
   Going p o kept action = Moving sources sinks (at p) from bytes o kept action
 
-  ignored : (p : Phase) (o : is_some (outcome_of p) ≡ false) (kept : Kept e0.role.side e0.role.length p) → Going p o kept (Respond Ignore)
+  ignored : (p : Phase) (o : is_some (outcome_of p) ≡ false) (kept : Kept e0.role.side e0.role.length p) →
+      Going p o kept (Respond Ignore)
   ignored p o kept = ignores sources sinks (at p) from bytes o kept
 
-  refused_by : (p : Phase) (o : is_some (outcome_of p) ≡ false) (kept : Kept e0.role.side e0.role.length p) (terms : Option Terms) (reply : ErrorReply) (outcome : Outcome) → Going p o kept (Respond (Refuse terms reply outcome))
+  refused_by : (p : Phase) (o : is_some (outcome_of p) ≡ false) (kept : Kept e0.role.side e0.role.length p)
+      (terms : Option Terms) (reply : ErrorReply) (outcome : Outcome) →
+      Going p o kept (Respond (Refuse terms reply outcome))
   refused_by p o kept = refuses sources sinks (at p) from bytes o kept
 
-  gone : (p : Phase) (o : is_some (outcome_of p) ≡ false) (kept : Kept e0.role.side e0.role.length p) (outcome : Outcome) → Going p o kept (Respond (Close outcome))
+  gone : (p : Phase) (o : is_some (outcome_of p) ≡ false) (kept : Kept e0.role.side e0.role.length p)
+      (outcome : Outcome) →
+      Going p o kept (Respond (Close outcome))
   gone p o kept = gives_up sources sinks (at p) from bytes o kept
 
-  again : (p : Phase) (o : is_some (outcome_of p) ≡ false) (kept : Kept e0.role.side e0.role.length p) → is_sender e0.role.side ≡ false → Going p o kept (Respond ResendReply)
+  again : (p : Phase) (o : is_some (outcome_of p) ≡ false) (kept : Kept e0.role.side e0.role.length p) →
+      is_sender e0.role.side ≡ false → Going p o kept (Respond ResendReply)
   again p o kept = answers_again sources sinks (at p) from bytes o kept
 
-  next : (p : Phase) (o : is_some (outcome_of p) ≡ false) (kept : Kept e0.role.side e0.role.length p) (terms : Terms) (number : ℕ) → number ≤ 65535 → e0.role.length < 65535 * terms.size → rank p + 1 ≤ number → waits p ≡ 0 → is_progress p (Sending terms number) ≡ true → Going p o kept (Send terms number)
+  next : (p : Phase) (o : is_some (outcome_of p) ≡ false) (kept : Kept e0.role.side e0.role.length p) (terms : Terms)
+      (number : ℕ) →
+      number ≤ 65535 → e0.role.length < 65535 * terms.size → rank p + 1 ≤ number → waits p ≡ 0 →
+      is_progress p (Sending terms number) ≡ true → Going p o kept (Send terms number)
   next p o kept = sends sources sinks (at p) from bytes o kept
 
-  store : (p : Phase) (o : is_some (outcome_of p) ≡ false) (kept : Kept e0.role.side e0.role.length p) (terms : Terms) (number : ℕ) → is_sender e0.role.side ≡ false → number ≤ 65535 → rank p ≤ number → waits p ≡ 0 → Going p o kept (Store terms number)
+  store : (p : Phase) (o : is_some (outcome_of p) ≡ false) (kept : Kept e0.role.side e0.role.length p) (terms : Terms)
+      (number : ℕ) →
+      is_sender e0.role.side ≡ false → number ≤ 65535 → rank p ≤ number → waits p ≡ 0 →
+      Going p o kept (Store terms number)
   store p o kept = stores sources sinks (at p) from bytes o kept
 
   -- a sender
-  completes : (terms : Terms) (n : ℕ) (kept : Kept e0.role.side e0.role.length (Sending terms n)) → Going (Sending terms n) refl kept (Respond Complete)
+  completes : (terms : Terms) (n : ℕ) (kept : Kept e0.role.side e0.role.length (Sending terms n)) →
+      Going (Sending terms n) refl kept (Respond Complete)
   completes terms n kept =
       let one = one_at_most (is_progress (Sending terms n) (completed (Sending terms n))) in
       responds sources sinks (at (Sending terms n)) from bytes refl kept Complete
-      (goes_into (at (Sending terms n)) (completed (Sending terms n)) e0.position.last_sent e0.position.last_sent_to None kept.0 (omega arith) (omega arith) (λ s. (refl, λ d. absurd (true≢false (sym d)))))
+      (goes_into (at (Sending terms n))
+      (completed (Sending terms n)) e0.position.last_sent e0.position.last_sent_to None kept.0 (omega arith)
+      (omega arith) (λ s. (refl, λ d. absurd (true≢false (sym d)))))
 
-  acked_goes : (terms : Terms) (n acked : ℕ) (kept : Kept e0.role.side e0.role.length (Sending terms n)) → Going (Sending terms n) refl kept (acked_action e0.role.length terms n acked)
+  acked_goes : (terms : Terms) (n acked : ℕ) (kept : Kept e0.role.side e0.role.length (Sending terms n)) →
+      Going (Sending terms n) refl kept (acked_action e0.role.length terms n acked)
   acked_goes terms n acked kept =
       let P = Going (Sending terms n) refl kept in
       let onward = if nat_lt n (e0.role.length / terms.size + 1) then Send terms (n + 1) else Respond Complete in
       let other = if nat_lt acked n then Respond Ignore else illegal_action terms in
       let fits : e0.role.length < 65535 * terms.size = kept.1 in
       let positive : 0 < terms.size = omega arith in
-      let d : e0.role.length / terms.size < 65535 = (div-lt_iff_lt-mul {k = terms.size} {x = e0.role.length} {y = 65535} positive).1 fits in
+      let d : e0.role.length / terms.size < 65535 =
+      (div-lt_iff_lt-mul {k = terms.size} {x = e0.role.length} {y = 65535} positive).1 fits in
       if_either P (acked == n) onward other
       (λ _. if_either P (nat_lt n (e0.role.length / terms.size + 1)) (Send terms (n + 1)) (Respond Complete)
       (λ l. let more : n < e0.role.length / terms.size + 1 = ltb-true n (e0.role.length / terms.size + 1) l in
@@ -298,11 +233,17 @@ module _ {S K : Type 0} (sources : SourceMeaning S) (sinks : SinkMeaning K)
       (λ _. ignored (Sending terms n) refl kept)
       (λ _. refused_by (Sending terms n) refl kept (Some terms) replies.IllegalOperation outcomes.Illegal))
 
-  sender_goes : (client : Bool) (terms : Terms) (n : ℕ) (kept : Kept e0.role.side e0.role.length (Sending terms n)) (decoded : Option Packet) → Going (Sending terms n) refl kept (sender_action client e0.role.length terms n decoded)
-  sender_goes client terms n kept None = refused_by (Sending terms n) refl kept (Some terms) replies.IllegalOperation outcomes.Illegal
-  sender_goes client terms n kept (Some (Read r)) = refused_by (Sending terms n) refl kept (Some terms) replies.IllegalOperation outcomes.Illegal
-  sender_goes client terms n kept (Some (Write r)) = refused_by (Sending terms n) refl kept (Some terms) replies.IllegalOperation outcomes.Illegal
-  sender_goes client terms n kept (Some (Data number piece)) = refused_by (Sending terms n) refl kept (Some terms) replies.IllegalOperation outcomes.Illegal
+  sender_goes : (client : Bool) (terms : Terms) (n : ℕ) (kept : Kept e0.role.side e0.role.length (Sending terms n))
+      (decoded : Option Packet) →
+      Going (Sending terms n) refl kept (sender_action client e0.role.length terms n decoded)
+  sender_goes client terms n kept None =
+      refused_by (Sending terms n) refl kept (Some terms) replies.IllegalOperation outcomes.Illegal
+  sender_goes client terms n kept (Some (Read r)) =
+      refused_by (Sending terms n) refl kept (Some terms) replies.IllegalOperation outcomes.Illegal
+  sender_goes client terms n kept (Some (Write r)) =
+      refused_by (Sending terms n) refl kept (Some terms) replies.IllegalOperation outcomes.Illegal
+  sender_goes client terms n kept (Some (Data number piece)) =
+      refused_by (Sending terms n) refl kept (Some terms) replies.IllegalOperation outcomes.Illegal
   sender_goes client terms n kept (Some (Ack acked)) = acked_goes terms n acked kept
   sender_goes client terms n kept (Some (Error code text)) = gone (Sending terms n) refl kept (outcomes.PeerError code)
   sender_goes client terms n kept (Some (Oack options)) =
@@ -311,14 +252,21 @@ module _ {S K : Type 0} (sources : SourceMeaning S) (sinks : SinkMeaning K)
       (λ _. refused_by (Sending terms n) refl kept (Some terms) replies.IllegalOperation outcomes.Illegal)
 
   -- a receiver, in a phase of this rank at most
-  data_goes : (p : Phase) (o : is_some (outcome_of p) ≡ false) (kept : Kept e0.role.side e0.role.length p) (text : List ℕ) (terms : Terms) (stored number : ℕ) (piece : List ℕ) → is_sender e0.role.side ≡ false → number ≤ 65535 → rank p ≤ stored + 1 → waits p ≡ 0 →
+  data_goes : (p : Phase) (o : is_some (outcome_of p) ≡ false) (kept : Kept e0.role.side e0.role.length p)
+      (text : List ℕ) (terms : Terms) (stored number : ℕ) (piece : List ℕ) →
+      is_sender e0.role.side ≡ false → number ≤ 65535 → rank p ≤ stored + 1 → waits p ≡ 0 →
       Going p o kept (data_action e0.role.mode text terms stored number piece)
   data_goes p o kept text terms stored number piece r n l w =
       let P = Going p o kept in
       let last = nat_lt (length piece) terms.size in
-      let storing = if is_readable e0.role.mode text piece last then Store terms number else Respond (Refuse (Some terms) replies.NotNetascii outcomes.NotNetascii) in
-      let fitting = if number == 65535 && (length piece == terms.size) then Respond (Refuse (Some terms) replies.FileTooLarge outcomes.TooLarge) else storing in
-      let onward = if number == stored + 1 then next_action e0.role.mode text terms number piece else illegal_action terms in
+      let storing =
+      if is_readable e0.role.mode text piece last then Store terms number
+      else Respond (Refuse (Some terms) replies.NotNetascii outcomes.NotNetascii) in
+      let fitting =
+      if number == 65535 && (length piece == terms.size)
+      then Respond (Refuse (Some terms) replies.FileTooLarge outcomes.TooLarge) else storing in
+      let onward =
+      if number == stored + 1 then next_action e0.role.mode text terms number piece else illegal_action terms in
       let other = if nat_lt number stored then Respond Ignore else onward in
       if_either P (number == stored) (Respond ResendReply) other (λ _. again p o kept r)
       (λ _. if_either P (nat_lt number stored) (Respond Ignore) onward (λ _. ignored p o kept)
@@ -326,36 +274,49 @@ module _ {S K : Type 0} (sources : SourceMeaning S) (sinks : SinkMeaning K)
       (λ is. let next_is : number ≡ stored + 1 = eqb-true number (stored + 1) is in
       if_either P (nat_lt terms.size (length piece)) (illegal_action terms) fitting
       (λ _. refused_by p o kept (Some terms) replies.IllegalOperation outcomes.Illegal)
-      (λ _. if_either P (number == 65535 && (length piece == terms.size)) (Respond (Refuse (Some terms) replies.FileTooLarge outcomes.TooLarge)) storing
+      (λ _. if_either P (number == 65535 && (length piece == terms.size))
+      (Respond (Refuse (Some terms) replies.FileTooLarge outcomes.TooLarge)) storing
       (λ _. refused_by p o kept (Some terms) replies.FileTooLarge outcomes.TooLarge)
-      (λ _. if_either P (is_readable e0.role.mode text piece last) (Store terms number) (Respond (Refuse (Some terms) replies.NotNetascii outcomes.NotNetascii))
+      (λ _. if_either P (is_readable e0.role.mode text piece last) (Store terms number)
+      (Respond (Refuse (Some terms) replies.NotNetascii outcomes.NotNetascii))
       (λ _. store p o kept terms number r n (omega arith) w)
       (λ _. refused_by p o kept (Some terms) replies.NotNetascii outcomes.NotNetascii))))
       (λ _. refused_by p o kept (Some terms) replies.IllegalOperation outcomes.Illegal)))
 
-  receiver_goes : (p : Phase) (o : is_some (outcome_of p) ≡ false) (kept : Kept e0.role.side e0.role.length p) (client : Bool) (text : List ℕ) (terms : Terms) (stored : ℕ) (decoded : Option Packet) → is_sender e0.role.side ≡ false → Decodes bytes decoded → rank p ≤ stored + 1 → waits p ≡ 0 →
+  receiver_goes : (p : Phase) (o : is_some (outcome_of p) ≡ false) (kept : Kept e0.role.side e0.role.length p)
+      (client : Bool) (text : List ℕ) (terms : Terms) (stored : ℕ) (decoded : Option Packet) →
+      is_sender e0.role.side ≡ false → Decodes bytes decoded → rank p ≤ stored + 1 → waits p ≡ 0 →
       Going p o kept (receiver_action client e0.role.mode text terms stored decoded)
-  receiver_goes p o kept client text terms stored None r d l w = refused_by p o kept (Some terms) replies.IllegalOperation outcomes.Illegal
-  receiver_goes p o kept client text terms stored (Some (Read q)) r d l w = refused_by p o kept (Some terms) replies.IllegalOperation outcomes.Illegal
-  receiver_goes p o kept client text terms stored (Some (Write q)) r d l w = refused_by p o kept (Some terms) replies.IllegalOperation outcomes.Illegal
+  receiver_goes p o kept client text terms stored None r d l w =
+      refused_by p o kept (Some terms) replies.IllegalOperation outcomes.Illegal
+  receiver_goes p o kept client text terms stored (Some (Read q)) r d l w =
+      refused_by p o kept (Some terms) replies.IllegalOperation outcomes.Illegal
+  receiver_goes p o kept client text terms stored (Some (Write q)) r d l w =
+      refused_by p o kept (Some terms) replies.IllegalOperation outcomes.Illegal
   receiver_goes p o kept client text terms stored (Some (Data number piece)) r d l w =
       let small : number < 65536 = d.valid.1 in
       data_goes p o kept text terms stored number piece r (omega arith) l w
-  receiver_goes p o kept client text terms stored (Some (Ack acked)) r d l w = refused_by p o kept (Some terms) replies.IllegalOperation outcomes.Illegal
-  receiver_goes p o kept client text terms stored (Some (Error code words)) r d l w = gone p o kept (outcomes.PeerError code)
+  receiver_goes p o kept client text terms stored (Some (Ack acked)) r d l w =
+      refused_by p o kept (Some terms) replies.IllegalOperation outcomes.Illegal
+  receiver_goes p o kept client text terms stored (Some (Error code words)) r d l w =
+      gone p o kept (outcomes.PeerError code)
   receiver_goes p o kept client text terms stored (Some (Oack options)) r d l w =
       let P = Going p o kept in
       let still = if stored == 0 then Respond ResendReply else Respond Ignore in
       if_either P (client && terms.by_oack) still (illegal_action terms)
-      (λ _. if_either P (stored == 0) (Respond ResendReply) (Respond Ignore) (λ _. again p o kept r) (λ _. ignored p o kept))
+      (λ _. if_either P (stored == 0) (Respond ResendReply) (Respond Ignore) (λ _. again p o kept r)
+      (λ _. ignored p o kept))
       (λ _. refused_by p o kept (Some terms) replies.IllegalOperation outcomes.Illegal)
 
-  dally_goes : (terms : Terms) (n : ℕ) (dally : Dally) (kept : Kept e0.role.side e0.role.length (Dallying terms n dally)) (decoded : Option Packet) → Going (Dallying terms n dally) refl kept (Respond (dally_response n decoded))
+  dally_goes : (terms : Terms) (n : ℕ) (dally : Dally)
+      (kept : Kept e0.role.side e0.role.length (Dallying terms n dally)) (decoded : Option Packet) →
+      Going (Dallying terms n dally) refl kept (Respond (dally_response n decoded))
   dally_goes terms n dally kept None = ignored (Dallying terms n dally) refl kept
   dally_goes terms n dally kept (Some (Read r)) = ignored (Dallying terms n dally) refl kept
   dally_goes terms n dally kept (Some (Write r)) = ignored (Dallying terms n dally) refl kept
   dally_goes terms n dally kept (Some (Data number piece)) =
-      if_either (λ (r : Response). Going (Dallying terms n dally) refl kept (Respond r)) (number == n) ResendReply Ignore
+      if_either (λ (r : Response). Going (Dallying terms n dally) refl kept (Respond r))
+      (number == n) ResendReply Ignore
       (λ _. again (Dallying terms n dally) refl kept kept.1) (λ _. ignored (Dallying terms n dally) refl kept)
   dally_goes terms n dally kept (Some (Ack acked)) = ignored (Dallying terms n dally) refl kept
   dally_goes terms n dally kept (Some (Error code text)) = ignored (Dallying terms n dally) refl kept
@@ -370,42 +331,54 @@ module _ {S K : Type 0} (sources : SourceMeaning S) (sinks : SinkMeaning K)
     no_answer_goes = refused_by waiting refl tt None replies.IllegalOperation outcomes.Illegal
 
     refusal_goes : (refusal : Refusal) → Going waiting refl tt (refusal_action refusal)
-    refusal_goes refusals.Repeated = refused_by waiting refl tt None replies.OptionRefused (outcomes.Refused refusals.Repeated)
+    refusal_goes refusals.Repeated =
+        refused_by waiting refl tt None replies.OptionRefused (outcomes.Refused refusals.Repeated)
     refusal_goes refusals.TooLarge = refused_by waiting refl tt None replies.DiskFull outcomes.TooLarge
-    refusal_goes refusals.NotAsked = refused_by waiting refl tt None replies.OptionRefused (outcomes.Refused refusals.NotAsked)
-    refusal_goes refusals.BadValue = refused_by waiting refl tt None replies.OptionRefused (outcomes.Refused refusals.BadValue)
+    refusal_goes refusals.NotAsked =
+        refused_by waiting refl tt None replies.OptionRefused (outcomes.Refused refusals.NotAsked)
+    refusal_goes refusals.BadValue =
+        refused_by waiting refl tt None replies.OptionRefused (outcomes.Refused refusals.BadValue)
 
-    accept_goes : is_sender e0.role.side ≡ false → (answer : Result (List Known) Refusal) → Going waiting refl tt (accept_action from answer)
+    accept_goes : is_sender e0.role.side ≡ false → (answer : Result (List Known) Refusal) →
+        Going waiting refl tt (accept_action from answer)
     accept_goes r (Ok agreed) =
         let terms = agreed_terms from agreed in
         responds sources sinks (at waiting) from bytes refl tt (Accept terms)
-        (goes_into (at waiting) (Receiving terms 0) (ack_bytes 0) from (Some (record { to = from; bytes = ack_bytes 0 })) (omega arith, r) (omega arith) (omega arith) (λ s. absurd (true≢false (sym s ∙ r))))
+        (goes_into (at waiting) (Receiving terms 0) (ack_bytes 0) from
+        (Some (record { to = from; bytes = ack_bytes 0 })) (omega arith, r) (omega arith) (omega arith)
+        (λ s. absurd (true≢false (sym s ∙ r))))
     accept_goes r (Err refusal) = refusal_goes refusal
 
     begin_goes : (terms : Terms) → Going waiting refl tt (begin_action e0.role.length terms)
     begin_goes terms =
-        if_either (Going waiting refl tt) (nat_lt e0.role.length (65535 * terms.size)) (Send terms 1) (Respond (Refuse None replies.FileTooLarge outcomes.TooLarge))
-        (λ l. next waiting refl tt terms 1 (omega arith) (ltb-true e0.role.length (65535 * terms.size) l) (omega arith) refl refl)
+        if_either (Going waiting refl tt) (nat_lt e0.role.length (65535 * terms.size)) (Send terms 1)
+        (Respond (Refuse None replies.FileTooLarge outcomes.TooLarge))
+        (λ l. next waiting refl tt terms 1 (omega arith) (ltb-true e0.role.length (65535 * terms.size) l)
+        (omega arith) refl refl)
         (λ _. refused_by waiting refl tt None replies.FileTooLarge outcomes.TooLarge)
 
-    begin_with_goes : (answer : Result (List Known) Refusal) → Going waiting refl tt (begin_with_action from e0.role.length answer)
+    begin_with_goes : (answer : Result (List Known) Refusal) →
+        Going waiting refl tt (begin_with_action from e0.role.length answer)
     begin_with_goes (Ok agreed) = begin_goes (agreed_terms from agreed)
     begin_with_goes (Err refusal) = refusal_goes refusal
 
-    reader_goes : is_sender e0.role.side ≡ false → (decoded : Option Packet) → Decodes bytes decoded → Going waiting refl tt (reader_action e0.role.mode asked limit from decoded)
+    reader_goes : is_sender e0.role.side ≡ false → (decoded : Option Packet) → Decodes bytes decoded →
+        Going waiting refl tt (reader_action e0.role.mode asked limit from decoded)
     reader_goes r None d = no_answer_goes
     reader_goes r (Some (Read q)) d = no_answer_goes
     reader_goes r (Some (Write q)) d = no_answer_goes
     reader_goes r (Some (Data number piece)) d =
         let first = receiver_action true e0.role.mode [] (default_terms from) 0 (Some (Data number piece)) in
         if_either (Going waiting refl tt) (number == 1 && nat_le (length piece) DEFAULT_BLOCK) first no_answer
-        (λ _. receiver_goes waiting refl tt true [] (default_terms from) 0 (Some (Data number piece)) r d (omega arith) refl)
+        (λ _. receiver_goes waiting refl tt true [] (default_terms from) 0 (Some (Data number piece)) r d
+        (omega arith) refl)
         (λ _. no_answer_goes)
     reader_goes r (Some (Ack acked)) d = no_answer_goes
     reader_goes r (Some (Error code text)) d = gone waiting refl tt (outcomes.PeerError code)
     reader_goes r (Some (Oack options)) d = accept_goes r (agreement asked kinds.Read e0.role.mode options limit)
 
-    writer_goes : (decoded : Option Packet) → Going waiting refl tt (writer_action e0.role.mode asked limit e0.role.length from decoded)
+    writer_goes : (decoded : Option Packet) →
+        Going waiting refl tt (writer_action e0.role.mode asked limit e0.role.length from decoded)
     writer_goes None = no_answer_goes
     writer_goes (Some (Read q)) = no_answer_goes
     writer_goes (Some (Write q)) = no_answer_goes
@@ -416,16 +389,23 @@ module _ {S K : Type 0} (sources : SourceMeaning S) (sinks : SinkMeaning K)
     writer_goes (Some (Error code text)) = gone waiting refl tt (outcomes.PeerError code)
     writer_goes (Some (Oack options)) = begin_with_goes (agreement asked kinds.Write e0.role.mode options limit)
 
-  packet_goes : (p : Phase) (o : is_some (outcome_of p) ≡ false) (kept : Kept e0.role.side e0.role.length p) (decoded : Option Packet) → Decodes bytes decoded → Going p o kept (packet_action (at p) from decoded p)
+  packet_goes : (p : Phase) (o : is_some (outcome_of p) ≡ false) (kept : Kept e0.role.side e0.role.length p)
+      (decoded : Option Packet) →
+      Decodes bytes decoded → Going p o kept (packet_action (at p) from decoded p)
   packet_goes (Waiting asked limit) o kept decoded d =
-      if_either (Going (Waiting asked limit) o kept) (is_sender e0.role.side) (writer_action e0.role.mode asked limit e0.role.length from decoded) (reader_action e0.role.mode asked limit from decoded)
+      if_either (Going (Waiting asked limit) o kept) (is_sender e0.role.side)
+      (writer_action e0.role.mode asked limit e0.role.length from decoded)
+      (reader_action e0.role.mode asked limit from decoded)
       (λ _. writer_goes asked limit decoded) (λ r. reader_goes asked limit r decoded d)
   packet_goes (Sending terms n) o kept decoded d = sender_goes (is_client e0.role.side) terms n kept decoded
-  packet_goes (Receiving terms n) o kept decoded d = receiver_goes (Receiving terms n) o kept (is_client e0.role.side) e0.position.held terms n decoded kept.1 d (omega arith) refl
+  packet_goes (Receiving terms n) o kept decoded d =
+      receiver_goes (Receiving terms n) o kept (is_client e0.role.side) e0.position.held terms n decoded kept.1 d
+      (omega arith) refl
   packet_goes (Dallying terms n dally) o kept decoded d = dally_goes terms n dally kept decoded
   packet_goes (Closed terms n complete outcome) o kept decoded d = absurd (true≢false o)
 
-  garbled_goes : (p : Phase) (o : is_some (outcome_of p) ≡ false) (kept : Kept e0.role.side e0.role.length p) → Going p o kept (Respond (garbled_response p))
+  garbled_goes : (p : Phase) (o : is_some (outcome_of p) ≡ false) (kept : Kept e0.role.side e0.role.length p) →
+      Going p o kept (Respond (garbled_response p))
   garbled_goes (Waiting asked limit) o kept = gone (Waiting asked limit) o kept outcomes.Illegal
   garbled_goes (Sending terms n) o kept = gone (Sending terms n) o kept outcomes.Illegal
   garbled_goes (Receiving terms n) o kept = gone (Receiving terms n) o kept outcomes.Illegal
@@ -433,20 +413,25 @@ module _ {S K : Type 0} (sources : SourceMeaning S) (sinks : SinkMeaning K)
   garbled_goes (Closed terms n complete outcome) o kept = absurd (true≢false o)
 
   -- any datagram
-  datagram_goes : (p : Phase) (o : is_some (outcome_of p) ≡ false) (kept : Kept e0.role.side e0.role.length p) (decoded : Option Packet) → Decodes bytes decoded → Going p o kept (datagram_action (at p) from bytes decoded)
+  datagram_goes : (p : Phase) (o : is_some (outcome_of p) ≡ false) (kept : Kept e0.role.side e0.role.length p)
+      (decoded : Option Packet) →
+      Decodes bytes decoded → Going p o kept (datagram_action (at p) from bytes decoded)
   datagram_goes p o kept decoded d =
       let P = Going p o kept in
       let strange = if has_error_opcode bytes then Respond Ignore else Respond Stranger in
-      let known = if has_error_opcode bytes && is_none decoded then Respond (garbled_response p) else packet_action (at p) from decoded p in
+      let known =
+      if has_error_opcode bytes && is_none decoded then Respond (garbled_response p)
+      else packet_action (at p) from decoded p in
       if_either P (is_stranger (terms_of p) e0.position.last_sent_to from) strange known
       (λ _. if_either P (has_error_opcode bytes) (Respond Ignore) (Respond Stranger) (λ _. ignored p o kept)
       (λ _. answers_stranger sources sinks (at p) from bytes o kept))
-      (λ _. if_either P (has_error_opcode bytes && is_none decoded) (Respond (garbled_response p)) (packet_action (at p) from decoded p)
-      (λ _. garbled_goes p o kept) (λ _. packet_goes p o kept decoded d))
+      (λ _. if_either P (has_error_opcode bytes && is_none decoded) (Respond (garbled_response p))
+      (packet_action (at p) from decoded p) (λ _. garbled_goes p o kept) (λ _. packet_goes p o kept decoded d))
 
 -- an open end after a datagram
 pub datagram_moves : {S K : Type 0} (sources : SourceMeaning S) (sinks : SinkMeaning K)
-    (e : EndState) (from : Endpoint) (bytes : List ℕ) (files files' : Files S K) (turn : Turn) → IsOpen e → Kept e.role.side e.role.length e.position.phase →
+    (e : EndState) (from : Endpoint) (bytes : List ℕ) (files files' : Files S K) (turn : Turn) → IsOpen e →
+    Kept e.role.side e.role.length e.position.phase →
     DatagramStep sources sinks from bytes e files turn files' → Moves e turn
 datagram_moves sources sinks e from bytes files files' turn o kept step =
     datagram_goes sources sinks e from bytes e.position.phase o kept step.decoded step.says turn files files' step.acts

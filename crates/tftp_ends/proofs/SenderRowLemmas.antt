@@ -17,12 +17,16 @@ use Rattle.tftp_ends.specs.declared.phase.Terms.{Terms}
 use Rattle.tftp_ends.specs.Action.{packet_action}
 use Rattle.tftp_ends.specs.Rows.{Handled, FromPeer, RefusesBy}
 use Rattle.tftp_ends.specs.Sender.{illegal_action}
-use Rattle.tftp_ends.specs.SenderRows.{blocks_of, took_oack, NewestAckSends, LastAckCompletes, OldAckIsNothing, EarlyAckIsIllegal, ErrorClosesSender, OackAgainIsNothing, SenderRefusesOthers, SenderRefusesMalformed}
-use Rattle.tftp_ends.proofs.RowLemmas.{DidSo, own_peer, if_yes, if_no, at_packet, at_malformed, does_nothing, closes, completes, refuses, sends}
+use Rattle.tftp_ends.specs.SenderRows.{blocks_of, took_oack, NewestAckSends, LastAckCompletes, OldAckIsNothing}
+use Rattle.tftp_ends.specs.SenderRows.{EarlyAckIsIllegal, ErrorClosesSender, OackAgainIsNothing, SenderRefusesOthers}
+use Rattle.tftp_ends.specs.SenderRows.{SenderRefusesMalformed}
+use Rattle.tftp_ends.proofs.RowLemmas.{DidSo, own_peer, if_yes, if_no, at_packet, at_malformed, does_nothing, closes}
+use Rattle.tftp_ends.proofs.RowLemmas.{completes, refuses, sends}
 
 module _ {S K : Type 0} (sources : SourceMeaning S) (sinks : SinkMeaning K) where
   module _ (c : Handled sources sinks) (terms : Terms) (n : ℕ) (f : FromPeer c (Sending terms n) terms) where
-    heard : (packet : Packet) → Spells packet c.bytes → DidSo c (packet_action c.e c.from (Some packet) (Sending terms n))
+    heard : (packet : Packet) → Spells packet c.bytes
+        → DidSo c (packet_action c.e c.from (Some packet) (Sending terms n))
     heard packet says = at_packet c packet (Sending terms n) (own_peer terms.peer c.from f.peer) f.stands says
 
     -- an ACK of the newest block, or of another
@@ -43,39 +47,52 @@ module _ {S K : Type 0} (sources : SourceMeaning S) (sinks : SinkMeaning K) wher
 
   pub newest_ack_sends : NewestAckSends sources sinks
   newest_ack_sends c terms n f says l =
-      sends c (Sending terms n) f.stands refl terms (n + 1) (ap (λ (b : Bool). b || false) (lt-ltb n (n + 1) (omega arith)))
-      (if_yes (DidSo c) (nat_lt n (blocks_of c.e terms)) (Send terms (n + 1)) (Respond Complete) (lt-ltb n (blocks_of c.e terms) l) (newest c terms n f says))
+      sends c (Sending terms n) f.stands refl terms (n + 1)
+      (ap (λ (b : Bool). b || false) (lt-ltb n (n + 1) (omega arith)))
+      (if_yes (DidSo c) (nat_lt n (blocks_of c.e terms)) (Send terms (n + 1)) (Respond Complete)
+      (lt-ltb n (blocks_of c.e terms) l) (newest c terms n f says))
 
   pub last_ack_completes : LastAckCompletes sources sinks
   last_ack_completes c terms n f says is =
       completes c (Sending terms n) f.stands
-      (if_no (DidSo c) (nat_lt n (blocks_of c.e terms)) (Send terms (n + 1)) (Respond Complete) (le-ltb n (blocks_of c.e terms) (omega (arith, is))) (newest c terms n f says))
+      (if_no (DidSo c) (nat_lt n (blocks_of c.e terms)) (Send terms (n + 1)) (Respond Complete)
+      (le-ltb n (blocks_of c.e terms) (omega (arith, is))) (newest c terms n f says))
 
   pub old_ack_is_nothing : OldAckIsNothing sources sinks
   old_ack_is_nothing c terms n m f says l =
       does_nothing c
-      (if_yes (DidSo c) (nat_lt m n) (Respond Ignore) (illegal_action terms) (lt-ltb m n l) (not_newest c terms n f m says (ne_eqb m n (λ e. omega (arith, l, e)))))
+      (if_yes (DidSo c) (nat_lt m n) (Respond Ignore) (illegal_action terms) (lt-ltb m n l)
+      (not_newest c terms n f m says (ne_eqb m n (λ e. omega (arith, l, e)))))
 
   pub early_ack_is_illegal : EarlyAckIsIllegal sources sinks
   early_ack_is_illegal c terms n m f says l =
       illegal c terms n f
-      (if_no (DidSo c) (nat_lt m n) (Respond Ignore) (illegal_action terms) (le-ltb m n (omega (arith, l))) (not_newest c terms n f m says (ne_eqb m n (λ e. omega (arith, l, e)))))
+      (if_no (DidSo c) (nat_lt m n) (Respond Ignore) (illegal_action terms) (le-ltb m n (omega (arith, l)))
+      (not_newest c terms n f m says (ne_eqb m n (λ e. omega (arith, l, e)))))
 
   pub error_closes_sender : ErrorClosesSender sources sinks
-  error_closes_sender c terms n code text f says = closes c (Sending terms n) (outcomes.PeerError code) f.stands (heard c terms n f (Error code text) says)
+  error_closes_sender c terms n code text f says =
+      closes c (Sending terms n) (outcomes.PeerError code) f.stands (heard c terms n f (Error code text) says)
 
   pub oack_again_is_nothing : OackAgainIsNothing sources sinks
   oack_again_is_nothing c terms n options f says took =
-      does_nothing c (if_yes (DidSo c) (took_oack c.e terms) (Respond Ignore) (illegal_action terms) took (heard c terms n f (Oack options) says))
+      does_nothing c
+      (if_yes (DidSo c) (took_oack c.e terms) (Respond Ignore) (illegal_action terms) took
+      (heard c terms n f (Oack options) says))
 
   pub sender_refuses_others : SenderRefusesOthers sources sinks
-  sender_refuses_others c terms n (Read request) f says unexpected = illegal c terms n f (heard c terms n f (Read request) says)
-  sender_refuses_others c terms n (Write request) f says unexpected = illegal c terms n f (heard c terms n f (Write request) says)
-  sender_refuses_others c terms n (Data number piece) f says unexpected = illegal c terms n f (heard c terms n f (Data number piece) says)
+  sender_refuses_others c terms n (Read request) f says unexpected =
+      illegal c terms n f (heard c terms n f (Read request) says)
+  sender_refuses_others c terms n (Write request) f says unexpected =
+      illegal c terms n f (heard c terms n f (Write request) says)
+  sender_refuses_others c terms n (Data number piece) f says unexpected =
+      illegal c terms n f (heard c terms n f (Data number piece) says)
   sender_refuses_others c terms n (Ack number) f says unexpected = absurd unexpected
   sender_refuses_others c terms n (Error code text) f says unexpected = absurd unexpected
   sender_refuses_others c terms n (Oack options) f says unexpected =
-      illegal c terms n f (if_no (DidSo c) (took_oack c.e terms) (Respond Ignore) (illegal_action terms) unexpected (heard c terms n f (Oack options) says))
+      illegal c terms n f
+      (if_no (DidSo c) (took_oack c.e terms) (Respond Ignore) (illegal_action terms) unexpected
+      (heard c terms n f (Oack options) says))
 
   pub sender_refuses_malformed : SenderRefusesMalformed sources sinks
   sender_refuses_malformed c terms n f m =

@@ -13,23 +13,38 @@ use Rattle.tftp_ends.specs.End.{EndState}
 use Rattle.tftp_ends.specs.Opening.{FailsToStart}
 use Rattle.tftp_ends.specs.Phase.{refused}
 use Rattle.tftp_ends.specs.Room.{ReadsData}
-use Rattle.tftp_ends.specs.Step.{Turn, Sends, Lends, in_phase, having_sent, with_position, data_bytes, sent_turn, refused_turn, filled_turn, block_length}
+use Rattle.tftp_ends.specs.Step.{Turn, Sends, Lends, in_phase, having_sent, with_position, data_bytes, sent_turn}
+use Rattle.tftp_ends.specs.Step.{refused_turn, filled_turn, block_length}
 
 -- without DATA 1 a read cannot be served, and the source has the bytes left that the fill left
 pub fails_to_start : {S : Type 0} (sources : SourceMeaning S) (length : ℕ) (source source' : S) (buffer : List ℕ) →
-    ReadsData (sources.left source) (sources.left source') (sources.may_fail source (block_length length DEFAULT_BLOCK 1)) (sources.fails source (block_length length DEFAULT_BLOCK 1)) 1 (block_length length DEFAULT_BLOCK 1) buffer false →
+    ReadsData (sources.left source) (sources.left source')
+    (sources.may_fail source (block_length length DEFAULT_BLOCK 1))
+    (sources.fails source (block_length length DEFAULT_BLOCK 1)) 1
+    (block_length length DEFAULT_BLOCK 1) buffer false →
     FailsToStart sources length source source'
 fails_to_start sources length source source' buffer o =
     record {
-      cannot = record { after = sources.left source'; answer = o.answer; piece = o.piece; reads = o.reads; short = sym o.whole };
+      cannot =
+          record {
+            after = sources.left source';
+            answer = o.answer;
+            piece = o.piece;
+            reads = o.reads;
+            short = sym o.whole;
+          };
       left = refl;
     }
 
-module _ {S : Type 0} (sources : SourceMeaning S) (terms : Terms) (number : ℕ) (from : Endpoint) (e : EndState) (source source' : S) (buffer : List ℕ) where
+module _ {S : Type 0} (sources : SourceMeaning S) (terms : Terms) (number : ℕ) (from : Endpoint) (e : EndState)
+    (source source' : S) (buffer : List ℕ) where
   -- the result of reading the next block
   abbrev pub ReadsNext : Bool → Type 0
   ReadsNext is_whole =
-      ReadsData (sources.left source) (sources.left source') (sources.may_fail source (block_length e.role.length terms.size number)) (sources.fails source (block_length e.role.length terms.size number)) number (block_length e.role.length terms.size number) buffer is_whole
+      ReadsData (sources.left source) (sources.left source')
+      (sources.may_fail source (block_length e.role.length terms.size number))
+      (sources.fails source (block_length e.role.length terms.size number)) number
+      (block_length e.role.length terms.size number) buffer is_whole
 
   -- a sender's step for an action that sends, and the bytes that the call lends
   abbrev pub IsSent : EndState → Outgoing → Type 0
@@ -37,21 +52,47 @@ module _ {S : Type 0} (sources : SourceMeaning S) (terms : Terms) (number : ℕ)
       (turn : Turn) × Sends sources terms number from e source turn source' × Lends e turn e' (Some from) outgoing
 
   -- the step, by its turn
-  abbrev pub step_at : (is_whole : Bool) → (o : ReadsNext is_whole) → Sends sources terms number from e source (filled_turn terms number from o.piece e o.answer) source'
+  abbrev pub step_at : (is_whole : Bool) → (o : ReadsNext is_whole) →
+      Sends sources terms number from e source (filled_turn terms number from o.piece e o.answer) source'
   step_at is_whole o =
       record { answer = o.answer; piece = o.piece; reads = o.reads; answers = refl }
 
   -- the block is sent, and a timeout retransmits it
-  pub sent_whole : (o : ReadsNext true) (e' : EndState) → e' ≡ with_position (having_sent (record { to = from; bytes = buffer }) (in_phase (Sending terms number) e)) e → IsSent e' LastSent
+  pub sent_whole : (o : ReadsNext true) (e' : EndState) →
+      e' ≡ with_position (having_sent (record { to = from; bytes = buffer }) (in_phase (Sending terms number) e)) e →
+      IsSent e' LastSent
   sent_whole o e' s =
-      let is : filled_turn terms number from o.piece e o.answer ≡ sent_turn (Sending terms number) from (data_bytes number o.piece) e = rw (← o.whole) refl in
-      let state : e' ≡ with_position (having_sent (record { to = from; bytes = data_bytes number o.piece }) (in_phase (Sending terms number) e)) e = s ∙ ap (λ (b : List ℕ). with_position (having_sent (record { to = from; bytes = b }) (in_phase (Sending terms number) e)) e) o.holds.0 in
-      let lends : Lends e (sent_turn (Sending terms number) from (data_bytes number o.piece) e) e' (Some from) LastSent = record { state = state; goes = refl; bytes = ap (λ (x : EndState). x.position.last_sent) state } in
-      (filled_turn terms number from o.piece e o.answer, step_at true o, subst (λ (t : Turn). Lends e t e' (Some from) LastSent) (sym is) lends)
+      let is : filled_turn terms number from o.piece e o.answer
+      ≡ sent_turn (Sending terms number) from (data_bytes number o.piece) e =
+      rw (← o.whole) refl in
+      let state : e'
+      ≡ with_position
+      (having_sent (record { to = from; bytes = data_bytes number o.piece })
+      (in_phase (Sending terms number) e))
+      e =
+      s
+      ∙ ap
+      (λ (b : List ℕ). with_position
+      (having_sent (record { to = from; bytes = b }) (in_phase (Sending terms number) e)) e)
+      o.holds.0 in
+      let lends : Lends e (sent_turn (Sending terms number) from (data_bytes number o.piece) e) e'
+      (Some from) LastSent =
+      record { state = state; goes = refl; bytes = ap (λ (x : EndState). x.position.last_sent) state } in (
+        filled_turn terms number from o.piece e o.answer,
+        step_at true o,
+        subst (λ (t : Turn). Lends e t e' (Some from) LastSent) (sym is) lends,
+      )
 
   -- the file has changed
-  pub sent_error : (o : ReadsNext false) (e' : EndState) → e' ≡ with_position (in_phase (refused (Some terms) SourceFault e.position.phase) e) e → IsSent e' (Error FileChanged)
+  pub sent_error : (o : ReadsNext false) (e' : EndState) →
+      e' ≡ with_position (in_phase (refused (Some terms) SourceFault e.position.phase) e) e →
+      IsSent e' (Error FileChanged)
   sent_error o e' s =
-      let is : filled_turn terms number from o.piece e o.answer ≡ refused_turn terms FileChanged SourceFault from e = rw (← o.whole) refl in
-      let lends : Lends e (refused_turn terms FileChanged SourceFault from e) e' (Some from) (Error FileChanged) = record { state = s; goes = refl; bytes = refl } in
-      (filled_turn terms number from o.piece e o.answer, step_at false o, subst (λ (t : Turn). Lends e t e' (Some from) (Error FileChanged)) (sym is) lends)
+      let is : filled_turn terms number from o.piece e o.answer ≡ refused_turn terms FileChanged SourceFault from e =
+      rw (← o.whole) refl in
+      let lends : Lends e (refused_turn terms FileChanged SourceFault from e) e' (Some from) (Error FileChanged) =
+      record { state = s; goes = refl; bytes = refl } in (
+        filled_turn terms number from o.piece e o.answer,
+        step_at false o,
+        subst (λ (t : Turn). Lends e t e' (Some from) (Error FileChanged)) (sym is) lends,
+      )

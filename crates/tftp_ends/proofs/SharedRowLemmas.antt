@@ -15,11 +15,15 @@ use Rattle.tftp_ends.specs.declared.outcome.Outcome.TheVariants as outcomes
 use Rattle.tftp_ends.specs.declared.phase.Phase.{Phase}
 use Rattle.tftp_ends.specs.declared.phase.Phase.TheVariants.{Waiting, Sending, Receiving, Dallying, Closed}
 use Rattle.tftp_ends.specs.declared.phase.Terms.{Terms}
-use Rattle.tftp_ends.specs.Action.{is_stranger, same_address, same_endpoint, garbled_response, packet_action, timeout_response}
+use Rattle.tftp_ends.specs.Action.{is_stranger, same_address, same_endpoint, garbled_response, packet_action}
+use Rattle.tftp_ends.specs.Action.{timeout_response}
 use Rattle.tftp_ends.specs.End.{EndState, Position, terms_of, number_of, is_complete}
 use Rattle.tftp_ends.specs.Phase.{waited}
 use Rattle.tftp_ends.specs.Rows.{Handled, AnswersAgain}
-use Rattle.tftp_ends.specs.SharedRows.{IsForeign, FromStranger, IsMalformedError, StrangerIsRefused, ErrorOfStrangerIsNothing, MalformedErrorClosesSender, MalformedErrorClosesReceiver, MalformedErrorClosesWaiting, TimeoutRetransmits, LastTimeoutCloses, FirstDallyTimeoutIsCounted, SecondDallyTimeoutCompletes}
+use Rattle.tftp_ends.specs.SharedRows.{IsForeign, FromStranger, IsMalformedError, StrangerIsRefused}
+use Rattle.tftp_ends.specs.SharedRows.{ErrorOfStrangerIsNothing, MalformedErrorClosesSender}
+use Rattle.tftp_ends.specs.SharedRows.{MalformedErrorClosesReceiver, MalformedErrorClosesWaiting, TimeoutRetransmits}
+use Rattle.tftp_ends.specs.SharedRows.{LastTimeoutCloses, FirstDallyTimeoutIsCounted, SecondDallyTimeoutCompletes}
 use Rattle.tftp_ends.specs.Step.{Turn, response_turn}
 use Rattle.tftp_ends.proofs.RowLemmas.{DidSo, own_address, own_peer, if_yes, if_no, nothing_at, does_nothing, closes}
 
@@ -39,51 +43,67 @@ same_as : (a b : Endpoint) → same_endpoint a b ≡ true → b ≡ a
 unfolding endpoint
 same_as a b e =
     let h = both (same_address a b) (a.port == b.port) e in
-    ap (λ (ip : List ℕ). endpoint ip b.port) (sym (same_text a.ip b.ip (sym h.0))) ∙ ap (endpoint a.ip) (sym (eqb-true a.port b.port h.1))
+    ap (λ (ip : List ℕ). endpoint ip b.port) (sym (same_text a.ip b.ip (sym h.0)))
+    ∙ ap (endpoint a.ip) (sym (eqb-true a.port b.port h.1))
 
-foreign_is : (terms : Option Terms) (server from : Endpoint) → IsForeign terms server from → is_stranger terms server from ≡ true
+foreign_is : (terms : Option Terms) (server from : Endpoint) → IsForeign terms server from
+    → is_stranger terms server from ≡ true
 foreign_is None server from f = not_so (same_address server from) (λ e. f (sym (same_text server.ip from.ip (sym e))))
 foreign_is (Some terms) server from f = not_so (same_endpoint terms.peer from) (λ e. f (same_as terms.peer from e))
 
 module _ {S K : Type 0} (sources : SourceMeaning S) (sinks : SinkMeaning K) where
-  stranger_did : (c : Handled sources sinks) → FromStranger c → DidSo c (if has_error_opcode c.bytes then Respond Ignore else Respond Stranger)
+  stranger_did : (c : Handled sources sinks) → FromStranger c
+      → DidSo c (if has_error_opcode c.bytes then Respond Ignore else Respond Stranger)
   stranger_did c f =
-      if_yes (DidSo c) (is_stranger (terms_of c.e.position.phase) c.e.position.last_sent_to c.from) (if has_error_opcode c.bytes then Respond Ignore else Respond Stranger)
-      (if has_error_opcode c.bytes && is_none c.step.decoded then Respond (garbled_response c.e.position.phase) else packet_action c.e c.from c.step.decoded c.e.position.phase)
+      if_yes (DidSo c) (is_stranger (terms_of c.e.position.phase) c.e.position.last_sent_to c.from)
+      (if has_error_opcode c.bytes then Respond Ignore else Respond Stranger)
+      (if has_error_opcode c.bytes && is_none c.step.decoded then Respond (garbled_response c.e.position.phase)
+      else packet_action c.e c.from c.step.decoded c.e.position.phase)
       (foreign_is (terms_of c.e.position.phase) c.e.position.last_sent_to c.from f.foreign) (c.step.acts, c.step.again)
 
-  refuses_stranger : (c : Handled sources sinks) → DidSo c (Respond Stranger) → AnswersAgain c (Error 5 (codes "unknown transfer id"))
-  refuses_stranger c h = record { reply = ap (λ (t : Turn). t.reply) h.0.0; position = ap (λ (t : Turn). t.position) h.0.0; files = h.0.1 }
+  refuses_stranger : (c : Handled sources sinks) → DidSo c (Respond Stranger)
+      → AnswersAgain c (Error 5 (codes "unknown transfer id"))
+  refuses_stranger c h =
+      record { reply = ap (λ (t : Turn). t.reply) h.0.0; position = ap (λ (t : Turn). t.position) h.0.0; files = h.0.1 }
 
   pub stranger_is_refused : StrangerIsRefused sources sinks
   stranger_is_refused c f no_error =
-      refuses_stranger c (if_no (DidSo c) (has_error_opcode c.bytes) (Respond Ignore) (Respond Stranger) no_error (stranger_did c f))
+      refuses_stranger c
+      (if_no (DidSo c) (has_error_opcode c.bytes) (Respond Ignore) (Respond Stranger) no_error (stranger_did c f))
 
   pub error_of_stranger_is_nothing : ErrorOfStrangerIsNothing sources sinks
   error_of_stranger_is_nothing c f error =
-      does_nothing c (if_yes (DidSo c) (has_error_opcode c.bytes) (Respond Ignore) (Respond Stranger) error (stranger_did c f))
+      does_nothing c
+      (if_yes (DidSo c) (has_error_opcode c.bytes) (Respond Ignore) (Respond Stranger) error (stranger_did c f))
 
   -- ---- a malformed ERROR
-  garbled : (c : Handled sources sinks) (phase : Phase) → is_stranger (terms_of phase) c.e.position.last_sent_to c.from ≡ false → c.e.position.phase ≡ phase → IsMalformedError c → DidSo c (Respond (garbled_response phase))
+  garbled : (c : Handled sources sinks) (phase : Phase)
+      → is_stranger (terms_of phase) c.e.position.last_sent_to c.from ≡ false → c.e.position.phase ≡ phase
+      → IsMalformedError c → DidSo c (Respond (garbled_response phase))
   garbled c phase own stands m =
-      if_yes (DidSo c) (has_error_opcode c.bytes && true) (Respond (garbled_response phase)) (packet_action c.e c.from None phase) (ap (λ (b : Bool). b && true) m.error)
+      if_yes (DidSo c) (has_error_opcode c.bytes && true) (Respond (garbled_response phase))
+      (packet_action c.e c.from None phase) (ap (λ (b : Bool). b && true) m.error)
       (nothing_at c phase own stands m.spells_none)
 
   pub malformed_error_closes_sender : MalformedErrorClosesSender sources sinks
   malformed_error_closes_sender c terms n f m =
-      closes c (Sending terms n) outcomes.Illegal f.stands (garbled c (Sending terms n) (own_peer terms.peer c.from f.peer) f.stands m)
+      closes c (Sending terms n) outcomes.Illegal f.stands
+      (garbled c (Sending terms n) (own_peer terms.peer c.from f.peer) f.stands m)
 
   pub malformed_error_closes_receiver : MalformedErrorClosesReceiver sources sinks
   malformed_error_closes_receiver c terms n f m =
-      closes c (Receiving terms n) outcomes.Illegal f.stands (garbled c (Receiving terms n) (own_peer terms.peer c.from f.peer) f.stands m)
+      closes c (Receiving terms n) outcomes.Illegal f.stands
+      (garbled c (Receiving terms n) (own_peer terms.peer c.from f.peer) f.stands m)
 
   pub malformed_error_closes_waiting : MalformedErrorClosesWaiting sources sinks
   malformed_error_closes_waiting c writes asked limit f m =
-      closes c (Waiting asked limit) outcomes.Illegal f.stands (garbled c (Waiting asked limit) (own_address c.e.position.last_sent_to c.from f.server) f.stands m)
+      closes c (Waiting asked limit) outcomes.Illegal f.stands
+      (garbled c (Waiting asked limit) (own_address c.e.position.last_sent_to c.from f.server) f.stands m)
 
 -- ---- a timeout
 -- the response of an end that is not in a dally
-open_response : (left : ℕ) (phase : Phase) → is_complete phase ≡ false → timeout_response left phase ≡ (if left == 0 then Close outcomes.TimedOut else Retransmit)
+open_response : (left : ℕ) (phase : Phase) → is_complete phase ≡ false
+    → timeout_response left phase ≡ (if left == 0 then Close outcomes.TimedOut else Retransmit)
 open_response left (Waiting asked limit) c = refl
 open_response left (Sending terms n) c = refl
 open_response left (Receiving terms n) c = refl
@@ -91,31 +111,44 @@ open_response left (Dallying terms n dally) c = absurd (true≢false c)
 open_response left (Closed terms n complete outcome) c = refl
 
 -- the turn of a timeout, by its response
-module _ (e : EndState) (response : Response) (is : timeout_response e.position.retries_left e.position.phase ≡ response) where
-  turn_is : response_turn (timeout_response e.position.retries_left e.position.phase) e.position.last_sent_to e ≡ response_turn response e.position.last_sent_to e
+module _ (e : EndState) (response : Response)
+    (is : timeout_response e.position.retries_left e.position.phase ≡ response) where
+  turn_is : response_turn (timeout_response e.position.retries_left e.position.phase) e.position.last_sent_to e
+      ≡ response_turn response e.position.last_sent_to e
   turn_is = ap (λ (r : Response). response_turn r e.position.last_sent_to e) is
 
-test : (left : ℕ) (b : Bool) → (left == 0) ≡ b → (if left == 0 then Close outcomes.TimedOut else Retransmit) ≡ (if b then Close outcomes.TimedOut else Retransmit)
+test : (left : ℕ) (b : Bool) → (left == 0) ≡ b
+    → (if left == 0 then Close outcomes.TimedOut else Retransmit) ≡ (if b then Close outcomes.TimedOut else Retransmit)
 test left b is = ap (λ (x : Bool). if x then Close outcomes.TimedOut else Retransmit) is
 
 pub timeout_retransmits : TimeoutRetransmits
 timeout_retransmits e still incomplete some =
-    turn_is e Retransmit (open_response e.position.retries_left e.position.phase incomplete ∙ test e.position.retries_left false (ne_eqb e.position.retries_left 0 (λ z. omega (arith, some, z))))
+    turn_is e Retransmit
+    (open_response e.position.retries_left e.position.phase incomplete
+    ∙ test e.position.retries_left false (ne_eqb e.position.retries_left 0 (λ z. omega (arith, some, z))))
 
 pub last_timeout_closes : LastTimeoutCloses
 last_timeout_closes e still incomplete none =
-    let is = turn_is e (Close outcomes.TimedOut) (open_response e.position.retries_left e.position.phase incomplete ∙ test e.position.retries_left true (eq-eqb e.position.retries_left 0 none)) in
+    let is =
+    turn_is e (Close outcomes.TimedOut)
+    (open_response e.position.retries_left e.position.phase incomplete
+    ∙ test e.position.retries_left true (eq-eqb e.position.retries_left 0 none)) in
     record {
       silent = ap (λ (t : Turn). t.reply) is;
       phase =
           ap (λ (t : Turn). t.position.phase) is
-          ∙ ap (λ (b : Bool). Closed (terms_of e.position.phase) (number_of e.position.phase) b outcomes.TimedOut) incomplete;
+          ∙ ap
+          (λ (b : Bool). Closed (terms_of e.position.phase) (number_of e.position.phase) b outcomes.TimedOut)
+          incomplete;
     }
 
 pub first_dally_timeout_is_counted : FirstDallyTimeoutIsCounted
 first_dally_timeout_is_counted e terms n stands =
     turn_is e Wait (ap (timeout_response e.position.retries_left) stands)
-    ∙ ap (λ (p : Phase). let position : Position = record e.position { phase = waited p } in let turn : Turn = record { position = position; reply = None } in turn) stands
+    ∙ ap
+    (λ (p : Phase). let position : Position = record e.position { phase = waited p } in
+    let turn : Turn = record { position = position; reply = None } in turn)
+    stands
 
 pub second_dally_timeout_completes : SecondDallyTimeoutCompletes
 second_dally_timeout_completes e terms n stands =
@@ -124,5 +157,8 @@ second_dally_timeout_completes e terms n stands =
       silent = ap (λ (t : Turn). t.reply) is;
       phase =
           ap (λ (t : Turn). t.position.phase) is
-          ∙ ap (λ (p : Phase). Closed (terms_of e.position.phase) (number_of e.position.phase) (is_complete p) outcomes.Complete) stands;
+          ∙ ap
+          (λ (p : Phase). Closed (terms_of e.position.phase) (number_of e.position.phase)
+          (is_complete p) outcomes.Complete)
+          stands;
     }

@@ -15,10 +15,12 @@ use Rattle.tftp_ends.specs.declared.phase.Phase.TheVariants.{Receiving, Dallying
 use Rattle.tftp_ends.specs.declared.phase.Terms.{Terms}
 use Rattle.tftp_ends.specs.End.{EndState}
 use Rattle.tftp_ends.specs.Phase.{refused}
-use Rattle.tftp_ends.specs.Step.{Done, Turn, Stores, GoesOn, Lends, in_phase, having_sent, with_position, holding, ack_bytes, sent_turn, refused_turn, committed_turn}
+use Rattle.tftp_ends.specs.Step.{Done, Turn, Stores, GoesOn, Lends, in_phase, having_sent, with_position, holding}
+use Rattle.tftp_ends.specs.Step.{ack_bytes, sent_turn, refused_turn, committed_turn}
 use Rattle.tftp_ends.specs.BlockStored.{StoresPiece, StoresOn, committed_as}
 
-module _ {K : Type 0} (sinks : SinkMeaning K) (terms : Terms) (number : ℕ) (from : Endpoint) (piece : List ℕ) (e : EndState) (held_after : List ℕ) (sink sink' : K) where
+module _ {K : Type 0} (sinks : SinkMeaning K) (terms : Terms) (number : ℕ) (from : Endpoint) (piece : List ℕ)
+    (e : EndState) (held_after : List ℕ) (sink sink' : K) where
   -- the turn of this result
   abbrev pub stored_turn : BlockStored → Turn
   stored_turn More = sent_turn (Receiving terms number) from (ack_bytes number) (holding held_after e)
@@ -28,25 +30,38 @@ module _ {K : Type 0} (sinks : SinkMeaning K) (terms : Terms) (number : ℕ) (fr
 
   -- the result of storing the block
   abbrev pub StoresNext : BlockStored → Type 0
-  StoresNext block_stored = StoresPiece sinks e.role.mode e.position.held piece (ltb (length piece) terms.size) sink sink' block_stored held_after
+  StoresNext block_stored =
+      StoresPiece sinks e.role.mode e.position.held piece
+      (ltb (length piece) terms.size) sink sink' block_stored held_after
 
   -- a receiver's step for an action that stores, and the bytes that the call lends
   abbrev pub IsStored : EndState → Outgoing → Type 0
   IsStored e' outgoing =
       (turn : Turn) × Stores sinks terms number from piece e sink turn sink' × Lends e turn e' (Some from) outgoing
 
-  committed : (answer : Result Done StoreFault) → stored_turn (committed_as sinks answer) ≡ committed_turn terms number from (holding held_after e) answer
+  committed : (answer : Result Done StoreFault)
+      → stored_turn (committed_as sinks answer) ≡ committed_turn terms number from (holding held_after e) answer
   committed (Ok done) = refl
   committed (Err fault) = refl
 
-  goes_on : (last : Bool) (answer : Result Done StoreFault) (mid : K) (block_stored : BlockStored) → StoresOn sinks last mid sink' block_stored answer → GoesOn sinks terms number from e last held_after mid answer (stored_turn block_stored) sink'
+  goes_on : (last : Bool) (answer : Result Done StoreFault) (mid : K) (block_stored : BlockStored)
+      → StoresOn sinks last mid sink' block_stored answer
+      → GoesOn sinks terms number from e last held_after mid answer (stored_turn block_stored) sink'
   goes_on true (Err fault) mid block_stored o = (ap stored_turn o.0, o.1)
   goes_on false (Err fault) mid block_stored o = (ap stored_turn o.0, o.1)
   goes_on true (Ok done) mid block_stored o =
-      record { answer = o.answer; commits = o.commits; refused = o.refused; leaves = o.leaves; effect = o.effect; answers = ap stored_turn o.comes_to ∙ committed o.answer }
+      record {
+        answer = o.answer;
+        commits = o.commits;
+        refused = o.refused;
+        leaves = o.leaves;
+        effect = o.effect;
+        answers = ap stored_turn o.comes_to ∙ committed o.answer;
+      }
   goes_on false (Ok done) mid block_stored o = (ap stored_turn o.0, o.1)
 
-  stores : (block_stored : BlockStored) → StoresNext block_stored → Stores sinks terms number from piece e sink (stored_turn block_stored) sink'
+  stores : (block_stored : BlockStored) → StoresNext block_stored
+      → Stores sinks terms number from piece e sink (stored_turn block_stored) sink'
   stores block_stored o =
       record {
         bytes = o.bytes;
@@ -60,18 +75,44 @@ module _ {K : Type 0} (sinks : SinkMeaning K) (terms : Terms) (number : ℕ) (fr
       }
 
   -- the block was stored, and it is not the last one
-  pub stored_more : StoresNext More → (e' : EndState) → e' ≡ with_position (having_sent (record { to = from; bytes = ack_bytes number }) (in_phase (Receiving terms number) (holding held_after e))) e → IsStored e' LastSent
-  stored_more o e' s = (stored_turn More, stores More o, record { state = s; goes = refl; bytes = ap (λ (x : EndState). x.position.last_sent) s })
+  pub stored_more : StoresNext More → (e' : EndState)
+      → e'
+      ≡ with_position
+      (having_sent (record { to = from; bytes = ack_bytes number })
+      (in_phase (Receiving terms number) (holding held_after e)))
+      e
+      → IsStored e' LastSent
+  stored_more o e' s = (
+    stored_turn More,
+    stores More o,
+    record { state = s; goes = refl; bytes = ap (λ (x : EndState). x.position.last_sent) s },
+  )
 
   -- the last block was stored, and the file was committed
-  pub stored_all : StoresNext All → (e' : EndState) → e' ≡ with_position (having_sent (record { to = from; bytes = ack_bytes number }) (in_phase (Dallying terms number Fresh) (holding held_after e))) e → IsStored e' LastSent
-  stored_all o e' s = (stored_turn All, stores All o, record { state = s; goes = refl; bytes = ap (λ (x : EndState). x.position.last_sent) s })
+  pub stored_all : StoresNext All → (e' : EndState)
+      → e'
+      ≡ with_position
+      (having_sent (record { to = from; bytes = ack_bytes number })
+      (in_phase (Dallying terms number Fresh) (holding held_after e)))
+      e
+      → IsStored e' LastSent
+  stored_all o e' s = (
+    stored_turn All,
+    stores All o,
+    record { state = s; goes = refl; bytes = ap (λ (x : EndState). x.position.last_sent) s },
+  )
 
   -- the store has refused the block
-  pub stored_not : StoresNext Refused → (e' : EndState) → e' ≡ with_position (in_phase (refused (Some terms) outcomes.StoreFault e.position.phase) e) e → IsStored e' (Error DiskFull)
+  pub stored_not : StoresNext Refused → (e' : EndState)
+      → e' ≡ with_position (in_phase (refused (Some terms) outcomes.StoreFault e.position.phase) e) e
+      → IsStored e' (Error DiskFull)
   stored_not o e' s = (stored_turn Refused, stores Refused o, record { state = s; goes = refl; bytes = refl })
 
   -- the store has refused the commit
-  pub not_committed : (reply : ErrorReply) → StoresNext (Uncommitted reply) → (e' : EndState) → e' ≡ with_position (in_phase (refused (Some terms) outcomes.StoreFault e.position.phase) (holding held_after e)) e → IsStored e' (Error reply)
+  pub not_committed : (reply : ErrorReply) → StoresNext (Uncommitted reply) → (e' : EndState)
+      → e'
+      ≡ with_position
+      (in_phase (refused (Some terms) outcomes.StoreFault e.position.phase) (holding held_after e)) e
+      → IsStored e' (Error reply)
   not_committed reply o e' s =
       (stored_turn (Uncommitted reply), stores (Uncommitted reply) o, record { state = s; goes = refl; bytes = refl })

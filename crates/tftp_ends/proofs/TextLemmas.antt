@@ -1,5 +1,6 @@
 -- A piece of netascii, by its first wrong byte and by the host bytes that it stands for.
-use Rattle.std.proofs.Common.{◌≡◌, ◌≢◌, ℕ, Bool, true, false, List, [], ◌∷◌, ◌++◌, Result, Ok, Err, length, ltb, ◌<◌, ◌≤◌, sym, refl, ap, ◌∙◌, inl, inr, append_assoc}
+use Rattle.std.proofs.Common.{◌≡◌, ◌≢◌, ℕ, Bool, true, false, List, [], ◌∷◌, ◌++◌, Result, Ok, Err, length, ltb, ◌<◌}
+use Rattle.std.proofs.Common.{◌≤◌, sym, refl, ap, ◌∙◌, inl, inr, append_assoc}
 use Rattle.std.specs.Prelude.{◌==◌, ◌↔◌, ◌&&◌, not}
 use Rattle.std.proofs.lemmas.Bool.{cases_eq, ne_eqb, true≢false, lt-ltb, le-ltb}
 use Rattle.std.specs.Result.{IsOk, is_ok}
@@ -15,7 +16,8 @@ use Rattle.tftp_ends.specs.Sound.{HeldFits}
 use Rattle.tftp_ends.specs.Step.{Done}
 
 -- a byte that is encoded as itself
-plain_begins : (b : ℕ) (rest : List ℕ) → (b == 10) ≡ false → (b == 13) ≡ false → begins_netascii (b ∷ rest) ≡ begins_netascii rest
+plain_begins : (b : ℕ) (rest : List ℕ) → (b == 10) ≡ false → (b == 13) ≡ false
+    → begins_netascii (b ∷ rest) ≡ begins_netascii rest
 plain_begins b [] n m = rw n
 plain_begins b (c ∷ rest) n m = rw (m, n)
 
@@ -28,7 +30,9 @@ pair_ends second [] m = m
 pair_ends second (c ∷ rest) m = refl
 
 -- one host byte before a text
-byte_begins : (b : ℕ) (rest : List ℕ) → (begins_netascii (wire_byte b ++ rest) ≡ begins_netascii rest) × (ends_in_cr (wire_byte b ++ rest) ≡ ends_in_cr rest)
+byte_begins : (b : ℕ) (rest : List ℕ)
+    → (begins_netascii (wire_byte b ++ rest) ≡ begins_netascii rest)
+    × (ends_in_cr (wire_byte b ++ rest) ≡ ends_in_cr rest)
 byte_begins b rest = elim (cases_eq b 10) [
   | inl e ↦ rw e (refl, pair_ends 10 rest refl)
   | inr n ↦
@@ -40,12 +44,15 @@ byte_begins b rest = elim (cases_eq b 10) [
 ]
 
 -- host bytes before a text
-text_begins : (bytes rest : List ℕ) → (begins_netascii (netascii_text bytes ++ rest) ≡ begins_netascii rest) × (ends_in_cr (netascii_text bytes ++ rest) ≡ ends_in_cr rest)
+text_begins : (bytes rest : List ℕ)
+    → (begins_netascii (netascii_text bytes ++ rest) ≡ begins_netascii rest)
+    × (ends_in_cr (netascii_text bytes ++ rest) ≡ ends_in_cr rest)
 text_begins [] rest = (refl, refl)
 text_begins (b ∷ bytes) rest =
     let one = byte_begins b (netascii_text bytes ++ rest) in
     let more = text_begins bytes rest in
-    let split : netascii_text (b ∷ bytes) ++ rest ≡ wire_byte b ++ (netascii_text bytes ++ rest) = append_assoc (wire_byte b) (netascii_text bytes) rest in
+    let split : netascii_text (b ∷ bytes) ++ rest ≡ wire_byte b ++ (netascii_text bytes ++ rest) =
+    append_assoc (wire_byte b) (netascii_text bytes) rest in
     (ap begins_netascii split ∙ (one.0 ∙ more.0), ap ends_in_cr split ∙ (one.1 ∙ more.1))
 
 held_begins : (held : List ℕ) → IsHeld held → begins_netascii held ≡ true
@@ -71,13 +78,17 @@ lone_lf [] = refl
 lone_lf (c ∷ rest) = refl
 
 pub wrong_begins : (text : List ℕ) (fault : NetFault) → IsWrong text fault → begins_netascii text ≡ false
-wrong_begins text LoneCr h = ap begins_netascii h.1.split ∙ ((text_begins h.1.bytes (13 ∷ h.1.byte ∷ h.1.rest)).0 ∙ lone_cr h.1.byte h.1.rest h.1.no_lf h.1.no_nul)
-wrong_begins text LoneLf h = ap begins_netascii h.1.split ∙ ((text_begins h.1.bytes (10 ∷ h.1.rest)).0 ∙ lone_lf h.1.rest)
+wrong_begins text LoneCr h =
+    ap begins_netascii h.1.split
+    ∙ ((text_begins h.1.bytes (13 ∷ h.1.byte ∷ h.1.rest)).0 ∙ lone_cr h.1.byte h.1.rest h.1.no_lf h.1.no_nul)
+wrong_begins text LoneLf h =
+    ap begins_netascii h.1.split ∙ ((text_begins h.1.bytes (10 ∷ h.1.rest)).0 ∙ lone_lf h.1.rest)
 wrong_begins text EndsInCr h = absurd h.1
 wrong_begins text Memory h = absurd h.1
 
 -- a push of the beginning of a wire text fails only if out of memory
-pub refused_for_memory : (text : List ℕ) (fault : NetFault) → begins_netascii text ≡ true → fault ≢ Memory → Refuses text fault → ⊥
+pub refused_for_memory : (text : List ℕ) (fault : NetFault) → begins_netascii text ≡ true → fault ≢ Memory
+    → Refuses text fault → ⊥
 refused_for_memory text LoneCr b n h = true≢false (sym b ∙ wrong_begins text LoneCr h)
 refused_for_memory text LoneLf b n h = true≢false (sym b ∙ wrong_begins text LoneLf h)
 refused_for_memory text EndsInCr b n h = h
@@ -87,15 +98,20 @@ both_true : (a b : Bool) → (a && b) ≡ true → (a ≡ true) × (b ≡ true)
 both_true true b e = (refl, e)
 both_true false b e = absurd (true≢false (sym e))
 
-readable_by : (held piece bytes after : List ℕ) (last : Bool) → DecodesPiece held piece bytes after → is_readable Netascii held piece last ≡ not (last && ends_in_cr after)
-readable_by held piece bytes after last d = rw (decoded_begins held piece bytes after d, decoded_ends held piece bytes after d)
+readable_by : (held piece bytes after : List ℕ) (last : Bool) → DecodesPiece held piece bytes after
+    → is_readable Netascii held piece last ≡ not (last && ends_in_cr after)
+readable_by held piece bytes after last d =
+    rw (decoded_begins held piece bytes after d, decoded_ends held piece bytes after d)
 
 -- a whole block continues the text
-pub readable_more : (held piece bytes after : List ℕ) (size : ℕ) → DecodesPiece held piece bytes after → size ≤ length piece → true ≡ is_readable Netascii held piece (ltb (length piece) size)
+pub readable_more : (held piece bytes after : List ℕ) (size : ℕ) → DecodesPiece held piece bytes after
+    → size ≤ length piece → true ≡ is_readable Netascii held piece (ltb (length piece) size)
 readable_more held piece bytes after size d l =
-    sym (readable_by held piece bytes after (ltb (length piece) size) d ∙ ap (λ (b : Bool). not (b && ends_in_cr after)) (le-ltb (length piece) size l))
+    sym (readable_by held piece bytes after (ltb (length piece) size) d
+    ∙ ap (λ (b : Bool). not (b && ends_in_cr after)) (le-ltb (length piece) size l))
 
-ends_well : (after : List ℕ) (answer : Result Done NetFault) → IsHeld after → IsOk answer ↔ (after ≡ []) → is_ok answer ≡ not (ends_in_cr after)
+ends_well : (after : List ℕ) (answer : Result Done NetFault) → IsHeld after → IsOk answer ↔ (after ≡ [])
+    → is_ok answer ≡ not (ends_in_cr after)
 ends_well after (Ok done) h iff = sym (ap (λ (t : List ℕ). not (ends_in_cr t)) (iff.0 refl))
 ends_well after (Err fault) h iff = elim h [
   | inl e ↦ absurd (true≢false (sym (iff.1 e)))
@@ -103,17 +119,26 @@ ends_well after (Err fault) h iff = elim h [
 ]
 
 -- the last block does if no CR is held back after it
-pub readable_last : (held piece bytes after : List ℕ) (size : ℕ) (answer : Result Done NetFault) → DecodesPiece held piece bytes after → length piece < size → IsOk answer ↔ (after ≡ []) → is_ok answer ≡ is_readable Netascii held piece (ltb (length piece) size)
+pub readable_last : (held piece bytes after : List ℕ) (size : ℕ) (answer : Result Done NetFault)
+    → DecodesPiece held piece bytes after → length piece < size → IsOk answer ↔ (after ≡ [])
+    → is_ok answer ≡ is_readable Netascii held piece (ltb (length piece) size)
 readable_last held piece bytes after size answer d l iff =
-    ends_well after answer d.0 iff ∙ sym (readable_by held piece bytes after (ltb (length piece) size) d ∙ ap (λ (b : Bool). not (b && ends_in_cr after)) (lt-ltb (length piece) size l))
+    ends_well after answer d.0 iff
+    ∙ sym
+    (readable_by held piece bytes after (ltb (length piece) size) d
+    ∙ ap (λ (b : Bool). not (b && ends_in_cr after)) (lt-ltb (length piece) size l))
 
 -- a piece with a wrong byte does not continue the text
-pub wrong_unreadable : (held piece : List ℕ) (last : Bool) (fault : NetFault) → IsWrong (held ++ piece) fault → false ≡ is_readable Netascii held piece last
-wrong_unreadable held piece last fault w = sym (ap (λ (b : Bool). b && not (last && ends_in_cr (held ++ piece))) (wrong_begins (held ++ piece) fault w))
+pub wrong_unreadable : (held piece : List ℕ) (last : Bool) (fault : NetFault) → IsWrong (held ++ piece) fault
+    → false ≡ is_readable Netascii held piece last
+wrong_unreadable held piece last fault w =
+    sym (ap (λ (b : Bool). b && not (last && ends_in_cr (held ++ piece))) (wrong_begins (held ++ piece) fault w))
 
 -- a readable piece begins a wire text
-pub readable_begins : (held piece : List ℕ) (last : Bool) → is_readable Netascii held piece last ≡ true → begins_netascii (held ++ piece) ≡ true
-readable_begins held piece last e = (both_true (begins_netascii (held ++ piece)) (not (last && ends_in_cr (held ++ piece))) e).0
+pub readable_begins : (held piece : List ℕ) (last : Bool) → is_readable Netascii held piece last ≡ true
+    → begins_netascii (held ++ piece) ≡ true
+readable_begins held piece last e =
+    (both_true (begins_netascii (held ++ piece)) (not (last && ends_in_cr (held ++ piece))) e).0
 
 -- an end that opens holds nothing back
 pub nothing_held : (mode : Mode) → HeldFits mode []

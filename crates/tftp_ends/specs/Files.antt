@@ -28,7 +28,7 @@ module _ {S K : Type 0} where
   AreFilesOf side (Source source) = is_sender side ≡ true
   AreFilesOf side (Sink sink) = is_sender side ≡ false
 
-  -- a source or a sink is kept as above
+  -- a source or a sink is unchanged as above
   abbrev pub KeepsFiles : SourceMeaning S → SinkMeaning K → Files S K → Files S K → Type 0
   KeepsFiles sources sinks (Source old) (Source new) = KeepsSource sources old new
   KeepsFiles sources sinks (Sink old) (Sink new) = KeepsSink sinks old new

@@ -107,7 +107,7 @@ pub record Turn : Type 0 where
   pub position : Position
   pub reply : Option Reply
 
--- the end after a turn
+-- the end after a step
 abbrev pub after_turn : EndState → Turn → EndState
 after_turn e turn = with_position turn.position e
 
@@ -130,7 +130,7 @@ AcksAgain e turn (Respond Complete) = Unit {0}
 AcksAgain e turn (Send terms number) = Unit {0}
 AcksAgain e turn (Store terms number) = Unit {0}
 
--- the turn of a response
+-- the step of a response
 abbrev pub response_turn : Response → Endpoint → EndState → Turn
 response_turn response from e =
     record { position = after response from e; reply = reply_at response from e }
@@ -154,7 +154,7 @@ abbrev pub result_count_is : ℕ → Result ℕ FileFault → Bool
 result_count_is want (Ok count) = count == want
 result_count_is want (Err fault) = false
 
--- a sender's turn after a fill: DATA with the whole block, or else ERROR 0 `file changed`
+-- a sender's step after a fill: DATA with the whole block, or else ERROR 0 `file changed`
 abbrev pub filled_turn : Terms → ℕ → Endpoint → List ℕ → EndState → Result ℕ FileFault → Turn
 filled_turn terms number from piece e answer =
     if result_count_is (block_length e.role.length terms.size number) answer
@@ -169,7 +169,7 @@ commit_reply store_faults.Full = replies.DiskFull
 commit_reply store_faults.Io = replies.DiskFull
 commit_reply store_faults.Memory = replies.DiskFull
 
--- a receiver's turn after a commit: the last block is acknowledged only if it succeeds
+-- a receiver's step after a commit: the last block is acknowledged only if it succeeds
 abbrev pub committed_turn : {A : Type 0} → Terms → ℕ → Endpoint → EndState → Result A StoreFault
     → Turn
 committed_turn terms number from e (Ok done) =
@@ -284,13 +284,13 @@ module _ {S K : Type 0} (sources : SourceMeaning S) (sinks : SinkMeaning K) wher
     pub acts : Acts (datagram_action e from bytes decoded) from bytes e files turn files'
     pub again : AcksAgain e turn (datagram_action e from bytes decoded)
 
--- the turn of an open end for a timeout
+-- the step of an open end for a timeout
 abbrev pub timeout_turn : EndState → Turn
 timeout_turn e =
     response_turn (timeout_response e.position.retries_left e.position.phase)
     e.position.last_sent_to e
 
--- the report of a turn
+-- the report of a step
 abbrev pub reported : EndState → Turn → Step
 reported e turn =
     step_of e.position.phase turn.position.phase (option_map (λ (r : Reply). r.to) turn.reply)
@@ -330,14 +330,14 @@ lent Nothing e = []
 lent LastSent e = e.position.last_sent
 lent (Error reply) e = error_bytes reply
 
--- a call made this turn: the end's state, the destination, and the bytes that it lends
+-- a call made this step: the end's state, the destination, and the bytes that it lends
 pub record Lends (before : EndState) (turn : Turn) (e : EndState) (to : Option Endpoint)
     (outgoing : Outgoing) : Type 0 where
   pub state : e ≡ after_turn before turn
   pub goes : to ≡ option_map (λ (r : Reply). r.to) turn.reply
   pub bytes : lent outgoing e ≡ reply_bytes turn.reply
 
--- a call made this turn: the end's state, the destination, and the bytes that it appended
+-- a call made this step: the end's state, the destination, and the bytes that it appended
 pub record Carries (before : EndState) (turn : Turn) (e : EndState) (to : Option Endpoint)
     (old new : List ℕ) : Type 0 where
   pub state : e ≡ after_turn before turn

@@ -1,5 +1,9 @@
 -- The lemmas that are the law.
-use Rattle.tftp_ends.proofs.ReceiverRowLemmas.{last_data_is_acked_again, dally_ignores_others, dally_ignores_malformed, newest_data_is_acked_again, old_data_is_nothing, early_data_is_illegal, long_data_is_illegal, blocks_run_out, next_data_is_stored, error_closes_receiver, oack_is_acked_again, late_oack_is_nothing, receiver_refuses_others, receiver_refuses_malformed}
+use Rattle.tftp_ends.proofs.ReceiverRowLemmas.{last_data_is_acked_again, dally_ignores_others, dally_ignores_malformed}
+use Rattle.tftp_ends.proofs.ReceiverRowLemmas.{newest_data_is_acked_again, old_data_is_nothing, early_data_is_illegal}
+use Rattle.tftp_ends.proofs.ReceiverRowLemmas.{long_data_is_illegal, blocks_run_out, next_data_is_stored}
+use Rattle.tftp_ends.proofs.ReceiverRowLemmas.{error_closes_receiver, oack_is_acked_again, late_oack_is_nothing}
+use Rattle.tftp_ends.proofs.ReceiverRowLemmas.{receiver_refuses_others, receiver_refuses_malformed}
 use Rattle.tftp_ends.proofs.laws.receiver_rows.Goals as goal
 
 pub returns-clause-dally_last : goal.returns-clause-dally_last

@@ -1,5 +1,7 @@
 -- The lemmas that are the law.
-use Rattle.tftp_ends.proofs.SenderRowLemmas.{newest_ack_sends, last_ack_completes, old_ack_is_nothing, early_ack_is_illegal, error_closes_sender, oack_again_is_nothing, sender_refuses_others, sender_refuses_malformed}
+use Rattle.tftp_ends.proofs.SenderRowLemmas.{newest_ack_sends, last_ack_completes, old_ack_is_nothing}
+use Rattle.tftp_ends.proofs.SenderRowLemmas.{early_ack_is_illegal, error_closes_sender, oack_again_is_nothing}
+use Rattle.tftp_ends.proofs.SenderRowLemmas.{sender_refuses_others, sender_refuses_malformed}
 use Rattle.tftp_ends.proofs.laws.sender_rows.Goals as goal
 
 pub returns-clause-newest_ack : goal.returns-clause-newest_ack

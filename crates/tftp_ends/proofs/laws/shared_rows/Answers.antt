@@ -1,5 +1,8 @@
 -- The lemmas that are the law.
-use Rattle.tftp_ends.proofs.SharedRowLemmas.{stranger_is_refused, error_of_stranger_is_nothing, malformed_error_closes_sender, malformed_error_closes_receiver, malformed_error_closes_waiting, timeout_retransmits, last_timeout_closes, first_dally_timeout_is_counted, second_dally_timeout_completes}
+use Rattle.tftp_ends.proofs.SharedRowLemmas.{stranger_is_refused, error_of_stranger_is_nothing}
+use Rattle.tftp_ends.proofs.SharedRowLemmas.{malformed_error_closes_sender, malformed_error_closes_receiver}
+use Rattle.tftp_ends.proofs.SharedRowLemmas.{malformed_error_closes_waiting, timeout_retransmits, last_timeout_closes}
+use Rattle.tftp_ends.proofs.SharedRowLemmas.{first_dally_timeout_is_counted, second_dally_timeout_completes}
 use Rattle.tftp_ends.proofs.laws.shared_rows.Goals as goal
 
 pub returns-clause-stranger : goal.returns-clause-stranger

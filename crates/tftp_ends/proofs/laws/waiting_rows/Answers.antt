@@ -1,5 +1,7 @@
 -- The lemmas that are the law.
-use Rattle.tftp_ends.proofs.WaitingRowLemmas.{first_data_is_stored, oack_opens_reader, reader_takes_no_other, first_ack_begins, oack_opens_writer, writer_takes_no_other, error_closes_waiting, malformed_closes_waiting}
+use Rattle.tftp_ends.proofs.WaitingRowLemmas.{first_data_is_stored, oack_opens_reader, reader_takes_no_other}
+use Rattle.tftp_ends.proofs.WaitingRowLemmas.{first_ack_begins, oack_opens_writer, writer_takes_no_other}
+use Rattle.tftp_ends.proofs.WaitingRowLemmas.{error_closes_waiting, malformed_closes_waiting}
 use Rattle.tftp_ends.proofs.laws.waiting_rows.Goals as goal
 
 pub returns-clause-first_data : goal.returns-clause-first_data

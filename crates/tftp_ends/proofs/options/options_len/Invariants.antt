@@ -5,4 +5,5 @@ use Rattle.tftp_negotiate.specs.Agreed.{agreed_options}
 use Rattle.tftp_ends.proofs.options.options_len.Given as goal
 
 abbrev pub invariant-loop-option : goal.invariant-loop-option
-invariant-loop-option l = l.len ≡ min (length (options_bytes (agreed_options (take l.option-index l.options)))) (2 ^ 64 - 1)
+invariant-loop-option l =
+    l.len ≡ min (length (options_bytes (agreed_options (take l.option-index l.options)))) (2 ^ 64 - 1)

@@ -4,4 +4,14 @@ use Rattle.tftp_ends.proofs.end.End.opened.Goals as goal
 
 pub invariant_of-result : goal.invariant_of-result
 invariant_of-result c =
-    rw c.new.ensures (record { phase = c.requires.phase; resends = c.requires.resends; held = nothing_held c.args.role.mode; sent = c.requires.sent }, c.requires.room, c.requires.empty, c.requires.spare)
+    rw c.new.ensures (
+      record {
+        phase = c.requires.phase;
+        resends = c.requires.resends;
+        held = nothing_held c.args.role.mode;
+        sent = c.requires.sent;
+      },
+      c.requires.room,
+      c.requires.empty,
+      c.requires.spare,
+    )
