@@ -5,7 +5,9 @@ ghost use Rattle.std.specs.Prelude.{◌≡◌, ◌≤◌, ◌<◌, ◌+◌, [], 
 ghost use Rattle.std.specs.Prelude.{vec_len, vec_capacity};
 ghost use Rattle.tftp_ends.specs.BlockRead.{is_whole};
 ghost use Rattle.tftp_ends.specs.Files.{KeepsSource};
-ghost use Rattle.tftp_ends.specs.Step.{Turn, Lends, Sends, block_length, lent};
+ghost use Rattle.tftp_ends.specs.Phase.{refused};
+ghost use Rattle.tftp_ends.specs.Step.{Turn, Lends, Sends, block_length, in_phase, lent};
+ghost use Rattle.tftp_ends.specs.Step.{with_position};
 ghost use Rattle.tftp_ends.specs.Room.{ReadsData, room_of};
 ghost use Rattle.tftp_ends.specs.Shortage.{FillLacksMemory, SendLacksMemory};
 ghost use Rattle.tftp_ends.specs.Sound.{IsSending};
@@ -141,10 +143,19 @@ impl End {
                 self.phase = phase;
                 Ok(Outgoing::LastSent)
             }
-            BlockRead::Changed => {
-                self.go_into(self.phase.refused(Some(terms), Outcome::SourceFault));
-                Ok(Outgoing::Error(ErrorReply::FileChanged))
-            }
+            BlockRead::Changed => Ok(self.close_changed(terms)),
         }
+    }
+
+    /// Closes with an ERROR, since the source did not give the block. The last datagram sent is
+    /// unchanged.
+    fn close_changed(&mut self, terms: Terms) -> Outgoing
+        requires { SentFits self.old (Some terms) }
+        ensures state { self.new ≡ with_position (in_phase
+            (refused (Some terms) Outcome.SourceFault self.old.position.phase) self.old) self.old }
+        ensures sent { result ≡ Outgoing.Error ErrorReply.FileChanged }
+    {
+        self.go_into(self.phase.refused(Some(terms), Outcome::SourceFault));
+        Outgoing::Error(ErrorReply::FileChanged)
     }
 }

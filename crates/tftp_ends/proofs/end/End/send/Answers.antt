@@ -5,10 +5,11 @@ use Rattle.tftp_ends.proofs.end.End.send.Goals as goal
 
 pub returns-in-Whole-clause-sends : goal.returns-in-Whole-clause-sends
 returns-in-Whole-clause-sends g c =
-    let reads = rw (← c.swap.ensures.x_after, c.block_length-want.ensures, c.in-Whole.is) at c.in_ok-read_data.ensures.reads in
+    let reads =
+    rw (← c.swap.ensures.x_after, c.block_length-want.ensures, c.in-Whole.is) at c.in_ok-read_data.ensures.reads in
     rw (← c.self.view_is) (sent_whole _ _ _ _ _ _ _ _ reads _ (search rules))
 
 pub returns-in-Changed-clause-sends : goal.returns-in-Changed-clause-sends
 returns-in-Changed-clause-sends g c =
     let reads = rw (c.block_length-want.ensures, c.in-Changed.is) at c.in_ok-read_data.ensures.reads in
-    rw (← c.self.view_is) (sent_error _ _ _ _ _ _ _ _ reads _ (search rules))
+    rw (c.close_changed.ensures.sent, ← c.self.view_is) (sent_error _ _ _ _ _ _ _ _ reads _ (search rules))
