@@ -1,11 +1,12 @@
 //! The openings of a server's end: by its answer to the request.
 
-ghost use Rattle.std.specs.Prelude.{◌≡◌, ◌++◌, ◌*◌, ◌≤◌, ◌<◌, ◌⊎◌, not, true, [], length, IfOk};
-ghost use Rattle.std.specs.Prelude.{IfErr, OnOk, OnErr, IsErrOf, vec_capacity};
-ghost use Rattle.tftp_ends.specs.Files.{AreFilesOf, KeepsFiles, AreSame};
-ghost use Rattle.tftp_ends.specs.Opening.{ServesFiles, FilesFailToStart, serving_write, opened};
-ghost use Rattle.tftp_ends.specs.Opening.{opening_step, oack_bytes, role_of};
-ghost use Rattle.tftp_ends.specs.Step.{ack_bytes};
+ghost use Rattle.std.specs.Prelude.{ℕ, ◌≡◌, ◌++◌, ◌*◌, ◌≤◌, ◌<◌, ◌⊎◌, not, true, List, [], length};
+ghost use Rattle.std.specs.Prelude.{Ok, IfOk, IfErr, OnOk, OnErr, IsErrOf, vec_capacity};
+ghost use Rattle.tftp_ends.specs.End.{is_sender};
+ghost use Rattle.tftp_ends.specs.Files.{AreFilesOf, KeepsFiles, KeepsSource, AreSame};
+ghost use Rattle.tftp_ends.specs.Opening.{ServesFiles, FilesFailToStart, FailsToStart};
+ghost use Rattle.tftp_ends.specs.Opening.{serving_write, opened, opening_step, oack_bytes, role_of};
+ghost use Rattle.tftp_ends.specs.Step.{AsksFor, ack_bytes, block_length, data_bytes};
 ghost use Rattle.tftp_ends.specs.Waiting.{default_terms, agreed_terms};
 ghost use Rattle.tftp_negotiate.specs.Agreed.{size};
 
@@ -90,43 +91,48 @@ impl End {
         if !can_be_numbered(length, agreed.block_size()) {
             return Err(OpenFault::TooLarge);
         }
+        let role = Role {
+            side: Side::ServerRead,
+            mode,
+            length,
+            retries,
+        };
         if agreed.is_empty() {
-            return End::send_first(alloc, files, peer, mode, length, retries, out);
+            let Files::Source(source) = files else {
+                unreachable!()
+            };
+            return End::send_first(alloc, source, peer, role, out);
         }
-        Ok(End::send_oack(alloc, peer, mode, agreed, length, retries, out)?)
+        Ok(End::send_oack(alloc, peer, agreed, role, out)?)
     }
 
     /// Opens a server's end that sends, by DATA 1.
-    fn send_first<S: Source, K: Sink>(
+    fn send_first<S: Source>(
         alloc: Global,
-        files: &mut Files<S, K>,
+        source: &mut S,
         peer: Endpoint,
-        mode: Mode,
-        length: u64,
-        retries: u8,
+        role: Role,
         out: &mut Vec<u8>,
     ) -> Result<(End, Step), OpenFault>
-        requires files { AreFilesOf Side.ServerRead files.old }
-        requires fits { length < 65535 * DEFAULT_BLOCK }
-        ensures serves { IfOk result (λ opened.
-            ServesFiles S.meaning [] peer mode length retries files.old files.new opened.0
-            × (out.new.items ≡ out.old.items ++ opened.0.position.last_sent)) }
-        ensures step { IfOk result (λ opened. opened.1 ≡ opening_step peer) }
+        requires sends { is_sender role.side ≡ true }
+        requires fits { role.length < 65535 * DEFAULT_BLOCK }
+        ensures sent { IfOk result (λ o. (piece : List ℕ)
+            × AsksFor S.meaning (block_length role.length DEFAULT_BLOCK 1) source.old
+            (S.meaning.left source.new) piece (Ok (block_length role.length DEFAULT_BLOCK 1))
+            × (o.0 ≡ opened role (Phase.Sending (default_terms peer) 1) peer (data_bytes 1 piece))
+            × (out.new.items ≡ out.old.items ++ o.0.position.last_sent)) }
+        ensures step { IfOk result (λ o. o.1 ≡ opening_step peer) }
         ensures source { IsErrOf result OpenFault.SourceFault
-            → FilesFailToStart S.meaning length files.old files.new }
+            → FailsToStart S.meaning role.length source.old source.new }
         ensures memory { IsErrOf result OpenFault.Memory
-            → KeepsFiles S.meaning K.meaning files.old files.new }
+            → KeepsSource S.meaning source.old source.new }
         ensures capacity { vec_capacity out.old ≤ vec_capacity out.new }
         ensures err { IfErr result (λ fault.
             ((fault ≡ OpenFault.SourceFault) ⊎ (fault ≡ OpenFault.Memory))
             × (out.new.items ≡ out.old.items)) }
-        ensures same { AreSame S.is_same K.is_same files.old files.new }
-        ensures files { IfOk result (λ opened. AreFilesOf opened.0.role.side files.new) }
+        ensures same { S.is_same source.old source.new }
     {
-        let Files::Source(source) = files else {
-            unreachable!()
-        };
-        let want = block_length(length, DEFAULT_BLOCK, 1);
+        let want = block_length(role.length, DEFAULT_BLOCK, 1);
         out.reserve(HEADER + want)?;
         let spare = Vec::with_capacity(alloc, HEADER + want)?;
         let mut last_sent = Vec::with_capacity(alloc, HEADER + want)?;
@@ -140,12 +146,6 @@ impl End {
                     terms: default_terms(peer),
                     number: 1,
                 };
-                let role = Role {
-                    side: Side::ServerRead,
-                    mode,
-                    length,
-                    retries,
-                };
                 let end = End::opened(role, phase, peer, last_sent, spare);
                 Ok((end, opening_step(peer)))
             }
@@ -156,14 +156,13 @@ impl End {
     fn send_oack(
         alloc: Global,
         peer: Endpoint,
-        mode: Mode,
         agreed: &Agreed,
-        length: u64,
-        retries: u8,
+        role: Role,
         out: &mut Vec<u8>,
     ) -> Result<(End, Step), AllocError>
-        requires fits { length < 65535 * size agreed.now }
-        ensures end { IfOk result (λ o. (o.0 ≡ opened (role_of Side.ServerRead mode length retries)
+        requires sends { is_sender role.side ≡ true }
+        requires fits { role.length < 65535 * size agreed.now }
+        ensures end { IfOk result (λ o. (o.0 ≡ opened role
             (Phase.Sending (agreed_terms peer agreed.now) 0) peer (oack_bytes agreed.now))
             × (out.new.items ≡ out.old.items ++ oack_bytes agreed.now)) }
         ensures step { IfOk result (λ o. o.1 ≡ opening_step peer) }
@@ -176,12 +175,6 @@ impl End {
         let phase = Phase::Sending {
             terms: agreed_terms(peer, agreed),
             number: 0,
-        };
-        let role = Role {
-            side: Side::ServerRead,
-            mode,
-            length,
-            retries,
         };
         let end = End::opened(role, phase, peer, last_sent, spare);
         Ok((end, opening_step(peer)))
