@@ -5,11 +5,18 @@ use Rattle.tftp_wire.specs.declared.mode.Mode.{Mode}
 use Rattle.tftp_file.specs.Sink.{SinkMeaning, Commits}
 use Rattle.tftp_file.specs.declared.fault.StoreFault.{StoreFault}
 use Rattle.tftp_file.specs.declared.fault.StoreFault.TheVariants.{Memory}
+use Rattle.tftp_ends.specs.declared.end.storing.BlockKind.{BlockKind}
+use Rattle.tftp_ends.specs.declared.end.storing.BlockKind.TheVariants.{Full, Last}
 use Rattle.tftp_ends.specs.declared.end.storing.BlockStored.{BlockStored}
 use Rattle.tftp_ends.specs.declared.end.storing.BlockStored.TheVariants.{More, All, Refused}
 use Rattle.tftp_ends.specs.declared.end.storing.BlockStored.TheVariants.{Uncommitted}
 use Rattle.tftp_ends.specs.Step.{Done, Appended, commit_reply}
 use Rattle.tftp_ends.specs.Text.{Decoded}
+
+-- the block is the last one of its file
+abbrev pub is_last : BlockKind → Bool
+is_last Full = false
+is_last Last = true
 
 module _ {K : Type 0} (sinks : SinkMeaning K) where
   -- the result of a commit
@@ -28,22 +35,22 @@ module _ {K : Type 0} (sinks : SinkMeaning K) where
 
   -- what follows an append
   abbrev pub StoresOn : Bool → K → K → BlockStored → Result Done StoreFault → Type 0
-  StoresOn is_last sink sink' block_stored (Err fault) = (block_stored ≡ Refused) × (sink' ≡ sink)
+  StoresOn last sink sink' block_stored (Err fault) = (block_stored ≡ Refused) × (sink' ≡ sink)
   StoresOn true sink sink' block_stored (Ok done) = StoresLast sink sink' block_stored
   StoresOn false sink sink' block_stored (Ok done) = (block_stored ≡ More) × (sink' ≡ sink)
 
   -- the bytes were appended, and after the last ones the file was committed
-  pub record StoresBlock (bytes : List ℕ) (is_last : Bool) (sink sink' : K)
+  pub record StoresBlock (bytes : List ℕ) (last : Bool) (sink sink' : K)
       (block_stored : BlockStored) : Type 0 where
     pub answer : Result Done StoreFault
     pub mid : K
     pub appended : Appended sinks bytes sink mid answer
     pub memory : answer ≢ Err Memory
-    pub rest : StoresOn is_last mid sink' block_stored answer
+    pub rest : StoresOn last mid sink' block_stored answer
 
   -- the host bytes of a piece of the text were appended; after it `held_after` is held back
-  pub record StoresPiece (mode : Mode) (text piece : List ℕ) (is_last : Bool) (sink sink' : K)
+  pub record StoresPiece (mode : Mode) (text piece : List ℕ) (last : Bool) (sink sink' : K)
       (block_stored : BlockStored) (held_after : List ℕ) : Type 0 where
     pub bytes : List ℕ
     pub decoded : Decoded mode text piece bytes held_after
-    pub stores : StoresBlock bytes is_last sink sink' block_stored
+    pub stores : StoresBlock bytes last sink sink' block_stored

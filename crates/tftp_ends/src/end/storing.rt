@@ -3,7 +3,7 @@
 ghost use Rattle.std.specs.Prelude.{◌≡◌, ◌≤◌, ◌++◌, [], true, false, nat_lt, length, OnErr};
 ghost use Rattle.std.specs.Prelude.{IfOk, Some, Err, ◌+◌, ◌<◌, vec_capacity};
 ghost use Rattle.tftp_file.specs.Decoding.{DecodesPiece};
-ghost use Rattle.tftp_ends.specs.BlockStored.{StoresBlock, StoresPiece, StoresLast};
+ghost use Rattle.tftp_ends.specs.BlockStored.{StoresBlock, StoresPiece, StoresLast, is_last};
 ghost use Rattle.tftp_ends.specs.Files.{KeepsSink};
 ghost use Rattle.tftp_ends.specs.Shortage.{StoreLacksMemory};
 ghost use Rattle.tftp_ends.specs.Text.{begins_netascii, is_readable};
@@ -21,6 +21,26 @@ use crate::phase::{Dally, Phase, Terms};
 use std::alloc::AllocError;
 use tftp_file::{NetDecoder, NetFault, Sink, StoreFault};
 use tftp_wire::Mode;
+
+/// Which block of a file it is.
+#[derive(Clone, Copy)]
+enum BlockKind {
+    /// It has the block size, and more follow.
+    Full,
+    /// It is shorter, and the last one.
+    Last,
+}
+
+/// Which block this data is (RFC 1350, section 6).
+fn block_kind(piece: &[u8], size: u16) -> BlockKind
+    ensures { is_last result ≡ nat_lt (length piece.now) size }
+{
+    if piece.len() < usize::from(size) {
+        BlockKind::Last
+    } else {
+        BlockKind::Full
+    }
+}
 
 /// The result of storing a block.
 #[derive(Clone, Copy)]
@@ -72,23 +92,20 @@ fn commit<K: Sink>(sink: &mut K) -> BlockStored
 fn store_block<K: Sink>(
     sink: &mut K,
     piece: &[u8],
-    is_last: bool,
+    kind: BlockKind,
 ) -> Result<BlockStored, AllocError>
     ensures takes { IfOk result (λ block_stored.
-        StoresBlock K.meaning piece.now is_last sink.old sink.new block_stored) }
+        StoresBlock K.meaning piece.now (is_last kind) sink.old sink.new block_stored) }
     ensures err { OnErr result (KeepsSink K.meaning sink.old sink.new) }
     ensures why { OnErr result
         (Appended K.meaning piece.now sink.old sink.new (Err StoreFault.Memory)) }
     ensures same { K.is_same sink.old sink.new }
 {
     match append_block(sink, piece) {
-        Ok(()) => {
-            if is_last {
-                Ok(commit(sink))
-            } else {
-                Ok(BlockStored::More)
-            }
-        }
+        Ok(()) => match kind {
+            BlockKind::Full => Ok(BlockStored::More),
+            BlockKind::Last => Ok(commit(sink)),
+        },
         Err(StoreFault::Memory) => Err(AllocError),
         Err(StoreFault::Missing | StoreFault::Exists | StoreFault::Full | StoreFault::Io) => {
             Ok(BlockStored::Refused)
@@ -124,12 +141,13 @@ fn store_through<K: Sink>(
     mode: Mode,
     decoder: NetDecoder,
     piece: &[u8],
-    is_last: bool,
+    kind: BlockKind,
     buffer: &mut Vec<u8>,
 ) -> Result<(BlockStored, NetDecoder), AllocError>
-    requires { is_readable mode decoder piece.now is_last ≡ true }
+    requires { is_readable mode decoder piece.now (is_last kind) ≡ true }
     ensures takes { IfOk result (λ stored.
-        StoresPiece K.meaning mode decoder piece.now is_last sink.old sink.new stored.0 stored.1) }
+        StoresPiece K.meaning mode decoder piece.now (is_last kind) sink.old sink.new
+        stored.0 stored.1) }
     ensures err { OnErr result (KeepsSink K.meaning sink.old sink.new) }
     ensures why { OnErr result
         (StoreLacksMemory K.meaning mode decoder piece.now sink.old sink.new) }
@@ -137,12 +155,12 @@ fn store_through<K: Sink>(
 {
     match mode {
         Mode::Octet => {
-            let stored = store_block(sink, piece, is_last)?;
+            let stored = store_block(sink, piece, kind)?;
             Ok((stored, decoder))
         }
         Mode::Netascii => {
             let after = decode_into(buffer, decoder, piece)?;
-            let stored = store_block(sink, buffer, is_last)?;
+            let stored = store_block(sink, buffer, kind)?;
             Ok((stored, after))
         }
     }
@@ -154,19 +172,20 @@ fn store_piece<K: Sink>(
     mode: Mode,
     decoder: NetDecoder,
     piece: &[u8],
-    is_last: bool,
+    kind: BlockKind,
     buffer: &mut Vec<u8>,
 ) -> Result<(BlockStored, NetDecoder), AllocError>
-    requires { is_readable mode decoder piece.now is_last ≡ true }
+    requires { is_readable mode decoder piece.now (is_last kind) ≡ true }
     ensures takes { IfOk result (λ stored.
-        StoresPiece K.meaning mode decoder piece.now is_last sink.old sink.new stored.0 stored.1) }
+        StoresPiece K.meaning mode decoder piece.now (is_last kind) sink.old sink.new
+        stored.0 stored.1) }
     ensures err { OnErr result (KeepsSink K.meaning sink.old sink.new) }
     ensures why { OnErr result
         (StoreLacksMemory K.meaning mode decoder piece.now sink.old sink.new) }
     ensures empty { buffer.new.items ≡ [] }
     ensures same { K.is_same sink.old sink.new }
 {
-    let stored = store_through(sink, mode, decoder, piece, is_last, buffer);
+    let stored = store_through(sink, mode, decoder, piece, kind, buffer);
     buffer.clear();
     stored
 }
@@ -196,16 +215,9 @@ impl End {
             self.old.position.held piece.now sink.old sink.new) }
         ensures same { K.is_same sink.old sink.new }
     {
-        let is_last = piece.len() < usize::from(terms.size);
+        let kind = block_kind(piece, terms.size);
         let spare = &mut self.spare;
-        let (stored, after) = store_piece(
-            sink,
-            self.role.mode,
-            self.decoder,
-            piece,
-            is_last,
-            spare,
-        )?;
+        let (stored, after) = store_piece(sink, self.role.mode, self.decoder, piece, kind, spare)?;
         match stored {
             BlockStored::More => {
                 let outgoing = self.acknowledge(Phase::Receiving { terms, number }, from);

@@ -9,25 +9,43 @@ use Rattle.tftp_ends.proofs.end.End.store.Goals as goal
 
 pub returns-in-More-clause-stores : goal.returns-in-More-clause-stores
 returns-in-More-clause-stores g c =
-    let takes = rw (c.in-More.is, c.from.ensures) at c.in_ok-stored.ensures.takes in
+    let takes = rw (c.in-More.is, c.block_kind-kind.ensures) at c.in_ok-stored.ensures.takes in
     rw (c.acknowledge-outgoing.ensures.sent, ← c.self.view_is)
-    (stored_more _ _ _ _ _ _ _ _ _ takes _ (ap (λ (e : EndState). holding c.in_ok-stored.after e) (c.self-in-More.view_is ∙ c.acknowledge-outgoing.ensures.state)))
+    (stored_more _ _ _ _ _ _ _ _ _ takes _
+    (ap (λ (e : EndState). holding c.in_ok-stored.after e)
+    (c.self-in-More.view_is ∙ c.acknowledge-outgoing.ensures.state)))
 
 pub returns-in-All-clause-stores : goal.returns-in-All-clause-stores
 returns-in-All-clause-stores g c =
-    let takes = rw (c.in-All.is, c.from.ensures) at c.in_ok-stored.ensures.takes in
+    let takes = rw (c.in-All.is, c.block_kind-kind.ensures) at c.in_ok-stored.ensures.takes in
     rw (c.acknowledge-outgoing-in-All.ensures.sent, ← c.self.view_is)
-    (stored_all _ _ _ _ _ _ _ _ _ takes _ (ap (λ (e : EndState). holding c.in_ok-stored.after e) (c.self-in-All.view_is ∙ c.acknowledge-outgoing-in-All.ensures.state)))
+    (stored_all _ _ _ _ _ _ _ _ _ takes _
+    (ap (λ (e : EndState). holding c.in_ok-stored.after e)
+    (c.self-in-All.view_is ∙ c.acknowledge-outgoing-in-All.ensures.state)))
 
 pub returns-in-Refused-clause-stores : goal.returns-in-Refused-clause-stores
 returns-in-Refused-clause-stores g c =
-    let takes = rw (c.in-Refused.is, c.from.ensures) at c.in_ok-stored.ensures.takes in
+    let takes = rw (c.in-Refused.is, c.block_kind-kind.ensures) at c.in_ok-stored.ensures.takes in
     rw (← c.self.view_is) (stored_not _ _ _ _ _ _ _ _ _ takes _ (search rules))
 
 pub returns-in-Uncommitted-clause-stores : goal.returns-in-Uncommitted-clause-stores
 returns-in-Uncommitted-clause-stores g c =
-    let takes = rw (c.in-Uncommitted.is, c.from.ensures) at c.in_ok-stored.ensures.takes in
-    let e : EndState = record { role = c.self.inside.role; position = record { retries_left = c.self.inside.retries_left; last_sent = c.self.inside.last_sent.items; last_sent_to = c.self.inside.last_sent_to; held = c.self.inside.decoder; phase = c.self.inside.phase } } in
-    let closes : c.go_into-in-Uncommitted-2.new.self ≡ with_position (in_phase (refused (Some c.args.terms) outcomes.StoreFault e.position.phase) e) e = search rules in
+    let takes = rw (c.in-Uncommitted.is, c.block_kind-kind.ensures) at c.in_ok-stored.ensures.takes in
+    let e : EndState =
+    record {
+      role = c.self.inside.role;
+      position =
+          record {
+            retries_left = c.self.inside.retries_left;
+            last_sent = c.self.inside.last_sent.items;
+            last_sent_to = c.self.inside.last_sent_to;
+            held = c.self.inside.decoder;
+            phase = c.self.inside.phase;
+          };
+    } in
+    let closes : c.go_into-in-Uncommitted-2.new.self
+    ≡ with_position (in_phase (refused (Some c.args.terms) outcomes.StoreFault e.position.phase) e) e =
+    search rules in
     rw (← c.self.view_is)
-    (not_committed _ _ _ _ _ _ _ _ _ c.in-Uncommitted.reply takes _ (ap (λ (x : EndState). holding c.in_ok-stored.after x) (c.self-in-Uncommitted.view_is ∙ closes)))
+    (not_committed _ _ _ _ _ _ _ _ _ c.in-Uncommitted.reply takes _
+    (ap (λ (x : EndState). holding c.in_ok-stored.after x) (c.self-in-Uncommitted.view_is ∙ closes)))
