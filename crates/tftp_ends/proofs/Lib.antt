@@ -1,5 +1,6 @@
 pub mod ActionLemmas
 pub mod Lending
+pub mod OneFileLemmas
 pub mod OackLemmas
 pub mod ReadingBlocks
 pub mod RowLemmas

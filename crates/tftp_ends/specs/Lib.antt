@@ -17,6 +17,7 @@ pub mod Shortage
 pub mod BlockRead
 pub mod BlockStored
 pub mod Files
+pub mod OneFile
 pub mod OtherSinks
 pub mod Opening
 pub mod Run

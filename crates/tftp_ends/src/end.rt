@@ -4,6 +4,7 @@ mod acting;
 mod opening;
 mod sending;
 mod serving;
+mod sides;
 mod storing;
 
 ghost use Rattle.std.specs.Prelude.{◌≡◌, ◌↔◌, ◌+◌, ◌++◌, ◌≤◌, length, option_map, Option};
@@ -297,13 +298,10 @@ impl End {
         ensures same { AreSame S.is_same K.is_same files.old files.new }
         ensures files { AreFilesOf self.new.role.side files.new }
     {
-        if self.is_closed() {
-            return Err(EndFault::Closed);
+        match files {
+            Files::Source(source) => self.handle_datagram_as_sender(source, from, bytes),
+            Files::Sink(sink) => self.handle_datagram_as_receiver(sink, from, bytes),
         }
-        let before = self.phase();
-        let action = self.datagram_action(from, bytes);
-        let (to, outgoing) = self.act(action, files, from, bytes)?;
-        Ok((before.step_to(self.phase(), to), outgoing))
     }
 
     /// Delivers a timeout, and returns the datagram to send. It allocates no memory: its only fault
@@ -367,15 +365,10 @@ impl End {
         ensures same { AreSame S.is_same K.is_same files.old files.new }
         ensures files { AreFilesOf self.new.role.side files.new }
     {
-        if self.is_closed() {
-            return Err(EndFault::Closed);
+        match files {
+            Files::Source(source) => self.on_datagram_as_sender(source, from, bytes, out),
+            Files::Sink(sink) => self.on_datagram_as_receiver(sink, from, bytes, out),
         }
-        let before = self.phase();
-        let action = self.datagram_action(from, bytes);
-        out.reserve(self.room(action))?;
-        let (to, outgoing) = self.act(action, files, from, bytes)?;
-        self.append_outgoing(outgoing, out);
-        Ok(before.step_to(self.phase(), to))
     }
 
     /// Delivers a timeout: [`End::interval`] seconds have passed since the opening, the last

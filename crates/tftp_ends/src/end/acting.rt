@@ -1,12 +1,13 @@
 //! How an end carries out an action: its next phase, and the datagram to send.
 
-ghost use Rattle.std.specs.Prelude.{◌≡◌, ◌≤◌, drop, false, length, OnErr, IfOk};
-ghost use Rattle.tftp_ends.specs.Files.{AreFilesOf, KeepsFiles, AreSame};
-ghost use Rattle.tftp_ends.specs.Step.{Turn, Acts, AcksAgain, Lends, UsesFile, ack_bytes};
+ghost use Rattle.std.specs.Prelude.{ℕ, ◌≡◌, ◌≤◌, List, drop, true, false, length, OnErr, IfOk};
+ghost use Rattle.tftp_ends.specs.Files.{KeepsSource, KeepsSink};
+ghost use Rattle.tftp_ends.specs.OneFile.{SenderActs, SenderActLacksMemory, ReceiverActs};
+ghost use Rattle.tftp_ends.specs.OneFile.{ReceiverActLacksMemory};
+ghost use Rattle.tftp_ends.specs.Step.{Turn, AcksAgain, Lends, UsesFile, ack_bytes};
 ghost use Rattle.tftp_ends.specs.Step.{having_sent, in_phase, response_turn, with_position};
 ghost use Rattle.tftp_ends.specs.Step.{lent};
 ghost use Rattle.tftp_ends.specs.Room.{room_of, response_room};
-ghost use Rattle.tftp_ends.specs.Shortage.{ActLacksMemory};
 ghost use Rattle.tftp_ends.specs.End.{is_sender, number_of, terms_of};
 ghost use Rattle.tftp_ends.specs.Fits.{ActionFits, BytesFit, ReplyFits, ResponseFits, SentFits};
 ghost use Rattle.tftp_ends.specs.Sound.{PhaseFits, ResendsAck};
@@ -20,7 +21,7 @@ use crate::outgoing::Outgoing;
 use crate::phase::Phase;
 use crate::reply::MAX_ERROR;
 use std::alloc::AllocError;
-use tftp_file::{Files, Sink, Source};
+use tftp_file::{Sink, Source};
 use tftp_wire::append_ack;
 
 /// The data of a DATA packet, after its opcode and number.
@@ -140,44 +141,68 @@ impl End {
         }
     }
 
-    /// Carries out an action. Returns the destination and the datagram to send.
-    pub(crate) fn act<S: Source, K: Sink>(
+    /// A sender carries out an action. Returns the destination and the datagram to send.
+    pub(crate) fn act_as_sender<S: Source>(
         &mut self,
         action: Action,
-        files: &mut Files<S, K>,
+        source: &mut S,
         from: Endpoint,
-        bytes: &[u8],
     ) -> Result<(Option<Endpoint>, Outgoing), AllocError>
         requires action { ActionFits self.old action }
-        requires fits { BytesFit self.old bytes.now action }
-        requires files { AreFilesOf self.old.role.side files.old }
+        requires fits { (bytes : List ℕ) × BytesFit self.old bytes action }
+        requires sender { is_sender self.old.role.side ≡ true }
         ensures acts { IfOk result (λ answer. (turn : Turn)
-            × Acts S.meaning K.meaning action from bytes.now self.old files.old turn files.new
+            × SenderActs S.meaning action from self.old source.old turn source.new
             × AcksAgain self.old turn action
             × Lends self.old turn self.new answer.0 answer.1) }
         ensures room { IfOk result (λ answer.
             length (lent answer.1 self.new) ≤ room_of self.old action) }
         ensures uses { OnErr result (UsesFile action) }
-        ensures why { OnErr result (ActLacksMemory S.meaning K.meaning action bytes.now self.old
-            files.old files.new) }
+        ensures why { OnErr result (SenderActLacksMemory S.meaning action self.old
+            source.old source.new) }
         ensures err { OnErr result ((self.new ≡ self.old)
-            × KeepsFiles S.meaning K.meaning files.old files.new) }
-        ensures same { AreSame S.is_same K.is_same files.old files.new }
-        ensures files { AreFilesOf self.new.role.side files.new }
+            × KeepsSource S.meaning source.old source.new) }
+        ensures same { S.is_same source.old source.new }
     {
         match action {
             Action::Respond(response) => Ok(self.respond(response, from)),
             Action::Send { terms, number } => {
-                let Files::Source(source) = files else {
-                    unreachable!()
-                };
                 let outgoing = self.send(terms, number, source, from)?;
                 Ok((Some(from), outgoing))
             }
+            Action::Store { .. } => unreachable!(),
+        }
+    }
+
+    /// A receiver carries out an action for a datagram of these bytes. Returns the destination and
+    /// the datagram to send.
+    pub(crate) fn act_as_receiver<K: Sink>(
+        &mut self,
+        action: Action,
+        sink: &mut K,
+        from: Endpoint,
+        bytes: &[u8],
+    ) -> Result<(Option<Endpoint>, Outgoing), AllocError>
+        requires action { ActionFits self.old action }
+        requires fits { BytesFit self.old bytes.now action }
+        requires receiver { is_sender self.old.role.side ≡ false }
+        ensures acts { IfOk result (λ answer. (turn : Turn)
+            × ReceiverActs K.meaning action from bytes.now self.old sink.old turn sink.new
+            × AcksAgain self.old turn action
+            × Lends self.old turn self.new answer.0 answer.1) }
+        ensures room { IfOk result (λ answer.
+            length (lent answer.1 self.new) ≤ room_of self.old action) }
+        ensures uses { OnErr result (UsesFile action) }
+        ensures why { OnErr result (ReceiverActLacksMemory K.meaning action bytes.now self.old
+            sink.old sink.new) }
+        ensures err { OnErr result ((self.new ≡ self.old)
+            × KeepsSink K.meaning sink.old sink.new) }
+        ensures same { K.is_same sink.old sink.new }
+    {
+        match action {
+            Action::Respond(response) => Ok(self.respond(response, from)),
+            Action::Send { .. } => unreachable!(),
             Action::Store { terms, number } => {
-                let Files::Sink(sink) = files else {
-                    unreachable!()
-                };
                 let outgoing = self.store(terms, number, piece_of(bytes), sink, from)?;
                 Ok((Some(from), outgoing))
             }

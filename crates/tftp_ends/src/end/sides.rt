@@ -1,0 +1,173 @@
+//! How an end handles a datagram over its one file: a sender over its source, a receiver over its
+//! sink.
+
+ghost use Rattle.std.specs.Prelude.{◌≡◌, ◌↔◌, ◌≤◌, true, false, length, Option, IfOk, OnErr};
+ghost use Rattle.std.specs.Prelude.{IsErrOf, IsSome, vec_len, vec_capacity};
+ghost use Rattle.tftp_wire.specs.declared.packet.Packet.{Packet};
+ghost use Rattle.tftp_ends.specs.Action.{Decodes, datagram_action};
+ghost use Rattle.tftp_ends.specs.End.{is_sender, outcome_of};
+ghost use Rattle.tftp_ends.specs.Files.{KeepsSource, KeepsSink};
+ghost use Rattle.tftp_ends.specs.OneFile.{SenderStep, SenderLacksMemory};
+ghost use Rattle.tftp_ends.specs.OneFile.{ReceiverStep, ReceiverLacksMemory};
+ghost use Rattle.tftp_ends.specs.Room.{room_of};
+ghost use Rattle.tftp_ends.specs.Shortage.{AppendsNothing, HasNoRoom};
+ghost use Rattle.tftp_ends.specs.Step.{Turn, Carries, Lends, IsAnswered, UsesFile, reported, lent};
+
+use crate::end::End;
+use crate::endpoint::Endpoint;
+use crate::fault::EndFault;
+use crate::outgoing::Outgoing;
+use crate::record::Step;
+use tftp_file::{Sink, Source};
+
+impl End {
+    /// As [`End::handle_datagram`], for a sender alone: `source` is its file.
+    pub fn handle_datagram_as_sender<S: Source>(
+        &mut self,
+        source: &mut S,
+        from: Endpoint,
+        bytes: &[u8],
+    ) -> Result<(Step, Outgoing), EndFault>
+        requires { is_sender self.old.role.side ≡ true }
+        ensures steps { IfOk result (λ answer. (turn : Turn)
+            × SenderStep S.meaning from bytes.now self.old source.old turn source.new
+            × Lends self.old turn self.new answer.0.to answer.1
+            × (answer.0 ≡ reported self.old turn)) }
+        ensures closed { IsErrOf result EndFault.Closed
+            ↔ IsSome (outcome_of self.old.position.phase) }
+        ensures unmoved { IsErrOf result EndFault.Closed → source.new ≡ source.old }
+        ensures memory { IsErrOf result EndFault.Memory → (decoded : Option Packet)
+            × Decodes bytes.now decoded
+            × UsesFile (datagram_action self.old from bytes.now decoded) }
+        ensures why { IsErrOf result EndFault.Memory → SenderLacksMemory S.meaning
+            AppendsNothing from bytes.now self.old source.old source.new }
+        ensures room { IfOk result (λ answer. (decoded : Option Packet) × Decodes bytes.now decoded
+            × (length (lent answer.1 self.new)
+            ≤ room_of self.old (datagram_action self.old from bytes.now decoded))) }
+        ensures err { OnErr result ((self.new ≡ self.old)
+            × KeepsSource S.meaning source.old source.new) }
+        ensures same { S.is_same source.old source.new }
+        ensures side { is_sender self.new.role.side ≡ true }
+    {
+        if self.is_closed() {
+            return Err(EndFault::Closed);
+        }
+        let before = self.phase();
+        let action = self.datagram_action(from, bytes);
+        let (to, outgoing) = self.act_as_sender(action, source, from)?;
+        Ok((before.step_to(self.phase(), to), outgoing))
+    }
+
+    /// As [`End::handle_datagram`], for a receiver alone: `sink` is its file.
+    pub fn handle_datagram_as_receiver<K: Sink>(
+        &mut self,
+        sink: &mut K,
+        from: Endpoint,
+        bytes: &[u8],
+    ) -> Result<(Step, Outgoing), EndFault>
+        requires { is_sender self.old.role.side ≡ false }
+        ensures steps { IfOk result (λ answer. (turn : Turn)
+            × ReceiverStep K.meaning from bytes.now self.old sink.old turn sink.new
+            × Lends self.old turn self.new answer.0.to answer.1
+            × (answer.0 ≡ reported self.old turn)) }
+        ensures closed { IsErrOf result EndFault.Closed
+            ↔ IsSome (outcome_of self.old.position.phase) }
+        ensures unmoved { IsErrOf result EndFault.Closed → sink.new ≡ sink.old }
+        ensures memory { IsErrOf result EndFault.Memory → (decoded : Option Packet)
+            × Decodes bytes.now decoded
+            × UsesFile (datagram_action self.old from bytes.now decoded) }
+        ensures why { IsErrOf result EndFault.Memory → ReceiverLacksMemory K.meaning
+            AppendsNothing from bytes.now self.old sink.old sink.new }
+        ensures room { IfOk result (λ answer. (decoded : Option Packet) × Decodes bytes.now decoded
+            × (length (lent answer.1 self.new)
+            ≤ room_of self.old (datagram_action self.old from bytes.now decoded))) }
+        ensures err { OnErr result ((self.new ≡ self.old)
+            × KeepsSink K.meaning sink.old sink.new) }
+        ensures same { K.is_same sink.old sink.new }
+        ensures side { is_sender self.new.role.side ≡ false }
+    {
+        if self.is_closed() {
+            return Err(EndFault::Closed);
+        }
+        let before = self.phase();
+        let action = self.datagram_action(from, bytes);
+        let (to, outgoing) = self.act_as_receiver(action, sink, from, bytes)?;
+        Ok((before.step_to(self.phase(), to), outgoing))
+    }
+
+    /// As [`End::on_datagram`], for a sender alone: `source` is its file.
+    pub fn on_datagram_as_sender<S: Source>(
+        &mut self,
+        source: &mut S,
+        from: Endpoint,
+        bytes: &[u8],
+        out: &mut Vec<u8>,
+    ) -> Result<Step, EndFault>
+        requires { is_sender self.old.role.side ≡ true }
+        ensures steps { IfOk result (λ step. (turn : Turn)
+            × SenderStep S.meaning from bytes.now self.old source.old turn source.new
+            × Carries self.old turn self.new step.to out.old.items out.new.items
+            × (step ≡ reported self.old turn)) }
+        ensures closed { IsErrOf result EndFault.Closed
+            ↔ IsSome (outcome_of self.old.position.phase) }
+        ensures unmoved { IsErrOf result EndFault.Closed → source.new ≡ source.old }
+        ensures memory { IsErrOf result EndFault.Memory → (decoded : Option Packet)
+            × Decodes bytes.now decoded
+            × IsAnswered (datagram_action self.old from bytes.now decoded) }
+        ensures why { IsErrOf result EndFault.Memory → SenderLacksMemory S.meaning
+            (HasNoRoom (vec_capacity out.old) (vec_len out.old)) from bytes.now self.old
+            source.old source.new }
+        ensures err { OnErr result ((self.new ≡ self.old) × (out.new.items ≡ out.old.items)
+            × KeepsSource S.meaning source.old source.new) }
+        ensures same { S.is_same source.old source.new }
+        ensures side { is_sender self.new.role.side ≡ true }
+    {
+        if self.is_closed() {
+            return Err(EndFault::Closed);
+        }
+        let before = self.phase();
+        let action = self.datagram_action(from, bytes);
+        out.reserve(self.room(action))?;
+        let (to, outgoing) = self.act_as_sender(action, source, from)?;
+        self.append_outgoing(outgoing, out);
+        Ok(before.step_to(self.phase(), to))
+    }
+
+    /// As [`End::on_datagram`], for a receiver alone: `sink` is its file.
+    pub fn on_datagram_as_receiver<K: Sink>(
+        &mut self,
+        sink: &mut K,
+        from: Endpoint,
+        bytes: &[u8],
+        out: &mut Vec<u8>,
+    ) -> Result<Step, EndFault>
+        requires { is_sender self.old.role.side ≡ false }
+        ensures steps { IfOk result (λ step. (turn : Turn)
+            × ReceiverStep K.meaning from bytes.now self.old sink.old turn sink.new
+            × Carries self.old turn self.new step.to out.old.items out.new.items
+            × (step ≡ reported self.old turn)) }
+        ensures closed { IsErrOf result EndFault.Closed
+            ↔ IsSome (outcome_of self.old.position.phase) }
+        ensures unmoved { IsErrOf result EndFault.Closed → sink.new ≡ sink.old }
+        ensures memory { IsErrOf result EndFault.Memory → (decoded : Option Packet)
+            × Decodes bytes.now decoded
+            × IsAnswered (datagram_action self.old from bytes.now decoded) }
+        ensures why { IsErrOf result EndFault.Memory → ReceiverLacksMemory K.meaning
+            (HasNoRoom (vec_capacity out.old) (vec_len out.old)) from bytes.now self.old
+            sink.old sink.new }
+        ensures err { OnErr result ((self.new ≡ self.old) × (out.new.items ≡ out.old.items)
+            × KeepsSink K.meaning sink.old sink.new) }
+        ensures same { K.is_same sink.old sink.new }
+        ensures side { is_sender self.new.role.side ≡ false }
+    {
+        if self.is_closed() {
+            return Err(EndFault::Closed);
+        }
+        let before = self.phase();
+        let action = self.datagram_action(from, bytes);
+        out.reserve(self.room(action))?;
+        let (to, outgoing) = self.act_as_receiver(action, sink, from, bytes)?;
+        self.append_outgoing(outgoing, out);
+        Ok(before.step_to(self.phase(), to))
+    }
+}
