@@ -1,6 +1,5 @@
 pub mod StepsLemmas
 pub mod TableLemmas
-pub mod OneFileLemmas
 mod RequestLemmas
 mod RepeatLemmas
 mod ShortageLemmas

@@ -1,12 +1,11 @@
--- An end that borrows its file lacks memory as one that owns it, and a transfer as its end.
-use Rattle.std.proofs.Common.{◌≡◌, ℕ, Bool, List, [], ◌∷◌, Option, Some, Result, Ok, Err, OnErr, inl, inr, refl, sym}
+-- A transfer lacks memory as its end does.
+use Rattle.std.proofs.Common.{◌≡◌, ℕ, Bool, List, [], ◌∷◌, Some, Result, Ok, Err, OnErr, inl, inr, refl, sym}
 use Rattle.std.proofs.Common.{ap, subst, ◌∙◌}
 use Rattle.std.specs.Prelude.{IsErrOf, ◌⊎◌}
-use Rattle.std.specs.Borrow.{MutBor}
 use Rattle.tftp_wire.specs.declared.mode.Mode.{Mode}
 use Rattle.tftp_wire.specs.declared.mode.Mode.TheVariants.{Octet, Netascii}
-use Rattle.tftp_file.specs.Source.{SourceMeaning, source_through, borrowed_source}
-use Rattle.tftp_file.specs.Sink.{SinkMeaning, sink_through, borrowed_sink}
+use Rattle.tftp_file.specs.Source.{SourceMeaning}
+use Rattle.tftp_file.specs.Sink.{SinkMeaning, sink_through}
 use Rattle.tftp_file.specs.declared.fault.StoreFault.TheVariants.{Memory}
 use Rattle.tftp_file.specs.declared.files.Files.{Files}
 use Rattle.tftp_file.specs.declared.files.Files.TheVariants.{Source, Sink}
@@ -18,7 +17,9 @@ use Rattle.tftp_ends.specs.declared.fault.EndFault.TheVariants as ends
 use Rattle.tftp_ends.specs.Action.{datagram_action}
 use Rattle.tftp_ends.specs.End.{EndState}
 use Rattle.tftp_ends.specs.Files.{KeepsSink}
-use Rattle.tftp_ends.specs.Shortage.{ActLacksMemory, AppendLacksMemory, LacksMemory, SendLacksMemory, StoreLacksMemory}
+use Rattle.tftp_ends.specs.OneFile.{SenderLacksMemory, ReceiverActLacksMemory, ReceiverLacksMemory}
+use Rattle.tftp_ends.specs.OneFile.{sender_lacks, receiver_lacks}
+use Rattle.tftp_ends.specs.Shortage.{AppendLacksMemory, StoreLacksMemory}
 use Rattle.tftp_ends.specs.Step.{Appended}
 use Rattle.tftp_server.specs.declared.draft_sink.DraftSink.{DraftSink}
 use Rattle.tftp_server.specs.declared.fault.ServerFault.{ServerFault}
@@ -31,19 +32,8 @@ use Rattle.tftp_server.specs.Steps.{StaysAs}
 use Rattle.tftp_store.specs.Store.{StoreMeaning}
 use Rattle.tftp_server.proofs.StepsLemmas.{drafting_of, found_now}
 
--- ---- an end that borrows its file
-
--- the files that these values stand for
-abbrev files_map : {S T K L : Type 0} → (S → T) → (K → L) → Files S K → Files T L
-files_map f g (Source source) = Source (f source)
-files_map f g (Sink sink) = Sink (g sink)
-
-module _ {S T K L : Type 0} (sources : SourceMeaning T) (sinks : SinkMeaning L) (f : S → T) (g : K → L) where
-  send_as : (want : ℕ) (e : EndState) (s s' : S) → SendLacksMemory (source_through sources f) want e s s' →
-      SendLacksMemory sources want e (f s) (f s')
-  send_as want e s s' (inl h) = inl (h.0, ap f h.1)
-  send_as want e s s' (inr h) = inr (record { left = h.left; fails = h.fails })
-
+-- ---- a receiver over a sink that stands for another
+module _ {K L : Type 0} (sinks : SinkMeaning L) (g : K → L) where
   appended_as : (bytes : List ℕ) (k k' : K) → Appended (sink_through sinks g) bytes k k' (Err Memory) →
       Appended sinks bytes (g k) (g k') (Err Memory)
   appended_as [] k k' h = (h.0, ap g h.1)
@@ -66,125 +56,65 @@ module _ {S T K L : Type 0} (sources : SourceMeaning T) (sinks : SinkMeaning L) 
   store_as Netascii text piece k k' (inl h) = inl (ap g h)
   store_as Netascii text piece k k' (inr h) = inr (append_as Netascii text piece k k' h)
 
-  act_as : (action : Action) (bytes : List ℕ) (e : EndState) (files files' : Files S K) →
-      ActLacksMemory (source_through sources f) (sink_through sinks g) action bytes e files files' →
-      ActLacksMemory sources sinks action bytes e (files_map f g files) (files_map f g files')
-  act_as (Respond response) bytes e files files' h = h
-  act_as (Send terms number) bytes e (Source s) (Source s') h = send_as _ e s s' h
-  act_as (Send terms number) bytes e (Source s) (Sink k') h = h
-  act_as (Send terms number) bytes e (Sink k) (Source s') h = h
-  act_as (Send terms number) bytes e (Sink k) (Sink k') h = h
-  act_as (Store terms number) bytes e (Sink k) (Sink k') h = store_as e.role.mode e.position.held _ k k' h
-  act_as (Store terms number) bytes e (Sink k) (Source s') h = h
-  act_as (Store terms number) bytes e (Source s) (Source s') h = h
-  act_as (Store terms number) bytes e (Source s) (Sink k') h = h
+  act_as : (action : Action) (bytes : List ℕ) (e : EndState) (k k' : K) →
+      ReceiverActLacksMemory (sink_through sinks g) action bytes e k k' →
+      ReceiverActLacksMemory sinks action bytes e (g k) (g k')
+  act_as (Respond response) bytes e k k' h = h
+  act_as (Send terms number) bytes e k k' h = h
+  act_as (Store terms number) bytes e k k' h = store_as e.role.mode e.position.held _ k k' h
 
-  pub lacks_as : (too_full : ℕ → Type 0) (from : Endpoint) (bytes : List ℕ) (e : EndState) (files files' : Files S K) →
-      LacksMemory (source_through sources f) (sink_through sinks g) too_full from bytes e files files' →
-      LacksMemory sources sinks too_full from bytes e (files_map f g files) (files_map f g files')
-  lacks_as too_full from bytes e files files' h =
+  lacks_as : (too_full : ℕ → Type 0) (from : Endpoint) (bytes : List ℕ) (e : EndState) (k k' : K) →
+      ReceiverLacksMemory (sink_through sinks g) too_full from bytes e k k' →
+      ReceiverLacksMemory sinks too_full from bytes e (g k) (g k')
+  lacks_as too_full from bytes e k k' h =
       record {
         decoded = h.decoded;
         says = h.says;
         lacks = elim h.lacks [
-          | inl full ↦ inl (full.0, ap (files_map f g) full.1)
-          | inr act ↦ inr (act_as (datagram_action e from bytes h.decoded) bytes e files files' act)
+          | inl full ↦ inl (full.0, ap g full.1)
+          | inr act ↦ inr (act_as (datagram_action e from bytes h.decoded) bytes e k k' act)
         ];
       }
-
-module _ {S K : Type 0} (sources : SourceMeaning S) (sinks : SinkMeaning K) (too_full : ℕ → Type 0) (from : Endpoint)
-    (bytes : List ℕ) (e : EndState) where
-  -- over a borrowed source, and over a borrowed sink
-  pub source_lacks : (first second : MutBor S) (files : Files (MutBor S) K) (last : S) → files ≡ Source second →
-      last ≡ second.now →
-      LacksMemory (borrowed_source sources) sinks too_full from bytes e (Source first) files →
-      LacksMemory sources sinks too_full from bytes e (Source first.now) (Source last)
-  source_lacks first second files last is same h =
-      subst (λ (s : S). LacksMemory sources sinks too_full from bytes e (Source first.now) (Source s)) (sym same)
-      (lacks_as sources sinks (λ (s : MutBor S). s.now) (λ (k : K). k) too_full from bytes e (Source first)
-      (Source second)
-      (subst (λ (f : Files (MutBor S) K). LacksMemory (borrowed_source sources) sinks too_full from bytes e
-      (Source first) f) is h))
-
-  pub sink_lacks : (first second : MutBor K) (files : Files S (MutBor K)) (last : K) → files ≡ Sink second →
-      last ≡ second.now →
-      LacksMemory sources (borrowed_sink sinks) too_full from bytes e (Sink first) files →
-      LacksMemory sources sinks too_full from bytes e (Sink first.now) (Sink last)
-  sink_lacks first second files last is same h =
-      subst (λ (k : K). LacksMemory sources sinks too_full from bytes e (Sink first.now) (Sink k)) (sym same)
-      (lacks_as sources sinks (λ (s : S). s) (λ (k : MutBor K). k.now) too_full from bytes e (Sink first) (Sink second)
-      (subst (λ (f : Files S (MutBor K)). LacksMemory sources (borrowed_sink sinks) too_full from bytes e (Sink first)
-      f) is h))
 
 -- ---- the end of a transfer
-
--- a source is the same for every sink
-abbrev source_or : {S K L : Type 0} → S → Files S K → Files S L
-source_or source (Source s) = Source s
-source_or source (Sink k) = Source source
-
-module _ {S K L : Type 0} (sources : SourceMeaning S) (sinks : SinkMeaning K) (others : SinkMeaning L) where
-  act_of_source : (action : Action) (bytes : List ℕ) (e : EndState) (s s' : S) →
-      ActLacksMemory sources sinks action bytes e (Source s) (Source s') →
-      ActLacksMemory sources others action bytes e (Source s) (Source s')
-  act_of_source (Respond response) bytes e s s' h = h
-  act_of_source (Send terms number) bytes e s s' h = h
-  act_of_source (Store terms number) bytes e s s' h = h
-
-  lacks_of_source : (too_full : ℕ → Type 0) (from : Endpoint) (bytes : List ℕ) (e : EndState) (s s' : S) →
-      LacksMemory sources sinks too_full from bytes e (Source s) (Source s') →
-      LacksMemory sources others too_full from bytes e (Source s) (Source s')
-  lacks_of_source too_full from bytes e s s' h =
-      record {
-        decoded = h.decoded;
-        says = h.says;
-        lacks = elim h.lacks [
-          | inl full ↦ inl (full.0, ap (source_or s) full.1)
-          | inr act ↦ inr (act_of_source (datagram_action e from bytes h.decoded) bytes e s s' act)
-        ];
-      }
-
 module _ {S F D : Type 0} (meaning : StoreMeaning S D) (sources : SourceMeaning F) (too_full : ℕ → Type 0) where
   -- a transfer over a source, or over a draft
-  pub source_lacked : {K : Type 0} (sinks : SinkMeaning K) (replace : Bool) (from : Endpoint) (bytes : List ℕ)
-      (store : S) (e e' : EndState) (files : Files F D) (s s' : F) (path request : List ℕ) → files ≡ Source s →
-      LacksMemory sources sinks too_full from bytes e (Source s) (Source s') →
+  pub source_lacked : (replace : Bool) (from : Endpoint) (bytes : List ℕ) (store : S) (e e' : EndState)
+      (files : Files F D) (s s' : F) (path request : List ℕ) → files ≡ Source s →
+      SenderLacksMemory sources too_full from bytes e s s' →
       TransferLacksMemory meaning sources too_full replace from bytes store store
       (record { end = e; files = files; path = path; request = request })
       (record { end = e'; files = Source s'; path = path; request = request })
-  source_lacked sinks replace from bytes store e e' files s s' path request is h =
+  source_lacked replace from bytes store e e' files s s' path request is h =
       subst (λ (f : Files F D). TransferLacksMemory meaning sources too_full replace from bytes store store
       (record { end = e; files = f; path = path; request = request })
       (record { end = e'; files = Source s'; path = path; request = request })) (sym is)
-      (lacks_of_source sources sinks (drafting_sink meaning) too_full from bytes e s s' h)
+      (sender_lacks sources (drafting_sink meaning) too_full from bytes e s s' h)
 
   pub draft_lacked : (replace : Bool) (from : Endpoint) (bytes : List ℕ) (store store' : S) (e e' : EndState)
       (files : Files F D) (k k' : DraftSink S F D) (draft draft' : D) (path request : List ℕ) → files ≡ Sink draft →
       drafting_of k ≡ record { store = store; draft = draft; path = path; replace = replace } →
       drafting_of k' ≡ record { store = store'; draft = draft'; path = path; replace = replace } →
-      LacksMemory sources (sink_through (drafting_sink meaning) drafting_of) too_full from bytes e (Sink k) (Sink k') →
+      ReceiverLacksMemory (sink_through (drafting_sink meaning) drafting_of) too_full from bytes e k k' →
       TransferLacksMemory meaning sources too_full replace from bytes store store'
       (record { end = e; files = files; path = path; request = request })
       (record { end = e'; files = Sink draft'; path = path; request = request })
   draft_lacked replace from bytes store store' e e' files k k' draft draft' path request is was now h =
-      let lacks =
-      lacks_as sources (drafting_sink meaning) (λ (s : F). s) drafting_of too_full from bytes e (Sink k)
-      (Sink k') h in
-      let last =
-      subst (λ (d : Drafting S D). LacksMemory sources (drafting_sink meaning) too_full from bytes e
-      (Sink (drafting_of k)) (Sink d)) now lacks in
+      let first : Drafting S D = record { store = store; draft = draft; path = path; replace = replace } in
+      let last : Drafting S D = record { store = store'; draft = draft'; path = path; replace = replace } in
+      let lacks = lacks_as (drafting_sink meaning) drafting_of too_full from bytes e k k' h in
+      let at_last =
+      subst (λ (d : Drafting S D). ReceiverLacksMemory (drafting_sink meaning) too_full from bytes e (drafting_of k) d)
+      now lacks in
       let both =
-      subst (λ (d : Drafting S D). LacksMemory sources (drafting_sink meaning) too_full from bytes e (Sink d)
-      (Sink (record { store = store'; draft = draft'; path = path; replace = replace }))) was last in
+      subst (λ (d : Drafting S D). ReceiverLacksMemory (drafting_sink meaning) too_full from bytes e d last) was
+      at_last in
       subst (λ (f : Files F D). TransferLacksMemory meaning sources too_full replace from bytes store store'
       (record { end = e; files = f; path = path; request = request })
-      (record { end = e'; files = Sink draft'; path = path; request = request })) (sym is) both
+      (record { end = e'; files = Sink draft'; path = path; request = request })) (sym is)
+      (receiver_lacks sources (drafting_sink meaning) too_full from bytes e first last both)
 
 -- ---- a draft stays
-abbrev sink_or : {S K : Type 0} → K → Files S K → K
-sink_or sink (Source source) = sink
-sink_or sink (Sink k) = k
-
 -- the drafts of a store, as sinks
 abbrev draft_sinks : {S F D : Type 0} → StoreMeaning S D → SinkMeaning (DraftSink S F D)
 draft_sinks meaning = sink_through (drafting_sink meaning) drafting_of
@@ -201,32 +131,31 @@ module _ {S D : Type 0} (meaning : StoreMeaning S D) where
   store_stays Netascii text piece d d' (inl h) = h
   store_stays Netascii text piece d d' (inr h) = append_stays h.bytes d d' h.appended
 
-module _ {S F D : Type 0} (meaning : StoreMeaning S D) (sources : SourceMeaning F) where
   act_stays : (action : Action) (bytes : List ℕ) (e : EndState) (d d' : Drafting S D) →
-      ActLacksMemory sources (drafting_sink meaning) action bytes e (Sink d) (Sink d') → d' ≡ d
+      ReceiverActLacksMemory (drafting_sink meaning) action bytes e d d' → d' ≡ d
   act_stays (Respond response) bytes e d d' h = absurd h
   act_stays (Send terms number) bytes e d d' h = absurd h
-  act_stays (Store terms number) bytes e d d' h = store_stays meaning e.role.mode e.position.held _ d d' h
+  act_stays (Store terms number) bytes e d d' h = store_stays e.role.mode e.position.held _ d d' h
 
   lacks_stays : (too_full : ℕ → Type 0) (from : Endpoint) (bytes : List ℕ) (e : EndState) (d d' : Drafting S D) →
-      LacksMemory sources (drafting_sink meaning) too_full from bytes e (Sink d) (Sink d') → d' ≡ d
+      ReceiverLacksMemory (drafting_sink meaning) too_full from bytes e d d' → d' ≡ d
   lacks_stays too_full from bytes e d d' h =
       elim h.lacks [
-        | inl full ↦ ap (sink_or d) full.1
+        | inl full ↦ full.1
         | inr act ↦ act_stays (datagram_action e from bytes h.decoded) bytes e d d' act
       ]
 
+module _ {S F D : Type 0} (meaning : StoreMeaning S D) (sources : SourceMeaning F) where
   -- a fault of an end over a draft changes neither the draft nor the store
   fault_stays : {R : Type 0} (too_full : ℕ → Type 0) (from : Endpoint) (bytes : List ℕ) (e : EndState)
       (k k' : DraftSink S F D) (fault : EndFault) →
       (IsErrOf {T = R} (Err fault) ends.Closed → k' ≡ k) →
-      (IsErrOf {T = R} (Err fault) ends.Memory → LacksMemory sources (draft_sinks meaning) too_full from bytes e
-      (Sink k) (Sink k')) → drafting_of k' ≡ drafting_of k
+      (IsErrOf {T = R} (Err fault) ends.Memory →
+      ReceiverLacksMemory (draft_sinks meaning) too_full from bytes e k k') → drafting_of k' ≡ drafting_of k
   fault_stays too_full from bytes e k k' ends.Closed unmoved why = ap drafting_of (unmoved refl)
   fault_stays too_full from bytes e k k' ends.Memory unmoved why =
-      lacks_stays too_full from bytes e (drafting_of k) (drafting_of k')
-      (lacks_as sources (drafting_sink meaning) (λ (s : F). s) drafting_of too_full from bytes e (Sink k) (Sink k')
-      (why refl))
+      lacks_stays meaning too_full from bytes e (drafting_of k) (drafting_of k')
+      (lacks_as (drafting_sink meaning) drafting_of too_full from bytes e k k' (why refl))
 
   -- after a fault a transfer over a draft, the draft and the store stay
   pub draft_stays : {R : Type 0} (too_full : ℕ → Type 0) (A B : Type 0) (replace : Bool) (from : Endpoint)
@@ -235,8 +164,7 @@ module _ {S F D : Type 0} (meaning : StoreMeaning S D) (sources : SourceMeaning 
       drafting_of k ≡ record { store = store; draft = draft; path = path; replace = replace } →
       drafting_of k' ≡ record { store = store'; draft = draft'; path = path; replace = replace } →
       (IsErrOf result ends.Closed → k' ≡ k) →
-      (IsErrOf result ends.Memory → LacksMemory sources (draft_sinks meaning) too_full from bytes e (Sink k)
-      (Sink k')) →
+      (IsErrOf result ends.Memory → ReceiverLacksMemory (draft_sinks meaning) too_full from bytes e k k') →
       (A → (e' ≡ e) × KeepsSink (draft_sinks meaning) k k') →
       (A → StaysAs meaning sources replace store store'
       (record { end = e; files = files; path = path; request = request })

@@ -6,7 +6,7 @@ use Rattle.std.proofs.lemmas.Map.Steps.{set_value_same}
 use Rattle.std.specs.BTreeMap.{is_at}
 use Rattle.std.specs.Ordering.{nat_cmp}
 use Rattle.tftp_file.specs.Source.{SourceMeaning}
-use Rattle.tftp_file.specs.Sink.{SinkMeaning, sink_through}
+use Rattle.tftp_file.specs.Sink.{sink_through}
 use Rattle.tftp_file.specs.declared.files.Files.{Files}
 use Rattle.tftp_file.specs.declared.files.Files.TheVariants.{Source, Sink}
 use Rattle.tftp_ends.specs.declared.endpoint.Endpoint.{Endpoint}
@@ -16,8 +16,9 @@ use Rattle.tftp_ends.specs.declared.record.Step.{Step}
 use Rattle.tftp_ends.specs.declared.action.Action.{Action}
 use Rattle.tftp_ends.specs.Action.{Decodes, datagram_action, timeout_action}
 use Rattle.tftp_ends.specs.End.{EndState}
-use Rattle.tftp_ends.specs.OtherSinks.{source_step_as, sink_step_as}
-use Rattle.tftp_ends.specs.Step.{IsAnswered, reported, timeout_turn}
+use Rattle.tftp_ends.specs.OneFile.{SenderStep, ReceiverStep, sender_step, receiver_step}
+use Rattle.tftp_ends.specs.OtherSinks.{sink_step_as}
+use Rattle.tftp_ends.specs.Step.{Turn, reported, timeout_turn, IsAnswered}
 use Rattle.tftp_wire.specs.declared.packet.Packet.{Packet}
 use Rattle.tftp_server.specs.declared.draft_sink.DraftSink.{DraftSink}
 use Rattle.tftp_server.specs.declared.fault.ServerFault.{ServerFault}
@@ -26,7 +27,7 @@ use Rattle.tftp_server.specs.declared.config.Config.{Config}
 use Rattle.tftp_server.specs.Draft.{Drafting, drafting_sink}
 use Rattle.tftp_server.specs.Fault.{of_end}
 use Rattle.tftp_server.specs.State.{HeldTransfer, ServerState, is_closed, at, with_next}
-use Rattle.tftp_server.specs.Steps.{Gives, MakesStep, StepIn, TakesBy, TakesDatagramBy, TimesOutBy, StaysAs, KeepsHeld}
+use Rattle.tftp_server.specs.Steps.{Gives, StepIn, TakesBy, TakesDatagramBy, TimesOutBy, StaysAs, KeepsHeld}
 use Rattle.tftp_server.specs.Steps.{TimeoutFault, DatagramFaultBy, with_end}
 use Rattle.tftp_server.specs.Work.{Works, WorksAt}
 use Rattle.tftp_store.specs.Store.{StoreMeaning}
@@ -53,22 +54,19 @@ drafting_now {S = S} {D = D} k store path replace s p r =
     step-1 ∙ step-2 ∙ step-3
 
 module _ {S F D : Type 0} (meaning : StoreMeaning S D) (sources : SourceMeaning F) (gives : Gives) where
-  -- the step of a transfer over a source, for every sink
-  pub takes_from_source : {K : Type 0} (sinks : SinkMeaning K) (replace : Bool) (from : Endpoint) (bytes : List ℕ)
-      (store : S) (e e' : EndState) (s s' : F) (path request : List ℕ) (step : Step) →
-      MakesStep sources sinks gives from bytes e e' (Source s) (Source s') step →
+  -- the step of a transfer over a source
+  pub takes_from_source : (replace : Bool) (from : Endpoint) (bytes : List ℕ) (store : S) (e e' : EndState) (s s' : F)
+      (path request : List ℕ) (step : Step) →
+      (turn : Turn) × SenderStep sources from bytes e s turn s' × gives e turn e' step.to × (step ≡ reported e turn) →
       TakesBy meaning sources gives replace from bytes store store
       (record { end = e; files = Source s; path = path; request = request })
       (record { end = e'; files = Source s'; path = path; request = request }) step
-  takes_from_source sinks replace from bytes store e e' s s' path request step h =
+  takes_from_source replace from bytes store e e' s s' path request step h =
       record {
-        turn = h.turn;
-        steps =
-            source_step_as sources sinks sources (drafting_sink meaning)
-            (λ s. s) (record { models = λ s. refl; fails = λ s want f. f; must = λ s want. (λ f. f, λ f. f) }) from
-            bytes e s h.turn s' h.steps;
-        carries = h.carries;
-        reports = h.reports;
+        turn = h.0;
+        steps = sender_step sources (drafting_sink meaning) from bytes e s h.0 s' h.1;
+        carries = h.2;
+        reports = h.3;
         stays = refl;
         kind = tt;
         path = refl;
@@ -81,8 +79,8 @@ module _ {S F D : Type 0} (meaning : StoreMeaning S D) (sources : SourceMeaning 
       (step : Step) →
       as_drafting k ≡ record { store = store; draft = draft; path = path; replace = replace } →
       as_drafting k' ≡ record { store = store'; draft = draft'; path = path; replace = replace } →
-      MakesStep sources (sink_through (drafting_sink meaning) as_drafting) gives from bytes e e' (Sink k)
-      (Sink k') step →
+      (turn : Turn) × ReceiverStep (sink_through (drafting_sink meaning) as_drafting) from bytes e k turn k'
+      × gives e turn e' step.to × (step ≡ reported e turn) →
       TakesBy meaning sources gives replace from bytes store store'
       (record { end = e; files = Sink draft; path = path; request = request })
       (record { end = e'; files = Sink draft'; path = path; request = request }) step
@@ -98,17 +96,18 @@ module _ {S F D : Type 0} (meaning : StoreMeaning S D) (sources : SourceMeaning 
         leaves = λ k l committed p b. b;
         after_append = λ k l piece fault p a. a;
         after_commit = λ k l fault p a. a;
-      }) from bytes e k h.turn k' tt h.steps in
+      }) from bytes e k h.0 k' tt
+      (receiver_step sources (sink_through (drafting_sink meaning) as_drafting) from bytes e k h.0 k' h.1) in
       let last =
-      subst (λ (d : Drafting S D). StepIn meaning sources from bytes e (Sink (as_drafting k)) h.turn (Sink d)) is
+      subst (λ (d : Drafting S D). StepIn meaning sources from bytes e (Sink (as_drafting k)) h.0 (Sink d)) is
       steps in
       record {
-        turn = h.turn;
+        turn = h.0;
         steps =
-            subst (λ (d : Drafting S D). StepIn meaning sources from bytes e (Sink d) h.turn
+            subst (λ (d : Drafting S D). StepIn meaning sources from bytes e (Sink d) h.0
             (Sink (record { store = store'; draft = draft'; path = path; replace = replace }))) was last;
-        carries = h.carries;
-        reports = h.reports;
+        carries = h.2;
+        reports = h.3;
         stays = tt;
         kind = tt;
         path = refl;
@@ -118,27 +117,27 @@ module _ {S F D : Type 0} (meaning : StoreMeaning S D) (sources : SourceMeaning 
 module _ {S F D R : Type 0} (meaning : StoreMeaning S D) (sources : SourceMeaning F) (step_in : R → Step) (gives : R →
     Gives) where
   -- the result of a call, over a source or over a draft
-  pub source_taken : {K : Type 0} (sinks : SinkMeaning K) (replace : Bool) (from : Endpoint) (bytes : List ℕ)
-      (store : S) (e e' : EndState) (files : Files F D) (s s' : F) (path request : List ℕ)
-      (result : Result R EndFault) → files ≡ Source s →
-      IfOk result (λ r. MakesStep sources sinks (gives r) from bytes e e' (Source s) (Source s') (step_in r)) →
+  pub source_taken : (replace : Bool) (from : Endpoint) (bytes : List ℕ) (store : S) (e e' : EndState)
+      (files : Files F D) (s s' : F) (path request : List ℕ) (result : Result R EndFault) → files ≡ Source s →
+      IfOk result (λ r. (turn : Turn) × SenderStep sources from bytes e s turn s'
+      × gives r e turn e' (step_in r).to × (step_in r ≡ reported e turn)) →
       IfOk result (λ r. TakesBy meaning sources (gives r) replace from bytes store store
       (record { end = e; files = files; path = path; request = request })
       (record { end = e'; files = Source s'; path = path; request = request }) (step_in r))
-  source_taken sinks replace from bytes store e e' files s s' path request (Err fault) is h = tt
-  source_taken sinks replace from bytes store e e' files s s' path request (Ok r) is h =
+  source_taken replace from bytes store e e' files s s' path request (Err fault) is h = tt
+  source_taken replace from bytes store e e' files s s' path request (Ok r) is h =
       subst (λ (f : Files F D). TakesBy meaning sources (gives r) replace from bytes store store
       (record { end = e; files = f; path = path; request = request })
       (record { end = e'; files = Source s'; path = path; request = request }) (step_in r)) (sym is)
-      (takes_from_source meaning sources (gives r) sinks replace from bytes store e e' s s' path request (step_in r) h)
+      (takes_from_source meaning sources (gives r) replace from bytes store e e' s s' path request (step_in r) h)
 
   pub draft_taken : (replace : Bool) (from : Endpoint) (bytes : List ℕ) (store store' : S) (e e' : EndState)
       (files : Files F D) (k k' : DraftSink S F D) (draft draft' : D) (path request : List ℕ)
       (result : Result R EndFault) → files ≡ Sink draft →
       drafting_of k ≡ record { store = store; draft = draft; path = path; replace = replace } →
       drafting_of k' ≡ record { store = store'; draft = draft'; path = path; replace = replace } →
-      IfOk result (λ r. MakesStep sources (sink_through (drafting_sink meaning) drafting_of) (gives r) from bytes e e'
-      (Sink k) (Sink k') (step_in r)) →
+      IfOk result (λ r. (turn : Turn) × ReceiverStep (sink_through (drafting_sink meaning) drafting_of) from bytes e k
+      turn k' × gives r e turn e' (step_in r).to × (step_in r ≡ reported e turn)) →
       IfOk result (λ r. TakesBy meaning sources (gives r) replace from bytes store store'
       (record { end = e; files = files; path = path; request = request })
       (record { end = e'; files = Sink draft'; path = path; request = request }) (step_in r))

@@ -2,7 +2,6 @@
 use Rattle.std.specs.Prelude.{ℕ, ◌≡◌, Bool, false, List, Option, Some, None, ⊤}
 use Rattle.tftp_wire.specs.declared.packet.Packet.{Packet}
 use Rattle.tftp_file.specs.Source.{SourceMeaning}
-use Rattle.tftp_file.specs.Sink.{SinkMeaning}
 use Rattle.tftp_file.specs.declared.files.Files.{Files}
 use Rattle.tftp_ends.specs.declared.endpoint.Endpoint.{Endpoint}
 use Rattle.tftp_ends.specs.declared.record.Step.{Step}
@@ -30,15 +29,6 @@ appends before after e turn e' to = Carries e turn e' to before after
 -- the end lends the answer
 abbrev pub lends : Outgoing → Gives
 lends outgoing e turn e' to = Lends e turn e' to outgoing
-
--- the step of an end with its file at a datagram, and what the call returns
-pub record MakesStep {S K : Type 0} (sources : SourceMeaning S) (sinks : SinkMeaning K)
-    (gives : Gives) (from : Endpoint) (bytes : List ℕ) (e e' : EndState)
-    (files files' : Files S K) (step : Step) : Type 0 where
-  pub turn : Turn
-  pub steps : DatagramStep sources sinks from bytes e files turn files'
-  pub carries : gives e turn e' step.to
-  pub reports : step ≡ reported e turn
 
 module _ {F D : Type 0} where
   -- the transfer with another state of its end

@@ -10,7 +10,6 @@
 mod config;
 mod draft_sink;
 mod fault;
-mod one_file;
 mod open_transfers;
 mod opened;
 mod server;

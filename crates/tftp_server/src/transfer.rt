@@ -18,12 +18,9 @@ ghost use Rattle.tftp_server.specs.Work.{Works};
 ghost use Rattle.tftp_wire.specs.declared.packet.Packet.{Packet};
 
 use crate::draft_sink::DraftSink;
-use crate::one_file::{
-    handle_datagram_of_sink, handle_datagram_of_source, on_datagram_of_sink, on_datagram_of_source,
-};
 use std::marker::Model;
 use tftp_ends::{End, EndFault, Endpoint, Outgoing, Record, Step};
-use tftp_file::{Files, MemSink, Path, Source};
+use tftp_file::{Files, Path, Source};
 use tftp_store::Store;
 use tftp_wire::PacketRef;
 
@@ -176,9 +173,7 @@ impl<F: Source, D> Transfer<F, D> {
             × (out.new.items ≡ out.old.items)) }
     {
         match &mut self.files {
-            Files::Source(source) => {
-                on_datagram_of_source::<F, MemSink>(&mut self.end, source, from, bytes, out)
-            }
+            Files::Source(source) => self.end.on_datagram_as_sender(source, from, bytes, out),
             Files::Sink(draft) => {
                 let path = &self.path;
                 let mut sink = DraftSink {
@@ -187,13 +182,8 @@ impl<F: Source, D> Transfer<F, D> {
                     path,
                     replace,
                 };
-                on_datagram_of_sink::<F, DraftSink<'_, '_, '_, S>>(
-                    &mut self.end,
-                    &mut sink,
-                    from,
-                    bytes,
-                    out,
-                )
+                self.end
+                    .on_datagram_as_receiver(&mut sink, from, bytes, out)
             }
         }
     }
@@ -222,9 +212,7 @@ impl<F: Source, D> Transfer<F, D> {
             replace store.old store.new self.old self.new) }
     {
         match &mut self.files {
-            Files::Source(source) => {
-                handle_datagram_of_source::<F, MemSink>(&mut self.end, source, from, bytes)
-            }
+            Files::Source(source) => self.end.handle_datagram_as_sender(source, from, bytes),
             Files::Sink(draft) => {
                 let path = &self.path;
                 let mut sink = DraftSink {
@@ -233,12 +221,7 @@ impl<F: Source, D> Transfer<F, D> {
                     path,
                     replace,
                 };
-                handle_datagram_of_sink::<F, DraftSink<'_, '_, '_, S>>(
-                    &mut self.end,
-                    &mut sink,
-                    from,
-                    bytes,
-                )
+                self.end.handle_datagram_as_receiver(&mut sink, from, bytes)
             }
         }
     }
