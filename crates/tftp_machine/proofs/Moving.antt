@@ -41,6 +41,22 @@ received_failed x y piece n q = record {
   room = λ _. q.room;
 }
 
+-- an end that moves, and neither takes back its end nor changes what it sends, grows
+moves_grow : (x y : Party) → Moves x y → x.number ≤ y.number → (x.done ≡ true → y.done ≡ true) →
+    (x.sender ≡ true → y.text ≡ x.text) → x.is_open ≡ true → Grows x y
+moves_grow x y v up done text o = record {
+  is_open = v.is_open ∙ o;
+  client = v.client;
+  sender = v.sender;
+  plain = v.plain;
+  mode = v.mode;
+  peer = λ p e. v.peer ∙ e;
+  size = λ p e. v.size;
+  number = up;
+  done = done;
+  text = text;
+}
+
 module _ (network : Network) where
   -- a receiver becomes x, with this part of its peer's text
   pub receives : (m : Machine) → Holds network m → (at peer : Endpoint) (bytes : List ℕ) →
@@ -52,18 +68,8 @@ module _ (network : Network) where
       Holds network (record { sent = m.sent ++ added; party = with_end m.party at x })
   receives m h at peer bytes g x v up f added attested =
       let old = m.party at in
-      let grows : old.is_open ≡ true → Grows old x = λ o. record {
-        is_open = v.is_open ∙ o;
-        client = v.client;
-        sender = v.sender;
-        plain = v.plain;
-        mode = v.mode;
-        peer = λ p e. v.peer ∙ e;
-        size = λ p e. v.size;
-        number = up;
-        done = λ d. absurd (true≢false (sym d ∙ g.0.1));
-        text = λ s. absurd (true≢false (sym s ∙ g.1));
-      } in
+      let grows : old.is_open ≡ true → Grows old x =
+      moves_grow old x v up (λ d. absurd (true≢false (sym d ∙ g.0.1))) (λ s. absurd (true≢false (sym s ∙ g.1))) in
       let all = AllGrow-with m.party at x grows in
       let new = with_end m.party at x in
       let has : x.peer ≡ Some peer = v.peer ∙ g.2 in
@@ -91,18 +97,8 @@ module _ (network : Network) where
       Holds network (record { sent = m.sent ++ added; party = with_end m.party at x })
   sends m h at peer g x v up t ends added attested =
       let old = m.party at in
-      let grows : old.is_open ≡ true → Grows old x = λ o. record {
-        is_open = v.is_open ∙ o;
-        client = v.client;
-        sender = v.sender;
-        plain = v.plain;
-        mode = v.mode;
-        peer = λ p e. v.peer ∙ e;
-        size = λ p e. v.size;
-        number = up;
-        done = λ d. absurd (true≢false (sym d ∙ g.0.1));
-        text = λ _. t;
-      } in
+      let grows : old.is_open ≡ true → Grows old x =
+      moves_grow old x v up (λ d. absurd (true≢false (sym d ∙ g.0.1))) (λ _. t) in
       let all = AllGrow-with m.party at x grows in
       let new = with_end m.party at x in
       let has : x.peer ≡ Some peer = v.peer ∙ g.2 in
@@ -156,18 +152,7 @@ module _ (network : Network) where
         peer = refl;
         size = refl;
       } in
-      let grows : old.is_open ≡ true → Grows old x = λ o. record {
-        is_open = o;
-        client = refl;
-        sender = refl;
-        plain = refl;
-        mode = refl;
-        peer = λ p e. e;
-        size = λ p e. refl;
-        number = omega arith;
-        done = λ d. d;
-        text = λ _. refl;
-      } in
+      let grows : old.is_open ≡ true → Grows old x = moves_grow old x v (omega arith) (λ d. d) (λ _. refl) in
       let all = AllGrow-with m.party at x grows in
       let new = with_end m.party at x in
       let s = IsSound-grows network m.party new all at old (h.ends at g.0) in
