@@ -352,13 +352,22 @@ module _ (w v : WorldState) (k : ℕ) (x : OpenEnd) (from : Endpoint) (bytes : L
     fault_none reply e is =
         (subst TookAll (h.closed ∙ ap (λ (t : Turn). closed_at x.address (outcome_of t.position.phase)) is) all) refl
 
+    -- the turn after a block that was stored, which leaves the end open
+    abbrev stored_turn : Bool → List ℕ → Turn
+    stored_turn last after = sent_turn (stored_phase terms number last) from (ack_bytes number) (holding after x.state)
+
+    still_open : (last : Bool) (sink : Holding) (after : List ℕ) →
+        standing (end_after x (stored_turn last after) (Sink sink))
+        ≡ Open_end (end_after x (stored_turn last after) (Sink sink))
+    still_open true sink after = refl
+    still_open false sink after = refl
+
     stores_as : (last : Bool) (sink : Holding) (bytes_now after : List ℕ) → nat_lt (length piece) terms.size ≡ last →
-        h.turn ≡ sent_turn (stored_phase terms number last) from (ack_bytes number) (holding after x.state) →
-        h.held ≡ Sink sink →
+        h.turn ≡ stored_turn last after → h.held ≡ Sink sink →
         sink.bytes ≡ x.stored ++ bytes_now → Decoded x.state.role.mode x.state.position.held piece bytes_now after →
         (y : OpenEnd) × HasStored terms number piece y
-    stores_as true sink bytes_now after is turns held same d = (
-      end_after x (sent_turn (Dallying terms number Fresh) from (ack_bytes number) (holding after x.state)) (Sink sink),
+    stores_as last sink bytes_now after is turns held same d = (
+      end_after x (stored_turn last after) (Sink sink),
       record {
         phase = ap (stored_phase terms number) (sym is);
         received = ap (λ (z : List ℕ). wire_text x.state.role.mode z ++ after) same
@@ -371,39 +380,10 @@ module _ (w v : WorldState) (k : ℕ) (x : OpenEnd) (from : Endpoint) (bytes : L
           sent = h.sent ∙ ap (λ (t : Turn). w.sent ++ replied x.address t.reply) turns;
           ends = h.ends
               ∙ (ap (λ (t : Turn). slice_set w.ends k (standing (end_after x t h.held))) turns
-              ∙ ap
+              ∙ (ap
               (λ (fs : Files (List ℕ) Holding).
-              slice_set w.ends k
-              (standing
-              (end_after x (sent_turn (Dallying terms number Fresh) from (ack_bytes number) (holding after x.state))
-              fs))) held);
-          address = refl;
-          file = refl;
-          mode = refl;
-          side = refl;
-        };
-      },
-    )
-    stores_as false sink bytes_now after is turns held same d = (
-      end_after x (sent_turn (Receiving terms number) from (ack_bytes number) (holding after x.state)) (Sink sink),
-      record {
-        phase = ap (stored_phase terms number) (sym is);
-        received = ap (λ (z : List ℕ). wire_text x.state.role.mode z ++ after) same
-            ∙ sym
-            (stored_more x.state.role.mode x.stored x.state.position.held piece bytes_now after
-            (goes_on_with x.state.role.mode x.state.position.held piece bytes_now after holds d));
-        holds = held_fits x.state.role.mode x.state.position.held piece bytes_now after holds d;
-        armed = sym (ap is_armed held);
-        becomes = record {
-          sent = h.sent ∙ ap (λ (t : Turn). w.sent ++ replied x.address t.reply) turns;
-          ends = h.ends
-              ∙ (ap (λ (t : Turn). slice_set w.ends k (standing (end_after x t h.held))) turns
-              ∙ ap
-              (λ (fs : Files (List ℕ) Holding).
-              slice_set w.ends k
-              (standing
-              (end_after x (sent_turn (Receiving terms number) from (ack_bytes number) (holding after x.state)) fs)))
-              held);
+              slice_set w.ends k (standing (end_after x (stored_turn last after) fs))) held
+              ∙ ap (slice_set w.ends k) (still_open last sink after)));
           address = refl;
           file = refl;
           mode = refl;
