@@ -141,7 +141,7 @@ abbrev pub replied : Endpoint → Option Reply → List Datagram
 replied from None = []
 replied from (Some reply) = datagram from reply.to reply.bytes ∷ []
 
--- the record of an end that closes, with the state that is kept
+-- the record of an end that closes, with the state that remains
 abbrev pub closed_end : OpenEnd → ClosedEnd
 closed_end x =
     record {

@@ -166,7 +166,7 @@ impl Served {
         }
     }
 
-    /// Takes its record and its draft from the server, if its step has closed it there.
+    /// Removes its record and its draft from the server, if its step has closed it there.
     fn conclude(&mut self, server: &mut Server<MemStore>, port: u16, closed: Option<Outcome>)
         requires { ClosesAs closed (at port server.old.held) }
         ensures { Concludes port (at port server.old.held) self.old self.new server.old

@@ -27,7 +27,7 @@ use tftp_file::Path;
 use tftp_machine::is_foreign;
 use tftp_server::Config;
 
-/// One server, its clients, and a network that keeps all that was ever sent.
+/// One server, its clients, and a network from which no datagram is ever removed.
 ///
 /// The caller chooses each event ([`World::apply`]), and so what the network does: a datagram may
 /// be delivered never, once or often, in any order and at any time. The server is 10.0.0.1 with
