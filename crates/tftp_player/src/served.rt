@@ -107,10 +107,10 @@ impl Served {
         let Ok(out) = reserved(alloc, answer_room(DEFAULT_BLOCK, &before)) else {
             return Err(WorldFault::Memory);
         };
-        arm_store(server, self.refuses);
+        self.arm(server);
         let answer = server.handle_datagram(port, from, bytes);
         let refuses = server.store().refuses();
-        arm_store(server, false);
+        disarm(server);
         match answer {
             Ok((step, outgoing)) => {
                 let (out, record) = sent_by(server, port, outgoing, out);
@@ -121,6 +121,13 @@ impl Served {
             Err(ServerFault::Memory) => Err(WorldFault::Memory),
             Err(_) => unreachable!(),
         }
+    }
+
+    /// Sets the server's store to refuse the next append or commit if it is to be refused.
+    fn arm(&self, server: &mut Server<MemStore>)
+        ensures { server.new ≡ server_armed server.old self.now.refuses }
+    {
+        server.store_mut().refuse_next(self.refuses);
     }
 
     /// Sets its next append or commit to be refused, if it is an open receiver.
@@ -203,11 +210,11 @@ fn sent_by(
     (copied(out, bytes), record)
 }
 
-/// Sets the server's store to refuse its next append or commit, or not to.
-fn arm_store(server: &mut Server<MemStore>, armed: bool)
-    ensures { server.new ≡ server_armed server.old armed }
+/// Sets the server's store to refuse nothing.
+fn disarm(server: &mut Server<MemStore>)
+    ensures { server.new ≡ server_armed server.old false }
 {
-    server.store_mut().refuse_next(armed);
+    server.store_mut().refuse_next(false);
 }
 
 /// The end that a datagram to the request port asks for, if it passes the port's tests that need no
