@@ -1,22 +1,22 @@
 //! A source that is read ahead: it gives the bytes of the source below it, in fills of any size.
 
-use crate::calls::{fails, gives_each};
+use crate::calls::{AtEnd, fails, gives_each};
 use crate::expect::expect_equal;
 use std::alloc::Global;
 use std::process::Abort;
 use tftp_file::{Ahead, FaultSource, FileFault, MemSource, Source};
 use tftp_wire::Mode;
 
-/// A source of the letters `A` to `H` that ends or fails after the first `give` of them.
-fn letters(rt: &impl Abort, alloc: Global, give: u64, fail: bool) -> Ahead<FaultSource> {
-    let source = FaultSource::new(alloc, b"ABCDEFGH", Mode::Octet, give, fail);
+/// A source of the first `give` of the letters `A` to `H`, which then ends or fails.
+fn letters(rt: &impl Abort, alloc: Global, give: u64, then: AtEnd) -> Ahead<FaultSource> {
+    let source = FaultSource::new(alloc, b"ABCDEFGH", Mode::Octet, give, then.fails());
     Ahead::new(alloc, source.expect(rt, "memory"))
 }
 
 /// After a block is read ahead, a fill requests less, more, as much, and more than is left.
 #[test]
 fn any_fill_goes_on_from_the_one_before(rt: HostRuntime) {
-    let mut source = letters(&rt, rt.alloc(), 8, false);
+    let mut source = letters(&rt, rt.alloc(), 8, AtEnd::Stops);
     gives_each(&rt, rt.alloc(), &mut source, 2, &[b"AB"]);
     source.read_ahead();
     source.read_ahead();
@@ -31,30 +31,14 @@ fn any_fill_goes_on_from_the_one_before(rt: HostRuntime) {
 /// fill fails.
 #[test]
 fn a_read_ahead_that_fails_is_reported(rt: HostRuntime) {
-    let mut source = letters(&rt, rt.alloc(), 5, true);
+    let mut source = letters(&rt, rt.alloc(), 5, AtEnd::Fails);
     gives_each(&rt, rt.alloc(), &mut source, 2, &[b"AB"]);
     source.read_ahead();
     gives_each(&rt, rt.alloc(), &mut source, 2, &[b"CD"]);
     source.read_ahead();
     let fault = FileFault::Read;
-    fails(
-        &rt,
-        rt.alloc(),
-        &mut source,
-        2,
-        b"CD",
-        fault,
-        "one byte is left",
-    );
-    fails(
-        &rt,
-        rt.alloc(),
-        &mut source,
-        1,
-        b"CD",
-        fault,
-        "it has failed",
-    );
+    fails(&rt, rt.alloc(), &mut source, 2, fault, "one byte is left");
+    fails(&rt, rt.alloc(), &mut source, 1, fault, "it has failed");
     drop(source);
 }
 

@@ -1,9 +1,30 @@
-//! Calls of a source or a sink, through its trait.
+//! Calls of a source or a sink, through its trait, and what one that a test makes does at its end.
 
 use crate::expect::expect_equal;
 use std::alloc::Global;
 use std::process::Abort;
 use tftp_file::{FileFault, Sink, Source, StoreFault};
+
+/// What a source does after its last byte, and a writer once it is full.
+#[derive(Clone, Copy)]
+pub(crate) enum AtEnd {
+    /// It gives or writes no byte.
+    Stops,
+    /// It returns an error.
+    Fails,
+}
+
+impl AtEnd {
+    pub(crate) fn fails(self) -> bool {
+        match self {
+            AtEnd::Stops => false,
+            AtEnd::Fails => true,
+        }
+    }
+}
+
+/// The bytes in a buffer before a fill.
+const HEADER: &[u8] = b"header";
 
 /// The next fill of the source, into an empty buffer, gives this piece.
 fn gives<S: Source>(rt: &impl Abort, source: &mut S, want: usize, out: &mut Vec<u8>, piece: &[u8]) {
@@ -27,20 +48,19 @@ pub(crate) fn gives_each<S: Source>(
     }
 }
 
-/// A fill of the source, into a buffer with these bytes, fails with this fault and leaves the bytes
-/// unchanged; `what` names the source.
+/// A fill of the source, into a buffer that is not empty, fails with this fault and leaves the
+/// buffer unchanged; `what` names the source.
 pub(crate) fn fails<S: Source>(
     rt: &impl Abort,
     alloc: Global,
     source: &mut S,
     want: usize,
-    bytes: &[u8],
     fault: FileFault,
     what: &str,
 ) {
-    let mut out = Vec::from_slice(alloc, bytes).expect(rt, "memory");
+    let mut out = Vec::from_slice(alloc, HEADER).expect(rt, "memory");
     let failed = source.fill(want, &mut out);
-    let expected = (want, Err(fault), bytes);
+    let expected = (want, Err(fault), HEADER);
     expect_equal(rt, &(want, failed, out.as_slice()), &expected, what);
 }
 

@@ -42,7 +42,7 @@ fn a_source_ends_early(rt: HostRuntime) {
 fn fails_past_its_end(rt: &impl Abort, alloc: Global, source: &mut FaultSource) {
     gives_each(rt, alloc, source, 4, &[b"ABCD"]);
     let fault = FileFault::Read;
-    fails(rt, alloc, source, 4, b"ABCD", fault, "two bytes are left");
+    fails(rt, alloc, source, 4, fault, "two bytes are left");
 }
 
 /// The source gives the bytes that it has, and fails only if more are requested.

@@ -65,6 +65,19 @@ pub(crate) const OCTET: Mode = Mode::Octet;
 
 pub(crate) const NETASCII: Mode = Mode::Netascii;
 
+/// A client: the options that it requested, and the most bytes of a file that it accepts.
+#[derive(Drop)]
+struct Client {
+    asked: Asked,
+    limit: u64,
+}
+
+/// A client that requested all three options, and accepts 39 bytes.
+const ALL_OF_39: Client = Client {
+    asked: ALL,
+    limit: 39,
+};
+
 /// Each kind in each mode.
 const DIRECTIONS: [(Kind, Mode); 4] = [
     (READ, OCTET),
@@ -155,15 +168,15 @@ fn answers(
 fn takes(
     rt: &impl Abort,
     alloc: Global,
-    asked: &Asked,
+    client: &Client,
     (kind, mode): (Kind, Mode),
     row: &str,
-    limit: u64,
     expected: &str,
 ) {
+    let Client { asked, limit } = client;
     expect(rt, asked.is_askable(), row);
     let options = options_of(rt, alloc, row);
-    let outcome = check_oack(asked, kind, mode, options.as_slice(), limit);
+    let outcome = check_oack(asked, kind, mode, options.as_slice(), *limit);
     comes_out(rt, alloc, (kind, mode), outcome, expected, row);
 }
 
@@ -320,20 +333,22 @@ const UNASKED_OACKS: [(&str, &str); 3] = [
     ("tsize=0", "NotAsked"),
 ];
 
-/// The client handles each OACK of an octet read with its result, with a limit of 1,000 bytes.
-fn takes_each(rt: &impl Abort, alloc: Global, asked: &Asked, rows: &[(&str, &str)]) {
+/// A client that requested these options, and accepts 1,000 bytes, handles each OACK of an octet
+/// read with its result.
+fn takes_each(rt: &impl Abort, alloc: Global, asked: Asked, rows: &[(&str, &str)]) {
+    let client = Client { asked, limit: 1000 };
     for (row, expected) in rows {
-        takes(rt, alloc, asked, (READ, OCTET), row, 1000, expected);
+        takes(rt, alloc, &client, (READ, OCTET), row, expected);
     }
 }
 
 #[test]
 fn option_rows(rt: HostRuntime) {
     let rt = &rt;
-    takes_each(rt, rt.alloc(), &SIZE, &SIZE_OACKS);
-    takes_each(rt, rt.alloc(), &LENGTH, &LENGTH_OACKS);
-    takes_each(rt, rt.alloc(), &WAIT, &WAIT_OACKS);
-    takes_each(rt, rt.alloc(), &NOTHING, &UNASKED_OACKS);
+    takes_each(rt, rt.alloc(), SIZE, &SIZE_OACKS);
+    takes_each(rt, rt.alloc(), LENGTH, &LENGTH_OACKS);
+    takes_each(rt, rt.alloc(), WAIT, &WAIT_OACKS);
+    takes_each(rt, rt.alloc(), NOTHING, &UNASKED_OACKS);
 }
 
 /// The other modes and kinds: a write accepts only the length that it stated (RFC 2349), and in
@@ -364,7 +379,7 @@ const OACK_LENGTHS: [(Kind, Mode, &str, &str); 10] = [
 #[test]
 fn oack_lengths(rt: HostRuntime) {
     for &(kind, mode, row, expected) in &OACK_LENGTHS {
-        takes(&rt, rt.alloc(), &ALL, (kind, mode), row, 39, expected);
+        takes(&rt, rt.alloc(), &ALL_OF_39, (kind, mode), row, expected);
     }
 }
 
@@ -372,7 +387,8 @@ fn oack_lengths(rt: HostRuntime) {
 fn refuses_no_numbers(rt: &impl Abort, alloc: Global, kind: Kind, name: &str) {
     for &value in &NO_NUMBERS {
         let row = row_of(rt, alloc, name, value);
-        takes(rt, alloc, &ALL, (kind, OCTET), row.as_str(), 39, "BadValue");
+        let direction = (kind, OCTET);
+        takes(rt, alloc, &ALL_OF_39, direction, row.as_str(), "BadValue");
     }
 }
 

@@ -1,6 +1,6 @@
 //! A source over a reader and a sink over a writer, some of which fail.
 
-use crate::calls::{appends, commits, fails, gives_each};
+use crate::calls::{AtEnd, appends, commits, fails, gives_each};
 use crate::expect::{expect, expect_bytes, expect_equal};
 use std::alloc::Global;
 use std::io;
@@ -14,16 +14,16 @@ use tftp_wire::Mode;
 struct Script {
     text: &'static [u8],
     at_a_time: usize,
-    fails: bool,
+    at_end: AtEnd,
     reads: u32,
 }
 
 impl Script {
-    fn new(text: &'static [u8], at_a_time: usize, fails: bool) -> Script {
+    fn new(text: &'static [u8], at_a_time: usize, at_end: AtEnd) -> Script {
         Script {
             text,
             at_a_time,
-            fails,
+            at_end,
             reads: 0,
         }
     }
@@ -33,7 +33,7 @@ impl Read for Script {
     fn read(&mut self, buf: &mut [u8]) -> io::Result<usize> {
         self.reads = self.reads.saturating_add(1);
         let text = self.text;
-        if text.is_empty() && self.fails {
+        if text.is_empty() && self.at_end.fails() {
             return Err(io::Error::from(io::ErrorKind::Other));
         }
         let count = self.at_a_time.min(text.len()).min(buf.len());
@@ -49,14 +49,14 @@ impl Read for Script {
 struct Tape {
     written: Vec<u8>,
     room: usize,
-    fails: bool,
+    when_full: AtEnd,
     flush_fails: bool,
 }
 
 impl Write for Tape {
     fn write(&mut self, buf: &[u8]) -> io::Result<usize> {
         let count = self.room.min(buf.len());
-        if count == 0 && self.fails {
+        if count == 0 && self.when_full.fails() {
             return Err(io::Error::from(io::ErrorKind::Other));
         }
         self.written.extend_from_slice(&buf[..count])?;
@@ -111,7 +111,7 @@ const SHORT_READS: [(usize, Mode, &[&[u8]]); 6] = [
 ];
 
 fn gives_pieces(rt: &impl Abort, alloc: Global, at_a_time: usize, mode: Mode, pieces: &[&[u8]]) {
-    let mut source = ReadSource::new(Script::new(b"A\nB\rC", at_a_time, false), mode);
+    let mut source = ReadSource::new(Script::new(b"A\nB\rC", at_a_time, AtEnd::Stops), mode);
     gives_each(rt, alloc, &mut source, 4, pieces);
 }
 
@@ -127,15 +127,15 @@ const BLOCKS: [&[u8]; 2] = [b"ABCD", b"EFGH"];
 
 #[test]
 fn a_block_in_octet_is_one_read(rt: HostRuntime) {
-    let mut source = ReadSource::new(Script::new(b"ABCDEFGH", 8, false), Mode::Octet);
+    let mut source = ReadSource::new(Script::new(b"ABCDEFGH", 8, AtEnd::Stops), Mode::Octet);
     gives_each(&rt, rt.alloc(), &mut source, 4, &BLOCKS);
     expect_equal(&rt, &source.into_inner().reads, &2, "reads");
 }
 
 fn leaves_the_buffer(rt: &impl Abort, alloc: Global, mode: Mode) {
-    let mut source = ReadSource::new(Script::new(b"AB", 1, true), mode);
+    let mut source = ReadSource::new(Script::new(b"AB", 1, AtEnd::Fails), mode);
     let fault = FileFault::Read;
-    fails(rt, alloc, &mut source, 3, b"header", fault, mode.word());
+    fails(rt, alloc, &mut source, 3, fault, mode.word());
 }
 
 #[test]
@@ -154,9 +154,9 @@ const GREAT: [(Mode, usize); 4] = [
 
 /// A fill of as many bytes fails before anything is read, and the next one gives the text.
 fn reads_nothing(rt: &impl Abort, alloc: Global, mode: Mode, want: usize) {
-    let mut source = ReadSource::new(Script::new(b"AB", 2, false), mode);
+    let mut source = ReadSource::new(Script::new(b"AB", 2, AtEnd::Stops), mode);
     let fault = FileFault::Memory;
-    fails(rt, alloc, &mut source, want, b"header", fault, mode.word());
+    fails(rt, alloc, &mut source, want, fault, mode.word());
     expect_equal(rt, &source.get_ref().reads, &0, "nothing is read");
     gives_each(rt, alloc, &mut source, 3, &[b"AB"]);
 }
@@ -169,11 +169,11 @@ fn a_growth_that_is_refused_reads_nothing(rt: HostRuntime) {
 }
 
 /// A writer with capacity for two bytes writes two of three.
-fn holds_what_has_room(rt: &impl Abort, alloc: Global, fails: bool) {
+fn holds_what_has_room(rt: &impl Abort, alloc: Global, when_full: AtEnd) {
     let mut sink = WriteSink::new(Tape {
         written: Vec::new(alloc),
         room: 2,
-        fails,
+        when_full,
         flush_fails: false,
     });
     appends(rt, &mut sink, b"ABC", Err(StoreFault::Io), "past the room");
@@ -184,8 +184,8 @@ fn holds_what_has_room(rt: &impl Abort, alloc: Global, fails: bool) {
 /// The writer then fails, or writes nothing.
 #[test]
 fn stream_rows_of_a_sink(rt: HostRuntime) {
-    holds_what_has_room(&rt, rt.alloc(), true);
-    holds_what_has_room(&rt, rt.alloc(), false);
+    holds_what_has_room(&rt, rt.alloc(), AtEnd::Fails);
+    holds_what_has_room(&rt, rt.alloc(), AtEnd::Stops);
 }
 
 /// A writer with capacity for nine bytes, whose first flush fails.
@@ -193,7 +193,7 @@ fn unflushed(alloc: Global) -> WriteSink<Tape> {
     WriteSink::new(Tape {
         written: Vec::new(alloc),
         room: 9,
-        fails: true,
+        when_full: AtEnd::Fails,
         flush_fails: true,
     })
 }
