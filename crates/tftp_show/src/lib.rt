@@ -1,7 +1,7 @@
 //! `tftp-show`: TFTP datagrams as text, a line each, from lines of hexadecimal digits.
 //!
-//! Begin with [`show_run`], and for captures with [`Flow`] and [`flow_reported`]. It opens no socket,
-//! and no file but that of a picture; a program's `main` only passes the system.
+//! Begin with [`show_run`], and for captures with [`Flow`] and [`flow_reported`]. It opens no
+//! socket, and no file but that of a picture; a program's `main` only passes the system.
 #![tactic(auto)]
 
 mod arguments;

@@ -20,6 +20,44 @@ struct Picture {
     skipped: u64,
 }
 
+/// What the endpoint of a lane is.
+#[derive(Clone, Copy)]
+enum Place {
+    ReadingClient,
+    WritingClient,
+    /// The server's port of a read, and of a write.
+    ServedRead,
+    ServedWrite,
+    RequestPort,
+    Stranger,
+}
+
+impl Place {
+    fn host(self) -> Host {
+        match self {
+            Place::ReadingClient | Place::WritingClient => Host::Client,
+            Place::ServedRead | Place::ServedWrite | Place::RequestPort => Host::Server,
+            Place::Stranger => Host::Stranger,
+        }
+    }
+
+    fn role(self) -> &'static str {
+        match self {
+            Place::ReadingClient => "client, reads",
+            Place::WritingClient => "client, writes",
+            Place::ServedRead => "server, a read",
+            Place::ServedWrite => "server, a write",
+            Place::RequestPort => "request port",
+            Place::Stranger => "stranger",
+        }
+    }
+
+    /// Whether an end of the transfer is there.
+    fn is_end(self) -> bool {
+        !matches!(self, Place::RequestPort | Place::Stranger)
+    }
+}
+
 impl Transfer {
     /// Its picture; `number` is its number in the report. Of a long transfer the first and the last
     /// datagrams are drawn, and those around one that was sent again.
@@ -101,37 +139,27 @@ impl Picture {
 
     /// The lanes of the client, of the request port and of the server.
     fn add_ends(&mut self, transfer: &Transfer) -> Result<(), AllocError> {
-        let is_read = transfer.sender() == Party::Server;
-        let (reader, writer) = ("client, reads", "client, writes");
-        let client = if is_read { reader } else { writer };
-        self.add_lane(transfer.client, Host::Client, client, true)?;
-        let server = if is_read {
-            "server, a read"
-        } else {
-            "server, a write"
+        let (client, server) = match transfer.sender() {
+            Party::Server => (Place::ReadingClient, Place::ServedRead),
+            Party::Client => (Place::WritingClient, Place::ServedWrite),
         };
+        self.add_lane(transfer.client, client)?;
         if transfer.server == Some(transfer.asked_at) {
-            return self.add_lane(transfer.asked_at, Host::Server, server, true);
+            return self.add_lane(transfer.asked_at, server);
         }
-        self.add_lane(transfer.asked_at, Host::Server, "request port", false)?;
+        self.add_lane(transfer.asked_at, Place::RequestPort)?;
         match transfer.server {
-            Some(at) => self.add_lane(at, Host::Server, server, true),
+            Some(at) => self.add_lane(at, server),
             None => Ok(()),
         }
     }
 
-    fn add_lane(
-        &mut self,
-        at: SocketAddrV4,
-        host: Host,
-        role: &'static str,
-        is_end: bool,
-    ) -> Result<(), AllocError> {
+    fn add_lane(&mut self, at: SocketAddrV4, place: Place) -> Result<(), AllocError> {
         self.diagram.lanes.push(Lane {
-            host,
+            host: place.host(),
             name: format!(in self.alloc; "{at}")?,
-            role,
-            is_end,
+            role: place.role(),
+            is_end: place.is_end(),
         })?;
         self.ports.push(at)?;
         Ok(())
@@ -143,7 +171,7 @@ impl Picture {
             return Ok(lane);
         }
         let lane = self.ports.len();
-        self.add_lane(at, Host::Stranger, "stranger", false)?;
+        self.add_lane(at, Place::Stranger)?;
         Ok(lane)
     }
 

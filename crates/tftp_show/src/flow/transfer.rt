@@ -214,7 +214,7 @@ impl Transfer {
         if by == Party::Server && self.server.is_none() {
             self.server = Some(seen.from);
         }
-        self.learn(what, by, gap.is_some());
+        self.learn(what, by, gap);
         Ok(())
     }
 
@@ -272,12 +272,12 @@ impl Transfer {
         Ok(())
     }
 
-    /// Counts a new block, and ends with the acknowledgement of the last one.
-    fn learn(&mut self, what: What, by: Party, is_repeat: bool)
+    /// Counts a block that was not sent before, and ends with the acknowledgement of the last one.
+    fn learn(&mut self, what: What, by: Party, gap: Option<Span>)
         ensures { given_to self.new ≡ given_to self.old }
     {
         match what {
-            What::Data { block, length } if by == self.sender() && !is_repeat => {
+            What::Data { block, length } if by == self.sender() && gap.is_none() => {
                 self.newest_data = Some(block);
                 self.blocks = self.blocks.saturating_add(1);
                 self.bytes = self.bytes.saturating_add(length as u64);
@@ -285,7 +285,7 @@ impl Transfer {
                     self.last_block = Some(block);
                 }
             }
-            What::Ack { block } if by != self.sender() && !is_repeat => {
+            What::Ack { block } if by != self.sender() && gap.is_none() => {
                 self.newest_ack = Some(block);
                 if self.last_block == Some(block) && self.is_open() {
                     self.ending = Ending::Complete;
