@@ -4,8 +4,8 @@ use crate::expect::{expect_bytes, expect_equal};
 use tftp_play::play_words;
 use tftp_show::show_words;
 
-/// Words after the program's name, and the status: `tftp-show` reads no file, and draws only what it
-/// reads with `--flow`.
+/// Words after the program's name, and the status: `tftp-show` reads no file, and draws only what
+/// it reads with `--flow`.
 const SHOW: [(&[&str], u8); 6] = [
     (&["tftp-show", "--help"], 0),
     (&["tftp-show", "--version"], 0),
