@@ -1,7 +1,7 @@
 -- The server of the exchange, step by step.
 use Rattle.std.proofs.Common.{◌≡◌, ℕ, ◌<◌, Bool, true, false, List, [], ◌∷◌, ◌++◌, length, Some, None, Ok, refl, sym}
 use Rattle.std.proofs.Common.{ap, ◌∙◌, arith, rules, inl, inr}
-use Rattle.std.specs.Prelude.{◌+◌, if◌then◌else◌}
+use Rattle.std.specs.Prelude.{◌+◌, if◌then◌else◌, slice_index_or, slice_set, ⊤}
 use Rattle.std.proofs.lemmas.Bool.{true≢false}
 use Rattle.std.proofs.lemmas.List.Elements.{All-from_recursion}
 use Rattle.std.proofs.lemmas.Option.{same_Some}
@@ -20,28 +20,31 @@ use Rattle.tftp_file.specs.declared.files.Files.TheVariants.{Source, Sink}
 use Rattle.tftp_ends.specs.declared.action.Response.TheVariants.{Complete, Stranger}
 use Rattle.tftp_ends.specs.declared.error_reply.ErrorReply.TheVariants.{UnknownTransferId}
 use Rattle.tftp_ends.specs.declared.outcome.Outcome.TheVariants as outcomes
+use Rattle.tftp_ends.specs.declared.outgoing.Outgoing.{Outgoing}
 use Rattle.tftp_ends.specs.declared.outgoing.Outgoing.TheVariants.{Nothing, LastSent, Error}
 use Rattle.tftp_ends.specs.declared.phase.Terms.{Terms}
 use Rattle.tftp_ends.specs.End.{EndState, record_of}
 use Rattle.tftp_ends.specs.Opening.{request_of, oack_bytes, serving_read, serving_write}
+use Rattle.tftp_ends.specs.Files.{AreSame}
 use Rattle.tftp_ends.specs.Step.{Done, Turn, after_turn, ack_bytes, committed_turn, data_bytes, error_bytes}
-use Rattle.tftp_ends.specs.Step.{filled_turn, reported, response_turn, timeout_turn}
+use Rattle.tftp_ends.specs.Step.{filled_turn, lent, reply_bytes, reported, response_turn, timeout_turn}
 use Rattle.tftp_ends.specs.Waiting.{agreed_terms, default_terms}
 use Rattle.tftp_store.specs.Memory.{memory_meaning}
 use Rattle.tftp_store.specs.Store.{FileList, Stored, Drafted, new_draft}
 use Rattle.tftp_lines.specs.Printed.{line_text}
 use Rattle.tftp_lines.specs.declared.printed.Printed.TheVariants.{Closed}
 use Rattle.tftp_machine.specs.Machine.{Endpoint}
-use Rattle.tftp_server.specs.Draft.{Drafting}
+use Rattle.tftp_server.specs.Draft.{Drafting, KeepsStore, files_in}
 use Rattle.tftp_server.specs.Request.{A_transfer, AsksToRead, left_by}
-use Rattle.tftp_server.specs.State.{HeldTransfer, ServerState, AnyRepeats, at, taken_of}
+use Rattle.tftp_server.specs.State.{HeldTransfer, ServerState, AnyRepeats, at, taken_of, with_next}
 use Rattle.tftp_server.specs.Steps.{StepIn}
 use Rattle.tftp_server.specs.declared.config.Config.{Config}
+use Rattle.tftp_sockets.specs.Journal.{answered}
 use Rattle.tftp_sockets.specs.Journal.Event.{Received, Sent, Watched, Elapsed, Printed, Quiet}
 use Rattle.tftp_sockets.specs.Journal.QuietEvent.{Empty, Slept, Woke}
 use Rattle.tftp_loop.specs.Run.{Run}
 use Rattle.tftp_loop.specs.Run.Run.{Start, Then}
-use Rattle.tftp_loop.specs.Serves.{Timer, LoopState, Does, IsServed, MayWait, at_start}
+use Rattle.tftp_loop.specs.Serves.{Timer, LoopState, PortState, Does, IsServed, MayWait, at_start, timer_after}
 use Rattle.tftp_loop.specs.Serves.AtPort.{A_datagram, Nothing_found, A_timeout}
 use Rattle.tftp_loop.specs.Serves.Does.{Waited, At_port, Request_received, No_request_found, Request_answered}
 use Rattle.tftp_loop.specs.Serves.Does.{Clock_read, Transfer_closed}
@@ -272,6 +275,68 @@ s16 = record s15 {
 abbrev Step : Loop → Loop → Type 0
 Step old new = Does memory_meaning memory_source old new
 
+-- a transfer at this index of the timers handles a datagram by this turn, with this file and this store after it
+module _ (old : Loop) (index : ℕ) (timer : Timer) (transfer : Held) (from : Endpoint) (bytes : List ℕ) (turn : Turn)
+    (outgoing : Outgoing) (store : Stored) (files : Files (List ℕ) Drafted) where
+  abbrev handled : Held
+  handled = record transfer { end = after_turn transfer.end turn; files = files }
+
+  abbrev port_after : PortState Stored (List ℕ) Drafted
+  port_after = record {
+    server = record old.server { store = store; held = with_next timer.port handled old.server.held };
+    timer = timer_after old.now (reported transfer.end turn).progress timer;
+    events = answered timer.port turn.reply (Received timer.port from bytes ∷ old.events);
+  }
+
+  handles : index < length old.timers → timer ≡ slice_index_or old.timers index timer →
+      at timer.port old.server.held ≡ Some transfer →
+      StepIn memory_meaning memory_source from bytes transfer.end
+      (files_in old.server.store transfer.path old.server.config.overwrite transfer.files) turn
+      (files_in store transfer.path old.server.config.overwrite files) →
+      lent outgoing (after_turn transfer.end turn) ≡ reply_bytes turn.reply →
+      KeepsStore transfer.files old.server.store store →
+      AreSame (λ (a b : List ℕ). ⊤) (λ (a b : Drafted). ⊤) transfer.files files →
+      Step old (record old {
+        server = port_after.server;
+        timers = slice_set old.timers index port_after.timer;
+        events = port_after.events;
+      })
+  handles within is_timer found steps lends stays kind = At_port (record {
+    index = index;
+    timer = timer;
+    within = within;
+    is_timer = is_timer;
+    next = port_after;
+    does = A_datagram (record {
+      from = from;
+      bytes = bytes;
+      step = reported transfer.end turn;
+      handles = record {
+        outgoing = outgoing;
+        takes = record {
+          transfer = transfer;
+          next = handled;
+          found = found;
+          takes = record {
+            turn = turn;
+            steps = steps;
+            carries = record { state = refl; goes = refl; bytes = lends };
+            reports = refl;
+            stays = stays;
+            kind = kind;
+            path = refl;
+            request = refl;
+          };
+          held = refl;
+        };
+        config = refl;
+        events = refl;
+      };
+      timer = refl;
+    });
+    is = refl;
+  })
+
 pub asks_to_read : Step s0 s1
 asks_to_read = Request_received (record { from = reader; bytes = read_request; none = refl; is = refl })
 
@@ -328,41 +393,9 @@ refuses_stranger =
     record { decoded = Some (Ack 0); says = ack_spelled 0 (omega arith); acts = (refl, refl); again = tt }
 
 pub answers_stranger : Step s2 s3
-answers_stranger = At_port (record {
-  index = 0;
-  timer = timed 1024 reader 1000 false 500;
-  within = omega arith;
-  is_timer = refl;
-  next = record { server = serving before_write held_0; timer = timed 1024 reader 1000 true 1000; events = s3.events };
-  does = A_datagram (record {
-    from = stranger;
-    bytes = ack_bytes 0;
-    step = reported reading_0 at_stranger;
-    handles = record {
-      outgoing = Error UnknownTransferId;
-      takes = record {
-        transfer = read_by reading_0 read_file;
-        next = read_by reading_0 read_file;
-        found = refl;
-        takes = record {
-          turn = at_stranger;
-          steps = refuses_stranger;
-          carries = record { state = refl; goes = refl; bytes = refl };
-          reports = refl;
-          stays = refl;
-          kind = tt;
-          path = refl;
-          request = refl;
-        };
-        held = refl;
-      };
-      config = refl;
-      events = refl;
-    };
-    timer = refl;
-  });
-  is = refl;
-})
+answers_stranger =
+    handles s2 0 (timed 1024 reader 1000 false 500) (read_by reading_0 read_file) stranger (ack_bytes 0) at_stranger
+    (Error UnknownTransferId) before_write (Source read_file) (omega arith) refl refl refuses_stranger refl refl tt
 
 pub asks_to_write : Step s3 s4
 asks_to_write = Request_received (record { from = writer; bytes = write_request; none = refl; is = refl })
@@ -428,41 +461,9 @@ reads_block = record {
 }
 
 pub sends_block : Step s5 s6
-sends_block = At_port (record {
-  index = 0;
-  timer = timed 1024 reader 1000 true 1000;
-  within = omega arith;
-  is_timer = refl;
-  next = record { server = serving before_write held_2; timer = timed 1024 reader 1000 false 500; events = s6.events };
-  does = A_datagram (record {
-    from = reader;
-    bytes = ack_bytes 0;
-    step = reported reading_0 sends;
-    handles = record {
-      outgoing = LastSent;
-      takes = record {
-        transfer = read_by reading_0 read_file;
-        next = read_by reading_1 [];
-        found = refl;
-        takes = record {
-          turn = sends;
-          steps = reads_block;
-          carries = record { state = refl; goes = refl; bytes = refl };
-          reports = refl;
-          stays = refl;
-          kind = tt;
-          path = refl;
-          request = refl;
-        };
-        held = refl;
-      };
-      config = refl;
-      events = refl;
-    };
-    timer = refl;
-  });
-  is = refl;
-})
+sends_block =
+    handles s5 0 (timed 1024 reader 1000 true 1000) (read_by reading_0 read_file) reader (ack_bytes 0) sends LastSent
+    before_write (Source []) (omega arith) refl refl reads_block refl refl tt
 
 -- the block is stored and committed
 abbrev drafting : Stored → Drafted → Files (List ℕ) (Drafting Stored Drafted)
@@ -506,41 +507,9 @@ stores_block = record {
 }
 
 pub commits_block : Step s6 s7
-commits_block = At_port (record {
-  index = 1;
-  timer = writes;
-  within = omega arith;
-  is_timer = refl;
-  next = record { server = serving after_write held_3; timer = writes; events = s7.events };
-  does = A_datagram (record {
-    from = writer;
-    bytes = data_bytes 1 written_file;
-    step = reported writing_0 stores;
-    handles = record {
-      outgoing = LastSent;
-      takes = record {
-        transfer = written_by writing_0 new_draft;
-        next = written_by writing_1 committed;
-        found = refl;
-        takes = record {
-          turn = stores;
-          steps = stores_block;
-          carries = record { state = refl; goes = refl; bytes = refl };
-          reports = refl;
-          stays = tt;
-          kind = tt;
-          path = refl;
-          request = refl;
-        };
-        held = refl;
-      };
-      config = refl;
-      events = refl;
-    };
-    timer = refl;
-  });
-  is = refl;
-})
+commits_block =
+    handles s6 1 writes (written_by writing_0 new_draft) writer (data_bytes 1 written_file) stores LastSent after_write
+    (Sink committed) (omega arith) refl refl stores_block refl tt tt
 
 pub finds_no_request : Step s7 s8
 finds_no_request = No_request_found (record { none = refl; is = refl })
@@ -621,41 +590,9 @@ is_acknowledged : StepIn memory_meaning memory_source reader (ack_bytes 1) readi
 is_acknowledged = record { decoded = Some (Ack 1); says = ack_spelled 1 (omega arith); acts = (refl, refl); again = tt }
 
 pub completes_read : Step s12 s13
-completes_read = At_port (record {
-  index = 0;
-  timer = timed 1024 reader 2000 false 2000;
-  within = omega arith;
-  is_timer = refl;
-  next = record { server = s13.server; timer = timed 1024 reader 2000 false 1500; events = s13.events };
-  does = A_datagram (record {
-    from = reader;
-    bytes = ack_bytes 1;
-    step = reported reading_2 completes;
-    handles = record {
-      outgoing = Nothing;
-      takes = record {
-        transfer = read_by reading_2 [];
-        next = read_by reading_3 [];
-        found = refl;
-        takes = record {
-          turn = completes;
-          steps = is_acknowledged;
-          carries = record { state = refl; goes = refl; bytes = refl };
-          reports = refl;
-          stays = refl;
-          kind = tt;
-          path = refl;
-          request = refl;
-        };
-        held = refl;
-      };
-      config = refl;
-      events = refl;
-    };
-    timer = refl;
-  });
-  is = refl;
-})
+completes_read =
+    handles s12 0 (timed 1024 reader 2000 false 2000) (read_by reading_2 []) reader (ack_bytes 1) completes Nothing
+    after_write (Source []) (omega arith) refl refl is_acknowledged refl refl tt
 
 pub closes_read : Step s13 s14
 closes_read = Transfer_closed (record {
@@ -738,8 +675,8 @@ server = record {
 
 -- the transfers that it opened
 pub all_opened : opened_ports serves ≡ 1024 ∷ 1025 ∷ 1024 ∷ []
-unfolding asks_to_read opens_read answers_stranger asks_to_write opens_write sends_block commits_block finds_no_request
-    waits reads_clock finds_nothing sends_again completes_read closes_read asks_again opens_again
+unfolding handles asks_to_read opens_read answers_stranger asks_to_write opens_write sends_block commits_block
+    finds_no_request waits reads_clock finds_nothing sends_again completes_read closes_read asks_again opens_again
 all_opened = refl
 
 -- those of the clients of a network
@@ -753,13 +690,13 @@ module _ {G K : Type 0} {inputs : SourceMeaning G} {outputs : SinkMeaning K}
     (programs : Programs memory_meaning memory_source inputs outputs) where
   pub opened_for : our_ports programs serves ≡ ours_of (is_ours programs latecomer) (is_ours programs writer)
       (is_ours programs reader)
-  unfolding asks_to_read opens_read answers_stranger asks_to_write opens_write sends_block commits_block
+  unfolding handles asks_to_read opens_read answers_stranger asks_to_write opens_write sends_block commits_block
       finds_no_request waits reads_clock finds_nothing sends_again completes_read closes_read asks_again opens_again
   opened_for = refl
 
   pub closed_there : is_ours programs reader ≡ true →
       HasClosed programs serves 1024 (read_by reading_3 []) (endpoint programs.server.ip 1024)
-  unfolding asks_to_read opens_read answers_stranger asks_to_write opens_write sends_block commits_block
+  unfolding handles asks_to_read opens_read answers_stranger asks_to_write opens_write sends_block commits_block
       finds_no_request waits reads_clock finds_nothing sends_again completes_read closes_read asks_again opens_again
   closed_there reads =
       inr
