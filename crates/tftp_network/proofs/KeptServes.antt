@@ -119,92 +119,79 @@ module _ {S F D G K : Type 0} {stores : StoreMeaning S D} {sources : SourceMeani
     same_keeps : (does : Does stores sources old.state new) → placed_by programs old.run does ≡ [] →
         ((port : ℕ) → place_at programs port (server_did programs old does []).run ≡ place_at programs port old.run) →
         ((port : ℕ) (transfer : HeldTransfer F D) → Removes does port transfer → ⊥) →
-        ((a : Endpoint) → MovesNone programs old.run does a) → new.requests ≡ old.state.requests →
-        new.server ≡ old.state.server → ((from : Endpoint) (bytes : List ℕ) → new.pending ≡ Some (from, bytes) →
+        ((a : Endpoint) → MovesNone programs old.run does a) → {left : LoopState S F D} → new ≡ left →
+        left.requests ≡ old.state.requests → left.server ≡ old.state.server →
+        ((from : Endpoint) (bytes : List ℕ) → left.pending ≡ Some (from, bytes) →
         old.state.pending ≡ Some (from, bytes)) →
-        (noted : List Event) → new.events ≡ noted ++ old.state.events → AllByRecursion IsUnsent noted →
+        (noted : List Event) → left.events ≡ noted ++ old.state.events → AllByRecursion IsUnsent noted →
         IsKept programs how (server_did programs old does added)
-    same_keeps does opens seats removes none requests server_same pending noted e unsent =
+    same_keeps does opens seats removes none is requests server pending noted e unsent =
+        let server_same : new.server ≡ old.state.server = ap (λ (s : LoopState S F D). s.server) is ∙ server in
         still_keeps programs old kept does (record {
           opens = opens;
           seats = seats;
           removes = removes;
-          requests = requests;
+          requests = ap (λ (s : LoopState S F D). s.requests) is ∙ requests;
           config = ap (λ (s : ServerState S F D). s.config) server_same;
           known =
               known_if programs how old.state new (ap (λ (s : ServerState S F D). stores.stored s.store) server_same)
               kept.server.known;
-          pending = λ from bytes e. kept.server.pending from bytes (pending from bytes e);
+          pending =
+              λ from bytes e. kept.server.pending from bytes
+              (pending from bytes (ap (λ (s : LoopState S F D). s.pending) (sym is) ∙ e));
           files =
               stay_if programs how old.state new
               (λ o path file f. subst (λ (s : ServerState S F D). IsIn (stores.stored s.store) path file)
               (sym server_same) f);
         }) none (ap (λ (s : ServerState S F D). s.held) server_same) added
-        (silent_by noted e (unsent_silent noted unsent))
-
-    same_pending : new.pending ≡ old.state.pending → (from : Endpoint) (bytes : List ℕ) →
-        new.pending ≡ Some (from, bytes) → old.state.pending ≡ Some (from, bytes)
-    same_pending same from bytes e = sym same ∙ e
+        (silent_by noted (ap (λ (s : LoopState S F D). s.events) is ∙ e) (unsent_silent noted unsent))
 
     -- ---- a wait
     waiting_keeps : (h : Waits stores sources old.state new) →
         IsKept programs how (server_did programs old (Waited h) added)
     waiting_keeps h =
         same_keeps (Waited h) refl (λ port. refl) (λ port transfer r. r)
-        (λ a. record { opens = refl; moves = λ moved. refl }) (ap (λ (s : LoopState S F D). s.requests) h.is)
-        (ap (λ (s : LoopState S F D). s.server) h.is)
-        (same_pending (ap (λ (s : LoopState S F D). s.pending) h.is))
-        (Quiet (Woke h.ports) ∷ Quiet (Slept h.millis) ∷ []) (ap (λ (s : LoopState S F D). s.events) h.is)
-        (tt, (tt, tt))
+        (λ a. record { opens = refl; moves = λ moved. refl }) h.is refl refl (λ from bytes e. e)
+        (Quiet (Woke h.ports) ∷ Quiet (Slept h.millis) ∷ []) refl (tt, (tt, tt))
 
     -- ---- a receive at the request port without a datagram
     finding_keeps : (h : FindsNoRequest stores sources old.state new) →
         IsKept programs how (server_did programs old (No_request_found h) added)
     finding_keeps h =
         same_keeps (No_request_found h) refl (λ port. refl) (λ port transfer r. r)
-        (λ a. record { opens = refl; moves = λ moved. refl }) (ap (λ (s : LoopState S F D). s.requests) h.is)
-        (ap (λ (s : LoopState S F D). s.server) h.is)
-        (same_pending (ap (λ (s : LoopState S F D). s.pending) h.is)) (Quiet (Empty old.state.requests) ∷ [])
-        (ap (λ (s : LoopState S F D). s.events) h.is) (tt, tt)
+        (λ a. record { opens = refl; moves = λ moved. refl }) h.is refl refl (λ from bytes e. e)
+        (Quiet (Empty old.state.requests) ∷ []) refl (tt, tt)
 
     failing_keeps : (h : FailsToReceiveRequest stores sources old.state new) →
         IsKept programs how (server_did programs old (Request_not_received h) added)
     failing_keeps h =
         same_keeps (Request_not_received h) refl (λ port. refl) (λ port transfer r. r)
-        (λ a. record { opens = refl; moves = λ moved. refl }) (ap (λ (s : LoopState S F D). s.requests) h.is)
-        (ap (λ (s : LoopState S F D). s.server) h.is)
-        (same_pending (ap (λ (s : LoopState S F D). s.pending) h.is)) (Quiet (Failed old.state.requests) ∷ [])
-        (ap (λ (s : LoopState S F D). s.events) h.is) (tt, tt)
+        (λ a. record { opens = refl; moves = λ moved. refl }) h.is refl refl (λ from bytes e. e)
+        (Quiet (Failed old.state.requests) ∷ []) refl (tt, tt)
 
     -- ---- no port is found
     untaken_keeps : (h : FindsNoPort stores sources old.state new) →
         IsKept programs how (server_did programs old (No_port_found h) added)
     untaken_keeps h =
         same_keeps (No_port_found h) refl (λ port. refl) (λ port transfer r. r)
-        (λ a. record { opens = refl; moves = λ moved. refl }) (ap (λ (s : LoopState S F D). s.requests) h.is)
-        (ap (λ (s : LoopState S F D). s.server) h.is)
-        (same_pending (ap (λ (s : LoopState S F D). s.pending) h.is)) (Quiet (No_socket h.port) ∷ [])
-        (ap (λ (s : LoopState S F D). s.events) h.is) (tt, tt)
+        (λ a. record { opens = refl; moves = λ moved. refl }) h.is refl refl (λ from bytes e. e)
+        (Quiet (No_socket h.port) ∷ []) refl (tt, tt)
 
     -- ---- a request is lost
     losing_keeps : (h : LosesRequest stores sources old.state new) →
         IsKept programs how (server_did programs old (Request_lost h) added)
     losing_keeps h =
         same_keeps (Request_lost h) refl (λ port. refl) (λ port transfer r. r)
-        (λ a. record { opens = refl; moves = λ moved. refl }) (ap (λ (s : LoopState S F D). s.requests) h.is)
-        (ap (λ (s : LoopState S F D). s.server) h.is)
-        (λ from bytes e. absurd (let f : None ≡ Some (from, bytes) = sym (ap (λ (s : LoopState S F D). s.pending) h.is)
-        ∙ e in cc)) [] (ap (λ (s : LoopState S F D). s.events) h.is) tt
+        (λ a. record { opens = refl; moves = λ moved. refl }) h.is refl refl
+        (λ from bytes e. absurd (let f : None ≡ Some (from, bytes) = e in cc)) [] refl tt
 
     -- ---- the clock is read
     clock_keeps : (h : ReadsClock stores sources old.state new) →
         IsKept programs how (server_did programs old (Clock_read h) added)
     clock_keeps h =
         same_keeps (Clock_read h) refl (λ port. refl) (λ port transfer r. r)
-        (λ a. record { opens = refl; moves = λ moved. refl }) (ap (λ (s : LoopState S F D). s.requests) h.is)
-        (ap (λ (s : LoopState S F D). s.server) h.is)
-        (same_pending (ap (λ (s : LoopState S F D). s.pending) h.is)) (Watched h.time ∷ [])
-        (ap (λ (s : LoopState S F D). s.events) h.is) (tt, tt)
+        (λ a. record { opens = refl; moves = λ moved. refl }) h.is refl refl (λ from bytes e. e)
+        (Watched h.time ∷ []) refl (tt, tt)
 
     -- ---- the store is set
     store_keeps : (h : SetsStore stores sources old.state new) →

@@ -3,8 +3,8 @@ use Rattle.std.proofs.Common.{◌≡◌, ℕ, Bool, true, false, List, [], ◌�
 use Rattle.std.proofs.Common.{sym, ap, ◌∙◌}
 use Rattle.std.specs.Prelude.{◌≢◌, ◌||◌, is_ok, nat_lt, length, IfErr}
 use Rattle.std.proofs.lemmas.Bool.{true≢false}
-use Rattle.tftp_file.specs.Sink.{Holding, SinkMeaning, AppendsFreely, CommitsFreely, UnlessArmed, as_committed}
-use Rattle.tftp_file.specs.Sink.{with_piece}
+use Rattle.tftp_file.specs.Sink.{Holding, SinkMeaning, AppendsFreely, CommitsFreely, KeptBeginning, UnlessArmed}
+use Rattle.tftp_file.specs.Sink.{as_committed, with_piece}
 use Rattle.tftp_file.specs.Source.{SourceMeaning}
 use Rattle.tftp_file.specs.declared.fault.StoreFault.{StoreFault}
 use Rattle.tftp_file.specs.declared.fault.StoreFault.TheVariants as faults
@@ -45,50 +45,25 @@ handed_committed [] before e = e
 handed_committed (b ∷ bytes) before e = absurd (true≢false (sym e))
 
 -- an append that all bytes reached, whatever it answered
+whole : (before : Holding) (piece : List ℕ) → KeptBeginning before (Some (with_piece before piece)) piece
+whole before piece = record {
+  holding = with_piece before piece;
+  leaves = refl;
+  kept = piece;
+  beginning = ([], append-nil piece);
+  bytes = refl;
+  uncommitted = λ e. absurd (true≢false (sym e));
+  refuses = refl;
+}
+
 freely : (before : Holding) (piece : List ℕ) (answer : Result Done StoreFault) → answer ≢ Err faults.Memory →
     AppendsFreely before (Some (with_piece before piece)) piece answer
 freely before piece (Ok done) m = refl
 freely before piece (Err faults.Memory) m = absurd (m refl)
-freely before piece (Err faults.Missing) m =
-    record {
-      holding = with_piece before piece;
-      leaves = refl;
-      kept = piece;
-      beginning = ([], append-nil piece);
-      bytes = refl;
-      uncommitted = λ e. absurd (true≢false (sym e));
-      refuses = refl;
-    }
-freely before piece (Err faults.Exists) m =
-    record {
-      holding = with_piece before piece;
-      leaves = refl;
-      kept = piece;
-      beginning = ([], append-nil piece);
-      bytes = refl;
-      uncommitted = λ e. absurd (true≢false (sym e));
-      refuses = refl;
-    }
-freely before piece (Err faults.Full) m =
-    record {
-      holding = with_piece before piece;
-      leaves = refl;
-      kept = piece;
-      beginning = ([], append-nil piece);
-      bytes = refl;
-      uncommitted = λ e. absurd (true≢false (sym e));
-      refuses = refl;
-    }
-freely before piece (Err faults.Io) m =
-    record {
-      holding = with_piece before piece;
-      leaves = refl;
-      kept = piece;
-      beginning = ([], append-nil piece);
-      bytes = refl;
-      uncommitted = λ e. absurd (true≢false (sym e));
-      refuses = refl;
-    }
+freely before piece (Err faults.Missing) m = whole before piece
+freely before piece (Err faults.Exists) m = whole before piece
+freely before piece (Err faults.Full) m = whole before piece
+freely before piece (Err faults.Io) m = whole before piece
 
 unless_armed : {A : Type 0} (armed : Bool) (before : Holding) (after : Holding) (answer : Result A StoreFault)
     (P : Type 0) → armed ≡ false → P → UnlessArmed armed before (Some after) answer P
@@ -139,35 +114,26 @@ module _ {S K : Type 0} (sources : SourceMeaning S) (sinks : SinkMeaning K) (fro
     commits : after.committed ≡ true → (mid.committed ≡ true → before.committed ≡ true) →
         (before.committed || committed) ≡ true
 
+  -- a sink that was not called again
+  stays_so : {e : EndState} {before mid : Holding} {committed : Bool} {P : Holding → Type 0} → P mid →
+      GoesSo e before mid committed P
+  stays_so {before = before} {mid = mid} {committed = committed} steps =
+      record {
+        after = mid;
+        steps = steps;
+        bytes = refl;
+        refuses = refl;
+        commits = λ c was. or_left before.committed committed (was c);
+      }
+
   goes_so : (terms : Terms) (number : ℕ) (e : EndState) (last : Bool) (text : List ℕ) (k k' : K)
       (answer : Result Done StoreFault) (before mid : Holding) → mid.refuses ≡ false →
       (h : GoesOn sinks terms number from e last text k answer turn k') →
       GoesSo e before mid (commits_after sources sinks terms number from e last text k answer turn k' h)
       (GoesOn known_sink terms number from e last text mid answer turn)
-  goes_so terms number e true text k k' (Err fault) before mid free h =
-      record {
-        after = mid;
-        steps = (h.0, refl);
-        bytes = refl;
-        refuses = refl;
-        commits = λ c was. or_left before.committed false (was c);
-      }
-  goes_so terms number e false text k k' (Err fault) before mid free h =
-      record {
-        after = mid;
-        steps = (h.0, refl);
-        bytes = refl;
-        refuses = refl;
-        commits = λ c was. or_left before.committed false (was c);
-      }
-  goes_so terms number e false text k k' (Ok done) before mid free h =
-      record {
-        after = mid;
-        steps = (h.0, refl);
-        bytes = refl;
-        refuses = refl;
-        commits = λ c was. or_left before.committed false (was c);
-      }
+  goes_so terms number e true text k k' (Err fault) before mid free h = stays_so (h.0, refl)
+  goes_so terms number e false text k k' (Err fault) before mid free h = stays_so (h.0, refl)
+  goes_so terms number e false text k k' (Ok done) before mid free h = stays_so (h.0, refl)
   goes_so terms number e true text k k' (Ok done) before mid free h = record {
     after = commit_leaves h.answer mid;
     steps = record {

@@ -471,63 +471,45 @@ module _ {S F D G K : Type 0} {stores : StoreMeaning S D} {sources : SourceMeani
         ap length_of (sym told.opened ∙ (ap (λ (a : Endpoint). opened_at programs a old.run) (sym x_place) ∙ h.opened))
         ∙ ap (λ (r : Role). r.length) h.role
 
+    -- the end after the step, whatever its file holds then
+    opened_after : (content : Files (List ℕ) Holding) → IsOpened programs old x →
+        IsOpened programs now (end_after x turn content)
+    opened_after (Source left) was =
+        record { opening = was.opening; opened = was.opened; path = was.path; role = was.role }
+    opened_after (Sink holding) was =
+        record { opening = was.opening; opened = was.opened; path = was.path; role = was.role }
+
+    moved_after : (So : OpenEnd → Moved → Type 0) (content : Files (List ℕ) Holding) →
+        So (end_after x turn content) moved_then → So (end_after x turn content) (moved_at programs x.address now.run)
+    moved_after So content so =
+        subst (λ (a : Endpoint). So (end_after x turn content) (moved_at programs a now.run)) (sym x_place)
+        (subst (So (end_after x turn content)) (sym moved_now) so)
+
     got_has : (pad : ℕ) (files files' : Files F D) → AreSame (λ (a b : F). ⊤) (λ (a b : D). ⊤) files files' →
         HasStored programs (By_run pad) old x files → (content : Files (List ℕ) Holding) →
         GotSo stores sources files' (end_after x turn content) moved_then →
         HasStored programs (By_run pad) now (end_after x turn content) files'
     got_has pad (Source source) (Source source') kind has (Source left) got = record {
       sender = has.sender;
-      opened =
-          record {
-            opening = has.opened.opening;
-            opened = has.opened.opened;
-            path = has.opened.path;
-            role = has.opened.role;
-          };
+      opened = opened_after (Source left) has.opened;
       text = has.text;
-      gave =
-          subst (λ (a : Endpoint). GaveSo (end_after x turn (Source left)) (moved_at programs a now.run)) (sym x_place)
-          (subst (λ (m : Moved). GaveSo (end_after x turn (Source left)) m) (sym moved_now) got.1);
+      gave = moved_after GaveSo (Source left) got.1;
     }
     got_has pad (Sink draft) (Sink draft') kind has (Sink holding) got = record {
       receiver = has.receiver;
-      opened =
-          record {
-            opening = has.opened.opening;
-            opened = has.opened.opened;
-            path = has.opened.path;
-            role = has.opened.role;
-          };
-      took =
-          subst (λ (a : Endpoint). TookSo (end_after x turn (Sink holding)) (moved_at programs a now.run)) (sym x_place)
-          (subst (λ (m : Moved). TookSo (end_after x turn (Sink holding)) m) (sym moved_now) got.1);
+      opened = opened_after (Sink holding) has.opened;
+      took = moved_after TookSo (Sink holding) got.1;
     }
     got_has pad (Source source) (Source source') kind has (Sink holding) got = record {
       sender = has.sender;
-      opened =
-          record {
-            opening = has.opened.opening;
-            opened = has.opened.opened;
-            path = has.opened.path;
-            role = has.opened.role;
-          };
+      opened = opened_after (Sink holding) has.opened;
       text = has.text;
-      gave =
-          subst (λ (a : Endpoint). GaveSo (end_after x turn (Sink holding)) (moved_at programs a now.run)) (sym x_place)
-          (subst (λ (m : Moved). GaveSo (end_after x turn (Sink holding)) m) (sym moved_now) got.1);
+      gave = moved_after GaveSo (Sink holding) got.1;
     }
     got_has pad (Sink draft) (Sink draft') kind has (Source left) got = record {
       receiver = has.receiver;
-      opened =
-          record {
-            opening = has.opened.opening;
-            opened = has.opened.opened;
-            path = has.opened.path;
-            role = has.opened.role;
-          };
-      took =
-          subst (λ (a : Endpoint). TookSo (end_after x turn (Source left)) (moved_at programs a now.run)) (sym x_place)
-          (subst (λ (m : Moved). TookSo (end_after x turn (Source left)) m) (sym moved_now) got.1);
+      opened = opened_after (Source left) has.opened;
+      took = moved_after TookSo (Source left) got.1;
     }
     got_has pad (Source source) (Sink draft') kind has content got = absurd kind
     got_has pad (Sink draft) (Source source') kind has content got = absurd kind

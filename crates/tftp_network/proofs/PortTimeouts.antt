@@ -34,7 +34,8 @@ use Rattle.tftp_network.specs.Programs.{endpoint}
 use Rattle.tftp_network.specs.Promises.{joined}
 use Rattle.tftp_network.specs.Snapshots.{Snapshot, server_did}
 use Rattle.tftp_network.proofs.ClosedEnds.{closed_timeout_goes}
-use Rattle.tftp_network.proofs.Kept.{How, By_models, By_run, HasStored, TransferKept, IsKept, IsFreshBy, IsStrangers}
+use Rattle.tftp_network.proofs.Kept.{How, By_models, By_run, HasStored, IsOpened, TransferKept, IsKept, IsFreshBy}
+use Rattle.tftp_network.proofs.Kept.{IsStrangers}
 use Rattle.tftp_network.proofs.KeptEvents.{SendsOnly, elapsed_silent}
 use Rattle.tftp_network.proofs.KeptFiles.{left_is, now_is, sink_is, sink_no_source, source_is}
 use Rattle.tftp_network.proofs.MovedSteps.{MovesNone}
@@ -119,6 +120,13 @@ module _ {S F D G K : Type 0} {stores : StoreMeaning S D} {sources : SourceMeani
     stay : FilesStay programs how old.state new
     stay = stay_if programs how old.state new stay_all
 
+    opened_now : (content : Files (List ℕ) Holding) → IsOpened programs now x →
+        IsOpened programs now (end_after x turn content)
+    opened_now (Source left) was =
+        record { opening = was.opening; opened = was.opened; path = was.path; role = was.role }
+    opened_now (Sink holding) was =
+        record { opening = was.opening; opened = was.opened; path = was.path; role = was.role }
+
     -- so is the file: what a timeout leaves is what was there
     has_left : (w : How programs) (files : Files F D) → HasStored programs w now x files →
         (content : Files (List ℕ) Holding) → content ≡ files_of x →
@@ -149,13 +157,7 @@ module _ {S F D G K : Type 0} {stores : StoreMeaning S D} {sources : SourceMeani
         let l = left_is left x.left (e ∙ sym (source_is x h.sender)) in
         record {
           sender = h.sender;
-          opened =
-              record {
-                opening = h.opened.opening;
-                opened = h.opened.opened;
-                path = h.opened.path;
-                role = h.opened.role;
-              };
+          opened = opened_now (Source left) h.opened;
           text = h.text;
           gave =
               record {
@@ -168,13 +170,7 @@ module _ {S F D G K : Type 0} {stores : StoreMeaning S D} {sources : SourceMeani
         let n = now_is held (holding_of x) (e ∙ sym (sink_is x h.receiver)) in
         record {
           receiver = h.receiver;
-          opened =
-              record {
-                opening = h.opened.opening;
-                opened = h.opened.opened;
-                path = h.opened.path;
-                role = h.opened.role;
-              };
+          opened = opened_now (Sink held) h.opened;
           took = record {
             stored = ap (λ (z : Holding). z.bytes) n ∙ h.took.stored;
             committed = λ c. h.took.committed (ap (λ (z : Holding). z.committed) (sym n) ∙ c);
