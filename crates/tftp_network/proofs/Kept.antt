@@ -199,6 +199,24 @@ module _ {S F D G K : Type 0} {stores : StoreMeaning S D} {sources : SourceMeani
     pub viewed : IsViewed (joined programs) views messages end
     pub has : HasStored how snapshot end transfer.files
 
+  -- a transfer whose end is as it was, and is still viewed with what its file did
+  pub same_transfer : {how : How} {views views' : List EndView} {messages messages' : List Message}
+      {snapshot snapshot' : Snapshot programs} {port : ℕ} {transfer : HeldTransfer F D} {a : Endpoint}
+      (h : TransferKept how views messages snapshot port transfer a) →
+      IsViewed (joined programs) views' messages' h.end → HasStored how snapshot' h.end transfer.files →
+      TransferKept how views' messages' snapshot' port transfer a
+  same_transfer h viewed has = record {
+    end = h.end;
+    address = h.address;
+    seat = h.seat;
+    state = h.state;
+    path = h.path;
+    request = h.request;
+    side = h.side;
+    viewed = viewed;
+    has = has;
+  }
+
   -- the content of the store is known, by the models
   abbrev pub IsKnown : How → LoopState S F D → Type 0
   IsKnown (By_models models) state = IsSome (stores.stored state.server.store)

@@ -26,7 +26,7 @@ use Rattle.tftp_network.specs.Promises.{joined}
 use Rattle.tftp_network.specs.Snapshots.{Snapshot, ClientStage, Unasked, Has_asked, noted_by, client_did}
 use Rattle.tftp_network.proofs.Kept.{How, By_models, By_run, IsOpened, IsThere, IsViewed, HasStored, HasTransferBy}
 use Rattle.tftp_network.proofs.Kept.{ClientKept, StageKept, TransferKept, ServerKept, IsOfClient, IsOfTransfer, IsKept}
-use Rattle.tftp_network.proofs.Kept.{IsFreshBy}
+use Rattle.tftp_network.proofs.Kept.{IsFreshBy, same_transfer}
 use Rattle.tftp_network.proofs.KeptViews.{arrived_still, sent_still}
 use Rattle.tftp_network.proofs.NewPlaces.{client_apart}
 
@@ -162,19 +162,10 @@ module _ {S F D G K : Type 0} {stores : StoreMeaning S D} {sources : SourceMeani
         HasTransferBy programs new port transfer a → TransferKept programs how turns.views messages new port transfer a
     all_transfers port transfer a is =
         let h = kept.transfers port transfer a is in
-        record {
-          end = h.end;
-          address = h.address;
-          seat = h.seat;
-          state = h.state;
-          path = h.path;
-          request = h.request;
-          side = h.side;
-          viewed =
-              turns.others h.end (λ same. transfer_apart old kept fresh k client found a
-              (record { port = port; transfer = transfer; is_transfer = is }) (same ∙ h.address)) h.viewed;
-          has = stored_still how old k next h.end transfer.files h.has;
-        }
+        same_transfer programs h
+        (turns.others h.end (λ same. transfer_apart old kept fresh k client found a
+        (record { port = port; transfer = transfer; is_transfer = is }) (same ∙ h.address)) h.viewed)
+        (stored_still how old k next h.end transfer.files h.has)
 
     server_kept : ServerKept programs how messages new
     server_kept = record {

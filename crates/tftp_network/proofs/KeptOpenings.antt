@@ -54,7 +54,7 @@ use Rattle.tftp_network.specs.Snapshots.{Snapshot, server_did}
 use Rattle.tftp_network.proofs.RunPlaces.{placed_by, places}
 use Rattle.tftp_network.proofs.Kept.{How, By_models, By_run, AreKeyedOnce, GaveSo, HasStored, HasTransferBy, IsFreshBy}
 use Rattle.tftp_network.proofs.Kept.{IsKept, IsKnown, IsOfTransfer, IsStrangers, IsThere, ServerKept, TookSo}
-use Rattle.tftp_network.proofs.Kept.{TransferKept, length_of, place_text}
+use Rattle.tftp_network.proofs.Kept.{TransferKept, length_of, place_text, same_transfer}
 use Rattle.tftp_network.proofs.KeptAsks.{says_request}
 use Rattle.tftp_network.proofs.KeptEvents.{only_one}
 use Rattle.tftp_network.proofs.KeptRefusals.{closed_earlier, left_is, new_is, one_sent, refusal_keeps, silent_keeps}
@@ -324,20 +324,11 @@ module _ {S F D G K : Type 0} {stores : StoreMeaning S D} {sources : SourceMeani
           TransferKept programs how views messages now port t b
       other port t b was =
           let h = kept.transfers port t b was in
-          record {
-            end = h.end;
-            address = h.address;
-            seat = h.seat;
-            state = h.state;
-            path = h.path;
-            request = h.request;
-            side = h.side;
-            viewed = viewed_before (joined programs) kept.views kept.messages said_now (open_view x) h.end h.viewed;
-            has =
-                stored_after programs how old does added (files_same programs how old.state new stored) h.end
-                (subst (λ (e : Endpoint). MovesNone programs old.run does e) (sym h.address)
-                (beside b (kept.server.opened port t b was))) t.files h.has;
-          }
+          same_transfer programs h
+          (viewed_before (joined programs) kept.views kept.messages said_now (open_view x) h.end h.viewed)
+          (stored_after programs how old does added (files_same programs how old.state new stored) h.end
+          (subst (λ (e : Endpoint). MovesNone programs old.run does e) (sym h.address)
+          (beside b (kept.server.opened port t b was))) t.files h.has)
 
       -- a transfer that is held is the new one, or was held at another port
       abbrev IsNew : ℕ → HeldTransfer F D → Type 0

@@ -25,7 +25,7 @@ use Rattle.tftp_network.specs.Snapshots.{Snapshot, server_did}
 use Rattle.tftp_network.proofs.RunPlaces.{places}
 use Rattle.tftp_network.proofs.Identifiers.{at-with_next, at-with_next_other, at-with_next_cases, once-with_next}
 use Rattle.tftp_network.proofs.Kept.{How, AreKeyedOnce, IsThere, IsViewed, HasStored, HasTransferBy, TransferKept}
-use Rattle.tftp_network.proofs.Kept.{ServerKept, IsOfTransfer, IsKept, IsFreshBy, IsStrangers}
+use Rattle.tftp_network.proofs.Kept.{ServerKept, IsOfTransfer, IsKept, IsFreshBy, IsStrangers, same_transfer}
 use Rattle.tftp_network.proofs.KeptServer.{ServerTurns, server_keeps}
 use Rattle.tftp_network.proofs.KeptViews.{arrived_still, viewed_beside, among_set}
 use Rattle.tftp_network.proofs.MovedSteps.{MovesNone}
@@ -133,19 +133,9 @@ module _ {S F D G K : Type 0} {stores : StoreMeaning S D} {sources : SourceMeani
         TransferKept programs how views messages now q t a
     other q t a n is =
         let h = kept.transfers q t a is in
-        record {
-          end = h.end;
-          address = h.address;
-          seat = h.seat;
-          state = h.state;
-          path = h.path;
-          request = h.request;
-          side = h.side;
-          viewed = beside h.end (λ same. n (same ∙ h.address)) h.viewed;
-          has =
-              stored_after programs how old does added stays.files h.end
-              (none h.end.address (λ same. n (same ∙ h.address))) t.files h.has;
-        }
+        same_transfer programs h (beside h.end (λ same. n (same ∙ h.address)) h.viewed)
+        (stored_after programs how old does added stays.files h.end
+        (none h.end.address (λ same. n (same ∙ h.address))) t.files h.has)
 
     -- which transfer it is
     abbrev IsThis : ℕ → HeldTransfer F D → Endpoint → Type 0

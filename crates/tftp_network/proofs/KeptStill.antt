@@ -17,6 +17,7 @@ use Rattle.tftp_network.specs.Programs.{endpoint, requests_at}
 use Rattle.tftp_network.specs.Promises.{joined}
 use Rattle.tftp_network.specs.Snapshots.{Snapshot, server_did}
 use Rattle.tftp_network.proofs.Kept.{How, AreKeyedOnce, HasTransferBy, IsThere, TransferKept, ServerKept, IsKept}
+use Rattle.tftp_network.proofs.Kept.{same_transfer}
 use Rattle.tftp_network.proofs.KeptEvents.{IsSilent}
 use Rattle.tftp_network.proofs.KeptServer.{ServerTurns, server_keeps}
 use Rattle.tftp_network.proofs.KeptViews.{arrived_still, viewed_still}
@@ -55,17 +56,8 @@ module _ {S F D G K : Type 0} {stores : StoreMeaning S D} {sources : SourceMeani
         HasTransferBy programs now port transfer a → TransferKept programs how kept.views messages now port transfer a
     all_transfers port transfer a is =
         let h = kept.transfers port transfer a (held_before port transfer a is) in
-        record {
-          end = h.end;
-          address = h.address;
-          seat = h.seat;
-          state = h.state;
-          path = h.path;
-          request = h.request;
-          side = h.side;
-          viewed = viewed_still (joined programs) kept.views kept.messages said_now h.end h.viewed;
-          has = stored_after programs how old does added stays.files h.end (none h.end.address) transfer.files h.has;
-        }
+        same_transfer programs h (viewed_still (joined programs) kept.views kept.messages said_now h.end h.viewed)
+        (stored_after programs how old does added stays.files h.end (none h.end.address) transfer.files h.has)
 
     server_kept : ServerKept programs how messages now
     server_kept = record {

@@ -27,6 +27,7 @@ use Rattle.tftp_network.specs.Programs.{ClientProgram, requests_at}
 use Rattle.tftp_network.specs.Promises.{joined}
 use Rattle.tftp_network.specs.Snapshots.{Snapshot, ClientStage, Unasked, Has_asked}
 use Rattle.tftp_network.proofs.Kept.{How, HasArrived, IsThere, IsKept, StageKept, TransferKept}
+use Rattle.tftp_network.proofs.Kept.{same_transfer}
 use Rattle.tftp_network.proofs.KeptViews.{arrived_still, sent_still, there_says, viewed_still}
 use Rattle.tftp_network.proofs.Places.{strangers_elsewhere}
 
@@ -55,17 +56,8 @@ module _ {S F D G K : Type 0} {stores : StoreMeaning S D} {sources : SourceMeani
     transfer_still : (port : ℕ) (transfer : HeldTransfer F D) (a : Endpoint) →
         TransferKept programs how kept.views kept.messages snapshot port transfer a →
         TransferKept programs how kept.views (kept.messages ++ more) snapshot port transfer a
-    transfer_still port transfer a h = record {
-      end = h.end;
-      address = h.address;
-      seat = h.seat;
-      state = h.state;
-      path = h.path;
-      request = h.request;
-      side = h.side;
-      viewed = viewed_still (joined programs) kept.views kept.messages more h.end h.viewed;
-      has = h.has;
-    }
+    transfer_still port transfer a h =
+        same_transfer programs h (viewed_still (joined programs) kept.views kept.messages more h.end h.viewed) h.has
 
   -- one that may be said at any time
   said_kept : (m : Message) → IsShown (joined programs) kept.views (kept.messages ++ m ∷ []) →
