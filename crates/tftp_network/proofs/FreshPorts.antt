@@ -14,7 +14,7 @@ use Rattle.tftp_loop.specs.Run.Run.{Start, Then}
 use Rattle.tftp_loop.specs.Serves.{LoopState, Does, Waited, At_port, Request_received, No_request_found}
 use Rattle.tftp_loop.specs.Serves.{Request_not_received, No_port_found, Request_answered, Request_lost, Clock_read}
 use Rattle.tftp_loop.specs.Serves.{Store_set, Transfer_closed}
-use Rattle.tftp_network.specs.Openings.{FreshPortsDo, is_ours, our_ports, ours_by}
+use Rattle.tftp_network.specs.Openings.{DistinctPortsAreFresh, is_ours, our_ports, ours_by}
 use Rattle.tftp_network.specs.Order.{Programs}
 use Rattle.tftp_network.specs.Ports.{AreDistinct, opened_by, opened_ports}
 use Rattle.tftp_network.proofs.NewPlaces.{ours_among}
@@ -80,7 +80,7 @@ module _ {S F D G K : Type 0} {stores : StoreMeaning S D} {sources : SourceMeani
   ours_twice Start n = tt
   ours_twice (Then run does) n = step_twice run does (λ m. ours_twice run m) n
 
-  pub fresh_ports : FreshPortsDo programs
+  pub fresh_ports : DistinctPortsAreFresh programs
   fresh_ports all =
       let first = programs.server.start.requests in
       let opened = opened_ports programs.server.run in

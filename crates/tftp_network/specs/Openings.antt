@@ -140,8 +140,8 @@ module _ {S F D G K : Type 0} {stores : StoreMeaning S D} {sources : SourceMeani
   abbrev pub ArePortsFresh : Type 0
   ArePortsFresh = AreEndsApart server_ports
 
-  -- they are so if no two ends of the run have one endpoint
-  abbrev pub FreshPortsDo : Type 0
-  FreshPortsDo =
+  -- distinct ports are fresh: if no two ends of the run have one endpoint
+  abbrev pub DistinctPortsAreFresh : Type 0
+  DistinctPortsAreFresh =
       AreEndsApart (programs.server.start.requests ∷ opened_ports programs.server.run)
       → ArePortsFresh

@@ -10,7 +10,7 @@ ghost use Rattle.tftp_network.specs.Joined.{ProgramsKeepPromises};
 ghost use Rattle.tftp_network.specs.Joint.{JournalsAreJoint};
 ghost use Rattle.tftp_network.specs.Journals.{AsksFirst};
 ghost use Rattle.tftp_network.specs.Lines.{EachLineIsAClose};
-ghost use Rattle.tftp_network.specs.Openings.{FreshPortsDo};
+ghost use Rattle.tftp_network.specs.Openings.{DistinctPortsAreFresh};
 ghost use Rattle.tftp_network.specs.Order.{Programs};
 ghost use Rattle.tftp_network.specs.Programs.{ClientProgram, ServersAreRuns};
 ghost use Rattle.tftp_network.specs.Timers.{EachHasOneTimer};
@@ -44,7 +44,7 @@ pub fn each_client_keeps_promises<T: Store, G: Source, K: Sink>()
 /// they ask it of the clients of the network and of their transfers only.
 pub fn ports_that_all_differ_are_fresh<T: Store, G: Source, K: Sink>()
     ensures { (programs : Programs T.meaning T.Source.meaning G.meaning K.meaning)
-        → FreshPortsDo programs }
+        → DistinctPortsAreFresh programs }
 {}
 
 /// The programs of a network reach the end state of their journals by whole steps, one at a time,
@@ -66,7 +66,7 @@ pub fn programs_are_in_their_network<T: Store, G: Source, K: Sink>()
         → StrangersAreElsewhere programs }
 {}
 
-/// What `tftp_client` proves of a client is one run, as the laws here take it: from its request on,
+/// What `tftp_client` proves of a client is one run, as the laws here need it: from its request on,
 /// and of one that is complete also its line and what it did after it (RFC 1350, section 6).
 pub fn a_client_is_one_run<G: Source, K: Sink>()
     ensures { ClientsAreRuns G.meaning K.meaning }
