@@ -50,7 +50,7 @@ client_moves (Times_out elapses) moved = moved
 client_moves (File_works works) moved = moved
 client_moves (Prints_line line) moved = moved
 
--- a client came from its first state to this one by such steps
+-- a client reaches this state from its first by such steps
 pub data ClientRun {G K : Type 0} (inputs : SourceMeaning G) (outputs : SinkMeaning K) (port : ℕ)
     (first : State) (file : Files G K) : State → Files G K → Type 0 where
   Starts : ClientRun inputs outputs port first file first file

@@ -54,7 +54,7 @@ module _ {S F D G K : Type 0} {stores : StoreMeaning S D} {sources : SourceMeani
       → WasSentBefore snapshot from (endpoint ip port) bytes
       ⊎ IsStranger stores sources inputs outputs programs from
 
-  -- the programs came there by whole steps, one at a time
+  -- the programs reach this state by whole steps, one at a time
   pub data Joint : Snapshot programs → Type 0 where
     All_begin : Joint (nothing_done programs)
     -- a step of the server

@@ -1,5 +1,5 @@
--- What moved between the file of an end and its datagrams, as the end's run says it. No model of a
--- file is needed.
+-- What moved between the file of an end and its datagrams, by the end's run. No model of a file is
+-- needed.
 use Rattle.std.specs.Prelude.{ℕ, ◌==◌, ◌||◌, Bool, true, false, if◌then◌else◌, List, [], ◌++◌}
 use Rattle.std.specs.Prelude.{length, drop, nat_lt}
 use Rattle.std.specs.Prelude.{Option, Some, None, Result, Ok, Err, is_ok}
@@ -120,7 +120,7 @@ first_moved e =
     }
 
 module _ {S F D : Type 0} where
-  -- the transfer that came, if this is its place
+  -- the transfer that opened, if this is its place
   abbrev pub came_if : Bool → Came S F D → Option (HeldTransfer F D)
   came_if here Nothing = None
   came_if here (Error_reply reply store) = None

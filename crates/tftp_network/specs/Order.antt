@@ -73,8 +73,8 @@ module _ {S F D G K : Type 0} (stores : StoreMeaning S D) (sources : SourceMeani
     CanCome program (Quiet event) earlier = Unit {0}
 
     -- an honest network: each datagram that was received was sent to that endpoint before, from the
-    -- endpoint that it bears; it may come any number of times, in any order, or never. Those of
-    -- strangers may come at any time, with any bytes
+    -- endpoint that it bears; it may arrive any number of times, in any order, or never. Those of
+    -- strangers may arrive at any time, with any bytes
     abbrev pub IsHonest : List Noted → Type 0
     IsHonest [] = Unit {0}
     IsHonest (e ∷ earlier) = CanCome e.0 e.1 earlier × IsHonest earlier
