@@ -22,8 +22,8 @@ use Rattle.tftp_network.specs.Witness.{HasExchanged, SomeAreJoined, SomeAreServe
 use Rattle.tftp_network.specs.Witness.{latecomer, other_ip, read_file, requests, read_request, server_ip, stranger}
 use Rattle.tftp_network.specs.Witness.{write_request, written_file, agreed}
 use Rattle.tftp_network.proofs.ExchangeReader.{asking, reading, stored}
-use Rattle.tftp_network.proofs.ExchangeServer.{after_write, all_opened, closed_there, opened_for, read_by, reading_3}
-use Rattle.tftp_network.proofs.ExchangeServer.{server}
+use Rattle.tftp_network.proofs.ExchangeServer.{all_opened, closed_there, opened_for, server}
+use Rattle.tftp_network.proofs.ExchangeStates.{after_write, read_by, reading_3}
 use Rattle.tftp_network.proofs.ExchangeWriter.{writing}
 
 abbrev Client : Type 0

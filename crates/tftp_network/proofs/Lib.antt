@@ -3,6 +3,7 @@ pub mod Places
 pub mod ExchangeParts
 pub mod ExchangeReader
 pub mod ExchangeWriter
+pub mod ExchangeStates
 pub mod ExchangeServer
 pub mod Exchange
 pub mod PortCounts
