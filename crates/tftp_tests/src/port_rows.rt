@@ -129,17 +129,15 @@ fn port_rows(rt: HostRuntime) {
     }
 }
 
-/// The request to a server of this one file opens a transfer or none, and has this answer.
+/// The request to a server with this store opens a transfer or none, and has this answer.
 fn opens(
     rt: &impl Abort,
     alloc: Global,
-    name: &[u8],
-    bytes: &[u8],
+    store: MemStore,
     request: &[u8],
     answer: &[u8],
     tid: Option<u16>,
 ) {
-    let store = store_of(rt, alloc, name, bytes);
     let mut served = Served::new(rt, alloc, Config::default(), store);
     let opened = served.answers_request(rt, client(2000), 1025, request, answer);
     expect_equal(rt, &(request, opened.tid), &(request, tid), "a transfer");
@@ -152,7 +150,8 @@ fn a_file_in_a_folder_is_read(rt: HostRuntime) {
     expect_bytes(&rt, path.as_bytes(), b"a/b".as_slice(), "the path");
     let request = b"\x00\x01/a/b\x00octet\x00";
     let data = b"\x00\x03\x00\x01XY";
-    opens(&rt, rt.alloc(), b"a/b", b"XY", request, data, Some(1025));
+    let store = store_of(&rt, rt.alloc(), b"a/b", b"XY");
+    opens(&rt, rt.alloc(), store, request, data, Some(1025));
 }
 
 /// Reads of `boot.img` with two options, and the OACKs: the options in the order of the request,
@@ -170,9 +169,9 @@ const TWO_OPTIONS: [(&[u8], &[u8]); 2] = [
 
 #[test]
 fn two_options_are_answered_in_their_order(rt: HostRuntime) {
-    let (alloc, name) = (rt.alloc(), b"boot.img");
     for &(request, answer) in &TWO_OPTIONS {
-        opens(&rt, alloc, name, b"ABC", request, answer, Some(1025));
+        let store = store_of(&rt, rt.alloc(), b"boot.img", b"ABC");
+        opens(&rt, rt.alloc(), store, request, answer, Some(1025));
     }
 }
 
@@ -183,7 +182,8 @@ fn a_file_is_too_large_for_its_blocks(rt: HostRuntime) {
     let bytes = vec![in rt.alloc(); b'x'; 524_280].expect(&rt, "memory");
     let request = b"\x00\x01a\x00octet\x00blksize\x008\x00";
     let too_large = b"\x00\x05\x00\x00file too large\x00";
-    opens(&rt, rt.alloc(), b"a", &bytes, request, too_large, None);
+    let store = store_of(&rt, rt.alloc(), b"a", &bytes);
+    opens(&rt, rt.alloc(), store, request, too_large, None);
 }
 
 /// Reads of the file, and the answer that opens each: an OACK of the options that the server
@@ -223,7 +223,8 @@ const READS: [(&[u8], &[u8]); 8] = [
 #[test]
 fn reads_are_answered_with_their_options(rt: HostRuntime) {
     for &(request, answer) in &READS {
-        opens(&rt, rt.alloc(), b"a", b"ABC", request, answer, Some(1025));
+        let store = store_of(&rt, rt.alloc(), b"a", b"ABC");
+        opens(&rt, rt.alloc(), store, request, answer, Some(1025));
     }
 }
 
@@ -277,22 +278,22 @@ fn a_repeated_request_opens_nothing(rt: HostRuntime) {
 
 /// Whether a datagram from a client at this port could open a transfer, by the tests that need no
 /// store.
-fn may_open(rt: &impl Abort, served: &Served<MemStore>, port: u16, bytes: &[u8], expected: bool) {
-    let found = (bytes, served.server.may_open(client(port), bytes));
-    expect_equal(
-        rt,
-        &found,
-        &(bytes, Ok(expected)),
-        "whether it may open one",
-    );
+fn may_open(served: &Served<MemStore>, port: u16, bytes: &[u8]) -> Result<bool, ServerFault> {
+    served.server.may_open(client(port), bytes)
 }
 
 #[test]
 fn a_request_reopens_after_the_close(rt: HostRuntime) {
     let mut served = server(&rt, rt.alloc(), 16);
     open(&rt, &mut served, 1025);
-    may_open(&rt, &served, 1025, REQUEST, false);
-    may_open(&rt, &served, 1026, REQUEST, true);
+    let repeated = may_open(&served, 1025, REQUEST);
+    let found = (repeated, may_open(&served, 1026, REQUEST));
+    expect_equal(
+        &rt,
+        &found,
+        &(Ok(false), Ok(true)),
+        "which of two may open one",
+    );
     acknowledge(&rt, &mut served, 1025);
     let opened = served.answers_request(&rt, client(1025), 1026, REQUEST, DATA_1);
     expect_equal(&rt, &opened.tid, &Some(1026), "the transfer was over");
@@ -422,7 +423,13 @@ const MAY_OPEN: [(&[u8], bool); 8] = [
 fn what_could_open_a_transfer(rt: HostRuntime) {
     let served = server(&rt, rt.alloc(), 16);
     for &(bytes, expected) in &MAY_OPEN {
-        may_open(&rt, &served, 1040, bytes, expected);
+        let found = (bytes, may_open(&served, 1040, bytes));
+        expect_equal(
+            &rt,
+            &found,
+            &(bytes, Ok(expected)),
+            "whether it may open one",
+        );
     }
 }
 

@@ -244,17 +244,23 @@ struct Counts {
 impl Counts {
     /// Counts an end of a run.
     fn count(&mut self, port: u16, end: &Record) {
-        add(
-            &mut self.reads,
-            end.complete && end.side == Side::ClientRead,
-        );
-        add(&mut self.texts, end.complete && port == 1025);
-        add(&mut self.senders, end.complete && end.side.is_sender());
-        add(
-            &mut self.writes,
-            end.complete && end.side == Side::ServerWrite,
-        );
-        add(&mut self.sizes, end.size != 512);
+        if end.size != 512 {
+            add_one(&mut self.sizes);
+        }
+        if !end.complete {
+            return;
+        }
+        if port == 1025 {
+            add_one(&mut self.texts);
+        }
+        if end.side.is_sender() {
+            add_one(&mut self.senders);
+        }
+        match end.side {
+            Side::ClientRead => add_one(&mut self.reads),
+            Side::ServerWrite => add_one(&mut self.writes),
+            Side::ClientWrite | Side::ServerRead => {}
+        }
     }
 
     /// Each happened in half of the runs at least.
@@ -267,11 +273,8 @@ impl Counts {
     }
 }
 
-/// Adds one if it holds.
-fn add(count: &mut u64, holds: bool) {
-    if holds {
-        *count = count.saturating_add(1);
-    }
+fn add_one(count: &mut u64) {
+    *count = count.saturating_add(1);
 }
 
 /// A run of one seed, whose ends are counted at its end.

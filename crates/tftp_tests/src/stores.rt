@@ -6,6 +6,13 @@ use std::process::Abort;
 use tftp_file::{Path, StoreFault, path_of};
 use tftp_server::{MemStore, Store};
 
+/// What a write does to a file that exists under its name.
+#[derive(Clone, Copy)]
+pub(crate) enum Existing {
+    Stays,
+    IsReplaced,
+}
+
 /// The path that a name spells.
 pub(crate) fn path(rt: &impl Abort, alloc: Global, name: &[u8]) -> Path {
     path_of(alloc, name).expect(rt, "a path")
@@ -18,14 +25,18 @@ pub(crate) fn store_of(rt: &impl Abort, alloc: Global, name: &[u8], bytes: &[u8]
     MemStore::new(alloc, files).expect(rt, "memory")
 }
 
-/// Writes a file by a beginning, an append and a commit, and may replace another.
+/// Writes a file by a beginning, an append and a commit.
 pub(crate) fn write<S: Store>(
     store: &mut S,
     alloc: Global,
     path: &Path,
     bytes: &[u8],
-    replace: bool,
+    existing: Existing,
 ) -> Result<(), StoreFault> {
+    let replace = match existing {
+        Existing::Stays => false,
+        Existing::IsReplaced => true,
+    };
     let mut draft = store.begin(alloc, path, replace)?;
     store.append(&mut draft, bytes)?;
     store.commit(path, &mut draft, replace)
