@@ -7,6 +7,7 @@ pub mod HeldLemmas
 pub mod OwnedLemmas
 pub mod OneLemmas
 pub mod StrangerLemmas
+pub mod SampleDeliveries
 pub mod Witness
 pub mod Witnesses
 pub mod SentLemmas

@@ -1,0 +1,324 @@
+-- What each delivery of a sample run does, computed from the world before it.
+use Rattle.std.proofs.Common.{◌≡◌, ◌≢◌, ℕ, ◌+◌, ◌-◌, ◌<◌, Bool, true, false, cond, List, [], ◌∷◌, get_or, length}
+use Rattle.std.proofs.Common.{take, drop, Option, Some, None, Result, Ok, refl, sym, ap, subst, ◌∙◌, zero, suc, arith}
+use Rattle.std.specs.Prelude.{nat_lt, ◌&&◌, not, min, slice_get, ⊤}
+use Rattle.std.specs.BTreeMap.{is_at}
+use Rattle.std.specs.Cmp.Lexicographic.{same_text}
+use Rattle.std.proofs.lemmas.Bool.{true≢false, ltb-true}
+use Rattle.std.proofs.lemmas.Map.Text.{is_eq-slice_cmp}
+use Rattle.tftp_wire.specs.declared.packet.Packet.{Packet}
+use Rattle.tftp_wire.specs.declared.packet.Packet.TheVariants.{Data}
+use Rattle.tftp_wire.specs.Parts.{packet_in}
+use Rattle.tftp_wire.specs.Reading.{first_fault}
+use Rattle.tftp_wire.specs.Spelling.{Spells}
+use Rattle.tftp_wire.proofs.SpellingLemmas.{fault_where_nothing}
+use Rattle.tftp_file.specs.Memory.{memory_source}
+use Rattle.tftp_file.specs.Sink.{Holding, UnlessArmed, with_piece}
+use Rattle.tftp_file.specs.declared.fault.StoreFault.{StoreFault}
+use Rattle.tftp_file.specs.declared.files.Files.{Files}
+use Rattle.tftp_file.specs.declared.files.Files.TheVariants.{Source, Sink}
+use Rattle.tftp_store.specs.Store.{path_cmp}
+use Rattle.tftp_ends.specs.declared.action.Action.{Action}
+use Rattle.tftp_ends.specs.declared.action.Action.TheVariants.{Respond, Send, Store}
+use Rattle.tftp_ends.specs.declared.phase.Phase.TheVariants.{Receiving}
+use Rattle.tftp_ends.specs.declared.phase.Terms.{Terms}
+use Rattle.tftp_ends.specs.Action.{datagram_action}
+use Rattle.tftp_ends.specs.End.{is_client}
+use Rattle.tftp_ends.specs.Step.{Turn, Done, AcksAgain, Acts, Appended, GoesOn, block_length, holding, committed_turn}
+use Rattle.tftp_ends.specs.Step.{filled_turn, response_turn, sent_turn, ack_bytes}
+use Rattle.tftp_ends.specs.Text.{Decoded}
+use Rattle.tftp_machine.specs.OpenEnds.{OpenEnd, files_of, holding_of, end_after}
+use Rattle.tftp_player.specs.World.{WorldState, WorldEnd, Open_end, Closed_end, StoredFile, datagram, file_at}
+use Rattle.tftp_player.specs.World.{in_the_way, has_committed, no_report, report_of, world_after}
+use Rattle.tftp_player.specs.WorldRuns.{PlaysAll}
+use Rattle.tftp_player.specs.WorldSteps.{FilesAfter, Settles, At_open_end, WorldStep, may_refuse_commit, world_sink}
+use Rattle.tftp_player.specs.declared.datagram.Datagram.{Datagram}
+use Rattle.tftp_player.specs.declared.event.Event.{Event}
+use Rattle.tftp_player.specs.declared.event.Event.TheVariants.{Deliver}
+use Rattle.tftp_player.specs.declared.report.Report.{Report}
+
+-- ---- bytes, and the packet that they spell
+abbrev pub all_bytes : List ℕ → Bool
+all_bytes [] = true
+all_bytes (b ∷ bytes) = nat_lt b 256 && all_bytes bytes
+
+first_of : (a b : Bool) → (a && b) ≡ true → a ≡ true
+first_of true b e = refl
+first_of false b e = e
+
+second_of : (a b : Bool) → (a && b) ≡ true → b ≡ true
+second_of true b e = e
+second_of false b e = absurd (true≢false (sym e))
+
+bytes_below : (bytes : List ℕ) → all_bytes bytes ≡ true → (k : ℕ) → get_or bytes k 0 < 256
+bytes_below [] e k = omega arith
+bytes_below (b ∷ bytes) e zero = ltb-true b 256 (first_of (nat_lt b 256) (all_bytes bytes) e)
+bytes_below (b ∷ bytes) e (suc k) = bytes_below bytes (second_of (nat_lt b 256) (all_bytes bytes) e) k
+
+abbrev pub IsSpelled : List ℕ → Type 0
+IsSpelled bytes = (all_bytes bytes ≡ true) × (first_fault bytes ≡ None)
+
+pub spells : (bytes : List ℕ) → IsSpelled bytes → Spells (packet_in bytes) bytes
+spells bytes is = fault_where_nothing bytes (bytes_below bytes is.0) is.1
+
+abbrev pub data_of : Packet → List ℕ
+data_of (Data number bytes) = bytes
+data_of _ = []
+
+abbrev pub HasBytes : List ℕ → Type 0
+HasBytes [] = ⊥
+HasBytes (b ∷ bytes) = ⊤
+
+-- ---- a sink that is not set to refuse
+abbrev done : Result Done StoreFault
+done = Ok tt
+
+freely : (armed : Bool) (before : Holding) (after : Option Holding) (effect : Type 0) → armed ≡ false → effect →
+    UnlessArmed {A = Done} armed before after done effect
+freely true before after effect e so = absurd (true≢false e)
+freely false before after effect e so = so
+
+appends : (may : Holding → StoreFault → Type 0) (bytes : List ℕ) (h : Holding) → h.refuses ≡ false → HasBytes bytes →
+    Appended (world_sink may) bytes h (with_piece h bytes) done
+appends may [] h free some = absurd some
+appends may (b ∷ bytes) h free some = (freely h.refuses h _ _ free refl, tt, tt, tt)
+
+-- ---- the turn of an open end at a datagram, by its action; a block stands for these bytes of the host
+module _ (host : List ℕ → List ℕ) (d : Datagram) (x : OpenEnd) where
+  abbrev pub piece : List ℕ
+  piece = data_of (packet_in d.bytes)
+
+  abbrev pub is_last : Terms → Bool
+  is_last terms = nat_lt (length piece) terms.size
+
+  -- how many bytes the next block has
+  abbrev pub want : Terms → ℕ → ℕ
+  want terms number = block_length x.state.role.length terms.size number
+
+  -- the sink with the block
+  abbrev pub with_block : Holding
+  with_block = with_piece (holding_of x) (host piece)
+
+  abbrev pub stored_turn : Bool → Terms → ℕ → Turn
+  stored_turn true terms number = committed_turn {A = Done} terms number d.from (holding [] x.state) (Ok tt)
+  stored_turn false terms number =
+      sent_turn (Receiving terms number) d.from (ack_bytes number) (holding [] x.state)
+
+  abbrev pub turn_by : Action → Turn
+  turn_by (Respond response) = response_turn response d.from x.state
+  turn_by (Send terms number) =
+      filled_turn terms number d.from (take (want terms number) x.left) x.state (Ok (want terms number))
+  turn_by (Store terms number) = stored_turn (is_last terms) terms number
+
+  -- its file after the turn
+  abbrev pub files_by : Action → Files (List ℕ) Holding
+  files_by (Respond response) = files_of x
+  files_by (Send terms number) = Source (drop (want terms number) x.left)
+  files_by (Store terms number) = Sink (record with_block { committed = is_last terms })
+
+  -- what is left to check
+  abbrev pub CanAct : Action → Type 0
+  CanAct (Respond response) = ⊤
+  CanAct (Send terms number) =
+      (files_of x ≡ Source x.left) × (want terms number ≡ min (want terms number) (length x.left))
+  CanAct (Store terms number) =
+      (files_of x ≡ Sink (holding_of x)) × (x.refuses ≡ false) × (packet_in d.bytes ≡ Data number piece)
+      × HasBytes (host piece) × Decoded x.state.role.mode x.state.position.held piece (host piece) []
+
+  goes_on : (may : Holding → StoreFault → Type 0) (terms : Terms) (number : ℕ) (last : Bool) → x.refuses ≡ false →
+      GoesOn (world_sink may) terms number d.from x.state last [] with_block done (stored_turn last terms number)
+      (record with_block { committed = last })
+  goes_on may terms number true free = record {
+    answer = done;
+    commits = freely x.refuses with_block _ _ free refl;
+    refused = tt;
+    leaves = tt;
+    effect = tt;
+    answers = refl;
+  }
+  goes_on may terms number false free = (refl, refl)
+
+  acts : (may : Holding → StoreFault → Type 0) (action : Action) → IsSpelled d.bytes → CanAct action →
+      Acts memory_source (world_sink may) action d.from d.bytes x.state (files_of x) (turn_by action) (files_by action)
+  acts may (Respond response) spelled can = (refl, refl)
+  acts may (Send terms number) spelled can =
+      rw can.0 (record {
+        answer = Ok (want terms number);
+        piece = take (want terms number) x.left;
+        reads = record {
+          fills = record { count = can.1; given = refl; rest = refl };
+          read = λ e. absurd (cc);
+          fails = λ f. absurd f;
+          memory = λ e. absurd (cc);
+        };
+        answers = refl;
+      })
+  acts may (Store terms number) spelled can = (
+    piece,
+    subst (λ (packet : Packet). Spells packet d.bytes) can.2 (spells d.bytes spelled),
+    rw can.0 (record {
+      bytes = host piece;
+      after = [];
+      mid = with_block;
+      answer = done;
+      decoded = can.4;
+      appended = appends may (host piece) (holding_of x) can.1 can.3;
+      memory = λ e. absurd (cc);
+      rest = goes_on may terms number (is_last terms) can.1;
+    }),
+  )
+
+  -- the end after the turn, and whether it has committed a file of the server
+  abbrev pub end_by : Action → OpenEnd
+  end_by action = end_after x (turn_by action) (files_by action)
+
+  abbrev pub has_stored : Action → Bool
+  has_stored action = not (is_client x.state.role.side) && has_committed x (end_by action)
+
+-- ---- the server's files
+abbrev pub with_file : Bool → List ℕ → List ℕ → List StoredFile → List StoredFile
+with_file true path bytes files = (path, bytes) ∷ files
+with_file false path bytes files = files
+
+abbrev pub IsFree : Bool → Bool → List ℕ → List ℕ → List StoredFile → Type 0
+IsFree overwrite true path bytes files =
+    (in_the_way overwrite (file_at files path) ≡ None) × (file_at ((path, bytes) ∷ files) path ≡ Some bytes)
+IsFree overwrite false path bytes files = ⊤
+
+-- the files under other paths are as before
+as_before : (bytes : List ℕ) (there : Option (List ℕ)) (is : Bool) (q path : List ℕ) → is_at (path_cmp q) path ≡ is →
+    q ≢ path → cond is (Some bytes) there ≡ there
+as_before bytes there true q path e n = absurd (n (same_text q path (sym e ∙ is_eq-slice_cmp q path)))
+as_before bytes there false q path e n = refl
+
+files_after : (overwrite stored : Bool) (path bytes : List ℕ) (files : List StoredFile) →
+    IsFree overwrite stored path bytes files →
+    FilesAfter overwrite stored path bytes files (with_file stored path bytes files)
+files_after overwrite true path bytes files free = record {
+  free = free.0;
+  here = free.1;
+  others = λ q n. as_before bytes (file_at files q) (is_at (path_cmp q) path) q path refl n;
+}
+files_after overwrite false path bytes files free = refl
+
+-- ---- one delivery to an open end
+pub record Delivered : Type 0 where
+  pub report : Report
+  pub world : WorldState
+
+-- the action of an end for a datagram without a fault
+abbrev pub action_of : Datagram → OpenEnd → Action
+action_of d x = datagram_action x.state d.from d.bytes (Some (packet_in d.bytes))
+
+-- the index of the end with this port
+abbrev pub index_of : Datagram → ℕ
+index_of d = d.to.port - 1024
+
+module _ (host : List ℕ → List ℕ) (w : WorldState) where
+  -- what the delivery of a datagram does, by the end's action, by the end, and by the datagram
+  abbrev pub by_action : Datagram → OpenEnd → Action → Delivered
+  by_action d x action =
+      record {
+        report = report_of w x (turn_by host d x action);
+        world =
+            world_after w (index_of d) x (turn_by host d x action) (files_by host d x action)
+            (with_file (has_stored host d x action) x.path (end_by host d x action).stored w.files);
+      }
+
+  abbrev pub at_end : Datagram → Option WorldEnd → Delivered
+  at_end d (Some (Open_end x)) = by_action d x (action_of d x)
+  at_end d _ = record { report = no_report; world = w }
+
+  abbrev pub of_datagram : Option Datagram → Delivered
+  of_datagram (Some d) = at_end d (slice_get w.ends (index_of d))
+  of_datagram None = record { report = no_report; world = w }
+
+  -- what is left to check
+  abbrev pub IsHandled : Datagram → OpenEnd → Action → Type 0
+  IsHandled d x action =
+      (x.address ≡ d.to) × IsSpelled d.bytes × CanAct host d x action
+      × AcksAgain x.state (turn_by host d x action) action
+      × IsFree w.overwrite (has_stored host d x action) x.path (end_by host d x action).stored w.files
+
+  abbrev pub IsHandledAt : Datagram → Option WorldEnd → Type 0
+  IsHandledAt d (Some (Open_end x)) = IsHandled d x (action_of d x)
+  IsHandledAt d _ = ⊥
+
+  abbrev pub IsDelivered : Option Datagram → Type 0
+  IsDelivered (Some d) = IsHandledAt d (slice_get w.ends (index_of d))
+  IsDelivered None = ⊥
+
+  arrives : (i : ℕ) (d : Datagram) (there : Option WorldEnd) → slice_get w.sent i ≡ Some d →
+      slice_get w.ends (index_of d) ≡ there → IsHandledAt d there →
+      WorldStep w (Deliver i) (at_end d there).report (at_end d there).world
+  arrives i d None sent is handled = absurd handled
+  arrives i d (Some (Closed_end x)) sent is handled = absurd handled
+  arrives i d (Some (Open_end x)) sent is handled = (
+    d,
+    sent,
+    At_open_end (index_of d) x is handled.0
+        (record {
+          turn = turn_by host d x (action_of d x);
+          held = files_by host d x (action_of d x);
+          steps = record {
+            decoded = Some (packet_in d.bytes);
+            says = spells d.bytes handled.1;
+            acts =
+                acts host d x
+                (may_refuse_commit (is_client x.state.role.side) (in_the_way w.overwrite (file_at w.files x.path)))
+                (action_of d x) handled.1 handled.2;
+            again = handled.3;
+          };
+          turns = record {
+            files =
+                with_file (has_stored host d x (action_of d x)) x.path (end_by host d x (action_of d x)).stored w.files;
+            stored =
+                files_after w.overwrite (has_stored host d x (action_of d x)) x.path
+                (end_by host d x (action_of d x)).stored w.files handled.4;
+            reports = refl;
+            is = refl;
+          };
+        }),
+  )
+
+  delivers : (i : ℕ) (sent : Option Datagram) → slice_get w.sent i ≡ sent → IsDelivered sent →
+      WorldStep w (Deliver i) (of_datagram sent).report (of_datagram sent).world
+  delivers i None is delivered = absurd delivered
+  delivers i (Some d) is delivered = arrives i d (slice_get w.ends (index_of d)) is refl delivered
+
+-- ---- n deliveries, from the datagram at an index on
+module _ (host : List ℕ → List ℕ) where
+  abbrev pub next : WorldState → ℕ → Delivered
+  next w i = of_datagram host w (slice_get w.sent i)
+
+  abbrev pub reports : ℕ → WorldState → ℕ → List Report
+  reports zero w i = []
+  reports (suc n) w i = (next w i).report ∷ reports n (next w i).world (i + 1)
+
+  abbrev pub world_at : ℕ → WorldState → ℕ → WorldState
+  world_at zero w i = w
+  world_at (suc n) w i = world_at n (next w i).world (i + 1)
+
+  abbrev pub AllDelivered : ℕ → WorldState → ℕ → Type 0
+  AllDelivered zero w i = ⊤
+  AllDelivered (suc n) w i = IsDelivered host w (slice_get w.sent i) × AllDelivered n (next w i).world (i + 1)
+
+  pub settles : (n : ℕ) (w : WorldState) (i : ℕ) → AllDelivered n w i → Settles w i (reports n w i) (world_at n w i)
+  settles zero w i all = refl
+  settles (suc n) w i all =
+      ((next w i).world, delivers host w i (slice_get w.sent i) refl all.0, settles n (next w i).world (i + 1) all.1)
+
+  pub count_reports : (n : ℕ) (w : WorldState) (i : ℕ) → length (reports n w i) ≡ n
+  count_reports zero w i = refl
+  count_reports (suc n) w i = ap suc (count_reports n (next w i).world (i + 1))
+
+-- ---- the events of a straight run
+abbrev pub deliveries : ℕ → List Report → List Event
+deliveries i [] = []
+deliveries i (report ∷ reports) = Deliver i ∷ deliveries (i + 1) reports
+
+pub plays : (w : WorldState) (i : ℕ) (reports : List Report) (new : WorldState) → Settles w i reports new →
+    PlaysAll w (deliveries i reports) new
+plays w i [] new settled = settled
+plays w i (report ∷ reports) new settled =
+    (settled.0, report, settled.1, plays settled.0 (i + 1) reports new settled.2)
