@@ -103,7 +103,7 @@ fn receives_a_short_block(rt: HostRuntime) {
     end.answers(&rt, SERVER_END, DATA_1, ACK_1);
     let found = (end.step().progress, end.record().complete);
     expect_equal(&rt, &found, &(true, true), "a block, and it is the last");
-    end.has_stored(&rt, b"ABC", true);
+    end.has_committed(&rt, b"ABC");
     end.finish();
 }
 

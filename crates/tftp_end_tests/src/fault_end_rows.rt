@@ -3,10 +3,9 @@
 
 ghost use Rattle.std.specs.Prelude.{◌≡◌, ◌<◌, false};
 ghost use Rattle.tftp_ends.specs.End.{is_sender};
-ghost use Rattle.tftp_ends.specs.Files.{AreFilesOf};
 
 use crate::expect::{expect, expect_equal};
-use crate::open_end::{CLIENT, OpenEnd, agreed_of, sender, serve_write};
+use crate::open_end::{AtEnd, CLIENT, OpenEnd, agreed_of, sender, serve_write};
 use std::alloc::Global;
 use std::process::Abort;
 use tftp_ends::{End, Endpoint, Outcome};
@@ -38,70 +37,53 @@ const DATA: [&[u8]; 5] = [
     b"\x00\x03\x00\x05eeee",
 ];
 
-/// A server's end with blocks of eight bytes, whose source ends or fails after `give` bytes.
+/// A server's end with blocks of eight bytes, whose source gives the first `give` bytes of the
+/// file, and then ends or fails.
 fn faulty(
     rt: &impl Abort,
     alloc: Global,
     file: &[u8],
     give: u64,
-    fail: bool,
+    then: AtEnd,
 ) -> OpenEnd<FaultSource> {
-    let source = FaultSource::new(alloc, file, Mode::Octet, give, fail).expect(rt, "memory");
+    let source = FaultSource::new(alloc, file, Mode::Octet, give, then.fails());
     let length = file.len() as u64;
     let agreed = agreed_of(rt, REQUEST, length);
-    sender(rt, alloc, Mode::Octet, &agreed, length, source)
-}
-
-/// An end handles a datagram, and answers by these bytes. Returns how it closed.
-pub(crate) fn answers(
-    rt: &impl Abort,
-    alloc: Global,
-    end: &mut End,
-    files: &mut Files<FaultSource, MemSink>,
-    from: Endpoint,
-    bytes: &[u8],
-    answer: &[u8],
-) -> Option<Outcome>
-    requires { AreFilesOf end.old.role.side files.old }
-    ensures { AreFilesOf end.new.role.side files.new }
-{
-    let mut out = Vec::new(alloc);
-    let step = end
-        .on_datagram(files, from, bytes, &mut out)
-        .expect(rt, "the end takes it");
-    expect_equal(rt, &(bytes, out.as_slice()), &(bytes, answer), "the answer");
-    step.closed
+    sender(
+        rt,
+        alloc,
+        Mode::Octet,
+        &agreed,
+        length,
+        source.expect(rt, "memory"),
+    )
 }
 
 /// An end that has sent `sent` blocks handles a datagram, and its source does not give the whole
 /// next block. It sends ERROR 0 `file changed`, and its number stays.
 pub(crate) fn is_changed(
     rt: &impl Abort,
-    alloc: Global,
-    mut end: End,
-    mut files: Files<FaultSource, MemSink>,
+    mut end: OpenEnd<FaultSource>,
     from: Endpoint,
     bytes: &[u8],
     sent: usize,
-)
-    requires { AreFilesOf end.role.side files }
-{
+) {
     let changed = b"\x00\x05\x00\x00file changed\x00";
-    let closed = answers(rt, alloc, &mut end, &mut files, from, bytes, changed);
-    let found = (usize::from(end.record().number), closed);
-    let expected = (sent, Some(Outcome::SourceFault));
-    expect_equal(rt, &found, &expected, "the blocks sent, and how it closed");
+    end.closes(rt, from, bytes, changed, Outcome::SourceFault);
+    let number = usize::from(end.record().number);
+    expect_equal(rt, &number, &sent, "the blocks sent");
+    end.finish();
 }
 
 /// `sent` blocks are sent, and then the source does not give the next one.
-fn breaks_off(rt: &impl Abort, alloc: Global, file: &[u8], sent: usize, give: u64, fail: bool)
+fn breaks_off(rt: &impl Abort, alloc: Global, file: &[u8], sent: usize, give: u64, then: AtEnd)
     requires { sent < 5 }
 {
-    let (mut end, mut files) = faulty(rt, alloc, file, give, fail).into_parts();
+    let mut end = faulty(rt, alloc, file, give, then);
     for at in 0..sent {
-        answers(rt, alloc, &mut end, &mut files, CLIENT, ACKS[at], DATA[at]);
+        end.answers(rt, CLIENT, ACKS[at], DATA[at]);
     }
-    is_changed(rt, alloc, end, files, CLIENT, ACKS[sent], sent);
+    is_changed(rt, end, CLIENT, ACKS[sent], sent);
 }
 
 /// The source ends or fails, at the start of a block or within it.
@@ -109,10 +91,10 @@ fn breaks_off_in(rt: &impl Abort, alloc: Global, sent: usize)
     requires { sent < 5 }
 {
     let give = 8 * sent as u64;
-    breaks_off(rt, alloc, FILE, sent, give, false);
-    breaks_off(rt, alloc, FILE, sent, give, true);
-    breaks_off(rt, alloc, FILE, sent, give + 3, false);
-    breaks_off(rt, alloc, FILE, sent, give + 3, true);
+    breaks_off(rt, alloc, FILE, sent, give, AtEnd::Stops);
+    breaks_off(rt, alloc, FILE, sent, give, AtEnd::Fails);
+    breaks_off(rt, alloc, FILE, sent, give + 3, AtEnd::Stops);
+    breaks_off(rt, alloc, FILE, sent, give + 3, AtEnd::Fails);
 }
 
 #[test]
@@ -125,7 +107,7 @@ fn a_read_breaks_off_at_each_block(rt: HostRuntime) {
 /// A file of twenty bytes, of which the source gives sixteen: two whole blocks.
 #[test]
 fn a_read_of_twenty_bytes_breaks_off(rt: HostRuntime) {
-    breaks_off(&rt, rt.alloc(), &FILE[..20], 2, 16, false);
+    breaks_off(&rt, rt.alloc(), &FILE[..20], 2, 16, AtEnd::Stops);
 }
 
 /// A server's end that receives blocks of eight bytes.

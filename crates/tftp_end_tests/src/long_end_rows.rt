@@ -1,17 +1,12 @@
 //! A transfer of as many blocks as can be numbered (RFC 1350, sections 2 and 6; RFC 2347; RFC
 //! 2348).
 
-ghost use Rattle.tftp_ends.specs.Files.{AreFilesOf};
-
 use crate::expect::expect_equal;
-use crate::open_end::{
-    CLIENT, CONFIG, EIGHT, OpenEnd, SERVER_END, agreed_of, has_stored, reader, sender,
-};
+use crate::open_end::{CLIENT, CONFIG, EIGHT, OpenEnd, agreed_of, reader, round, sender};
 use std::alloc::Global;
 use std::io::{self, Read, Repeat, Take};
 use std::process::Abort;
-use tftp_ends::End;
-use tftp_file::{Files, MemSink, MemSource, ReadSource};
+use tftp_file::{MemSource, ReadSource};
 use tftp_wire::Mode;
 
 /// The length of 65,534 blocks of eight bytes, and a last one of seven.
@@ -31,13 +26,7 @@ fn server(rt: &impl Abort, alloc: Global, request: &[u8]) -> OpenEnd<Made> {
 }
 
 /// The client has stored the whole file, and the server has its last ACK.
-fn is_whole(
-    rt: &impl Abort,
-    alloc: Global,
-    client: End,
-    sink: Files<MemSource, MemSink>,
-    server: End,
-) {
+fn is_whole(rt: &impl Abort, alloc: Global, client: &OpenEnd<MemSource>, server: &OpenEnd<Made>) {
     let record = client.record();
     let found = (record.number, record.complete, server.record().complete);
     let expected = (65_535, true, true);
@@ -48,56 +37,21 @@ fn is_whole(
         "the last block, stored and acknowledged",
     );
     let whole = vec![in alloc; b'x'; 524_279].expect(rt, "memory");
-    has_stored(rt, &sink, &whole, true);
-}
-
-/// Delivers the datagram in the buffer to the client, and the answer to the server. Returns how
-/// many datagrams that adds.
-fn round(
-    rt: &impl Abort,
-    alloc: Global,
-    client: &mut End,
-    sink: &mut Files<MemSource, MemSink>,
-    server: &mut End,
-    source: &mut Files<Made, MemSink>,
-    data: &mut Vec<u8>,
-) -> u32
-    requires client { AreFilesOf client.old.role.side sink.old }
-    requires server { AreFilesOf server.old.role.side source.old }
-    ensures client { AreFilesOf client.new.role.side sink.new }
-    ensures server { AreFilesOf server.new.role.side source.new }
-{
-    let mut ack = Vec::new(alloc);
-    let step = client.on_datagram(sink, SERVER_END, data, &mut ack);
-    step.expect(rt, "the client takes it");
-    data.clear();
-    let step = server.on_datagram(source, CLIENT, &ack, data);
-    step.expect(rt, "the server takes it");
-    if data.is_empty() { 1 } else { 2 }
+    client.has_committed(rt, &whole);
 }
 
 /// 131,073 datagrams: a request, its OACK, ACK 0, and DATA and ACK of 65,535 blocks.
 #[test]
 fn the_last_number_is_reached(rt: HostRuntime) {
     let alloc = rt.alloc();
-    let asks = reader(&rt, alloc, b"a", Mode::Octet, &EIGHT, &CONFIG);
-    let answers = server(&rt, alloc, asks.sent());
-    let mut data = Vec::from_slice(alloc, answers.sent()).expect(&rt, "memory");
-    let (mut client, mut sink) = asks.into_parts();
-    let (mut server, mut source) = answers.into_parts();
+    let mut client = reader(&rt, alloc, b"a", Mode::Octet, &EIGHT, &CONFIG);
+    let mut server = server(&rt, alloc, client.sent());
     let mut datagrams = 2u32;
     for _ in 0..65_536u32 {
-        let added = round(
-            &rt,
-            alloc,
-            &mut client,
-            &mut sink,
-            &mut server,
-            &mut source,
-            &mut data,
-        );
-        datagrams = datagrams.saturating_add(added);
+        datagrams = datagrams.saturating_add(round(&rt, &mut client, &mut server));
     }
     expect_equal(&rt, &datagrams, &131_073, "how many datagrams");
-    is_whole(&rt, alloc, client, sink, server);
+    is_whole(&rt, alloc, &client, &server);
+    client.finish();
+    server.finish();
 }

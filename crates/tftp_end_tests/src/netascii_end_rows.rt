@@ -39,7 +39,7 @@ const WRONG: [&[u8]; 4] = [
 fn is_refused(rt: &impl Abort, alloc: Global, bytes: &[u8]) {
     let mut end = client(rt, alloc, &Asked::default());
     end.closes(rt, SERVER_END, bytes, NOT_NETASCII, Outcome::NotNetascii);
-    end.has_stored(rt, b"", false);
+    end.has_drafted(rt, b"");
     end.finish();
 }
 
@@ -67,7 +67,7 @@ fn a_receiver_keeps_an_ack_and_a_cr(rt: HostRuntime) {
         text: 1,
     };
     expect_equal(&rt, &end.as_end().held(), &held, "an ACK and a CR");
-    end.has_stored(&rt, b"AAAAAAA", false);
+    end.has_drafted(&rt, b"AAAAAAA");
     end.finish();
 }
 
@@ -84,7 +84,11 @@ fn goes_on(rt: &impl Abort, alloc: Global, bytes: &[u8], answer: &[u8], stored: 
     end.answers(rt, SERVER_END, bytes, answer);
     let complete = answer == ACK_2;
     expect_equal(rt, &end.record().complete, &complete, "complete");
-    end.has_stored(rt, stored, complete);
+    if complete {
+        end.has_committed(rt, stored);
+    } else {
+        end.has_drafted(rt, stored);
+    }
     end.finish();
 }
 
@@ -119,7 +123,11 @@ fn is_got(rt: &impl Abort, alloc: Global, host: &[u8], first: usize, datagrams: 
     let mut server = sender_of(rt, alloc, RRQ_A, Mode::Netascii, host);
     let one = round(rt, &mut client, &mut server);
     let whole = first == host.len() && one == 1;
-    client.has_stored(rt, &host[..first.min(host.len())], whole);
+    if whole {
+        client.has_committed(rt, host);
+    } else {
+        client.has_drafted(rt, &host[..first.min(host.len())]);
+    }
     let more = if server.sent().is_empty() {
         0
     } else {
@@ -127,7 +135,7 @@ fn is_got(rt: &impl Abort, alloc: Global, host: &[u8], first: usize, datagrams: 
     };
     let count = one.saturating_add(more).saturating_add(2);
     expect_equal(rt, &count, &datagrams, "a request, DATA and their ACKs");
-    client.has_stored(rt, host, true);
+    client.has_committed(rt, host);
     client.finish();
     server.finish();
 }

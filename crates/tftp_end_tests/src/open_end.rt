@@ -2,7 +2,6 @@
 
 ghost use Rattle.std.specs.Prelude.{◌≡◌, false, IfOk};
 ghost use Rattle.tftp_ends.specs.End.{is_sender};
-ghost use Rattle.tftp_ends.specs.Files.{AreFilesOf};
 
 use crate::expect::expect_equal;
 use std::alloc::Global;
@@ -47,6 +46,38 @@ pub(crate) const EIGHT: Asked = Asked {
 
 /// The capacity of a sink: more than the longest file of the tests.
 const ROOM: u64 = 1_000_000;
+
+/// What a source does after the bytes that it gives.
+#[derive(Clone, Copy)]
+pub(crate) enum AtEnd {
+    Stops,
+    Fails,
+}
+
+impl AtEnd {
+    pub(crate) fn fails(self) -> bool {
+        match self {
+            AtEnd::Stops => false,
+            AtEnd::Fails => true,
+        }
+    }
+}
+
+/// How a sink handles its commit.
+#[derive(Clone, Copy)]
+pub(crate) enum AtCommit {
+    Succeeds,
+    Refuses,
+}
+
+impl AtCommit {
+    fn refuses(self) -> bool {
+        match self {
+            AtCommit::Succeeds => false,
+            AtCommit::Refuses => true,
+        }
+    }
+}
 
 /// An end, its file, its last step, and the datagram of that step.
 #[derive(Drop)]
@@ -249,19 +280,19 @@ pub(crate) fn serve_write(
     End::serve_write(alloc, CLIENT, Mode::Octet, agreed, 5, sent)
 }
 
-/// The same with a sink, which may refuse the commit.
+/// The same with a sink.
 pub(crate) fn storer(
     rt: &impl Abort,
     alloc: Global,
     agreed: &Agreed,
-    refuse_commit: bool,
+    at_commit: AtCommit,
 ) -> OpenEnd<MemSource> {
     let mut sent = Vec::new(alloc);
     let opened = serve_write(alloc, agreed, &mut sent);
     let (end, step) = opened.expect(rt, "it serves a write");
     OpenEnd {
         end,
-        files: Files::Sink(MemSink::new(alloc, ROOM, refuse_commit)),
+        files: Files::Sink(MemSink::new(alloc, ROOM, at_commit.refuses())),
         step,
         sent,
     }
@@ -270,14 +301,6 @@ pub(crate) fn storer(
 impl<S: Source + Drop> OpenEnd<S> {
     /// Drops the end. The drop is proved here once instead of in each test.
     pub(crate) fn finish(self) {}
-
-    /// The end and its file.
-    pub(crate) fn into_parts(self) -> (End, Files<S, MemSink>)
-        ensures { AreFilesOf result.0.role.side result.1 }
-    {
-        let OpenEnd { end, files, .. } = self;
-        (end, files)
-    }
 
     pub(crate) fn as_end(&self) -> &End {
         &self.end
@@ -389,30 +412,28 @@ impl<S: Source + Drop> OpenEnd<S> {
         Ok((step.closed, outgoing))
     }
 
-    /// The sink holds these bytes, committed or not.
-    pub(crate) fn has_stored(&self, rt: &impl Abort, bytes: &[u8], committed: bool) {
-        has_stored(rt, &self.files, bytes, committed);
+    /// The sink holds these bytes, and committed them.
+    pub(crate) fn has_committed(&self, rt: &impl Abort, bytes: &[u8]) {
+        self.has_stored(rt, (bytes, true));
     }
-}
 
-/// The sink of an end that receives holds these bytes, committed or not.
-pub(crate) fn has_stored<S>(
-    rt: &impl Abort,
-    files: &Files<S, MemSink>,
-    bytes: &[u8],
-    committed: bool,
-) {
-    let Files::Sink(sink) = files else {
-        panic!(rt; "a sink");
-    };
-    let found = (sink.as_bytes(), sink.is_committed());
-    let expected = (bytes, committed);
-    expect_equal(
-        rt,
-        &found,
-        &expected,
-        "what is stored, and whether for good",
-    );
+    /// The sink holds these bytes, and has not committed them.
+    pub(crate) fn has_drafted(&self, rt: &impl Abort, bytes: &[u8]) {
+        self.has_stored(rt, (bytes, false));
+    }
+
+    fn has_stored(&self, rt: &impl Abort, expected: (&[u8], bool)) {
+        let Files::Sink(sink) = &self.files else {
+            panic!(rt; "a sink");
+        };
+        let found = (sink.as_bytes(), sink.is_committed());
+        expect_equal(
+            rt,
+            &found,
+            &expected,
+            "what is stored, and whether for good",
+        );
+    }
 }
 
 /// Delivers the server's datagram to the client, and the answer to the server. Returns how many

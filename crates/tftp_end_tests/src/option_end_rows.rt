@@ -3,7 +3,7 @@
 
 use crate::expect::{expect, expect_equal};
 use crate::open_end::{
-    CLIENT, EIGHT, OpenEnd, SERVER, SERVER_END, agreed_of, is_bad_request, is_too_long,
+    AtCommit, CLIENT, EIGHT, OpenEnd, SERVER, SERVER_END, agreed_of, is_bad_request, is_too_long,
     is_too_long_to_serve, reader, sender_of, source_of, storer, writer,
 };
 use std::alloc::Global;
@@ -306,7 +306,7 @@ fn serves_by_small_blocks(rt: HostRuntime) {
 #[test]
 fn receives_by_the_agreed_size(rt: HostRuntime) {
     let agreed = agreed_of(&rt, ASKS_8, 512);
-    let mut end = storer(&rt, rt.alloc(), &agreed, false);
+    let mut end = storer(&rt, rt.alloc(), &agreed, AtCommit::Succeeds);
     end.has_sent(&rt, b"\x00\x06blksize\x008\x00", Some(CLIENT));
     end.answers(&rt, CLIENT, b"\x00\x03\x00\x01ABCDEFGH", ACK_1);
     end.answers(&rt, CLIENT, EMPTY_DATA_2, ACK_2);

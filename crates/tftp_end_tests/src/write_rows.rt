@@ -3,7 +3,7 @@
 
 use crate::expect::{expect, expect_equal};
 use crate::open_end::{
-    CLIENT, CONFIG, OpenEnd, SERVER, SERVER_END, is_too_long, source_of, storer, writer,
+    AtCommit, CLIENT, CONFIG, OpenEnd, SERVER, SERVER_END, is_too_long, source_of, storer, writer,
 };
 use std::alloc::Global;
 use std::process::Abort;
@@ -51,9 +51,9 @@ fn sends_after_ack_0(rt: HostRuntime) {
     end.finish();
 }
 
-/// A server's end that has answered a write request; its sink may refuse the commit.
-fn receiver(rt: &impl Abort, alloc: Global, refuse_commit: bool) -> OpenEnd<MemSource> {
-    let end = storer(rt, alloc, &Agreed::new(), refuse_commit);
+/// A server's end that has answered a write request.
+fn receiver(rt: &impl Abort, alloc: Global, at_commit: AtCommit) -> OpenEnd<MemSource> {
+    let end = storer(rt, alloc, &Agreed::new(), at_commit);
     end.has_sent(rt, ACK_0, Some(CLIENT));
     end
 }
@@ -61,17 +61,17 @@ fn receiver(rt: &impl Abort, alloc: Global, refuse_commit: bool) -> OpenEnd<MemS
 /// A short block is the last; it is acknowledged after the commit (RFC 1350, section 6).
 #[test]
 fn stores_a_short_block(rt: HostRuntime) {
-    let mut end = receiver(&rt, rt.alloc(), false);
+    let mut end = receiver(&rt, rt.alloc(), AtCommit::Succeeds);
     end.answers(&rt, CLIENT, DATA_1, ACK_1);
     expect(&rt, end.record().complete, "stored and acknowledged");
-    end.has_stored(&rt, b"ABC", true);
+    end.has_committed(&rt, b"ABC");
     end.finish();
 }
 
 /// A refused commit: ERROR 3 (RFC 1350, appendix I), and the end closes.
 #[test]
 fn a_refused_commit_is_no_success(rt: HostRuntime) {
-    let mut end = receiver(&rt, rt.alloc(), true);
+    let mut end = receiver(&rt, rt.alloc(), AtCommit::Refuses);
     let full = b"\x00\x05\x00\x03disk full\x00";
     end.closes(&rt, CLIENT, DATA_1, full, Outcome::StoreFault);
     expect(&rt, !end.record().complete, "it is not complete");

@@ -4,9 +4,10 @@
 ghost use Rattle.std.specs.Prelude.{◌<◌};
 
 use crate::expect::expect_equal;
-use crate::fault_end_rows::{answers, is_changed};
+use crate::fault_end_rows::is_changed;
 use crate::open_end::{
-    CLIENT, CONFIG, EIGHT, OpenEnd, SERVER_END, reader, sender_of, source_of, storer, writer,
+    AtCommit, AtEnd, CLIENT, CONFIG, EIGHT, OpenEnd, SERVER_END, reader, sender_of, source_of,
+    storer, writer,
 };
 use std::alloc::Global;
 use std::process::Abort;
@@ -34,7 +35,7 @@ fn opened(rt: &impl Abort, alloc: Global, side: Side) -> OpenEnd<MemSource> {
         Side::ClientRead => reader(rt, alloc, b"a", Mode::Octet, &EIGHT, &CONFIG),
         Side::ClientWrite => nine_bytes(rt, alloc),
         Side::ServerRead => sender_of(rt, alloc, RRQ_8, Mode::Octet, b"ABC"),
-        Side::ServerWrite => storer(rt, alloc, &Agreed::new(), false),
+        Side::ServerWrite => storer(rt, alloc, &Agreed::new(), AtCommit::Succeeds),
     }
 }
 
@@ -143,10 +144,10 @@ fn malformed_each_state(rt: HostRuntime) {
 /// 36 letters: four full blocks of eight bytes, and one of four bytes.
 const LETTERS: &[u8] = b"ABCDEFGHIJKLMNOPQRSTUVWXYZabcdefghij";
 
-/// A client that writes the letters, from a source that ends or fails after `give` bytes.
-fn faulty(rt: &impl Abort, alloc: Global, give: u64, fail: bool) -> OpenEnd<FaultSource> {
-    let source = FaultSource::new(alloc, LETTERS, Mode::Octet, give, fail).expect(rt, "memory");
-    writer(rt, alloc, &EIGHT, &CONFIG, 36, source)
+/// A client that writes the letters, from a source that gives `give` bytes, and then ends or fails.
+fn faulty(rt: &impl Abort, alloc: Global, give: u64, then: AtEnd) -> OpenEnd<FaultSource> {
+    let source = FaultSource::new(alloc, LETTERS, Mode::Octet, give, then.fails());
+    writer(rt, alloc, &EIGHT, &CONFIG, 36, source.expect(rt, "memory"))
 }
 
 /// The datagrams that request blocks 1 to 5, and the blocks.
@@ -160,21 +161,21 @@ const ASKS: [(&[u8], &[u8]); 5] = [
 
 /// The source ends or fails in this block: the end's number stays, and it sends ERROR 0
 /// `file changed`.
-fn ends_in(rt: &impl Abort, alloc: Global, block: usize, fail: bool)
+fn ends_in(rt: &impl Abort, alloc: Global, block: usize, then: AtEnd)
     requires { block < 5 }
 {
     let give = block as u64 * 8 + 3;
-    let (mut end, mut files) = faulty(rt, alloc, give, fail).into_parts();
+    let mut end = faulty(rt, alloc, give, then);
     for asks in &ASKS[..block] {
-        answers(rt, alloc, &mut end, &mut files, SERVER_END, asks.0, asks.1);
+        end.answers(rt, SERVER_END, asks.0, asks.1);
     }
-    is_changed(rt, alloc, end, files, SERVER_END, ASKS[block].0, block);
+    is_changed(rt, end, SERVER_END, ASKS[block].0, block);
 }
 
 #[test]
 fn a_source_faults_in_each_block(rt: HostRuntime) {
     for block in 0..5 {
-        ends_in(&rt, rt.alloc(), block, false);
-        ends_in(&rt, rt.alloc(), block, true);
+        ends_in(&rt, rt.alloc(), block, AtEnd::Stops);
+        ends_in(&rt, rt.alloc(), block, AtEnd::Fails);
     }
 }
