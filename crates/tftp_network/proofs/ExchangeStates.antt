@@ -12,8 +12,8 @@ use Rattle.tftp_ends.specs.Step.{Done, Turn, after_turn, ack_bytes, committed_tu
 use Rattle.tftp_ends.specs.Step.{filled_turn, response_turn, timeout_turn}
 use Rattle.tftp_ends.specs.Waiting.{agreed_terms, default_terms}
 use Rattle.tftp_store.specs.Store.{Stored, Drafted, new_draft}
-use Rattle.tftp_host.specs.Printed.{line_text}
-use Rattle.tftp_host.specs.declared.server.printed.Printed.TheVariants.{Closed}
+use Rattle.tftp_lines.specs.Printed.{line_text}
+use Rattle.tftp_lines.specs.declared.printed.Printed.TheVariants.{Closed}
 use Rattle.tftp_machine.specs.Machine.{Endpoint}
 use Rattle.tftp_server.specs.State.{HeldTransfer, ServerState, at}
 use Rattle.tftp_server.specs.declared.config.Config.{Config}
