@@ -77,7 +77,8 @@ received port from bytes time s =
       events = Watched time ∷ Received port from bytes ∷ Quiet (Slept (wait_at s)) ∷ s.events;
     }
 
--- the end has turned so at a datagram, and its answer was sent from the port to where the turn says
+-- the end made this step at a datagram, and its answer was sent from the port to the endpoint of
+-- the step
 abbrev pub turned : ℕ → Turn → State → State
 turned port turn s =
     record {
@@ -105,7 +106,7 @@ pub data MayElapse (port : ℕ) (s : State) : State → Type 0 where
   Stays : (s.now < s.due) ⊎ IsSome (outcome_of s.end.position.phase) → MayElapse port s s
   Elapses : s.due ≤ s.now → IsOpen s.end → MayElapse port s (elapsed port s)
 
--- a datagram has no step: the end is closed, or handling it takes memory, and there is none
+-- a datagram has no step: the end is closed, or handling it needs memory, and there is none
 abbrev pub IsLost : Endpoint → List ℕ → EndState → Type 0
 IsLost from bytes end =
     IsSome (outcome_of end.position.phase)
@@ -123,7 +124,7 @@ module _ {S K : Type 0} (sources : SourceMeaning S) (sinks : SinkMeaning K) wher
   -- what a client does at a datagram of these bytes from there, once the clock was read
   pub data HandlesReceived (port : ℕ) (from : Endpoint) (bytes : List ℕ)
       (s : State) (files : Files S K) : State → Files S K → Type 0 where
-    -- the end's step, and at once its answer from the same port to where the step says
+    -- the end's step, and at once its answer from the same port to the endpoint of the step
     Answers : {turn : Turn} {files' : Files S K} → IsOpen s.end
         → DatagramStep sources sinks from bytes s.end files turn files'
         → HandlesReceived port from bytes s files (turned port turn s) files'

@@ -1,3 +1,4 @@
+pub mod Changed
 pub mod CommandLine
 pub mod Conversation
 pub mod Converses

@@ -1,7 +1,7 @@
--- What a client's file took of the bytes that are received (own).
+-- What is appended to a client's file (own).
 use Rattle.std.specs.Prelude.{false, []}
 use Rattle.tftp_file.specs.Sink.{Holding}
 
--- what a new file took
+-- the content of a new file
 abbrev pub nothing : Holding
 nothing = record { bytes = []; committed = false; refuses = false }

@@ -12,11 +12,12 @@ ghost use Rattle.tftp_client.specs.Words.{with_asked, with_options, with_reports
 ghost use Rattle.tftp_client.specs.declared.local.Existing.TheVariants.{Refused, Replaced};
 
 use crate::local::Existing;
-use crate::transfer::Job;
+use crate::transfer::{Job, Progress};
 use clap::error::ErrorKind;
 use clap::{Arg, ArgMatches, Command, value_parser};
 use std::alloc::{AllocError, Global};
 use std::convert::AsStr;
+use std::io::IsTerminal;
 use tftp_arguments::{VERSION, flag, is_set, number, print_usage, word};
 use tftp_negotiate::{Asked, DEFAULT_BLOCK, Kind, MAX_BLOCK, MIN_BLOCK};
 use tftp_sockets::endpoint_in;
@@ -31,6 +32,24 @@ const LINGERING: &str = "\
 Once LOCAL has its name, `complete N` is printed. The client then stays for two timeouts, 2 seconds
 or twice the agreed timeout, to acknowledge the last block again if the server repeats it (RFC 1350,
 section 6).";
+
+/// What standard error writes to.
+#[derive(Clone, Copy)]
+pub(crate) enum ErrorOutput {
+    Terminal,
+    /// A file, a pipe or another device.
+    Other,
+}
+
+impl ErrorOutput {
+    pub(crate) fn of<E: IsTerminal>(errors: &E) -> ErrorOutput {
+        if errors.is_terminal() {
+            ErrorOutput::Terminal
+        } else {
+            ErrorOutput::Other
+        }
+    }
+}
 
 /// The order of a command line.
 #[derive(Clone, Copy)]
@@ -51,14 +70,14 @@ pub(crate) fn read_words<'a, P: Print + Eprint, S: AsStr>(
     alloc: Global,
     texts: &'a BlockTexts,
     words: &'a [S],
-    has_terminal: bool,
+    errors: ErrorOutput,
 ) -> anyhow::Result<Ordered<'a>>
     ensures status { IfOk result (λ ordered. IfErr ordered (λ status. status ≤ 2)) }
     ensures names { IfOk result (λ ordered. IfOk ordered (λ order.
         WordsName (map S.text words.now) order.job)) }
 {
     match command(alloc, texts) {
-        Ok(mut command) => match_words(rt, &mut command, words, has_terminal),
+        Ok(mut command) => match_words(rt, &mut command, words, errors),
         Err(error) => Err(error),
     }
 }
@@ -68,7 +87,7 @@ fn match_words<'a, P: Print + Eprint, S: AsStr>(
     rt: &P,
     command: &mut Command<'a>,
     words: &'a [S],
-    has_terminal: bool,
+    errors: ErrorOutput,
 ) -> anyhow::Result<Ordered<'a>>
     requires { IsApp tftp_app command.old }
     ensures status { IfOk result (λ ordered. IfErr ordered (λ status. status ≤ 2)) }
@@ -76,7 +95,7 @@ fn match_words<'a, P: Print + Eprint, S: AsStr>(
         WordsName (map S.text words.now) order.job)) }
 {
     match command.try_get_matches_from_mut(words) {
-        Ok(matches) => read_matches(rt, command, &matches, has_terminal),
+        Ok(matches) => read_matches(rt, command, &matches, errors),
         Err(error) => Ok(Err(print_usage(rt, &error))),
     }
 }
@@ -86,7 +105,7 @@ fn read_matches<'a, P: Print + Eprint>(
     rt: &P,
     command: &mut Command<'a>,
     matches: &ArgMatches<'a>,
-    has_terminal: bool,
+    errors: ErrorOutput,
 ) -> anyhow::Result<Ordered<'a>>
     ensures status { IfOk result (λ ordered. IfErr ordered (λ status. status ≤ 2)) }
     ensures names { IfOk result (λ ordered. IfOk ordered (λ order.
@@ -95,7 +114,7 @@ fn read_matches<'a, P: Print + Eprint>(
     let Some((word, matches)) = matches.subcommand() else {
         return Ok(Err(2));
     };
-    match job_of(kind_of(word), matches, has_terminal) {
+    match job_of(kind_of(word), matches, errors) {
         Some(job) => Ok(Ok(Order {
             job,
             lingers: !matches.get_flag("no-linger"),
@@ -126,7 +145,7 @@ fn report_address<P: Print + Eprint>(rt: &P, command: &mut Command<'_>) -> anyho
 }
 
 /// The job of a valid command line, or `None` if its address is invalid.
-fn job_of<'a>(kind: Kind, matches: &ArgMatches<'a>, has_terminal: bool) -> Option<Job<'a>>
+fn job_of<'a>(kind: Kind, matches: &ArgMatches<'a>, errors: ErrorOutput) -> Option<Job<'a>>
     ensures { IfSome result (NamesJob kind (read_of matches.now)) }
 {
     Some(Job {
@@ -139,7 +158,7 @@ fn job_of<'a>(kind: Kind, matches: &ArgMatches<'a>, has_terminal: bool) -> Optio
         asked: asked(matches),
         retries: matches.get_one::<u8>("retries")?,
         falls_back: is_set(matches, "fallback"),
-        shows_progress: has_terminal && matches.get_flag("progress"),
+        progress: progress(matches, errors),
     })
 }
 
@@ -151,6 +170,14 @@ fn existing(matches: &ArgMatches<'_>) -> Existing
         Existing::Replaced
     } else {
         Existing::Refused
+    }
+}
+
+/// Whether progress is shown: if that is asked for, and standard error is a terminal.
+fn progress(matches: &ArgMatches<'_>, errors: ErrorOutput) -> Progress {
+    match errors {
+        ErrorOutput::Terminal if matches.get_flag("progress") => Progress::Shown,
+        _ => Progress::Hidden,
     }
 }
 

@@ -99,9 +99,8 @@ pub(crate) fn read_error<F: Read + Drop>(source: LocalSource<F>) -> Option<io::E
 /// It buffers what is appended, and writes it after a datagram is sent. It syncs every few
 /// megabytes, so that the commit has little left to sync.
 ///
-/// Its model is what it took: the bytes of the appends that succeeded, and whether a commit
-/// succeeded after them. A failed append may leave a part of its bytes in the buffer and on the
-/// disk.
+/// Its model is the bytes of the appends that succeeded, and whether a commit succeeded after them.
+/// A failed append may leave a part of its bytes in the buffer and on the disk.
 #[derive(Drop)]
 pub(crate) struct LocalFile<R: Files + Drop> {
     files: R,
@@ -155,7 +154,7 @@ impl<R: Files + Drop> LocalFile<R> {
         })
     }
 
-    /// The number of bytes that it took.
+    /// The number of bytes appended to it.
     pub(crate) fn count(&self) -> u64
         ensures { result ≡ self.now.count }
     {
@@ -283,7 +282,7 @@ impl<R: Files + Drop> Sink for LocalFile<R> {
 
     ghost unmoved = { λ _. tt };
 
-    /// It takes at most 2^64 - 1 bytes, as many as it can count.
+    /// It accepts at most 2^64 - 1 bytes, as many as it can count.
     fn append(&mut self, bytes: &[u8]) -> Result<(), StoreFault> {
         let Some(count) = self.count.checked_add(bytes.len() as u64) else {
             return Err(self.record_error(io::Error::from(ErrorKind::FileTooLarge)));

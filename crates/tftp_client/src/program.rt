@@ -9,7 +9,7 @@ ghost use Rattle.tftp_client.specs.Ordered.{RunsOrder, RunsWords};
 ghost use Rattle.tftp_client.specs.Runs.{StaysOn, printed};
 
 use crate::client_udp::ClientUdp;
-use crate::command_line::{BlockTexts, Order, Ordered, read_words};
+use crate::command_line::{BlockTexts, ErrorOutput, Order, Ordered, read_words};
 use crate::local::{LocalFile, LocalSource};
 use crate::transfer::{Completed, Failure, transfer};
 use std::alloc::Global;
@@ -64,7 +64,7 @@ pub fn tftp_with_journal<R: Runtime + AllocGlobal + Net, S: AsStr, E: IsTerminal
         ⟦<LocalFile<R> as Sink>⟧.meaning (map S.text words.now) result
         journal.old.events journal.new.events }
 {
-    match transfer_words(rt, words, errors.is_terminal(), journal) {
+    match transfer_words(rt, words, ErrorOutput::of(errors), journal) {
         Ok(status) => status,
         Err(_) => print_no_memory(rt, "tftp"),
     }
@@ -74,7 +74,7 @@ pub fn tftp_with_journal<R: Runtime + AllocGlobal + Net, S: AsStr, E: IsTerminal
 fn transfer_words<'a, R: Runtime + AllocGlobal + Net, S: AsStr>(
     rt: &R,
     words: &'a [S],
-    has_terminal: bool,
+    errors: ErrorOutput,
     journal: &mut Journal,
 ) -> anyhow::Result<u8>
     ensures status { IfOk result (λ status. status ≤ 2) }
@@ -84,7 +84,7 @@ fn transfer_words<'a, R: Runtime + AllocGlobal + Net, S: AsStr>(
     ensures memory { IfErr result (λ _. journal.new.events ≡ journal.old.events) }
 {
     let texts = BlockTexts::new(rt.alloc())?;
-    transfer_texts(rt, rt.alloc(), &texts, words, has_terminal, journal)
+    transfer_texts(rt, rt.alloc(), &texts, words, errors, journal)
 }
 
 /// Parses the words, and runs the order.
@@ -93,7 +93,7 @@ fn transfer_texts<'a, R: Files + Clone + Drop + ClientUdp + Clock + Print + Epri
     alloc: Global,
     texts: &'a BlockTexts,
     words: &'a [S],
-    has_terminal: bool,
+    errors: ErrorOutput,
     journal: &mut Journal,
 ) -> anyhow::Result<u8>
     ensures status { IfOk result (λ status. status ≤ 2) }
@@ -102,7 +102,7 @@ fn transfer_texts<'a, R: Files + Clone + Drop + ClientUdp + Clock + Print + Epri
         journal.old.events journal.new.events) }
     ensures memory { IfErr result (λ _. journal.new.events ≡ journal.old.events) }
 {
-    match read_words(rt, alloc, texts, words, has_terminal) {
+    match read_words(rt, alloc, texts, words, errors) {
         Ok(ordered) => Ok(run_ordered(rt, alloc, &ordered, journal)),
         Err(error) => Err(error),
     }

@@ -1,8 +1,10 @@
-//! What a local file took. Only clauses read it: it takes no memory, and a note does nothing.
+//! What was appended to a local file. Only clauses read it: it uses no memory, and a note does
+//! nothing.
 
 ghost use Rattle.std.specs.Prelude.{◌≡◌};
 ghost use Rattle.std.specs.Borrow.{ftrue};
 ghost use Rattle.tftp_file.specs.Sink.{Holding, as_committed, with_piece};
+ghost use Rattle.tftp_client.specs.Changed.{changed_by};
 ghost use Rattle.tftp_client.specs.Taken.{nothing};
 
 use std::marker::{Model, PhantomData};
@@ -13,6 +15,13 @@ use std::marker::{Model, PhantomData};
 pub(crate) struct Taken {
     marker: PhantomData<u8>,
     ghost holding: { Holding },
+}
+
+/// A change of a file, to be noted.
+#[derive(Clone, Copy)]
+enum Change<'a> {
+    Appended(&'a [u8]),
+    Committed,
 }
 
 impl Model for Taken {
@@ -32,10 +41,19 @@ impl Taken {
     /// Notes an append that succeeded.
     pub(crate) fn appended(&mut self, bytes: &[u8])
         ensures { self.new.holding ≡ with_piece self.old.holding bytes.now }
-    {}
+    {
+        self.note(&Change::Appended(bytes));
+    }
 
     /// Notes a commit that succeeded.
     pub(crate) fn committed(&mut self)
         ensures { self.new.holding ≡ as_committed self.old.holding }
+    {
+        self.note(&Change::Committed);
+    }
+
+    /// Notes a change of the file.
+    fn note(&mut self, _change: &Change<'_>)
+        ensures { self.new.holding ≡ changed_by _change.now self.old.holding }
     {}
 }

@@ -21,6 +21,7 @@ use crate::client_udp::ClientUdp;
 use crate::local::{Existing, LocalFile, LocalSource, Outbound, read_error};
 pub(crate) use crate::transfer::completed::Completed;
 use crate::transfer::conversation::Conversation;
+pub(crate) use crate::transfer::conversation::Progress;
 pub(crate) use crate::transfer::failure::Failure;
 use crate::transfer::failure::Reason;
 use crate::without_options::fallback;
@@ -58,7 +59,7 @@ pub(crate) struct Job<'a> {
     /// Whether to try again without options if the server refuses them.
     pub(crate) falls_back: bool,
     /// Whether progress is shown on standard error.
-    pub(crate) shows_progress: bool,
+    pub(crate) progress: Progress,
 }
 
 impl Job<'_> {
@@ -290,7 +291,7 @@ fn begin<C: Clock>(
         request,
         total,
     } = opened;
-    match Conversation::new(clock, alloc, socket, end, job.shows_progress, total) {
+    match Conversation::new(clock, alloc, socket, end, job.progress, total) {
         Ok(conversation) => {
             conversation.socket.send(journal, job.server, request);
             Ok(conversation)
@@ -438,7 +439,7 @@ fn converse<C: Clock + Eprint, R: FileSystem + Drop>(
     }
 }
 
-/// The number of bytes that a received file took.
+/// The number of bytes appended to a received file.
 fn stored<S, R: FileSystem + Drop>(files: &Files<S, LocalFile<R>>) -> Option<u64>
     ensures { result ≡ stored files.now }
 {
@@ -448,7 +449,7 @@ fn stored<S, R: FileSystem + Drop>(files: &Files<S, LocalFile<R>>) -> Option<u64
     }
 }
 
-/// The length of a file here, in bytes: what a received one took, or `sent`.
+/// The length of a file here, in bytes: of what was appended to a received one, or `sent`.
 fn count_of<S, R: FileSystem + Drop>(files: &Files<S, LocalFile<R>>, sent: u64) -> u64
     ensures { result ≡ count_of sent files.now }
 {

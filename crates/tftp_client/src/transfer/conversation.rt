@@ -42,6 +42,13 @@ const NO_STEP: Step = Step {
     closed: None,
 };
 
+/// Whether progress is shown on standard error.
+#[derive(Clone, Copy)]
+pub(crate) enum Progress {
+    Shown,
+    Hidden,
+}
+
 /// A client's end, with its socket and its watch.
 #[derive(Drop)]
 pub(crate) struct Conversation {
@@ -69,7 +76,7 @@ impl Conversation {
         alloc: Global,
         socket: ClientSocket,
         end: End,
-        shows_progress: bool,
+        progress: Progress,
         total: Option<u64>,
     ) -> Result<Conversation, AllocError>
         ensures { IfOk result (λ conversation. (conversation.end ≡ end)
@@ -86,10 +93,9 @@ impl Conversation {
             due,
             advanced_at: watch.now,
             buffer: Vec::from_elem(alloc, 0u8, DATAGRAM_BUFFER)?,
-            lines: if shows_progress {
-                Some(LineClock::default())
-            } else {
-                None
+            lines: match progress {
+                Progress::Shown => Some(LineClock::default()),
+                Progress::Hidden => None,
             },
             total,
             peer_reason: Reason::Unknown,
@@ -241,9 +247,9 @@ impl Conversation {
             return NO_STEP;
         };
         reply(&self.socket, journal, step.to, self.end.bytes_of(outgoing));
-        self.due = due_after(step.progress, self.watch.now, self.end.interval(), self.due);
+        self.due = due_after(&step, self.watch.now, self.end.interval(), self.due);
         note_peer_reason(&mut self.peer_reason, self.alloc, &step, bytes);
-        note_total(&mut self.total, self.lines.is_some(), &step, bytes);
+        note_total(&mut self.total, &self.lines, &step, bytes);
         step
     }
 
@@ -382,7 +388,7 @@ fn datagram_in(buffer: &[u8], count: usize) -> &[u8]
     &buffer[..count]
 }
 
-/// Sends what a step says, if it says where to.
+/// Sends the answer of a step, if it has one.
 fn reply(socket: &ClientSocket, journal: &mut Journal, to: Option<Endpoint>, bytes: &[u8])
     ensures { journal.new.events ≡ replied socket.now.port to bytes.now journal.old.events }
 {
@@ -394,26 +400,26 @@ fn reply(socket: &ClientSocket, journal: &mut Journal, to: Option<Endpoint>, byt
 
 /// The deadline after a step at `now`, in milliseconds: progress restarts the timeout of `seconds`
 /// (RFC 2349, "Timeout Interval Option Specification").
-fn due_after(progress: bool, now: u64, seconds: u8, due: u64) -> u64
-    ensures { result ≡ due_after progress now seconds due }
+fn due_after(step: &Step, now: u64, seconds: u8, due: u64) -> u64
+    ensures { result ≡ due_after step.now.progress now seconds due }
 {
-    if progress {
+    if step.progress {
         deadline(now, seconds)
     } else {
         due
     }
 }
 
-/// Keeps the ERROR by which the peer ended the transfer, if it did in this step.
+/// Stores the ERROR by which the peer ended the transfer, if it did in this step.
 fn note_peer_reason(reason: &mut Reason, alloc: Global, step: &Step, bytes: &[u8]) {
     if let Some(Outcome::PeerError(_)) = step.closed {
         *reason = error_line(alloc, bytes);
     }
 }
 
-/// Keeps the length of the file that the peer states, if progress is shown.
-fn note_total(total: &mut Option<u64>, shows: bool, step: &Step, bytes: &[u8]) {
-    if step.progress && shows && total.is_none() {
+/// Stores the length of the file that the peer states, if progress is shown.
+fn note_total(total: &mut Option<u64>, lines: &Option<LineClock>, step: &Step, bytes: &[u8]) {
+    if step.progress && lines.is_some() && total.is_none() {
         *total = stated_length(bytes);
     }
 }
