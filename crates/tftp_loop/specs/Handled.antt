@@ -39,7 +39,7 @@ module _ {S F D : Type 0} (meaning : StoreMeaning S D) (sources : SourceMeaning 
       → IsResolved receives.from receives.bytes received last
 
   -- and before the second wait after its receipt, whether that takes time or not: the first one
-  -- finds it pending, and takes none. No transfer has the request port
+  -- finds it pending, and receives none. No transfer has the request port
   abbrev pub HandlesByTheNextWait : Type 0
   HandlesByTheNextWait =
       (old received waiting woken last new : LoopState S F D)

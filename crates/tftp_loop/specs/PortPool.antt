@@ -47,7 +47,7 @@ pub record TriesInVain (range : Option PortRange) (before after : List Event) : 
   pub earlier : TriesPorts range before between
   pub last : TriesPort range between after
 
--- what the journal says of the taking of a port
+-- the events of a call that returns a port, or none
 abbrev pub Tries : Option PortRange → List Event → List Event → Option ServerSocket → Type 0
 Tries range before after None = TriesInVain range before after
 Tries range before after (Some socket) = TriesPorts range before after

@@ -1,4 +1,4 @@
--- The ports that a server takes in turn from its range (ours).
+-- The order in which a server uses the ports of its range (ours).
 use Rattle.std.specs.Prelude.{ℕ, ◌≤◌, ◌-◌, ◌+◌, nat_eq, List, [], ◌∷◌, ◌++◌, length}
 use Rattle.std.specs.Prelude.{IsPermutation}
 use Rattle.std.specs.List.{IsDistinct}

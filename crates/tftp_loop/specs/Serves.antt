@@ -307,8 +307,8 @@ module _ {S F D : Type 0} where
   abbrev pub most_millis : LoopState S F D → ℕ
   most_millis old = if is_busy old then 0 else until_look old.now old.timers
 
-  -- a transfer is served: its port is not marked, or was read since the last wait; it is not due, or
-  -- its timer started at this moment; and if it closed it is removed
+  -- a transfer is served: its port is not marked, or was read since the last wait; it is not due,
+  -- or its timer started at this moment; and if it closed it is removed
   pub record IsServed (old : LoopState S F D) (timer : Timer) : Type 0 where
     pub read : timer.marked ≡ true → was_tried timer.port old.events ≡ true
     pub due : (old.now < timer.deadline) ⊎ (timer.deadline ≡ deadline_of old.now timer.interval)
@@ -321,8 +321,8 @@ module _ {S F D : Type 0} where
     -- the loop goes on
     pub left : 1 ≤ old.left
     pub rounds : 1 ≤ old.rounds
-    -- the request port was read since the last wait, if it is marked or its datagram is pending: so a
-    -- datagram is pending at one wait at most, since it is not read while one is
+    -- the request port was read since the last wait, if it is marked or its datagram is pending: so
+    -- a datagram is pending at one wait at most, since it is not read while one is
     pub requests : (old.marked || is_some old.pending) ≡ true
         → was_tried old.requests old.events ≡ true
     pub transfers : All (IsServed old) old.timers
@@ -414,7 +414,8 @@ module _ {S F D : Type 0} (meaning : StoreMeaning S D) (sources : SourceMeaning 
 
   -- why the pending datagram is lost
   pub data RequestLoss (from : Endpoint) (bytes : List ℕ) : Type 0 where
-    -- a growth was refused, where an empty buffer of this capacity takes the answer, or the store
+    -- a growth was refused, where an empty buffer of this capacity is to hold the answer, or the
+    -- store
     -- answered `Memory`
     No_memory : (capacity : ℕ)
         → RequestLacksMemory capacity 0 meaning sources old.server from bytes

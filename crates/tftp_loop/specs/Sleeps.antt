@@ -11,7 +11,7 @@ use Rattle.tftp_loop.specs.declared.serving.Ending.{Ending}
 use Rattle.tftp_loop.specs.Serves.{Timer, LoopState, Does, Waits, at_start, look_after}
 
 -- a port of a transfer is not marked, and a wait of so long is over when it is read again, which is
--- at its deadline at the latest; the newest word of the port is that a receive found nothing there,
+-- at its deadline at the latest; the last event of the port is that a receive found nothing there,
 -- or else the port is left for a while, and read again soon
 pub record Rests (events : List Event) (now millis : ℕ) (timer : Timer) : Type 0 where
   pub unmarked : timer.marked ≡ false
@@ -29,7 +29,7 @@ module _ {S F D : Type 0} (meaning : StoreMeaning S D) (sources : SourceMeaning 
 
   -- the server may sleep for so long
   pub record MaySleep (old : LoopState S F D) (millis : ℕ) : Type 0 where
-    -- the newest word of the request port is that a receive found nothing there
+    -- the last event of the request port is that a receive found nothing there
     pub requests : is_drained old.requests old.events ≡ true
     pub pending : old.pending ≡ None
     pub transfers : All (Rests old.events old.now millis) old.timers

@@ -9,12 +9,12 @@ ghost use Rattle.tftp_loop.specs.Sleeps.{RestsBeforeItSleeps};
 
 use tftp_store::Store;
 
-/// A server whose wait may sleep has nothing to do: a receive found nothing at its request port, and
-/// no wait has reported the port since; no datagram is pending, and no port of a transfer is marked.
-/// The same holds of each such port, or it is left for a while after an opening or progress, and
-/// read again within half a second. The server sleeps no longer than until the next port is read,
-/// which is at a deadline at the latest, and at most a second. The system gives each socket a port
-/// of its own.
+/// A server whose wait may sleep has nothing to do: a receive found nothing at its request port,
+/// and no wait has reported the port since; no datagram is pending, and no port of a transfer is
+/// marked. The same holds of each such port, or it is left for a while after an opening or
+/// progress, and read again within half a second. The server sleeps no longer than until the next
+/// port is read, which is at a deadline at the latest, and at most a second. The system gives each
+/// socket a port of its own.
 pub fn a_server_rests_before_it_sleeps<T: Store>()
     ensures { RestsBeforeItSleeps T.meaning T.Source.meaning }
 {}
@@ -25,10 +25,10 @@ pub fn a_server_reads_what_is_reported<T: Store>()
     ensures { ReadsWhatIsReported T.meaning T.Source.meaning }
 {}
 
-/// A request is answered before the server sleeps. What a wait reported at the request port is read
-/// by the next wait. Each datagram that is received there is answered, or lost for one of the reasons
-/// of `RequestLoss`, before a wait that takes time, and before the second wait whatever that takes
-/// (RFC 1350, section 4).
+/// A request is handled before the server sleeps. What a wait reported at the request port is read
+/// by the next wait. Each datagram that is received there is handled, or lost for one of the
+/// reasons of `RequestLoss`, before a wait that takes time, and before the second wait whatever
+/// that takes (RFC 1350, section 4).
 pub fn a_server_handles_before_it_sleeps<T: Store>()
     ensures reads { ReadsTheRequestPort T.meaning T.Source.meaning }
     ensures handles { HandlesBeforeItSleeps T.meaning T.Source.meaning }
@@ -37,8 +37,8 @@ pub fn a_server_handles_before_it_sleeps<T: Store>()
 
 /// A transfer that makes no progress is closed in time, whatever is sent to its port. At each wait
 /// later than an interval, and an interval and a second for each retry, its line was printed: in a
-/// round the clock is read once, which advances the time by a second at most. If nothing came to the
-/// port, it was not complete, unless it was before (RFC 1350, section 2).
+/// round the clock is read once, which advances the time by a second at most. If nothing came to
+/// the port, it was not complete, unless it was before (RFC 1350, section 2).
 pub fn a_server_closes_what_makes_no_progress<T: Store>()
     ensures closes { ClosesWithoutProgress T.meaning T.Source.meaning }
     ensures silent { TimesOutInSilence T.meaning T.Source.meaning }

@@ -43,7 +43,9 @@ impl PortOrder {
     }
 
     /// The number of ports.
-    pub fn len(&self) -> usize {
+    pub fn len(&self) -> usize
+        ensures { result ≡ length self.now.ports.items }
+    {
         self.ports.len()
     }
 

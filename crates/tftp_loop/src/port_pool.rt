@@ -74,7 +74,7 @@ impl PortPool {
         }
     }
 
-    /// Keeps a port for the next transfer.
+    /// Stores a spare port for the next transfer.
     pub(crate) fn give_back(&mut self, spare: ServerSocket)
         requires { IsOfPool self.old spare }
         ensures { self.new ≡ self.old }

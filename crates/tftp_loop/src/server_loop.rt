@@ -13,7 +13,7 @@ ghost use Rattle.tftp_loop.specs.Tended.{leaves_read, leaves_timed, millis_of, t
 
 use crate::report::{log_unsent, record_of_closed, report_close};
 use crate::server_udp::ServerUdp;
-use crate::serving::{Ending, LoopFault};
+use crate::serving::{LoopConfig, LoopFault};
 use crate::sockets::Sockets;
 use crate::store::ServedStore;
 use crate::transfer_port::{TransferPort, count_active, mark_all, take_due, take_ready, work_at};
@@ -21,7 +21,9 @@ use std::alloc::{AllocError, Global};
 use std::time::Clock;
 use tftp_ends::{Endpoint, Record};
 use tftp_server::{Server, Store};
-use tftp_sockets::{DATAGRAM_BUFFER, Journal, Reports, index_of, look, read_watch, wait, wait_for};
+use tftp_sockets::{
+    DATAGRAM_BUFFER, Journal, Reports, index_of, poll_now, read_watch, wait, wait_for,
+};
 
 /// The most ports that one wait reports.
 const MOST_REPORTS: usize = 128;
@@ -88,8 +90,7 @@ impl<S: ServedStore + Drop> ServerLoop<S> {
         alloc: Global,
         server: Server<S>,
         sockets: Sockets,
-        ending: Ending,
-        logs: bool,
+        config: &LoopConfig,
         journal: Journal,
     ) -> ServerLoop<S>
         ensures server { result.server ≡ server }
@@ -97,8 +98,8 @@ impl<S: ServedStore + Drop> ServerLoop<S> {
         ensures ports { result.ports.items ≡ [] }
         ensures journal { result.journal ≡ journal }
         ensures pending { result.pending ≡ None }
-        ensures left { result.left ≡ ending.transfers }
-        ensures rounds { result.rounds ≡ ending.rounds }
+        ensures left { result.left ≡ config.now.ending.transfers }
+        ensures rounds { result.rounds ≡ config.now.ending.rounds }
     {
         ServerLoop {
             server,
@@ -108,9 +109,9 @@ impl<S: ServedStore + Drop> ServerLoop<S> {
             out: Vec::new(alloc),
             pending: None,
             active: 0,
-            left: ending.transfers,
-            rounds: ending.rounds,
-            logs,
+            left: config.ending.transfers,
+            rounds: config.ending.rounds,
+            logs: config.logs,
             alloc,
         }
     }
@@ -184,7 +185,7 @@ impl<S: ServedStore + Drop> ServerLoop<S> {
         self.sleep(clock, reports);
     }
 
-    /// Looks, and syncs the draft of a transfer and waits if no datagram has arrived.
+    /// Polls, and syncs the draft of a transfer and waits if no datagram has arrived.
     fn sync_and_wait<C: Clock>(&mut self, clock: &C, reports: &mut Reports, tid: u16)
         requires tended { IsTended self.old }
         requires left { 1 ≤ self.old.left }
@@ -193,7 +194,7 @@ impl<S: ServedStore + Drop> ServerLoop<S> {
         ensures settled { IsSettled self.new }
         ensures rounds { self.new.rounds + 1 ≡ self.old.rounds }
     {
-        if look(&mut self.sockets.poll, reports, &mut self.journal) {
+        if poll_now(&mut self.sockets.poll, reports, &mut self.journal) {
             self.wake(clock, reports);
             return;
         }

@@ -101,8 +101,8 @@ fn listen<N: ServerUdp + Clock + Print + Eprint, S: ServedStore + Drop>(
     requires marked { sockets.is_ready ≡ true }
     requires range { sockets.pool.range ≡ config.now.ports }
     ensures serves { ServesFromIn S.meaning S.Source.meaning config.now.ports sockets.requests.port
-        config.now.ending server (listening sockets.requests.ip sockets.requests.port journal.events)
-        result.1.events }
+        config.now.ending server
+        (listening sockets.requests.ip sockets.requests.port journal.events) result.1.events }
     ensures end { OnOk result.0 (ServesToEndIn S.meaning S.Source.meaning config.now.ports
         sockets.requests.port config.now.ending server
         (listening sockets.requests.ip sockets.requests.port journal.events) result.1.events) }
@@ -137,7 +137,7 @@ fn run<N: ServerUdp + Clock + Print + Eprint, S: ServedStore + Drop>(
     let Ok(mut buffers) = Buffers::new(alloc) else {
         return (Err(LoopFault::Memory), journal);
     };
-    let mut running = ServerLoop::new(alloc, server, sockets, config.ending, config.logs, journal);
+    let mut running = ServerLoop::new(alloc, server, sockets, config, journal);
     let result = running.take_rounds(
         rt,
         &mut buffers.reports,

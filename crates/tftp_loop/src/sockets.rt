@@ -93,7 +93,7 @@ impl Sockets {
         self.pool.take_port(net, journal)
     }
 
-    /// Keeps a port for the next transfer.
+    /// Stores a spare port for the next transfer.
     pub(crate) fn give_back(&mut self, spare: ServerSocket)
         requires { IsOfPool self.old.pool spare }
         ensures { self.new ≡ self.old }

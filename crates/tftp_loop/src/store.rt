@@ -6,7 +6,7 @@ use tftp_lines::Reason;
 use tftp_server::Store;
 use tftp_store::MemStore;
 
-/// A store that is set before each request is carried out, that keeps the reasons for what it
+/// A store that is set before each request is carried out, that stores the reasons for what it
 /// refuses, and that syncs drafts when its loop lets it.
 pub trait ServedStore: Store {
     /// Sets the port of the next transfer, which names its draft. It leaves of the store what
@@ -15,8 +15,8 @@ pub trait ServedStore: Store {
         ensures same { Self.meaning.stored self.new ≡ Self.meaning.stored self.old }
         ensures behind { Self.meaning.after_write_behind self.old self.new };
 
-    /// Sets the longest length on the wire that can be sent, in bytes. A file with more bytes is not
-    /// read to measure it. It leaves of the store what `write_behind` leaves.
+    /// Sets the longest length on the wire that can be sent, in bytes. A file with more bytes is
+    /// not read to measure it. It leaves of the store what `write_behind` leaves.
     fn set_longest(&mut self, bytes: u64)
         ensures same { Self.meaning.stored self.new ≡ Self.meaning.stored self.old }
         ensures behind { Self.meaning.after_write_behind self.old self.new };

@@ -140,7 +140,7 @@ fn count_data(log_entry: &mut Option<LogEntry>, is_progress: bool, datagram: &[u
     }
 }
 
-/// Keeps for the log, if there is one, why the system refused to send a datagram.
+/// Stores for the log, if there is one, why the system refused to send a datagram.
 fn keep_unsent(log_entry: &Option<LogEntry>, sent: Result<(), Reason>) {
     let Err(reason) = sent else {
         return;

@@ -1,5 +1,6 @@
 pub mod Address
 pub mod Bound
+pub mod EventRef
 pub mod Journal
 pub mod Quiet
 pub mod Receipt

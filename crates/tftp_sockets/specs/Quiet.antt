@@ -1,4 +1,4 @@
--- What a journal says of waits, and of the ports that were looked at between them (ours).
+-- What a journal states of waits, and of the ports that were read between them (ours).
 use Rattle.std.specs.Prelude.{ℕ, ◌+◌, ◌==◌, ◌&&◌, ◌||◌, not, Bool, true, false, List, [], ◌∷◌}
 use Rattle.std.specs.List.{list_any}
 use Rattle.tftp_sockets.specs.Journal.{Event, QuietEvent}
@@ -17,7 +17,7 @@ drained_by port (Slept millis) before = before
 drained_by port (Woke ports) before = not (is_among port ports) && before
 drained_by port (No_socket p) before = before
 
--- whether the newest word of the port is that a receive found nothing there
+-- whether the last event of the port is that a receive found nothing there
 abbrev pub is_drained : ℕ → List Event → Bool
 is_drained port [] = false
 is_drained port (Received p from bytes ∷ events) = not (p == port) && is_drained port events

@@ -7,6 +7,7 @@
 
 mod address;
 mod clock;
+mod event_ref;
 mod journal;
 mod port;
 mod receipt;
@@ -19,6 +20,6 @@ pub use journal::Journal;
 pub use port::{Port, index_of, wait_for};
 pub use receipt::Receipt;
 pub use sockets::{
-    ClientSocket, Reports, ServerSocket, look, print_end, print_line, read_watch, wait,
+    ClientSocket, Reports, ServerSocket, poll_now, print_end, print_line, read_watch, wait,
 };
 pub use watch::{LONGEST_WAIT, Watch, deadline, is_due};

@@ -1,16 +1,17 @@
-//! **Trusted by reading**: UDP sockets, waits, the clock and the printer, with notes in a [`Journal`].
+//! **Trusted by reading**: UDP sockets, waits, the clock and the printer, with notes in a
+//! [`Journal`].
 //!
 //! Review alone shows that a note is true: the sockets, the clock and the printer of std and `mio`
 //! have no model. Each datagram, wait, receive without a datagram, failed bind of a transfer's
 //! port, reading of the clock and printed line has one note: what was passed to the system or
-//! returned by it, and for a receive or a datagram the port that the socket is bound to. That a port
-//! stays empty, once a receive found nothing there, until a wait reports it, is trusted too. Once
-//! they have their command line, `tftp` and `tftpd` call no socket and print no line of standard
-//! output elsewhere, and read the clock elsewhere only to start their watch. Help and versions are
-//! printed before that.
+//! returned by it, and for a receive or a datagram the port that the socket is bound to. That a
+//! port stays empty, once a receive found nothing there, until a wait reports it, is trusted too.
+//! Once they have their command line, `tftp` and `tftpd` call no socket and print no line of
+//! standard output elsewhere, and read the clock elsewhere only to start their watch. Help and
+//! versions are printed before that.
 //!
-//! A failed send counts as a lost datagram; the server's says why. A look that takes no time and
-//! finds no port is no event.
+//! A failed send counts as a lost datagram; that of a server returns the reason. A poll that takes
+//! no time and reports no port is no event.
 
 ghost use Rattle.std.specs.Prelude.{◌≡◌, ◌≢◌, ◌≤◌, ◌+◌, ◌∷◌, [], true, length, max};
 ghost use Rattle.std.specs.Prelude.{IfOk, OnErr, OnOk, if◌then◌else◌};
@@ -24,6 +25,7 @@ ghost use Rattle.tftp_sockets.specs.Receipt.{Fits, receive_event};
 
 use crate::address::{address_of, endpoint_of};
 use crate::clock::read_clock;
+use crate::event_ref::EventRef;
 use crate::journal::Journal;
 use crate::receipt::Receipt;
 use crate::watch::{LONGEST_WAIT, Watch};
@@ -79,7 +81,7 @@ impl ServerSocket {
         match ServerSocket::bind(net, at) {
             Ok(socket) => Ok(socket),
             Err(error) => {
-                journal.no_socket(at.port);
+                journal.note(&EventRef::NoSocket(at.port));
                 Err(error)
             }
         }
@@ -118,14 +120,14 @@ impl ServerSocket {
         ensures fits { Fits buffer.new result }
     {
         let received = self.udp.recv_from(buffer);
-        note(journal, self.port, received, buffer)
+        note_receipt(journal, self.port, received, buffer)
     }
 
     /// Sends a datagram. If the system refuses it, the datagram is lost, and its reason returned.
     pub fn send(&self, journal: &mut Journal, peer: Endpoint, bytes: &[u8]) -> Result<(), Reason>
         ensures { journal.new.events ≡ Sent self.now.port peer bytes.now ∷ journal.old.events }
     {
-        journal.sent(self.port, &peer, bytes);
+        journal.note(&EventRef::Sent(self.port, peer, bytes));
         match self.udp.send_to(bytes, address_of(peer)) {
             Ok(_) => Ok(()),
             Err(error) => Err(reason_of(&error)),
@@ -172,13 +174,13 @@ impl ClientSocket {
         ensures fits { Fits buffer.new result }
     {
         let wait = wait.max(1);
-        journal.slept(wait);
+        journal.note(&EventRef::Slept(wait));
         if !self.set_wait(wait) {
-            journal.failed(self.port);
+            journal.note(&EventRef::Failed(self.port));
             return Receipt::Failed;
         }
         let received = self.udp.recv_from(buffer);
-        note(journal, self.port, received, buffer)
+        note_receipt(journal, self.port, received, buffer)
     }
 
     /// Sets the read timeout, if it changes. False if the system refuses.
@@ -200,13 +202,13 @@ impl ClientSocket {
     pub fn send(&self, journal: &mut Journal, to: Endpoint, bytes: &[u8])
         ensures { journal.new.events ≡ Sent self.now.port to bytes.now ∷ journal.old.events }
     {
-        journal.sent(self.port, &to, bytes);
+        journal.note(&EventRef::Sent(self.port, to, bytes));
         let _ = self.udp.send_to(bytes, address_of(to));
     }
 }
 
 /// Notes the result of a receive at the port.
-fn note(
+fn note_receipt(
     journal: &mut Journal,
     port: u16,
     answer: io::Result<(usize, SocketAddr)>,
@@ -220,11 +222,11 @@ fn note(
     match answer {
         Ok((count, address)) => match endpoint_of(address) {
             Some(from) => {
-                journal.received(port, &from, &buffer[..count]);
+                journal.note(&EventRef::Received(port, from, &buffer[..count]));
                 Receipt::Datagram(from, count)
             }
             None => {
-                journal.failed(port);
+                journal.note(&EventRef::Failed(port));
                 Receipt::Failed
             }
         },
@@ -240,11 +242,11 @@ fn note_error(journal: &mut Journal, port: u16, error: &io::Error, buffer: &[u8]
 {
     match error.kind() {
         ErrorKind::WouldBlock | ErrorKind::TimedOut => {
-            journal.empty(port);
+            journal.note(&EventRef::Empty(port));
             Receipt::Nothing
         }
         _ => {
-            journal.failed(port);
+            journal.note(&EventRef::Failed(port));
             Receipt::Failed
         }
     }
@@ -291,9 +293,9 @@ impl Reports {
     }
 }
 
-/// Looks which ports datagrams have arrived at, without waiting. Returns whether there are any; if
-/// not, nothing is noted.
-pub fn look(poll: &mut Poll, reports: &mut Reports, journal: &mut Journal) -> bool
+/// Polls without waiting. Returns whether a datagram has arrived at a port; if not, nothing is
+/// noted.
+pub fn poll_now(poll: &mut Poll, reports: &mut Reports, journal: &mut Journal) -> bool
     ensures noted { journal.new.events ≡ (if result
         then Quiet (Woke reports.new.ports.items) ∷ Quiet (Slept 0) ∷ journal.old.events
         else journal.old.events) }
@@ -303,22 +305,22 @@ pub fn look(poll: &mut Poll, reports: &mut Reports, journal: &mut Journal) -> bo
     if reports.ports.is_empty() {
         return false;
     }
-    journal.slept(0);
-    journal.woke(reports.ports());
+    journal.note(&EventRef::Slept(0));
+    journal.note(&EventRef::Woke(reports.ports()));
     true
 }
 
-/// Waits until a datagram has arrived at a port, for at most `millis` milliseconds. Before it sleeps
-/// it polls up to `polls` times: a client that sends to a sleeping program has to wake it.
+/// Waits until a datagram has arrived at a port, for at most `millis` milliseconds. Before it
+/// sleeps it polls up to `polls` times: a client that sends to a sleeping program has to wake it.
 pub fn wait(poll: &mut Poll, reports: &mut Reports, journal: &mut Journal, millis: u64, polls: u32)
     ensures { journal.new.events ≡ Quiet (Woke reports.new.ports.items)
         ∷ Quiet (Slept millis) ∷ journal.old.events }
 {
-    journal.slept(millis);
+    journal.note(&EventRef::Slept(millis));
     if !finds_port(poll, reports, polls) {
         reports.poll(poll, millis);
     }
-    journal.woke(reports.ports());
+    journal.note(&EventRef::Woke(reports.ports()));
 }
 
 /// Polls without a sleep, until a port is reported.
@@ -341,7 +343,7 @@ pub fn read_watch<C: Clock>(clock: &C, journal: &mut Journal, watch: &mut Watch)
 {
     let reading = read_clock(clock, watch.reading);
     let time = watch.advance(reading);
-    journal.watched(time);
+    journal.note(&EventRef::Watched(time));
     time
 }
 
@@ -349,7 +351,7 @@ pub fn read_watch<C: Clock>(clock: &C, journal: &mut Journal, watch: &mut Watch)
 pub fn print_end<P: Print>(rt: &P, journal: &mut Journal, end: ClientOutcome) -> io::Result<()>
     ensures { journal.new.events ≡ Line (end_text end) ∷ journal.old.events }
 {
-    journal.ended(&end);
+    journal.note(&EventRef::End(end));
     rt.println(end)
 }
 
@@ -357,6 +359,6 @@ pub fn print_end<P: Print>(rt: &P, journal: &mut Journal, end: ClientOutcome) ->
 pub fn print_line<P: Print>(rt: &P, journal: &mut Journal, line: Printed) -> io::Result<()>
     ensures { journal.new.events ≡ Line (line_text line) ∷ journal.old.events }
 {
-    journal.listed(&line);
+    journal.note(&EventRef::Line(line));
     rt.println(line)
 }

@@ -1,0 +1,22 @@
+-- The events that the sockets note, as events of a journal (ours).
+use Rattle.tftp_lines.specs.ClientOutcome.{end_text}
+use Rattle.tftp_lines.specs.Printed.{line_text}
+use Rattle.tftp_sockets.specs.Journal.{Event}
+use Rattle.tftp_sockets.specs.Journal.Event.{Received, Sent, Watched, Elapsed, Printed, Quiet}
+use Rattle.tftp_sockets.specs.Journal.QuietEvent.{Empty, Failed, No_socket, Slept, Woke}
+use Rattle.tftp_sockets.specs.declared.event_ref.EventRef.{EventRef}
+use Rattle.tftp_sockets.specs.declared.event_ref.EventRef.TheVariants as refs
+
+-- the event of these values: a line is its text
+abbrev pub event_of : EventRef → Event
+event_of (refs.Received port from bytes) = Received port from bytes.now
+event_of (refs.Sent port to bytes) = Sent port to bytes.now
+event_of (refs.Watched time) = Watched time
+event_of (refs.Elapsed port time) = Elapsed port time
+event_of (refs.End end) = Printed (end_text end)
+event_of (refs.Line line) = Printed (line_text line)
+event_of (refs.Empty port) = Quiet (Empty port)
+event_of (refs.Failed port) = Quiet (Failed port)
+event_of (refs.Slept millis) = Quiet (Slept millis)
+event_of (refs.Woke ports) = Quiet (Woke ports.now)
+event_of (refs.NoSocket port) = Quiet (No_socket port)

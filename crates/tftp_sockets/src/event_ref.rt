@@ -1,0 +1,32 @@
+//! The events of a journal, as values of the code.
+
+use tftp_ends::Endpoint;
+use tftp_lines::{ClientOutcome, Printed};
+
+/// An event to be noted, with the bytes and the ports that it borrows.
+#[derive(Clone, Copy)]
+pub(crate) enum EventRef<'a> {
+    /// A datagram was received: the port, its sender and its bytes.
+    Received(u16, Endpoint, &'a [u8]),
+    /// A datagram is sent: the port, its destination and its bytes.
+    Sent(u16, Endpoint, &'a [u8]),
+    /// A reading of the watch, in milliseconds.
+    Watched(u64),
+    /// A timeout is delivered to the transfer at the port, at this time of the watch, in
+    /// milliseconds.
+    Elapsed(u16, u64),
+    /// The last line of `tftp`.
+    End(ClientOutcome),
+    /// A line of `tftpd`.
+    Line(Printed),
+    /// A receive at the port found nothing.
+    Empty(u16),
+    /// A receive at the port failed.
+    Failed(u16),
+    /// A wait of at most so many milliseconds begins.
+    Slept(u64),
+    /// A wait ended, and reported these ports.
+    Woke(&'a [u16]),
+    /// No socket could be bound to the port.
+    NoSocket(u16),
+}
