@@ -64,11 +64,11 @@ module _ {F D : Type 0} where
   taken_of (Some held) =
       if is_closed held then Some (record_of held.end, draft_of held.files) else None
 
--- an open transfer (not `out`) was requested from this endpoint, its peer, by a datagram that
--- spells this packet; the case of the mode's letters is not part of a packet
-pub record WasRequested (out : Bool) (known : Option Endpoint) (bytes : List ℕ) (from : Endpoint)
-    (packet : Packet) : Type 0 where
-  pub still : out ≡ false
+-- a transfer that is not excluded, as a closed one is, was requested from this endpoint, its peer,
+-- by a datagram that spells this packet; the case of the mode's letters is not part of a packet
+pub record WasRequested (excluded : Bool) (known : Option Endpoint) (bytes : List ℕ)
+    (from : Endpoint) (packet : Packet) : Type 0 where
+  pub still : excluded ≡ false
   pub peer : known ≡ Some from
   pub same : Spells packet bytes
 
