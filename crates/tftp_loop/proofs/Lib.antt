@@ -6,6 +6,7 @@ pub mod LoopRuns
 pub mod RequestRuns
 pub mod OrderLemmas
 pub mod PortTurns
+pub mod TurnLemmas
 pub mod Tables
 pub mod PortStays
 pub mod LoopStays

@@ -18,8 +18,8 @@ use Rattle.tftp_loop.specs.declared.transfer_port.TransferSocket.{TransferSocket
 use Rattle.tftp_loop.specs.Serves.{Timer, PortState, LoopState, Closes, WorksAtPort}
 use Rattle.tftp_loop.specs.Serves.Does.{Transfer_closed}
 use Rattle.tftp_loop.specs.declared.server_loop.ServerLoop.{ServerLoop}
-use Rattle.tftp_loop.specs.declared.server_loop.Turn.{Turn}
-use Rattle.tftp_loop.specs.declared.server_loop.Turn.TheVariants as turns
+use Rattle.tftp_loop.specs.declared.port_turn.Turn.{Turn}
+use Rattle.tftp_loop.specs.declared.port_turn.Turn.TheVariants as turns
 use Rattle.tftp_loop.specs.Served.{OnlyWorks, Work_by, close_reported, state_of, timer_of}
 use Rattle.tftp_loop.specs.Tended.{AllFrom, AreKept, AreRead, AreSettled, AreTimed, Finishes, Goes, HaveTurned, Stays}
 use Rattle.tftp_loop.specs.Tended.{IsOpen, IsRead, IsSettled, IsTimed, KeepsTries, TakesTurn, leaves_by, leaves_read}

@@ -2,7 +2,6 @@
 use Rattle.std.specs.Prelude.{ℕ, ◌≤◌, ◌+◌, List, [], ◌∷◌}
 use Rattle.tftp_sockets.specs.Journal.{Event}
 use Rattle.tftp_sockets.specs.Journal.Event.{Received, Sent, Watched, Elapsed, Printed, Quiet}
-use Rattle.tftp_loop.specs.declared.transfer_port.TheConstants.{MOST_AT_ONCE}
 
 -- how many datagrams were received
 abbrev pub received_in : List Event → ℕ
@@ -17,7 +16,3 @@ received_in (Quiet event ∷ events) = received_in events
 -- at most so many datagrams were received from one journal to the other
 abbrev pub ReceivesAtMost : ℕ → List Event → List Event → Type 0
 ReceivesAtMost most before after = received_in after ≤ most + received_in before
-
--- as many as in one turn at a port, so that no port starves another
-abbrev pub ReceivesFew : List Event → List Event → Type 0
-ReceivesFew = ReceivesAtMost MOST_AT_ONCE

@@ -3,6 +3,7 @@ pub mod Serves
 pub mod Served
 pub mod PortOrder
 pub mod PortPool
+pub mod PortTurn
 pub mod Tended
 pub mod Fair
 pub mod Sleeps

@@ -10,7 +10,7 @@ use Rattle.tftp_server.specs.declared.opened.Opened.{Opened}
 use Rattle.tftp_sockets.specs.declared.port.Port.{Port}
 use Rattle.tftp_sockets.specs.declared.journal.Journal.{Journal}
 use Rattle.tftp_sockets.specs.Journal.{Event, replied}
-use Rattle.tftp_sockets.specs.Journal.Event.{Received, Printed}
+use Rattle.tftp_sockets.specs.Journal.Event.{Printed}
 use Rattle.tftp_ends.specs.declared.outcome.Outcome.{Outcome}
 use Rattle.tftp_lines.specs.Printed.{line_text}
 use Rattle.tftp_lines.specs.declared.printed.Printed.TheVariants.{Closed}
@@ -48,15 +48,6 @@ module _ {S F D : Type 0} where
       → ServerState S F D → Port TransferSocket → Journal → Type 0
   OnlyServesPort meaning sources now old port before new port' after =
       Run (AtPort meaning sources now) (at_port old port before) (at_port new port' after)
-
--- from a received datagram to the steps after it at its port
-abbrev pub AnswersReceived : {S F D : Type 0} → StoreMeaning S D → SourceMeaning F → ℕ
-    → Endpoint → List ℕ → ServerState S F D → Port TransferSocket → Journal
-    → ServerState S F D → Port TransferSocket → Journal → Type 0
-AnswersReceived meaning sources now from bytes old port before new port' after =
-    (events : List Event) → before.events ≡ Received port.socket.udp.port from bytes ∷ events
-    → Run (AtPort meaning sources now)
-    (record { server = old; timer = timer_of port; events = events }) (at_port new port' after)
 
 -- the journal after the close of a transfer with this outcome, if it has one
 abbrev pub close_printed : ℕ → Endpoint → Option Outcome → List Event → List Event

@@ -16,13 +16,14 @@ use Rattle.tftp_sockets.specs.Journal.Event.{Quiet, Watched}
 use Rattle.tftp_sockets.specs.Journal.QuietEvent.{Slept, Woke}
 use Rattle.tftp_sockets.specs.Quiet.{is_among, was_tried}
 use Rattle.tftp_loop.specs.declared.server_loop.ServerLoop.{ServerLoop}
-use Rattle.tftp_loop.specs.declared.server_loop.Turn.{Turn}
-use Rattle.tftp_loop.specs.declared.server_loop.Turn.TheVariants as turns
-use Rattle.tftp_loop.specs.declared.transfer_port.PortStatus.{PortStatus}
-use Rattle.tftp_loop.specs.declared.transfer_port.PortStatus.TheVariants as statuses
+use Rattle.tftp_loop.specs.declared.port_turn.Turn.{Turn}
+use Rattle.tftp_loop.specs.declared.port_turn.Turn.TheVariants as turns
+use Rattle.tftp_loop.specs.declared.port_turn.PortStatus.{PortStatus}
+use Rattle.tftp_loop.specs.declared.port_turn.PortStatus.TheVariants as statuses
 use Rattle.tftp_loop.specs.declared.transfer_port.TransferSocket.{TransferSocket}
 use Rattle.tftp_loop.specs.Run.{Run}
-use Rattle.tftp_loop.specs.Serves.{Timer, PortState, LoopState, AnswersRequest, Closes, LosesRequest}
+use Rattle.tftp_loop.specs.Serves.{Timer, PortState, LoopState, AnswersRequest, Closes}
+use Rattle.tftp_loop.specs.Serves.{LosesRequest}
 use Rattle.tftp_loop.specs.Serves.{FindsNoPort, SetsStore, next_look, marked_by}
 use Rattle.tftp_loop.specs.Served.{OnlyServesPort, close_reported, loop_state, state_of, timer_of}
 
@@ -42,7 +43,7 @@ pub record IsTimed (now : ℕ) (timer : Timer) : Type 0 where
   pub look : (now < timer.look_at) ⊎ ((timer.look_at ≡ timer.deadline)
       ⊎ (timer.look_at ≡ next_look now timer.interval))
 
--- what a status says of the timer of its port
+-- what a status states of the timer of its port
 abbrev pub LeavesTimer : PortStatus → ℕ → Timer → Type 0
 LeavesTimer statuses.Empty now timer = timer.look_at ≡ timer.deadline
 LeavesTimer statuses.Onward now timer =
@@ -134,7 +135,9 @@ module _ {S F D : Type 0} where
       if (d.sockets.is_ready || (is_some d.pending
       || list_any (λ (port : Port TransferSocket). port.is_ready) d.ports.items))
       then 0
-      else wait_of d.sockets.watch.now (map (λ (port : Port TransferSocket). port.due) d.ports.items)
+      else
+      wait_of d.sockets.watch.now
+      (map (λ (port : Port TransferSocket). port.due) d.ports.items)
 
 -- the port after a wait that reported these
 abbrev pub marked_if : List ℕ → Port TransferSocket → Port TransferSocket
@@ -176,7 +179,8 @@ module _ {S F D : Type 0} where
   leaves_read new now = IsRead new.events new.timer
 
   abbrev pub leaves_timed : PortState S F D → ℕ → Type 0
-  leaves_timed new now = (taken_of (at new.timer.port new.server.held) ≡ None) → IsTimed now new.timer
+  leaves_timed new now =
+      (taken_of (at new.timer.port new.server.held) ≡ None) → IsTimed now new.timer
 
   abbrev pub leaves_by : Turn → PortState S F D → ℕ → Type 0
   leaves_by turns.Ready = leaves_read
@@ -239,7 +243,7 @@ module _ {S F D : Type 0} where
     AnswersPending from bytes old new =
         Concludes (loop_state (Some (from, bytes)) old) (loop_state None new)
 
-    -- a received datagram is answered or lost, or kept
+    -- a received datagram is answered or lost, or stays pending
     pub data HandlesReceived (from : Endpoint) (count : ℕ) (buffer : List ℕ)
         (old new : ServerLoop S F D) : Type 0 where
       Concluded : AnswersPending from (take count buffer) old new → new.pending ≡ None

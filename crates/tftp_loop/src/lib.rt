@@ -9,10 +9,12 @@
 //! [`Journal`]: tftp_sockets::Journal
 #![tactic(auto)]
 
+mod datagram;
 pub mod laws;
 mod log_entry;
 mod port_order;
 mod port_pool;
+mod port_turn;
 mod report;
 mod requests;
 mod server_loop;

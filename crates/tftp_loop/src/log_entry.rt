@@ -1,5 +1,6 @@
 //! The log entry of a transfer.
 
+use crate::datagram::Datagram;
 use std::alloc::Global;
 use std::cell::Cell;
 use tftp_ends::{Endpoint, Outcome};
@@ -21,17 +22,17 @@ pub(crate) struct LogEntry {
 }
 
 impl LogEntry {
-    /// The entry of a transfer that a request opened, with its answer, at this reading of the clock.
+    /// The entry of a transfer that a request opened, with its answer, at this reading of the
+    /// clock.
     pub(crate) fn new(
         alloc: Global,
-        peer: Endpoint,
-        request: &[u8],
+        request: Datagram<'_>,
         answer: &[u8],
         opened_at: u64,
     ) -> LogEntry {
         LogEntry {
-            peer,
-            request: shown(alloc, request),
+            peer: request.from,
+            request: shown(alloc, request.bytes),
             answer: shown(alloc, answer),
             opened_at,
             bytes: data_length(answer),
@@ -44,7 +45,7 @@ impl LogEntry {
         self.bytes = self.bytes.saturating_add(data_length(datagram));
     }
 
-    /// Keeps why the system refused to send a datagram.
+    /// Stores why the system refused to send a datagram.
     pub(crate) fn keep_unsent(&self, reason: Reason) {
         self.unsent.set(Some(reason));
     }

@@ -4,11 +4,12 @@ ghost use Rattle.std.specs.Prelude.{◌≡◌, IfErr, is_some, option_map, if◌
 ghost use Rattle.tftp_server.specs.State.{at, taken_of, without};
 ghost use Rattle.tftp_loop.specs.Served.{FailsToPrint, close_reported};
 
+use crate::datagram::Datagram;
 use crate::log_entry::shown;
 use crate::serving::LoopFault;
 use crate::transfer_port::TransferPort;
 use std::alloc::Global;
-use tftp_ends::{Endpoint, Outcome, Record};
+use tftp_ends::{Outcome, Record};
 use tftp_lines::{LogLine, Lost, Printed, Reason};
 use tftp_server::{Server, Store};
 use tftp_sockets::{Journal, print_line};
@@ -18,21 +19,20 @@ use tftp_sockets::{Journal, print_line};
 pub(crate) fn log_unopened<E: Eprint>(
     rt: &E,
     alloc: Global,
-    peer: Endpoint,
-    bytes: &[u8],
+    datagram: Datagram<'_>,
     answer: &[u8],
     reason: Option<Reason>,
 ) {
-    let request = shown(alloc, bytes);
+    let request = shown(alloc, datagram.bytes);
     let shown_answer = shown(alloc, answer);
     let line = if answer.is_empty() {
         LogLine::Ignored {
-            peer,
+            peer: datagram.from,
             request: request.as_str(),
         }
     } else {
         LogLine::Refused {
-            peer,
+            peer: datagram.from,
             request: request.as_str(),
             answer: shown_answer.as_str(),
             reason,
@@ -42,10 +42,10 @@ pub(crate) fn log_unopened<E: Eprint>(
 }
 
 /// Logs a lost request.
-pub(crate) fn log_lost<E: Eprint>(rt: &E, alloc: Global, peer: Endpoint, bytes: &[u8], lost: Lost) {
-    let request = shown(alloc, bytes);
+pub(crate) fn log_lost<E: Eprint>(rt: &E, alloc: Global, datagram: Datagram<'_>, lost: Lost) {
+    let request = shown(alloc, datagram.bytes);
     let line = LogLine::Lost {
-        peer,
+        peer: datagram.from,
         request: request.as_str(),
         lost,
     };
@@ -57,14 +57,13 @@ pub(crate) fn log_unsent_answer<E: Eprint>(
     rt: &E,
     alloc: Global,
     port: u16,
-    peer: Endpoint,
-    bytes: &[u8],
+    datagram: Datagram<'_>,
     reason: Reason,
 ) {
-    let request = shown(alloc, bytes);
+    let request = shown(alloc, datagram.bytes);
     let line = LogLine::Unsent {
         port,
-        peer,
+        peer: datagram.from,
         request: request.as_str(),
         reason,
     };

@@ -13,6 +13,7 @@ ghost use Rattle.tftp_loop.specs.Served.{HasAnswered, IsAdmission, WorksRound, t
 ghost use Rattle.tftp_loop.specs.Tended.{AnswersPending, HandlesReceived, HasTriedRequests};
 ghost use Rattle.tftp_loop.specs.Tended.{IsSettled};
 
+use crate::datagram::Datagram;
 use crate::log_entry::LogEntry;
 use crate::report::{log_lost, log_unopened, log_unsent_answer};
 use crate::server_loop::ServerLoop;
@@ -60,25 +61,25 @@ impl<S: ServedStore + Drop> ServerLoop<S> {
             return;
         };
         let bytes = &request[..count.min(request.len())];
-        self.answer_pending(rt, from, bytes);
+        self.answer_pending(rt, Datagram { from, bytes });
         self.pending = None;
     }
 
     /// Answers the pending datagram of the request port.
-    fn answer_pending<N: ServerUdp + Eprint>(&mut self, rt: &N, from: Endpoint, bytes: &[u8])
-        ensures answers { AnswersPending S.meaning S.Source.meaning from bytes.now self.old
-            self.new }
+    fn answer_pending<N: ServerUdp + Eprint>(&mut self, rt: &N, datagram: Datagram<'_>)
+        ensures answers { AnswersPending S.meaning S.Source.meaning datagram.entry.from
+            datagram.entry.bytes.now self.old self.new }
         ensures rounds { self.new.rounds ≡ self.old.rounds }
     {
-        let Ok(admission) = self.server.admit(from, bytes) else {
-            self.lose(rt, from, bytes, Lost::Memory);
+        let Ok(admission) = self.server.admit(datagram.from, datagram.bytes) else {
+            self.lose(rt, datagram, Lost::Memory);
             return;
         };
         if admission.may_open() {
-            self.open_request(rt, from, bytes, admission);
+            self.open_request(rt, datagram, admission);
             return;
         }
-        self.refuse_request(rt, from, bytes, admission);
+        self.refuse_request(rt, datagram, admission);
     }
 
     /// Receives a datagram at the request port, and handles it.
@@ -99,9 +100,9 @@ impl<S: ServedStore + Drop> ServerLoop<S> {
         }
     }
 
-    /// Handles a datagram that was received at the request port. If it would open no transfer, it is
-    /// kept: the datagrams of transfers are handled first, and then it is admitted again, since an
-    /// acknowledgement that its client sent just before may free a slot.
+    /// Handles a datagram that was received at the request port. If it would open no transfer, it
+    /// stays pending: the datagrams of transfers are handled first, and then it is admitted again,
+    /// since an acknowledgement that its client sent just before may free a slot.
     fn take_received<N: ServerUdp + Eprint>(
         &mut self,
         rt: &N,
@@ -117,11 +118,11 @@ impl<S: ServedStore + Drop> ServerLoop<S> {
     {
         let bytes = &request[..count];
         let Ok(admission) = self.server.admit(from, bytes) else {
-            self.lose(rt, from, bytes, Lost::Memory);
+            self.lose(rt, Datagram { from, bytes }, Lost::Memory);
             return;
         };
         if admission.may_open() {
-            self.open_request(rt, from, bytes, admission);
+            self.open_request(rt, Datagram { from, bytes }, admission);
             self.pending = None;
             return;
         }
@@ -133,42 +134,40 @@ impl<S: ServedStore + Drop> ServerLoop<S> {
     fn open_request<N: ServerUdp + Eprint>(
         &mut self,
         rt: &N,
-        from: Endpoint,
-        bytes: &[u8],
+        datagram: Datagram<'_>,
         admission: Admission<'_>,
     )
-        requires admitted { IsAdmission self.old.server from bytes.now admission }
+        requires admitted { IsAdmission self.old.server datagram.from datagram.bytes.now admission }
         requires may_open { asks_store admission.ask ≡ true }
-        ensures answers { AnswersPending S.meaning S.Source.meaning from bytes.now self.old
-            self.new }
+        ensures answers { AnswersPending S.meaning S.Source.meaning datagram.entry.from
+            datagram.entry.bytes.now self.old self.new }
         ensures rounds { self.new.rounds ≡ self.old.rounds }
     {
         let Ok(()) = self.ports.try_reserve(1) else {
-            self.lose(rt, from, bytes, Lost::Memory);
+            self.lose(rt, datagram, Lost::Memory);
             return;
         };
         let Some(spare) = self.sockets.port_for(rt, &mut self.journal, &admission) else {
-            self.lose(rt, from, bytes, Lost::Port);
+            self.lose(rt, datagram, Lost::Port);
             return;
         };
-        self.open_at(rt, from, bytes, admission, spare);
+        self.open_at(rt, datagram, admission, spare);
     }
 
     /// Carries out the admission of a datagram that may open a transfer at this port.
     fn open_at<E: Eprint>(
         &mut self,
         rt: &E,
-        from: Endpoint,
-        bytes: &[u8],
+        datagram: Datagram<'_>,
         admission: Admission<'_>,
         spare: ServerSocket,
     )
-        requires admitted { IsAdmission self.old.server from bytes.now admission }
+        requires admitted { IsAdmission self.old.server datagram.from datagram.bytes.now admission }
         requires may_open { asks_store admission.ask ≡ true }
         requires port { IsOfPool self.old.sockets.pool spare }
         requires reserved { vec_len self.old.ports < vec_capacity self.old.ports }
-        ensures answers { AnswersPending S.meaning S.Source.meaning from bytes.now self.old
-            self.new }
+        ensures answers { AnswersPending S.meaning S.Source.meaning datagram.entry.from
+            datagram.entry.bytes.now self.old self.new }
         ensures rounds { self.new.rounds ≡ self.old.rounds }
     {
         let tid = spare.port();
@@ -177,10 +176,10 @@ impl<S: ServedStore + Drop> ServerLoop<S> {
         let opened = self.server.open(admission, tid, &mut self.out);
         let reason = self.server.store().take_reason();
         match opened {
-            Ok(opened) => self.answer_opened(rt, from, bytes, spare, opened, reason),
+            Ok(opened) => self.answer_opened(rt, datagram, spare, opened, reason),
             Err(_) => {
                 self.sockets.give_back(spare);
-                self.lose(rt, from, bytes, Lost::Memory);
+                self.lose(rt, datagram, Lost::Memory);
             }
         }
     }
@@ -190,8 +189,7 @@ impl<S: ServedStore + Drop> ServerLoop<S> {
     fn answer_opened<E: Eprint>(
         &mut self,
         rt: &E,
-        from: Endpoint,
-        bytes: &[u8],
+        datagram: Datagram<'_>,
         spare: ServerSocket,
         opened: Opened,
         reason: Option<Reason>,
@@ -199,12 +197,12 @@ impl<S: ServedStore + Drop> ServerLoop<S> {
         requires reserved { vec_len self.old.ports < vec_capacity self.old.ports }
         requires port { IsOfPool self.old.sockets.pool spare }
         requires tid { IfSome opened.tid (λ tid. tid ≡ spare.port) }
-        ensures { HasAnswered from opened self.old.out.items self.old self.new }
+        ensures { HasAnswered datagram.entry.from opened self.old.out.items self.old self.new }
     {
         match opened.tid {
-            Some(_) => self.begin(rt, from, bytes, spare, opened.to),
+            Some(_) => self.begin(rt, datagram, spare, opened.to),
             None => {
-                self.refuse(rt, opened.to, from, bytes, reason);
+                self.refuse(rt, datagram, opened.to, reason);
                 self.sockets.give_back(spare);
             }
         }
@@ -214,14 +212,13 @@ impl<S: ServedStore + Drop> ServerLoop<S> {
     fn refuse_request<E: Eprint>(
         &mut self,
         rt: &E,
-        from: Endpoint,
-        bytes: &[u8],
+        datagram: Datagram<'_>,
         admission: Admission<'_>,
     )
-        requires admitted { IsAdmission self.old.server from bytes.now admission }
+        requires admitted { IsAdmission self.old.server datagram.from datagram.bytes.now admission }
         requires opens_none { asks_store admission.ask ≡ false }
-        ensures answers { AnswersPending S.meaning S.Source.meaning from bytes.now self.old
-            self.new }
+        ensures answers { AnswersPending S.meaning S.Source.meaning datagram.entry.from
+            datagram.entry.bytes.now self.old self.new }
         ensures rounds { self.new.rounds ≡ self.old.rounds }
     {
         set_store(&mut self.server, &admission, NO_PORT);
@@ -229,15 +226,15 @@ impl<S: ServedStore + Drop> ServerLoop<S> {
         let opened = self.server.open(admission, NO_PORT, &mut self.out);
         let reason = self.server.store().take_reason();
         match opened {
-            Ok(opened) => self.refuse(rt, opened.to, from, bytes, reason),
-            Err(_) => self.lose(rt, from, bytes, Lost::Memory),
+            Ok(opened) => self.refuse(rt, datagram, opened.to, reason),
+            Err(_) => self.lose(rt, datagram, Lost::Memory),
         }
     }
 
     /// Logs a lost request, if there is a log.
-    fn lose<E: Eprint>(&self, rt: &E, from: Endpoint, bytes: &[u8], lost: Lost) {
+    fn lose<E: Eprint>(&self, rt: &E, datagram: Datagram<'_>, lost: Lost) {
         if self.logs {
-            log_lost(rt, self.alloc, from, bytes, lost);
+            log_lost(rt, self.alloc, datagram, lost);
         }
     }
 
@@ -246,22 +243,21 @@ impl<S: ServedStore + Drop> ServerLoop<S> {
     fn refuse<E: Eprint>(
         &mut self,
         rt: &E,
+        datagram: Datagram<'_>,
         to: Option<Endpoint>,
-        from: Endpoint,
-        bytes: &[u8],
         reason: Option<Reason>,
     )
-        ensures answered { HasAnswered from (record { tid = None; to = to }) self.old.out.items
-            self.old self.new }
+        ensures answered { HasAnswered datagram.entry.from (record { tid = None; to = to })
+            self.old.out.items self.old self.new }
         ensures pool { self.new.sockets.pool ≡ self.old.sockets.pool }
     {
         let answer = self.out.as_slice();
         let sent = reply(&self.sockets.requests, &mut self.journal, to, answer);
         if self.logs {
-            log_unopened(rt, self.alloc, from, bytes, answer, reason);
+            log_unopened(rt, self.alloc, datagram, answer, reason);
             if let Err(reason) = sent {
                 let port = self.sockets.requests.port();
-                log_unsent_answer(rt, self.alloc, port, from, bytes, reason);
+                log_unsent_answer(rt, self.alloc, port, datagram, reason);
             }
         }
     }
@@ -270,19 +266,18 @@ impl<S: ServedStore + Drop> ServerLoop<S> {
     fn begin<E: Eprint>(
         &mut self,
         rt: &E,
-        from: Endpoint,
-        bytes: &[u8],
+        datagram: Datagram<'_>,
         spare: ServerSocket,
         to: Option<Endpoint>,
     )
         requires port { IsOneOf self.old.sockets.pool.range spare.port }
         requires reserved { vec_len self.old.ports < vec_capacity self.old.ports }
-        ensures { HasAnswered from (record { tid = Some spare.port; to = to })
+        ensures { HasAnswered datagram.entry.from (record { tid = Some spare.port; to = to })
             self.old.out.items self.old self.new }
     {
         let sent = reply(&spare, &mut self.journal, to, self.out.as_slice());
-        let log_entry = self.log_opened(rt, spare.port(), from, bytes, sent);
-        let port = self.port_of(spare, from, log_entry);
+        let log_entry = self.log_opened(rt, spare.port(), datagram, sent);
+        let port = self.port_of(spare, datagram.from, log_entry);
         self.ports.push_reserved(port);
     }
 
@@ -324,8 +319,7 @@ impl<S: ServedStore + Drop> ServerLoop<S> {
         &self,
         rt: &E,
         tid: u16,
-        from: Endpoint,
-        bytes: &[u8],
+        datagram: Datagram<'_>,
         sent: Result<(), Reason>,
     ) -> Option<LogEntry> {
         if !self.logs {
@@ -333,11 +327,11 @@ impl<S: ServedStore + Drop> ServerLoop<S> {
         }
         let first = self.out.as_slice();
         let reading = self.sockets.watch.reading;
-        let entry = LogEntry::new(self.alloc, from, bytes, first, reading);
+        let entry = LogEntry::new(self.alloc, datagram, first, reading);
         let line = entry.opened(tid);
         let _ = eprintln!(rt; "{line}");
         if let Err(reason) = sent {
-            log_unsent_answer(rt, self.alloc, tid, from, bytes, reason);
+            log_unsent_answer(rt, self.alloc, tid, datagram, reason);
         }
         Some(entry)
     }

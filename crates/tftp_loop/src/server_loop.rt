@@ -9,14 +9,15 @@ ghost use Rattle.tftp_loop.specs.Served.{FailsToPrint, OnlyWorks, OnlyServes, Se
 ghost use Rattle.tftp_loop.specs.Served.{WorksRound};
 ghost use Rattle.tftp_loop.specs.Tended.{ClosesPort, Finishes, HasSlept, HasWoken, HaveTurned};
 ghost use Rattle.tftp_loop.specs.Tended.{IsSettled, IsTended, TakesTurn, Visits, leaves_by};
-ghost use Rattle.tftp_loop.specs.Tended.{leaves_read, leaves_timed, millis_of, timers_of};
+ghost use Rattle.tftp_loop.specs.Tended.{millis_of, timers_of};
 
+use crate::port_turn::{Moment, Turn, take_turn_at};
 use crate::report::{log_unsent, record_of_closed, report_close};
 use crate::server_udp::ServerUdp;
 use crate::serving::{LoopConfig, LoopFault};
 use crate::sockets::Sockets;
 use crate::store::ServedStore;
-use crate::transfer_port::{TransferPort, count_active, mark_all, take_due, take_ready, work_at};
+use crate::transfer_port::{TransferPort, count_active, mark_all, work_at};
 use std::alloc::{AllocError, Global};
 use std::time::Clock;
 use tftp_ends::{Endpoint, Record};
@@ -29,8 +30,8 @@ use tftp_sockets::{
 const MOST_REPORTS: usize = 128;
 
 /// The number of polls before a wait that may sleep, while several transfers are active: some 25
-/// microseconds. A client that sends to a sleeping server has to wake it, which slows all clients of
-/// one processor.
+/// microseconds. A client that sends to a sleeping server has to wake it, which slows all clients
+/// of one processor.
 const POLLS: u32 = 64;
 
 /// A server with its sockets.
@@ -53,15 +54,6 @@ pub(crate) struct ServerLoop<S: Store + Drop> {
     pub(crate) rounds: u64,
     pub(crate) logs: bool,
     pub(crate) alloc: Global,
-}
-
-/// What is done at the port of each transfer.
-#[derive(Clone, Copy)]
-pub(crate) enum Turn {
-    /// If the port is marked, its datagrams are handled.
-    Ready,
-    /// If the port is due, its datagrams are handled, or else its timeout.
-    Due,
 }
 
 /// The ports that a wait reports, and buffers for a datagram of the request port and one of a
@@ -371,45 +363,17 @@ impl<S: ServedStore + Drop> ServerLoop<S> {
         requires settled { IsSettled self.old }
         ensures { TakesTurn S.meaning S.Source.meaning (leaves_by turn) index self.old self.new }
     {
-        match turn {
-            Turn::Ready => self.turn_ready(index, buffer),
-            Turn::Due => self.turn_due(index, buffer),
-        }
-    }
-
-    /// Handles the datagrams at the port of a transfer, if it is marked.
-    fn turn_ready(&mut self, index: usize, buffer: &mut [u8])
-        requires { index < length self.old.ports.items }
-        ensures { TakesTurn S.meaning S.Source.meaning leaves_read index self.old self.new }
-    {
-        let now = self.sockets.watch.now;
-        let active = self.active;
+        let moment = Moment {
+            now: self.sockets.watch.now,
+            active: self.active,
+        };
         let port = &mut self.ports[index];
-        take_ready(
+        take_turn_at(
             &mut self.server,
             port,
             &mut self.journal,
-            now,
-            active,
-            buffer,
-        );
-    }
-
-    /// Handles the datagrams at a port, or else its timeout, if it is due.
-    fn turn_due(&mut self, index: usize, buffer: &mut [u8])
-        requires within { index < length self.old.ports.items }
-        requires settled { IsSettled self.old }
-        ensures { TakesTurn S.meaning S.Source.meaning leaves_timed index self.old self.new }
-    {
-        let now = self.sockets.watch.now;
-        let active = self.active;
-        let port = &mut self.ports[index];
-        take_due(
-            &mut self.server,
-            port,
-            &mut self.journal,
-            now,
-            active,
+            moment,
+            turn,
             buffer,
         );
     }

@@ -11,13 +11,14 @@ use Rattle.tftp_loop.proofs.server_loop.ServerLoop.open_at.Goals as goal
 
 pub returns-in-Ok-clause-answers : goal.returns-in-Ok-clause-answers
 returns-in-Ok-clause-answers g c =
+    let d = c.args.datagram in
     let a = c.answer_opened.ensures in
     let free =
     is_free (at c.port-tid.result c.set_store.new.server.held)
     (λ h. ok-err c.in-Ok.opened _ (c.in-Ok.ensures.in_use.1 h)) in
     sets_and_answers g.S.Store.meaning g.S.Source.Source.meaning
-    (loop_state (Some (c.args.from, c.args.bytes.now)) c.args.self.now) (loop_state None c.answer_opened.new.self)
-    c.args.from c.args.bytes.now c.port-tid.result c.set_store.new.server c.open-opened.new.self c.args.admission
+    (loop_state (Some (d.from, d.bytes.now)) c.args.self.now) (loop_state None c.answer_opened.new.self)
+    d.from d.bytes.now c.port-tid.result c.set_store.new.server c.open-opened.new.self c.args.admission
     c.clear.new.self.items c.open-opened.new.out.items c.in-Ok.opened
     refl c.requires.admitted c.set_store.ensures.rest c.set_store.ensures.same c.set_store.ensures.behind
     c.in-Ok.ensures.carries_out free a.port
@@ -29,21 +30,22 @@ returns-in-Ok-clause-rounds g c = c.answer_opened.ensures.rounds
 
 pub returns-in-Err-clause-answers : goal.returns-in-Err-clause-answers
 returns-in-Err-clause-answers g c =
+    let d = c.args.datagram in
     let back = c.give_back.ensures in
     let why = c.in-Err.ensures in
-    let s = loop_state (Some (c.args.from, c.args.bytes.now)) c.args.self.now in
-    sets_and_loses g.S.Store.meaning g.S.Source.Source.meaning s _ c.args.from c.args.bytes.now c.set_store.new.server
+    let s = loop_state (Some (d.from, d.bytes.now)) c.args.self.now in
+    sets_and_loses g.S.Store.meaning g.S.Source.Source.meaning s _ d.from d.bytes.now c.set_store.new.server
     refl c.set_store.ensures.rest c.set_store.ensures.same c.set_store.ensures.behind
     (elim why.fault [
       | inl e ↦
           Same_port (may_open g.S.Store.meaning g.S.Source.Source.meaning c.args.self.now.server c.set_store.new.server
-          c.args.from c.args.bytes.now c.args.admission c.set_store.ensures.rest c.requires.admitted
+          d.from d.bytes.now c.args.admission c.set_store.ensures.rest c.requires.admitted
           c.requires.may_open)
           c.port-tid.result (subst (λ (port : ℕ). IsOneOf s.range port) (sym c.port-tid.ensures) c.requires.port.port)
           (why.in_use.0 (ap Err e))
       | inr e ↦
           not_carried_out g.S.Store.meaning g.S.Source.Source.meaning (record s { server = c.set_store.new.server }) _
-          c.args.from c.args.bytes.now c.args.self.now.server c.args.admission
+          d.from d.bytes.now c.args.self.now.server c.args.admission
           _ _ c.set_store.ensures.rest c.requires.admitted c.clear.ensures.len (why.why (ap Err e))
     ])
     (same_state _ _ (ap (λ (s : Sockets). s.requests.port) back)

@@ -11,26 +11,28 @@ use Rattle.tftp_loop.proofs.server_loop.ServerLoop.open_request.Goals as goal
 
 pub returns-in_default-clause-answers : goal.returns-in_default-clause-answers
 returns-in_default-clause-answers g c =
-    let s = loop_state (Some (c.args.from, c.args.bytes.now)) c.args.self.now in
+    let d = c.args.datagram in
+    let s = loop_state (Some (d.from, d.bytes.now)) c.args.self.now in
     let ports = c.args.self.now.ports in
     let full = c.in_default.ensures.full in
     let long = length-map ports.items timer_of in
     let same : vec_len ports ≡ length ports.items = search rules in
     let opens =
-    may_open g.S.Store.meaning g.S.Source.Source.meaning c.args.self.now.server c.args.self.now.server c.args.from
-    c.args.bytes.now c.args.admission refl c.requires.admitted c.requires.may_open in
-    loses_as g.S.Store.meaning g.S.Source.Source.meaning s _ c.args.from c.args.bytes.now refl
+    may_open g.S.Store.meaning g.S.Source.Source.meaning c.args.self.now.server c.args.self.now.server d.from
+    d.bytes.now c.args.admission refl c.requires.admitted c.requires.may_open in
+    loses_as g.S.Store.meaning g.S.Source.Source.meaning s _ d.from d.bytes.now refl
     (No_room opens (vec_capacity ports) (omega (arith, full, long, same)))
     (same_state _ _ refl refl refl refl (ap (map timer_of) c.in_default.ensures.items) refl refl refl refl refl)
 
 pub returns-in_default-port_for-clause-answers : goal.returns-in_default-port_for-clause-answers
 returns-in_default-port_for-clause-answers g c =
+    let d = c.args.datagram in
     let same = c.port_for.ensures.same in
-    let s = loop_state (Some (c.args.from, c.args.bytes.now)) c.args.self.now in
+    let s = loop_state (Some (d.from, d.bytes.now)) c.args.self.now in
     let opens =
-    may_open g.S.Store.meaning g.S.Source.Source.meaning c.args.self.now.server c.args.self.now.server c.args.from
-    c.args.bytes.now c.args.admission refl c.requires.admitted c.requires.may_open in
-    tries_in_vain g.S.Store.meaning g.S.Source.Source.meaning s _ c.args.from c.args.bytes.now
+    may_open g.S.Store.meaning g.S.Source.Source.meaning c.args.self.now.server c.args.self.now.server d.from
+    d.bytes.now c.args.admission refl c.requires.admitted c.requires.may_open in
+    tries_in_vain g.S.Store.meaning g.S.Source.Source.meaning s _ d.from d.bytes.now
     c.port_for.new.journal.events refl opens
     c.in_default-port_for.ensures.tries
     (same_state _ _ (ap (λ (s : Sockets). s.requests.port) same) (ap (λ (s : Sockets). s.pool.range) same) refl refl
@@ -39,14 +41,15 @@ returns-in_default-port_for-clause-answers g c =
 
 pub returns-clause-answers : goal.returns-clause-answers
 returns-clause-answers g c =
+    let d = c.args.datagram in
     let same = c.port_for.ensures.same in
-    let s = loop_state (Some (c.args.from, c.args.bytes.now)) c.args.self.now in
+    let s = loop_state (Some (d.from, d.bytes.now)) c.args.self.now in
     let opens =
-    may_open g.S.Store.meaning g.S.Source.Source.meaning c.args.self.now.server c.args.self.now.server c.args.from
-    c.args.bytes.now c.args.admission refl c.requires.admitted c.requires.may_open in
+    may_open g.S.Store.meaning g.S.Source.Source.meaning c.args.self.now.server c.args.self.now.server d.from
+    d.bytes.now c.args.admission refl c.requires.admitted c.requires.may_open in
     let tried : LoopState _ _ _ = record s { events = c.port_for.new.journal.events } in
     tries_first g.S.Store.meaning g.S.Source.Source.meaning s tried _
-    (tried_as g.S.Store.meaning g.S.Source.Source.meaning s c.args.from c.args.bytes.now refl opens
+    (tried_as g.S.Store.meaning g.S.Source.Source.meaning s d.from d.bytes.now refl opens
     c.in-Some.ensures.tries)
     (subst (λ (u : LoopState _ _ _). Concludes g.S.Store.meaning g.S.Source.Source.meaning u
     (loop_state None c.open_at.new.self))

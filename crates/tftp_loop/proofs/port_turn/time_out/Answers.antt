@@ -2,7 +2,7 @@ use Rattle.std.proofs.Common.{ap}
 use Rattle.std.specs.Prelude.{option_map}
 use Rattle.tftp_ends.specs.Step.{lent}
 use Rattle.tftp_loop.proofs.PortLemmas.{bytes_lent, found_timed, timed_out}
-use Rattle.tftp_loop.proofs.transfer_port.time_out.Goals as goal
+use Rattle.tftp_loop.proofs.port_turn.time_out.Goals as goal
 
 pub returns-clause-steps : goal.returns-clause-steps
 returns-clause-steps g c =

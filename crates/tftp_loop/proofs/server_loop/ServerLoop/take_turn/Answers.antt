@@ -2,10 +2,10 @@ use Rattle.std.proofs.Common.{sym, subst}
 use Rattle.tftp_loop.specs.Served.{timer_of}
 use Rattle.tftp_loop.specs.Tended.{IsHeld}
 use Rattle.tftp_loop.proofs.ListLemmas.{map_is, map_within}
-use Rattle.tftp_loop.proofs.server_loop.ServerLoop.turn_due.Goals as goal
+use Rattle.tftp_loop.proofs.server_loop.ServerLoop.take_turn.Goals as goal
 
-pub take_due-requires : goal.take_due-requires
-take_due-requires g c =
+pub take_turn_at-requires : goal.take_turn_at-requires
+take_turn_at-requires g c =
     let ports = c.args.self.now.ports.items in
     let port = c.index_mut-port.result.now in
     let each =

@@ -1,0 +1,9 @@
+use Rattle.std.proofs.Common.{◌≡◌, ◌⊎◌}
+use Rattle.tftp_loop.specs.PortTurn.{IsTried, ServesTurn}
+use Rattle.tftp_loop.proofs.port_turn.PortTurn.take_datagrams.Given as goal
+
+-- what was done, with at most a datagram at a time, and that the port was read, unless this is the first time
+abbrev pub invariant-loop-turn : goal.invariant-loop-turn
+invariant-loop-turn g l =
+    ServesTurn g.S.Store.meaning g.S.Source.Source.meaning l.turn l.initial.self l.self
+    × ((l.turn ≡ 0) ⊎ (IsTried l.self × (l.self.port.now.due ≡ l.self.port.now.socket.times_out_at)))

@@ -1,0 +1,24 @@
+use Rattle.std.proofs.Common.{refl, ap, ◌∙◌}
+use Rattle.tftp_loop.specs.Serves.{Timer}
+use Rattle.tftp_loop.specs.Served.{timer_of}
+use Rattle.tftp_loop.proofs.PortRuns.{elapses_either}
+use Rattle.tftp_loop.proofs.TurnLemmas.{elapses_none}
+use Rattle.tftp_loop.proofs.port_turn.PortTurn.take_timeout.Goals as goal
+
+pub returns-clause-serves : goal.returns-clause-serves
+returns-clause-serves g c =
+    let old = c.args.self.now in
+    let same = ap (λ (t : Timer). t.port) c.restart.ensures in
+    record {
+      same = record { server = refl; port = refl; journal = refl; now = refl; active = refl };
+      serves =
+          elapses_either g.S.Store.meaning g.S.Source.Source.meaning old.now old.server.now c.time_out.new.server
+          (timer_of old.port.now) (timer_of c.restart.new.port)
+          old.journal.now.events c.elapsed.new.self.events c.time_out.new.journal.events c.port-number.result c.time_out.result
+          c.restart.new.port.socket.udp.port
+          c.requires.due c.requires.tried c.requires.look c.elapsed.ensures
+          (c.port-number.ensures ∙ same) same c.time_out.ensures.steps c.restart.ensures;
+      received =
+          elapses_none c.port-number.result old.now old.journal.now.events c.elapsed.new.self.events
+          c.time_out.new.journal.events c.elapsed.ensures c.time_out.ensures.received;
+    }

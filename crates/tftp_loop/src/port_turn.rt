@@ -1,0 +1,344 @@
+//! A turn at the port of a transfer: its datagrams, and its timeout.
+
+ghost use Rattle.std.specs.Prelude.{◌≡◌, ◌≤◌, ◌⊎◌, IsSome, MatchOption, IfSome};
+ghost use Rattle.std.specs.Prelude.{false, ℕ};
+ghost use Rattle.tftp_server.specs.State.{at, is_open, taken_of};
+ghost use Rattle.tftp_loop.specs.Fair.{ReceivesAtMost};
+ghost use Rattle.tftp_loop.specs.PortTurn.{AnswersReceived, HasStatus, IsTried, ServesTurn};
+ghost use Rattle.tftp_loop.specs.PortTurn.{at_turn};
+ghost use Rattle.tftp_loop.specs.Serves.{AnswersDatagram, AnswersTimeout, LosesDatagram};
+ghost use Rattle.tftp_loop.specs.Serves.{Timer, WorksAtPort, restarted, timer_after};
+ghost use Rattle.tftp_loop.specs.Served.{OnlyServesPort, at_port, timer_of};
+ghost use Rattle.tftp_loop.specs.Tended.{IsTimed, KeepsTries, LeavesTimer, leaves_by, leaves_read};
+ghost use Rattle.tftp_loop.specs.Tended.{leaves_timed};
+
+use crate::datagram::Datagram;
+use crate::log_entry::LogEntry;
+use crate::transfer_port::{
+    TransferPort, mark_empty, mark_ready, note_step, reply, restart, work_at,
+};
+use tftp_ends::{Endpoint, Step};
+use tftp_lines::Reason;
+use tftp_server::{Server, Store};
+use tftp_sockets::{Journal, Receipt, ServerSocket, is_due};
+
+/// The most datagrams received from one socket in a turn, so that a flood at one port does not
+/// starve the others.
+const MOST_AT_ONCE: usize = 32;
+
+const _: () = prove!(1 <= MOST_AT_ONCE && MOST_AT_ONCE <= 32);
+
+/// What is done at the port of each transfer.
+#[derive(Clone, Copy)]
+pub(crate) enum Turn {
+    /// If the port is marked, its datagrams are handled.
+    Ready,
+    /// If the port is due, its datagrams are handled, or else its timeout.
+    Due,
+}
+
+/// The result of a receive at a transfer's port.
+#[derive(Clone, Copy, PartialEq, Eq)]
+enum PortStatus {
+    /// No datagram was received.
+    Empty,
+    /// The transfer advanced. Datagrams that are left are received once a wait reports the port, or
+    /// when it is due.
+    Onward,
+    /// Datagrams may be left.
+    Unfinished,
+    /// The transfer closed.
+    Closed,
+}
+
+/// When a turn is taken.
+#[derive(Clone, Copy)]
+pub(crate) struct Moment {
+    /// The time of the watch, in milliseconds.
+    pub(crate) now: u64,
+    /// The number of active transfers.
+    pub(crate) active: usize,
+}
+
+/// Takes a turn at the port of a transfer.
+pub(crate) fn take_turn_at<S: Store>(
+    server: &mut Server<S>,
+    port: &mut TransferPort,
+    journal: &mut Journal,
+    moment: Moment,
+    turn: Turn,
+    buffer: &mut [u8],
+)
+    requires { port.old.due ≤ port.old.socket.times_out_at }
+    ensures serves { OnlyServesPort S.meaning S.Source.meaning moment.now server.old port.old
+        journal.old server.new port.new journal.new }
+    ensures leaves { leaves_by turn (at_port server.new port.new journal.new) moment.now }
+    ensures received { ReceivesAtMost MOST_AT_ONCE journal.old.events journal.new.events }
+{
+    let mut at_port = PortTurn {
+        server,
+        port,
+        journal,
+        now: moment.now,
+        active: moment.active,
+    };
+    at_port.take(turn, buffer);
+}
+
+/// A turn at the port of a transfer: what its steps read and change.
+#[derive(Drop)]
+struct PortTurn<'a, S: Store> {
+    server: &'a mut Server<S>,
+    port: &'a mut TransferPort,
+    journal: &'a mut Journal,
+    /// The time of the watch, in milliseconds.
+    now: u64,
+    /// The number of active transfers.
+    active: usize,
+}
+
+impl<S: Store> PortTurn<'_, S> {
+    /// Takes the turn.
+    fn take(&mut self, turn: Turn, buffer: &mut [u8])
+        requires { self.old.port.now.due ≤ self.old.port.now.socket.times_out_at }
+        ensures serves { ServesTurn S.meaning S.Source.meaning MOST_AT_ONCE self.old self.new }
+        ensures leaves { leaves_by turn (at_turn self.new) self.old.now }
+    {
+        match turn {
+            Turn::Ready => self.take_ready(buffer),
+            Turn::Due => self.take_due(buffer),
+        }
+    }
+
+    /// Handles the datagrams at the port, if it is marked.
+    fn take_ready(&mut self, buffer: &mut [u8])
+        ensures serves { ServesTurn S.meaning S.Source.meaning MOST_AT_ONCE self.old self.new }
+        ensures read { leaves_read (at_turn self.new) self.new.now }
+    {
+        if self.port.is_ready {
+            self.take_datagrams(buffer);
+        }
+    }
+
+    /// Handles the datagrams at the port, if it is due. Without progress, delivers the timeout if
+    /// that is due.
+    fn take_due(&mut self, buffer: &mut [u8])
+        requires { self.old.port.now.due ≤ self.old.port.now.socket.times_out_at }
+        ensures serves { ServesTurn S.meaning S.Source.meaning MOST_AT_ONCE self.old self.new }
+        ensures timed { leaves_timed (at_turn self.new) self.new.now }
+    {
+        if !is_due(self.now, self.port.due) {
+            return;
+        }
+        let status = self.take_datagrams(buffer);
+        if status == PortStatus::Closed {
+            return;
+        }
+        if status == PortStatus::Onward {
+            return;
+        }
+        self.time_out_if_due();
+    }
+
+    /// Handles datagrams, until the transfer advances or closes, or none is left.
+    fn take_datagrams(&mut self, buffer: &mut [u8]) -> PortStatus
+        ensures serves { ServesTurn S.meaning S.Source.meaning MOST_AT_ONCE self.old self.new }
+        ensures status { HasStatus result self.new }
+        ensures tried { IsTried self.new }
+    {
+        for turn in 0..MOST_AT_ONCE {
+            match self.take_datagram(buffer) {
+                PortStatus::Unfinished => {}
+                status => return status,
+            }
+        }
+        PortStatus::Unfinished
+    }
+
+    /// Receives a datagram, if there is one, and handles it. It is lost when out of memory.
+    fn take_datagram(&mut self, buffer: &mut [u8]) -> PortStatus
+        ensures serves { ServesTurn S.meaning S.Source.meaning 1 self.old self.new }
+        ensures status { HasStatus result self.new }
+        ensures tried { IsTried self.new }
+    {
+        match self.port.socket.udp.receive(self.journal, buffer) {
+            Receipt::Datagram(from, count) => {
+                let bytes = &buffer[..count];
+                self.answer_received(Datagram { from, bytes })
+            }
+            Receipt::Nothing => {
+                mark_empty(self.port);
+                PortStatus::Empty
+            }
+            Receipt::Failed => {
+                mark_ready(self.port);
+                PortStatus::Empty
+            }
+        }
+    }
+
+    /// Handles a datagram that was received at the port, and sends the answer. After that the file
+    /// reads ahead or is written back.
+    fn answer_received(&mut self, datagram: Datagram<'_>) -> PortStatus
+        ensures answers { AnswersReceived S.meaning S.Source.meaning datagram.entry self.old
+            self.new }
+        ensures status { HasStatus result self.new }
+    {
+        let tid = self.port.socket.udp.port();
+        let socket = &mut self.port.socket;
+        let Some(step) = handle(
+            self.server,
+            tid,
+            &socket.udp,
+            &mut socket.log_entry,
+            self.journal,
+            datagram,
+        ) else {
+            mark_ready(self.port);
+            return PortStatus::Unfinished;
+        };
+        note_step(self.port, self.now, &step);
+        work_after(self.server, self.port, &step, self.active);
+        status_of(&step)
+    }
+
+    /// Delivers the timeout, if it is due.
+    fn time_out_if_due(&mut self)
+        requires tried { IsTried self.old }
+        requires look { self.old.port.now.due ≡ self.old.port.now.socket.times_out_at }
+        ensures serves { ServesTurn S.meaning S.Source.meaning 0 self.old self.new }
+        ensures timed { IsTimed self.new.now (timer_of self.new.port.now) }
+    {
+        if is_due(self.now, self.port.socket.times_out_at) {
+            self.take_timeout();
+        }
+    }
+
+    /// Delivers the timeout, and sends the datagram of its step.
+    fn take_timeout(&mut self)
+        requires due { self.old.port.now.socket.times_out_at ≤ self.old.now }
+        requires tried { IsTried self.old }
+        requires look { self.old.port.now.due ≡ self.old.port.now.socket.times_out_at }
+        ensures serves { ServesTurn S.meaning S.Source.meaning 0 self.old self.new }
+        ensures timer { timer_of self.new.port.now
+            ≡ restarted self.new.now (timer_of self.old.port.now) }
+    {
+        restart(self.port, self.now);
+        let number = self.port.socket.udp.port();
+        self.journal.elapsed(number, self.now);
+        let socket = &self.port.socket;
+        time_out(self.server, &socket.udp, &socket.log_entry, self.journal);
+    }
+}
+
+/// Handles a datagram for the transfer at the socket's port, and sends the answer. `None` when out
+/// of memory, or if no transfer is open.
+fn handle<S: Store>(
+    server: &mut Server<S>,
+    tid: u16,
+    udp: &ServerSocket,
+    log_entry: &mut Option<LogEntry>,
+    journal: &mut Journal,
+    datagram: Datagram<'_>,
+) -> Option<Step>
+    requires { tid ≡ udp.now.port }
+    ensures handled { MatchOption result
+        (LosesDatagram S.meaning S.Source.meaning udp.now.port datagram.entry.from
+        datagram.entry.bytes.now server.old server.new × (journal.new.events ≡ journal.old.events))
+        (λ step. AnswersDatagram S.meaning S.Source.meaning udp.now.port datagram.entry.from
+        datagram.entry.bytes.now server.old server.new journal.old.events journal.new.events step) }
+    ensures closed { IfSome result (λ step. IsSome step.closed
+        → IsSome (taken_of (at udp.now.port server.new.held))) }
+    ensures tries { KeepsTries journal.old.events journal.new.events }
+    ensures received { ReceivesAtMost 0 journal.old.events journal.new.events }
+{
+    let Datagram { from, bytes } = datagram;
+    let Ok((step, outgoing)) = server.handle_datagram(tid, from, bytes) else {
+        return None;
+    };
+    let answer = server.bytes_of(tid, outgoing).unwrap_or(&[]);
+    let sent = reply(udp, journal, step.to, answer);
+    keep_unsent(log_entry, sent);
+    count_data(log_entry, &step, answer);
+    count_data(log_entry, &step, bytes);
+    Some(step)
+}
+
+/// Counts the DATA bytes of a datagram, if its step was progress and there is a log.
+fn count_data(log_entry: &mut Option<LogEntry>, step: &Step, datagram: &[u8]) {
+    if let Some(entry) = log_entry {
+        if step.progress {
+            entry.count(datagram);
+        }
+    }
+}
+
+/// Stores for the log, if there is one, why the system refused to send a datagram.
+fn keep_unsent(log_entry: &Option<LogEntry>, sent: Result<(), Reason>) {
+    let Err(reason) = sent else {
+        return;
+    };
+    if let Some(entry) = log_entry {
+        entry.keep_unsent(reason);
+    }
+}
+
+/// Lets the file read ahead or be written back after progress, if the transfer is still open and no
+/// more transfers are active than its limit.
+fn work_after<S: Store>(server: &mut Server<S>, port: &TransferPort, step: &Step, active: usize)
+    ensures works { (server.new ≡ server.old)
+        ⊎ WorksAtPort S.meaning S.Source.meaning port.now.socket.udp.port server.old server.new }
+    ensures closed { IsSome step.now.closed → server.new ≡ server.old }
+{
+    if active > port.socket.file_work_limit {
+        return;
+    }
+    if !step.progress {
+        return;
+    }
+    if step.closed.is_some() {
+        return;
+    }
+    work_at(server, port);
+}
+
+/// The result of a step.
+fn status_of(step: &Step) -> PortStatus
+    ensures closed { result ≡ PortStatus.Closed → IsSome step.now.closed }
+    ensures timer { (now : ℕ) (timer : Timer)
+        → LeavesTimer result now (timer_after now step.now.progress timer) }
+{
+    if step.closed.is_some() {
+        return PortStatus::Closed;
+    }
+    if step.progress {
+        PortStatus::Onward
+    } else {
+        PortStatus::Unfinished
+    }
+}
+
+/// Makes the timeout step of the transfer at the socket's port, and sends its datagram. `None` if
+/// no transfer is open.
+fn time_out<S: Store>(
+    server: &mut Server<S>,
+    udp: &ServerSocket,
+    log_entry: &Option<LogEntry>,
+    journal: &mut Journal,
+) -> Option<Step>
+    ensures steps { MatchOption result
+        ((is_open (at udp.now.port server.old.held) ≡ false) × (server.new ≡ server.old)
+        × (journal.new.events ≡ journal.old.events))
+        (λ step. AnswersTimeout udp.now.port server.old server.new journal.old.events
+        journal.new.events step) }
+    ensures received { ReceivesAtMost 0 journal.old.events journal.new.events }
+{
+    let tid = udp.port();
+    let Ok((step, outgoing)) = server.handle_timeout(tid) else {
+        return None;
+    };
+    let answer = server.bytes_of(tid, outgoing).unwrap_or(&[]);
+    let sent = reply(udp, journal, step.to, answer);
+    keep_unsent(log_entry, sent);
+    Some(step)
+}
