@@ -5,9 +5,9 @@ use Rattle.tftp_wire.specs.declared.mode.Mode.TheVariants.{Octet, Netascii}
 use Rattle.tftp_negotiate.specs.declared.asked.Asked.{Asked}
 use Rattle.tftp_negotiate.specs.declared.known.Kind.{Kind}
 use Rattle.tftp_negotiate.specs.declared.known.Kind.TheVariants.{Read, Write}
+use Rattle.tftp_disk.specs.declared.existing.Existing.TheVariants.{Refused, Replaced}
 use Rattle.tftp_arguments.specs.Read.{IsChosen, IsFlag, IsNumber, Reads}
 use Rattle.tftp_sockets.specs.Address.{Names}
-use Rattle.tftp_client.specs.declared.local.Existing.TheVariants.{Refused, Replaced}
 use Rattle.tftp_client.specs.declared.transfer.Job.{Job}
 
 -- the direction of a subcommand

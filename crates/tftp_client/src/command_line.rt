@@ -4,14 +4,13 @@ ghost use Rattle.std.specs.Prelude.{◌≡◌, ◌≤◌, codes, Some, None, map
 ghost use Rattle.std.specs.Prelude.{IfOk, IfErr, IfSome};
 ghost use Rattle.clap.specs.Simple.{App, subcommand_rows_of};
 ghost use Rattle.tftp_wire.specs.declared.mode.Mode.TheVariants.{Octet, Netascii};
+ghost use Rattle.tftp_disk.specs.declared.existing.Existing.TheVariants.{Refused, Replaced};
 ghost use Rattle.tftp_arguments.specs.Read.{IsChosen, read_of, text_of};
 ghost use Rattle.tftp_arguments.specs.Rules.{HasRule, IsApp, by_default, within, word_rule};
 ghost use Rattle.tftp_client.specs.CommandLine.{AsksAs, NamesJob, kind_named};
 ghost use Rattle.tftp_client.specs.Words.{NamesBy, WordsName, bare_app, get_app, put_app, tftp_app};
 ghost use Rattle.tftp_client.specs.Words.{with_asked, with_options, with_reports};
-ghost use Rattle.tftp_client.specs.declared.local.Existing.TheVariants.{Refused, Replaced};
 
-use crate::local::Existing;
 use crate::transfer::{Job, Progress};
 use clap::error::ErrorKind;
 use clap::{Arg, ArgMatches, Command, value_parser};
@@ -19,6 +18,7 @@ use std::alloc::{AllocError, Global};
 use std::convert::AsStr;
 use std::io::IsTerminal;
 use tftp_arguments::{VERSION, flag, is_set, number, print_usage, word};
+use tftp_disk::Existing;
 use tftp_negotiate::{Asked, DEFAULT_BLOCK, Kind, MAX_BLOCK, MIN_BLOCK};
 use tftp_sockets::endpoint_in;
 use tftp_wire::Mode;

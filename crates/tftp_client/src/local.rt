@@ -15,7 +15,9 @@ use std::fs::{self, OpenFile, OpenOptions, Permissions};
 use std::io::{self, BufReader, ErrorKind, Read, Seek};
 use std::os::unix::fs::MetadataExt;
 use std::rt::Files;
-use tftp_disk::{BlockWriter, ErrorKeeper, Folder, check_length, length_on_wire, name_fault};
+use tftp_disk::{
+    BlockWriter, ErrorKeeper, Existing, Folder, check_length, length_on_wire, name_fault,
+};
 use tftp_file::{Ahead, MAX_WIRE, ReadSource, Sink, StoreFault};
 use tftp_wire::Mode;
 
@@ -24,15 +26,6 @@ const READ_BUFFER: usize = 32_768;
 
 /// The number of unsynced bytes at which a fetched file is synced.
 const MOST_UNSYNCED: u64 = 4 << 20;
-
-/// What becomes of a LOCAL that exists.
-#[derive(Clone, Copy, PartialEq, Eq)]
-pub(crate) enum Existing {
-    /// It stays, and nothing is fetched.
-    Refused,
-    /// A regular file is replaced at the commit, with its permissions.
-    Replaced,
-}
 
 /// The source of a file to send.
 pub(crate) type LocalSource<F> = Ahead<ReadSource<BufReader<ErrorKeeper<F>>>>;
@@ -171,7 +164,7 @@ impl<R: Files + Drop> LocalFile<R> {
         ensures fault { result ≢ Memory }
         ensures taken { self.new.taken ≡ self.old.taken }
     {
-        let fault = name_fault(&error, false);
+        let fault = name_fault(&error, Existing::Refused);
         self.error = Some(error);
         fault
     }

@@ -18,7 +18,7 @@ ghost use Rattle.tftp_client.specs.Runs.{RunsAs, RunsJob, Stops, Transfers};
 ghost use Rattle.tftp_client.specs.Runs.{begun, measured, opens, plain, sent_from};
 
 use crate::client_udp::ClientUdp;
-use crate::local::{Existing, LocalFile, LocalSource, Outbound, read_error};
+use crate::local::{LocalFile, LocalSource, Outbound, read_error};
 pub(crate) use crate::transfer::completed::Completed;
 use crate::transfer::conversation::Conversation;
 pub(crate) use crate::transfer::conversation::Progress;
@@ -30,6 +30,7 @@ use std::io::Read;
 use std::net::{Ipv4Addr, SocketAddr};
 use std::rt::Files as FileSystem;
 use std::time::Clock;
+use tftp_disk::Existing;
 use tftp_ends::{End, EndConfig, Endpoint, Outcome};
 use tftp_file::{Files, MAX_WIRE, Sink, Source};
 use tftp_lines::ClientOutcome;

@@ -1,7 +1,14 @@
 -- The faults that a disk error may become (ours).
-use Rattle.std.specs.Prelude.{◌≡◌, Bool, false}
+use Rattle.std.specs.Prelude.{◌≡◌, Bool, true, false}
 use Rattle.tftp_file.specs.declared.fault.StoreFault.{StoreFault}
 use Rattle.tftp_file.specs.declared.fault.StoreFault.TheVariants.{Missing, Exists, Full, Io, Memory}
+use Rattle.tftp_disk.specs.declared.existing.Existing.{Existing}
+use Rattle.tftp_disk.specs.declared.existing.Existing.TheVariants.{Refused, Replaced}
+
+-- whether a file that has the name already may be replaced
+abbrev pub is_replaced : Existing → Bool
+is_replaced Refused = false
+is_replaced Replaced = true
 
 -- at the opening of a file: it is missing, it may not be served, or out of memory
 abbrev pub MayNotOpen : StoreFault → Type 0

@@ -4,8 +4,9 @@ ghost use Rattle.std.specs.Prelude.{◌≡◌, ◌≢◌, ◌<◌, ◌≤◌, mi
 ghost use Rattle.tftp_file.specs.Length.{up_to};
 ghost use Rattle.tftp_wire.specs.declared.mode.Mode.TheVariants.{Octet};
 ghost use Rattle.tftp_file.specs.declared.fault.StoreFault.TheVariants.{Memory};
-ghost use Rattle.tftp_disk.specs.DiskFault.{MayNotOpen, MayNotStore, MayNotName};
+ghost use Rattle.tftp_disk.specs.DiskFault.{MayNotOpen, MayNotStore, MayNotName, is_replaced};
 
+use crate::existing::Existing;
 use std::io::{self, ErrorKind, Read, Seek, SeekFrom};
 use tftp_file::{FileFault, MAX_WIRE, StoreFault, wire_length_up_to};
 use tftp_wire::Mode;
@@ -84,12 +85,12 @@ pub fn write_fault(error: &io::Error) -> StoreFault
     }
 }
 
-/// The fault for an error at naming a draft; with `replace`, never `Exists`.
-pub fn name_fault(error: &io::Error, replace: bool) -> StoreFault
-    ensures named { MayNotName replace result }
+/// The fault for an error at naming a draft; never `Exists` if a file may be replaced.
+pub fn name_fault(error: &io::Error, existing: Existing) -> StoreFault
+    ensures named { MayNotName (is_replaced existing) result }
     ensures not_memory { result ≢ Memory }
 {
-    if !replace && error.kind() == ErrorKind::AlreadyExists {
+    if existing == Existing::Refused && error.kind() == ErrorKind::AlreadyExists {
         return StoreFault::Exists;
     }
     write_fault(error)

@@ -9,9 +9,11 @@
 mod block_writer;
 mod disk;
 mod error_keeper;
+mod existing;
 mod folder;
 
 pub use block_writer::BlockWriter;
 pub use disk::{check_length, length_on_wire, name_fault, open_fault, write_fault};
 pub use error_keeper::ErrorKeeper;
+pub use existing::Existing;
 pub use folder::Folder;

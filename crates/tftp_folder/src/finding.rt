@@ -1,7 +1,7 @@
 //! Finds the files of a folder on the system.
 
 ghost use Rattle.std.specs.Prelude.{◌≡◌, IfErr, IfOk};
-ghost use Rattle.tftp_disk.specs.DiskFault.{MayNotOpen, MayNotStore, MayNotBegin};
+ghost use Rattle.tftp_disk.specs.DiskFault.{MayNotOpen, MayNotStore, MayNotBegin, is_replaced};
 
 use crate::folder_store::FolderStore;
 use crate::naming::{FileId, folder_of, has_no_link};
@@ -10,6 +10,7 @@ use std::fs::{self, Metadata, OpenFile, OpenOptions, Permissions};
 use std::io::{self, ErrorKind};
 use std::os::unix::fs::{MetadataExt, PermissionsExt};
 use std::rt::Files;
+use tftp_disk::Existing;
 use tftp_file::{Path, StoreFault};
 use tftp_lines::Reason;
 
@@ -165,9 +166,9 @@ impl<R: Files + Drop> FolderStore<R> {
         &self,
         alloc: Global,
         path: &Path,
-        replace: bool,
+        existing: Existing,
     ) -> Result<Place, StoreFault>
-        ensures { IfErr result (MayNotBegin replace) }
+        ensures { IfErr result (MayNotBegin (is_replaced existing)) }
     {
         let location = match self.walk(alloc, path) {
             Ok(location) => location,
@@ -176,7 +177,7 @@ impl<R: Files + Drop> FolderStore<R> {
             Err(StoreFault::Missing) => return Err(self.refused(Reason::NoFolder)),
             Err(_) => return Err(StoreFault::Io),
         };
-        if location.found.is_some() && !replace {
+        if location.found.is_some() && existing == Existing::Refused {
             return Err(StoreFault::Exists);
         }
         if location.has_link {

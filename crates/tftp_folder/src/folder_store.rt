@@ -4,7 +4,7 @@ ghost use Rattle.std.specs.Prelude.{◌≡◌, ◌≢◌, ℕ, List, true, false
 ghost use Rattle.std.specs.Prelude.{IfSome, OnErr};
 ghost use Rattle.std.specs.String.{string_bytes};
 ghost use Rattle.tftp_file.specs.Path.{path_of_name};
-ghost use Rattle.tftp_disk.specs.DiskFault.{MayNotOpen, MayNotStore, MayNotName};
+ghost use Rattle.tftp_disk.specs.DiskFault.{MayNotOpen, MayNotStore, MayNotName, is_replaced};
 ghost use Rattle.tftp_folder.specs.Settings.{SameSettings};
 ghost use Rattle.tftp_folder.specs.Uploads.{IsBelow, path_below};
 
@@ -17,7 +17,7 @@ use std::cell::Cell;
 use std::fs::{self, Metadata};
 use std::io::{self, ErrorKind};
 use std::rt::Files;
-use tftp_disk::{check_length, name_fault, open_fault, write_fault};
+use tftp_disk::{Existing, check_length, name_fault, open_fault, write_fault};
 use tftp_file::{FileFault, MAX_WIRE, Path, PathFault, StoreFault, path_of};
 use tftp_lines::{Reason, reason_of};
 use tftp_loop::ServedStore;
@@ -172,11 +172,11 @@ impl<R: Files + Drop> FolderStore<R> {
     }
 
     /// The fault of a failed rename or link; keeps the reason.
-    fn name_refused(&self, error: &io::Error, replace: bool) -> StoreFault
-        ensures named { MayNotName replace result }
+    fn name_refused(&self, error: &io::Error, existing: Existing) -> StoreFault
+        ensures named { MayNotName (is_replaced existing) result }
         ensures not_memory { result ≢ StoreFault.Memory }
     {
-        let fault = name_fault(error, replace);
+        let fault = name_fault(error, existing);
         self.keep_reason(fault, reason_of(error));
         fault
     }
@@ -323,7 +323,7 @@ impl<R: Files + Drop> Store for FolderStore<R> {
     {
         self.reason.clear();
         self.check_admitted(path)?;
-        let place = self.place_to_write(alloc, path, replace)?;
+        let place = self.place_to_write(alloc, path, Existing::of(replace))?;
         let folder = self.drafts.as_str();
         let port = self.port;
         let draft = format!(in alloc; "{folder}/.tftp-{port}")?;
@@ -355,9 +355,10 @@ impl<R: Files + Drop> Store for FolderStore<R> {
         if let Err(error) = draft.finish() {
             return Err(self.write_refused(&error));
         }
-        match give_name(&self.files, self.root.as_str(), draft, replace) {
+        let existing = Existing::of(replace);
+        match give_name(&self.files, self.root.as_str(), draft, existing) {
             Ok(()) => Ok(()),
-            Err(NameFault::System(error)) => Err(self.name_refused(&error, replace)),
+            Err(NameFault::System(error)) => Err(self.name_refused(&error, existing)),
             Err(NameFault::Replaced(reason)) => Err(self.refused(reason)),
         }
     }

@@ -5,7 +5,7 @@ use std::fs::{self, Metadata};
 use std::io::{self, ErrorKind};
 use std::os::unix::fs::MetadataExt;
 use std::rt::Files;
-use tftp_disk::Folder;
+use tftp_disk::{Existing, Folder};
 use tftp_lines::Reason;
 
 /// The most folders on a path below the root.
@@ -51,7 +51,7 @@ pub(crate) fn give_name<R: Files>(
     files: &R,
     root: &str,
     draft: &FolderDraft<R::File>,
-    replace: bool,
+    existing: Existing,
 ) -> Result<(), NameFault> {
     if !draft.is_at(files, draft.draft.as_str()) {
         return Err(NameFault::Replaced(Reason::DraftReplaced));
@@ -62,7 +62,7 @@ pub(crate) fn give_name<R: Files>(
     }
     // The folder is opened first: if that fails, no name is given.
     match Folder::of(files, draft.target.as_str()) {
-        Ok(folder) => name_in(files, &folder, root, draft, replace),
+        Ok(folder) => name_in(files, &folder, root, draft, existing),
         Err(error) => Err(NameFault::System(error)),
     }
 }
@@ -73,19 +73,19 @@ fn name_in<R: Files>(
     folder: &Folder<R::File>,
     root: &str,
     draft: &FolderDraft<R::File>,
-    replace: bool,
+    existing: Existing,
 ) -> Result<(), NameFault> {
     let (path, target) = (draft.draft.as_str(), draft.target.as_str());
-    if let Err(error) = put_name(files, path, target, replace) {
+    if let Err(error) = put_name(files, path, target, existing) {
         return Err(NameFault::System(error));
     }
-    if let Err(reason) = look_again(files, root, draft, replace) {
+    if let Err(reason) = look_again(files, root, draft, existing) {
         return Err(NameFault::Replaced(reason));
     }
     match folder.sync() {
         Ok(()) => Ok(()),
         Err(error) => {
-            if !replace {
+            if existing == Existing::Refused {
                 let _ = fs::remove_file(files, target);
             }
             Err(NameFault::System(error))
@@ -94,11 +94,10 @@ fn name_in<R: Files>(
 }
 
 /// Names the file at a path, by a rename if it may replace one.
-fn put_name<R: Files>(files: &R, path: &str, target: &str, replace: bool) -> io::Result<()> {
-    if replace {
-        fs::rename(files, path, target)
-    } else {
-        name_new(files, path, target)
+fn put_name<R: Files>(files: &R, path: &str, target: &str, existing: Existing) -> io::Result<()> {
+    match existing {
+        Existing::Refused => name_new(files, path, target),
+        Existing::Replaced => fs::rename(files, path, target),
     }
 }
 
@@ -108,7 +107,7 @@ fn look_again<R: Files>(
     files: &R,
     root: &str,
     draft: &FolderDraft<R::File>,
-    replace: bool,
+    existing: Existing,
 ) -> Result<(), Reason> {
     let target = draft.target.as_str();
     let is_in_place = leads_to(files, root, folder_of(target), draft.folder);
@@ -116,7 +115,7 @@ fn look_again<R: Files>(
     if is_in_place && is_of_draft {
         return Ok(());
     }
-    if is_of_draft || (is_in_place && !replace) {
+    if is_of_draft || (is_in_place && existing == Existing::Refused) {
         let _ = fs::remove_file(files, target);
     }
     if is_in_place {

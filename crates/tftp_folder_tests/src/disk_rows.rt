@@ -10,6 +10,7 @@ use std::alloc::Global;
 use std::process::{self, Abort};
 use std::rc::Rc;
 use std::rt::Files;
+use tftp_disk::Existing;
 use tftp_file::{MAX_WIRE, Path, StoreFault, path_of};
 use tftp_folder::{FolderStore, ServedStore};
 use tftp_lines::Reason;
@@ -79,8 +80,9 @@ fn a_file_is_measured_once(rt: HostRuntime) {
 }
 
 /// Begins a draft of the file `n`.
-fn begun<S: Store>(rt: &impl Abort, alloc: Global, store: &mut S, replace: bool) -> S::Draft {
+fn begun<S: Store>(rt: &impl Abort, alloc: Global, store: &mut S, existing: Existing) -> S::Draft {
     let path = path(rt, alloc, "n");
+    let replace = existing == Existing::Replaced;
     store.begin(alloc, &path, replace).expect(rt, "a draft")
 }
 
@@ -96,8 +98,9 @@ fn commits<S: Store>(
     alloc: Global,
     store: &mut S,
     draft: &mut S::Draft,
-    replace: bool,
+    existing: Existing,
 ) -> Result<(), StoreFault> {
+    let replace = existing == Existing::Replaced;
     store.commit(&path(rt, alloc, "n"), draft, replace)
 }
 
@@ -112,14 +115,14 @@ fn two_servers_share_a_folder(rt: HostRuntime) {
     let mut other = FolderStore::new(rt, alloc, folder).expect(&rt, "a folder");
     one.set_port(4711);
     other.set_port(4711);
-    let mut draft = begun(&rt, alloc, &mut one, false);
+    let mut draft = begun(&rt, alloc, &mut one, Existing::Refused);
     appends(&rt, &mut one, &mut draft, b"one");
     let path_of_other = path(&rt, alloc, "m");
     let mut draft_of_other = other
         .begin(alloc, &path_of_other, false)
         .expect(&rt, "a draft");
     appends(&rt, &mut other, &mut draft_of_other, b"other");
-    let committed = commits(&rt, alloc, &mut one, &mut draft, false);
+    let committed = commits(&rt, alloc, &mut one, &mut draft, Existing::Refused);
     expect_equal(&rt, &committed, &Err(StoreFault::Io), "the commit");
     expect_equal(
         &rt,
@@ -144,7 +147,7 @@ fn a_long_put_is_synced_on_its_way(rt: HostRuntime) {
     let folder = folder.as_str();
     let (mut store, calls) = watched(&rt, alloc, rt, folder);
     store.set_port(4711);
-    let mut draft = begun(&rt, alloc, &mut store, false);
+    let mut draft = begun(&rt, alloc, &mut store, Existing::Refused);
     let block = Vec::from_elem(alloc, 7u8, 65_536).expect(&rt, "memory");
     expect_equal(&rt, &store.take_unsynced(), &None, "nothing to sync");
     for _ in 0..16 {
@@ -160,7 +163,7 @@ fn a_long_put_is_synced_on_its_way(rt: HostRuntime) {
         appends(&rt, &mut store, &mut draft, block.as_slice());
     }
     expect_equal(&rt, &calls.count('d'), &2, "the sync of 16 megabytes");
-    let committed = commits(&rt, alloc, &mut store, &mut draft, false);
+    let committed = commits(&rt, alloc, &mut store, &mut draft, Existing::Refused);
     expect_equal(&rt, &committed, &Ok(()), "the commit");
     remove_folder(&rt, folder);
 }
@@ -172,14 +175,14 @@ fn a_name_is_synced(rt: HostRuntime) {
     let folder = scratch_folder(&rt, process::id(rt.process()), "durable");
     let folder = folder.as_str();
     let (mut store, calls) = watched(&rt, alloc, rt, folder);
-    let mut draft = begun(&rt, alloc, &mut store, false);
+    let mut draft = begun(&rt, alloc, &mut store, Existing::Refused);
     calls.clear();
-    let committed = commits(&rt, alloc, &mut store, &mut draft, false);
+    let committed = commits(&rt, alloc, &mut store, &mut draft, Existing::Refused);
     expect_equal(&rt, &committed, &Ok(()), "the commit");
     expect(&rt, calls.were("sols"), "sync, link, sync");
-    let mut draft = begun(&rt, alloc, &mut store, true);
+    let mut draft = begun(&rt, alloc, &mut store, Existing::Replaced);
     calls.clear();
-    let committed = commits(&rt, alloc, &mut store, &mut draft, true);
+    let committed = commits(&rt, alloc, &mut store, &mut draft, Existing::Replaced);
     expect_equal(&rt, &committed, &Ok(()), "the second commit");
     expect(&rt, calls.were("soms"), "sync, rename, sync");
     remove_folder(&rt, folder);
@@ -193,10 +196,10 @@ fn without_hard_links(rt: HostRuntime) {
     let folder = folder.as_str();
     let (mut store, calls) = watched(&rt, alloc, rt, folder);
     calls.refuse_links();
-    let mut draft = begun(&rt, alloc, &mut store, false);
+    let mut draft = begun(&rt, alloc, &mut store, Existing::Refused);
     appends(&rt, &mut store, &mut draft, b"first");
     calls.clear();
-    let committed = commits(&rt, alloc, &mut store, &mut draft, false);
+    let committed = commits(&rt, alloc, &mut store, &mut draft, Existing::Refused);
     expect_equal(&rt, &committed, &Ok(()), "the commit");
     expect(
         &rt,
@@ -204,8 +207,8 @@ fn without_hard_links(rt: HostRuntime) {
         "write, sync, no link, rename, sync",
     );
     has_bytes(&rt, folder, "n", b"first");
-    let mut draft = begun(&rt, alloc, &mut store, true);
-    let committed = commits(&rt, alloc, &mut store, &mut draft, false);
+    let mut draft = begun(&rt, alloc, &mut store, Existing::Replaced);
+    let committed = commits(&rt, alloc, &mut store, &mut draft, Existing::Refused);
     expect_equal(
         &rt,
         &committed,
@@ -346,7 +349,7 @@ fn reasons(rt: HostRuntime) {
         let begun_with = store.begin(alloc, &n, false).err();
         refused(&rt, &store, begun_with, fault, reason);
         calls.fail_with(None);
-        let mut draft = begun(&rt, alloc, &mut store, false);
+        let mut draft = begun(&rt, alloc, &mut store, Existing::Refused);
         let block = Vec::from_elem(alloc, 7u8, 20_000).expect(&rt, "memory");
         calls.fail_with(Some(number));
         appends(&rt, &mut store, &mut draft, block.as_slice());

@@ -8,6 +8,7 @@ use crate::scratch::{
 use std::alloc::Global;
 use std::process::{self, Abort, Processes};
 use std::rt::Runtime;
+use tftp_disk::Existing;
 use tftp_file::{Path, Source, StoreFault, path_of};
 use tftp_folder::{FolderStore, ServedStore};
 use tftp_store::Store;
@@ -98,10 +99,11 @@ fn drafted<S: Store>(
     rt: &impl Abort,
     alloc: Global,
     store: &mut S,
-    replace: bool,
+    existing: Existing,
     bytes: &[u8],
 ) -> S::Draft {
     let path = n(rt, alloc);
+    let replace = existing == Existing::Replaced;
     let mut draft = store.begin(alloc, &path, replace).expect(rt, "a draft");
     store
         .append(&mut draft, bytes)
@@ -123,7 +125,7 @@ fn names_at_the_commit(rt: HostRuntime) {
     );
     let mut store = FolderStore::new(rt, alloc, folder).expect(&rt, "a folder");
     store.set_port(4711);
-    let mut draft = drafted(&rt, alloc, &mut store, false, b"first");
+    let mut draft = drafted(&rt, alloc, &mut store, Existing::Refused, b"first");
     lacks(&rt, folder, "n");
     expect(&rt, has_file(&rt, folder, ".tftp-4711"), "the draft");
     store
@@ -145,7 +147,7 @@ fn replaces_with_overwrite(rt: HostRuntime) {
     let path = n(&rt, alloc);
     let begun = store.begin(alloc, &path, false).err();
     expect_equal(&rt, &begun, &Some(StoreFault::Exists), "the beginning");
-    let mut draft = drafted(&rt, alloc, &mut store, true, b"second");
+    let mut draft = drafted(&rt, alloc, &mut store, Existing::Replaced, b"second");
     let committed = store.commit(&path, &mut draft, false);
     expect_equal(&rt, &committed, &Err(StoreFault::Exists), "the commit");
     has_bytes(&rt, folder, "n", b"first");
