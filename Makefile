@@ -75,8 +75,8 @@ soak: bin/tftp bin/tftpd
 
 bench: $(PROGRAMS)
 	bench/show/run.sh bin/tftp-show
-	@cd crates/tftp_ends_bench && rt run -- 512 0 1 > /dev/null
-	bench/ends/run.py crates/tftp_ends_bench/out/tftp_ends_bench
+	@cd crates/tests_speed && rt run -- 512 0 1 > /dev/null
+	bench/ends/run.py crates/tests_speed/out/tests_speed
 	python3 bench/play/plays.py bin/tftp-play
 
 bench-udp: bin/tftpd bin/tftp

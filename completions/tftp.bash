@@ -23,7 +23,7 @@ _tftp() {
 
     case $verb in
     get) options='--netascii --blksize -b --timeout --tsize --retries --fallback --progress --verbose -v
-        --replace --no-linger --help -h' ;;
+        --replace --no-dally --help -h' ;;
     put) options='--netascii --blksize -b --timeout --tsize --retries --fallback --progress --verbose -v
         --help -h' ;;
     *) options='--help -h --version -V' ;;

@@ -40,7 +40,7 @@ complete -c tftp -n '__fish_seen_subcommand_from get put' -l fallback -d 'Try ag
 complete -c tftp -n '__fish_seen_subcommand_from get put' -l progress -d 'Show how far the transfer came'
 complete -c tftp -n '__fish_seen_subcommand_from get put' -s v -l verbose -d 'Print the reason of a failure'
 complete -c tftp -n '__fish_seen_subcommand_from get' -l replace -d 'Replace LOCAL once the new file is whole'
-complete -c tftp -n '__fish_seen_subcommand_from get' -l no-linger -d 'End once LOCAL has its name'
+complete -c tftp -n '__fish_seen_subcommand_from get' -l no-dally -d 'End once LOCAL has its name'
 complete -c tftp -n '__fish_seen_subcommand_from get put' -s h -l help -d 'Print help'
 complete -c tftp -n __fish_use_subcommand -s h -l help -d 'Print help'
 complete -c tftp -n __fish_use_subcommand -s V -l version -d 'Print version'

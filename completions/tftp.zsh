@@ -20,7 +20,7 @@ get)
   (( CURRENT-- ))
   _arguments $transfer \
     '--replace[replace LOCAL once the new file is whole]' \
-    '--no-linger[end once LOCAL has its name]' \
+    '--no-dally[end once LOCAL has its name]' \
     '1:ADDR\:PORT of the server:' \
     '2:name of the file at the server:' \
     '3:local file:_files'

@@ -1,7 +1,7 @@
 #!/usr/bin/env python3
 """Refuses each request for memory of the scenes in turn: memory_in_turn.py [PROGRAM EXPECTED]
 
-PROGRAM is tftp_memory_scenes, EXPECTED what it prints with ample memory; without words, those that `rt ci` built and
+PROGRAM is tests_memory, EXPECTED what it prints with ample memory; without words, those that `rt ci` built and
 compared. The program announces each call by a line that ends in a colon, and says behind it that the call has returned;
 a request in between counts. With one of them refused it has to print the same, and behind the call a line that it was
 out of memory and left all as before; or, where the request was a commit's, that the disk was full. The counter is
@@ -15,7 +15,7 @@ import sys
 import tempfile
 from pathlib import Path
 
-SCENES = Path(__file__).resolve().parent.parent / "crates" / "tftp_memory_scenes"
+SCENES = Path(__file__).resolve().parent.parent / "crates" / "tests_memory"
 PATIENCE = 120
 AS_BEFORE = "= out of memory, all as before"
 # Where a commit is refused its memory: no file, ERROR 3 `disk full`, and the name is free for the other write.

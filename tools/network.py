@@ -130,7 +130,7 @@ class Scene:
     def is_served(self, port=69, options=("--retries", "10")):
         """Whether the client gets the file from this port. It asks once where it is to get nothing."""
         local = self.root / "local"
-        words = [self.tftp, "get", f"{SERVER}:{port}", "a", local, "--blksize", f"{BLOCK}", "--no-linger", *options]
+        words = [self.tftp, "get", f"{SERVER}:{port}", "a", local, "--blksize", f"{BLOCK}", "--no-dally", *options]
         done = subprocess.run(self.client.words(*words), capture_output=True, text=True, timeout=PATIENCE)
         is_whole = local.exists() and local.read_bytes() == self.content
         for left in [local, self.root / "local.part"]:

@@ -33,9 +33,9 @@ HEADLINES = [
       "OpenEnd": "an open end, with its address, path, file, and what it has stored", "ClosedEnd": "a closed one",
       "WorldStep": "one event of a world, by the tables of the standard; `World::apply` ensures it (clause `steps`), and "
                    "this law assumes it"}),
-    ("Programs", "tftp_network", "Joined", "ProgramsKeepAnyFiles",
+    ("Programs", "tftp_promises", "Joined", "ProgramsKeepAnyFiles",
      "One server and any clients as programs, over any store and any files, by what their journals note. The law is "
-     "`tftp_network::laws::programs_keep_promises`, its clause `any_files`. By `each_client_keeps_promises` there it "
+     "`tftp_promises::laws::programs_keep_promises`, its clause `any_files`. By `each_client_keeps_promises` there it "
      "also holds of the server and each client apart, for which the other clients are strangers.",
      {"Runs": "a run of a client's loop; `tftp_client::transfer` ensures it, and this law assumes it",
       "ClientRun": "the whole run of a client's program; the parts of its loop ensure it, and this law assumes it",

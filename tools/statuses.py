@@ -269,10 +269,10 @@ def test_transfers(check):
         check.ends("tftp", ["put", address, "abc", "a", *RETRIES], 1, "tftp: PeerError(6)\n", "")
         with open("/dev/full", "wb") as full, closed_pipe() as write:
             for place, output in enumerate([full, write]):
-                words = ["get", address, "a", f"told{place}", "--no-linger", *RETRIES]
+                words = ["get", address, "a", f"told{place}", "--no-dally", *RETRIES]
                 check.ends("tftp", words, 2, "tftp: output fault\n", stdout=output)
                 check.has_file(f"told{place}", b"ABC")
-            words = ["get", address, "a", "told", "--no-linger", "--verbose", *RETRIES]
+            words = ["get", address, "a", "told", "--no-dally", "--verbose", *RETRIES]
             reason = "tftp: No space left on device (os error 28)\n"
             check.ends("tftp", words, 2, f"tftp: output fault\n{reason}", stdout=full)
         with answering(None) as silent:
@@ -366,7 +366,7 @@ def test_unprinted_close(check):
             if is_pipe:
                 server.stdout.close()
             with left_open(address):
-                get = ["get", address, "a", f"unprinted{place}", "--no-linger", *RETRIES]
+                get = ["get", address, "a", f"unprinted{place}", "--no-dally", *RETRIES]
                 check.ends("tftp", get, 0, "", "complete 3\n")
                 _, told = server.communicate(timeout=PATIENCE)
         finally:

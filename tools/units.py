@@ -172,7 +172,7 @@ class Container:
     def is_served(self, address=SERVER, port=69):
         """Whether the client gets the file."""
         local = self.room / "local"
-        words = [TOP / "bin/tftp", "get", f"{address}:{port}", "a", local, "--blksize", network.BLOCK, "--no-linger",
+        words = [TOP / "bin/tftp", "get", f"{address}:{port}", "a", local, "--blksize", network.BLOCK, "--no-dally",
                  "--retries", 1]
         done = subprocess.run(self.client.words(*map(str, words)), capture_output=True, timeout=PATIENCE)
         is_whole = local.exists() and local.read_bytes() == self.content

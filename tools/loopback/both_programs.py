@@ -52,7 +52,7 @@ def test_sixteen_at_once(scene):
     for length in lengths:
         scene.make(f"{length}", bytes_of(length))
     server = scene.serve("--transfers", "16")
-    words = ["--timeout", f"{UNHURRIED}", "--no-linger"]
+    words = ["--timeout", f"{UNHURRIED}", "--no-dally"]
     clients = [scene.tftp("get", server.word, f"{length}", f"{length}.local", *words) for length in lengths]
     for length, client in zip(lengths, clients):
         client.completes(length)
@@ -68,7 +68,7 @@ def transfers_at_once(scene, server, way, mode, size, files):
     for name, content in files.items():
         copy = f"{way}.{mode}.{name}"
         words = [way, server.word, name, copy, "--blksize", f"{size}", "--timeout", f"{UNHURRIED}", *MODES[mode]]
-        clients.append((scene.tftp(*words, *["--no-linger"] * (way == "get")), len(content)))
+        clients.append((scene.tftp(*words, *["--no-dally"] * (way == "get")), len(content)))
         copies[copy] = content
         request = f"RRQ {name}" if way == "get" else f"WRQ {copy}"
         options = f"blksize={size} timeout={UNHURRIED}"
@@ -200,7 +200,7 @@ def test_closed_streams_of_a_client(scene):
     scene.make("served/a", b"ABC")
     server = scene.serve("--transfers", "3", root="served")
     for number in range(3):
-        words = ["get", server.word, "a", f"got{number}", "--no-linger"]
+        words = ["get", server.word, "a", f"got{number}", "--no-dally"]
         scene.tftp(*words, closed=number).ends(0, "" if number == 1 else "complete 3\n")
         client = scene.tftp("get", server.word, "b", f"none{number}", "--verbose", closed=number)
         client.ends(1, "", "" if number == 2 else "tftp: PeerError(1)\ntftp: ERROR 1 (file not found)\n")

@@ -80,9 +80,9 @@ def test_complete_is_printed_at_once(scene):
     expect(client.process.poll(), None, "the status of the client")
 
 
-def test_no_linger(scene):
-    """With `--no-linger` the client ends before its first timeout."""
-    client, end = patient_get(scene, "--no-linger")
+def test_no_dally(scene):
+    """With `--no-dally` the client ends before its first timeout."""
+    client, end = patient_get(scene, "--no-dally")
     end.is_answered(ABC, ack(1))
     client.completes(3)
     scene.has(local=b"ABC")
@@ -90,7 +90,7 @@ def test_no_linger(scene):
 
 def is_got(scene, *words):
     """A get of three bytes is complete, and `local.part` is removed."""
-    client, end = patient_get(scene, "--no-linger", *words)
+    client, end = patient_get(scene, "--no-dally", *words)
     end.is_answered(ABC, ack(1))
     client.completes(3)
     scene.lacks("local.part")
@@ -114,7 +114,7 @@ def test_a_left_over_is_replaced(scene):
 def test_another_file_is_not_named(scene):
     """If another file replaces `local.part` during the transfer, no file gets the name."""
     scene.make("other", b"another's")
-    client, end = patient_get(scene, "--no-linger")
+    client, end = patient_get(scene, "--no-dally")
     end.is_answered(data(1, b"\7" * 512), ack(1))
     (scene.folder / "other").rename(scene.folder / "local.part")
     end.is_answered(data(2, b"ABC"), error(3, "disk full"))
@@ -126,7 +126,7 @@ def test_replaces(scene):
     """With `--replace` a file has its old content until the new one is whole, and keeps its permissions."""
     scene.make("local", b"old")
     (scene.folder / "local").chmod(0o600)
-    client, end = patient_get(scene, "--no-linger", "--replace")
+    client, end = patient_get(scene, "--no-dally", "--replace")
     end.is_answered(data(1, b"\7" * 512), ack(1))
     scene.has_files({"local": b"old", "local.part": b""})
     end.is_answered(data(2, b"ABC"), ack(2))
@@ -149,7 +149,7 @@ def test_is_synced_and_then_named(scene):
     """The file is synced before it gets its name, and the folder after that. If either sync is refused, the transfer
     fails, and `local.part` stays alone."""
     for refused, calls in [(0, "fsync link fsync"), (1, "fsync"), (2, "fsync link fsync")]:
-        client, end = patient_get(scene, "--no-linger", "--verbose", env=preloaded(scene, "refuse_sync.c", refused))
+        client, end = patient_get(scene, "--no-dally", "--verbose", env=preloaded(scene, "refuse_sync.c", refused))
         told = "".join(f"{call}\n" for call in calls.split())
         if refused:
             end.is_answered(ABC, error(3, "disk full"))
@@ -193,7 +193,7 @@ def written_to(terminal):
 def test_progress_is_shown_on_a_terminal(scene):
     """With `--progress` standard error has the bytes and the share, if it is a terminal, and nothing else."""
     shown, terminal = pty.openpty()
-    client, end = patient_get(scene, "--no-linger", "--progress", stderr=terminal)
+    client, end = patient_get(scene, "--no-dally", "--progress", stderr=terminal)
     os.close(terminal)
     end.is_answered(ABC, ack(1))
     client.ends(0, "complete 3\n", None)

@@ -10,12 +10,12 @@ HELP = [
     (("tftpd", "--help"), "Examples:\n  tftpd "),
     (("tftp", "--help"), "Examples:\n  tftp get "),
     (("tftp", "get", "--help"), "--blksize <8..65464>"),
-    (("tftp", "get", "--help"), "--no-linger "),
+    (("tftp", "get", "--help"), "--no-dally "),
 ]
 
 # Command lines that end with status 2, and a part of what they write to standard error
 FAULTS = [
-    ((*PUT, "--no-linger"), "'--no-linger'"),
+    ((*PUT, "--no-dally"), "'--no-dally'"),
     (("tftpd", ".", "--max-block", "7"), "'--max-block <8..65464>'"),
     (("tftpd", ".", "--max-file", "18446744073709551616"), "'--max-file <0..2^64-1>'"),
     (("tftpd", ".", "--retries", "11"), "'--retries <0..10>'"),

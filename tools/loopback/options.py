@@ -104,13 +104,13 @@ def test_nobody_reads_the_log(scene):
     server = scene.serve("--log", "--transfers", "2")
     server.process.stderr.close()
     for name in ["first", "second"]:
-        scene.tftp("get", server.word, "a", name, "--no-linger").completes(3)
+        scene.tftp("get", server.word, "a", name, "--no-dally").completes(3)
     expect(server.process.wait(PATIENCE), 0, "the status of the server")
 
 
 def test_a_name_appears(scene):
     """If LOCAL appears during a get, the server receives ERROR 6, LOCAL is unchanged, and LOCAL.part stays."""
-    client, end = patient_get(scene, "--no-linger")
+    client, end = patient_get(scene, "--no-dally")
     end.is_answered(data(1, b"\7" * 512), ack(1))
     scene.make("local", b"another's")
     end.is_answered(data(2, b"ABC"), error(6, "file exists"))
@@ -125,6 +125,6 @@ def test_units(scene):
         line = re.search(r'(?m)^ExecStart="[^"]+" (/srv/tftp) --listen 0\.0\.0\.0:(?:69|%i) (.*)$',
                          (UNITS / unit).read_text())
         server = scene.serve(*line[2].split())
-        scene.tftp("get", server.word, "a", "got", "--no-linger").completes(3)
+        scene.tftp("get", server.word, "a", "got", "--no-dally").completes(3)
         scene.tftp("put", server.word, "a", "n").fails("PeerError(2)")
         (scene.folder / "got").unlink()

@@ -54,7 +54,7 @@ def all_end(started, may_fail):
 def last_get(programs, folder, server):
     """A get of the long file. Returns its status and what it wrote on standard error."""
     target = folder / f"last{time.monotonic_ns()}"
-    words = ["get", server.word, "long", target.name, "--no-linger", "--blksize", "1428", *PATIENTLY]
+    words = ["get", server.word, "long", target.name, "--no-dally", "--blksize", "1428", *PATIENTLY]
     status, _, errors = Program([programs["tftp"], *words], folder, LIFE).ended(LIFE)
     if status == 0 and target.read_bytes() != LONG:
         raise Failure("a get afterwards of another file")
@@ -181,7 +181,7 @@ def closed_streams(programs, folder, rng):
     server = started_server(programs, folder)
     for at, closed in enumerate(["<&-", ">&-", "2>&-", "<&- >&- 2>&-"]):
         target = folder / f"closed{at}"
-        command = f"exec \"$0\" get {server.word} long {target.name} --no-linger --blksize 1428 {closed}"
+        command = f"exec \"$0\" get {server.word} long {target.name} --no-dally --blksize 1428 {closed}"
         done = subprocess.run(["timeout", "-s", "KILL", f"{LIFE}", "sh", "-c", command, programs["tftp"]], cwd=folder,
                               stdin=subprocess.DEVNULL, stdout=subprocess.DEVNULL, stderr=subprocess.DEVNULL)
         if target.exists() and target.read_bytes() != LONG:

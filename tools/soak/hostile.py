@@ -26,14 +26,14 @@ class Trial:
         self.asked, words = self.options()
         self.retries = rng.choice([1, 2, 5])
         self.falls_back = rng.random() < 0.3
-        self.lingers = self.kind == "WRQ" or rng.random() < 0.5
+        self.dallies = self.kind == "WRQ" or rng.random() < 0.5
         self.requests, self.first, self.second = Port(), Port(), Port()
         self.elsewhere = Port(ELSEWHERE)
         self.ports = [self.requests, self.first, self.second, self.elsewhere]
         self.expected = {port: [] for port in self.ports}
         self.counts = {"datagrams": 0, "transfers": 1, "retransmissions": 0, "faults": 0}
         flags = ["--fallback"] * self.falls_back + ["--netascii"] * (self.mode == b"netascii")
-        flags += ["--no-linger"] * (not self.lingers) + ["--retries", f"{self.retries}", *words]
+        flags += ["--no-dally"] * (not self.dallies) + ["--retries", f"{self.retries}", *words]
         command = ["get", self.requests.word(), "n", name] if self.kind == "RRQ" else \
             ["put", self.requests.word(), name, "n"]
         if self.kind == "WRQ":
@@ -218,7 +218,7 @@ class Trial:
             self.burst()
             self.take()
             end = self.model.end
-            silent = (end and end.is_complete and (not self.lingers or self.rng.random() < 0.5)) or \
+            silent = (end and end.is_complete and (not self.dallies or self.rng.random() < 0.5)) or \
                 self.rng.random() < 0.01
 
     def finish(self):

@@ -345,7 +345,7 @@ def run_once(programs, folder, rng, seconds, **limits):
             if (folder / path.decode()).read_bytes() != content:
                 raise Failure(f"the file {path} differs")
         name = next(iter(trial.files)).decode()
-        get = Program([programs["tftp"], "get", trial.server.word, name, "got", "--no-linger"], folder, 60)
+        get = Program([programs["tftp"], "get", trial.server.word, name, "got", "--no-dally"], folder, 60)
         if get.ended()[0] or (folder / "got").read_bytes() != trial.files[name.encode()]:
             raise Failure("a get at the end")
         return trial.counts

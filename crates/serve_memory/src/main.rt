@@ -80,7 +80,7 @@ fn store_of_text(alloc: Global) -> Result<MemStore, StoreFault> {
 }
 
 /// Serves the files of the store: what it does over UDP is stated by the clauses of [`serve`], and the
-/// law of `tftp_network` for files with models speaks of such a server and its clients.
+/// law of `tftp_promises` for files with models speaks of such a server and its clients.
 fn serve_store<N: ServerUdp + Clock + Print + Eprint>(
     rt: &N,
     alloc: Global,

@@ -24,7 +24,7 @@ use Rattle.tftp_file.specs.declared.files.Files.TheVariants.{Source, Sink}
 use Rattle.tftp_ends.specs.declared.action.Action.{Action}
 use Rattle.tftp_ends.specs.declared.action.Action.TheVariants.{Respond, Send, Store}
 use Rattle.tftp_ends.specs.declared.action.Response.{Response}
-use Rattle.tftp_ends.specs.declared.action.Response.TheVariants.{Ignore, Stranger, ResendReply}
+use Rattle.tftp_ends.specs.declared.action.Response.TheVariants.{Ignore, WrongPeer, ResendReply}
 use Rattle.tftp_ends.specs.declared.action.Response.TheVariants.{Retransmit, Wait, Close, Refuse}
 use Rattle.tftp_ends.specs.declared.action.Response.TheVariants.{Accept, Complete}
 use Rattle.tftp_ends.specs.declared.endpoint.Endpoint.{Endpoint}
@@ -34,7 +34,7 @@ use Rattle.tftp_ends.specs.declared.phase.Dally.TheVariants.{Fresh, Waited}
 use Rattle.tftp_ends.specs.declared.phase.Phase.{Phase}
 use Rattle.tftp_ends.specs.declared.phase.Phase.TheVariants.{Waiting, Sending, Receiving, Dallying, Closed}
 use Rattle.tftp_ends.specs.declared.phase.Terms.{Terms}
-use Rattle.tftp_ends.specs.Action.{datagram_action, packet_action, garbled_response, is_stranger, timeout_response}
+use Rattle.tftp_ends.specs.Action.{datagram_action, packet_action, garbled_response, is_wrong_peer, timeout_response}
 use Rattle.tftp_ends.specs.End.{EndState, is_sender, is_client, is_complete, terms_of}
 use Rattle.tftp_ends.specs.Files.{KeepsFiles, KeepsHolding}
 use Rattle.tftp_ends.specs.Phase.{waited}
@@ -176,7 +176,7 @@ packet_continues e from decoded (Waiting asked limit) none =
     (reader_continues e.role.mode asked limit from decoded)
 packet_continues e from decoded (Sending terms number) none = absurd none
 packet_continues e from decoded (Receiving terms number) none =
-    receiver_continues (is_client e.role.side) e.role.mode e.position.held terms number decoded
+    receiver_continues (is_client e.role.side) e.role.mode e.position.held_back terms number decoded
 packet_continues e from decoded (Dallying terms number dally) none = dally_continues number decoded
 packet_continues e from decoded (Closed terms number complete outcome) none = tt
 
@@ -189,16 +189,16 @@ garbled_continues (Closed terms number complete outcome) = tt
 
 -- a property of the action for a datagram
 by_tests : (P : Action → Type 0) (e : EndState) (from : Endpoint) (bytes : List ℕ) (decoded : Option Packet)
-    → P (Respond Ignore) → P (Respond Stranger)
+    → P (Respond Ignore) → P (Respond WrongPeer)
     → P (Respond (garbled_response e.position.phase)) → P (packet_action e from decoded e.position.phase)
     → P (datagram_action e from bytes decoded)
 by_tests P e from bytes decoded ignored foreign garbled handled =
-    let stranger = if has_error_opcode bytes then Respond Ignore else Respond Stranger in
+    let stranger = if has_error_opcode bytes then Respond Ignore else Respond WrongPeer in
     let bad = has_error_opcode bytes && is_none decoded in
     let peer = if bad then Respond (garbled_response e.position.phase) else packet_action e from decoded
     e.position.phase in
-    if_either P (is_stranger (terms_of e.position.phase) e.position.last_sent_to from) stranger peer
-    (if_either P (has_error_opcode bytes) (Respond Ignore) (Respond Stranger) ignored foreign)
+    if_either P (is_wrong_peer (terms_of e.position.phase) e.position.last_sent_to from) stranger peer
+    (if_either P (has_error_opcode bytes) (Respond Ignore) (Respond WrongPeer) ignored foreign)
     (if_either P bad (Respond (garbled_response e.position.phase)) (packet_action e from decoded e.position.phase)
     garbled handled)
 
@@ -267,7 +267,7 @@ module _ {S K : Type 0} (sources : SourceMeaning S) (sinks : SinkMeaning K)
       → Committing e files → Committing (after_turn e (response_turn response from e)) files
   responds response from e (Source source) continues h = tt
   responds Ignore from e (Sink sink) continues h = h
-  responds Stranger from e (Sink sink) continues h = h
+  responds WrongPeer from e (Sink sink) continues h = h
   responds ResendReply from e (Sink sink) continues h = h
   responds Retransmit from e (Sink sink) continues h = h
   responds Wait from e (Sink sink) continues h = (

@@ -43,7 +43,7 @@ get_app =
     (word_rule (codes "NAME")))
     (word_rule (codes "LOCAL"))))
     (flag_rule (codes "replace")))
-    (flag_rule (codes "no-linger"))
+    (flag_rule (codes "no-dally"))
 
 -- `tftp put`
 abbrev pub put_app : App

@@ -28,7 +28,7 @@ Examples:
   tftp get 192.0.2.1:69 boot.img boot.img --blksize 1428 --tsize --progress
   tftp put 127.0.0.1:6969 notes.txt notes.txt --netascii";
 
-const LINGERING: &str = "\
+const DALLYING: &str = "\
 Once LOCAL has its name, `complete N` is printed. The client then stays for two timeouts, 2 seconds
 or twice the agreed timeout, to acknowledge the last block again if the server repeats it (RFC 1350,
 section 6).";
@@ -55,8 +55,8 @@ impl ErrorOutput {
 #[derive(Clone, Copy)]
 pub(crate) struct Order<'a> {
     pub(crate) job: Job<'a>,
-    /// Whether a receiver lingers to repeat its last acknowledgement.
-    pub(crate) lingers: bool,
+    /// Whether a receiver dallies to repeat its last acknowledgement.
+    pub(crate) dallies: bool,
     /// Whether the reason of a failure is printed.
     pub(crate) is_verbose: bool,
 }
@@ -117,7 +117,7 @@ fn read_matches<'a, P: Print + Eprint>(
     match job_of(kind_of(word), matches, errors) {
         Some(job) => Ok(Ok(Order {
             job,
-            lingers: !matches.get_flag("no-linger"),
+            dallies: !matches.get_flag("no-dally"),
             is_verbose: matches.get_flag("verbose"),
         })),
         None => Ok(Err(report_address(rt, command)?)),
@@ -259,12 +259,12 @@ fn get_command<'a>(alloc: Global, texts: &'a BlockTexts) -> anyhow::Result<Comma
         "Replaces LOCAL, if it is a regular file, once the new file is whole",
     );
     let command = command.arg(replace)?;
-    let no_linger = flag(
+    let no_dally = flag(
         alloc,
-        "no-linger",
+        "no-dally",
         "Ends once LOCAL has its name; a lost last ACK is then not sent again",
     );
-    Ok(command.arg(no_linger)?.after_help(LINGERING))
+    Ok(command.arg(no_dally)?.after_help(DALLYING))
 }
 
 /// The command line of `tftp put`.

@@ -146,7 +146,7 @@ fn run_order<R: Files + Clone + Drop + ClientUdp + Clock + Print + Eprint>(
     }
 }
 
-/// Prints that a transfer is complete, then lingers if ordered, and returns the status.
+/// Prints that a transfer is complete, then dallies if ordered, and returns the status.
 fn conclude<N: Clock + Print + Eprint, R: Files + Drop>(
     rt: &N,
     completed: Completed<R>,
@@ -161,10 +161,10 @@ fn conclude<N: Clock + Print + Eprint, R: Files + Drop>(
         completed.files journal.new.events }
 {
     let status = print_complete(rt, &completed, order, journal);
-    if !order.lingers {
+    if !order.dallies {
         return status;
     }
-    completed.linger(rt, journal);
+    completed.dally(rt, journal);
     status
 }
 

@@ -18,7 +18,7 @@ use Rattle.tftp_store.specs.declared.store.Opening.{Opening}
 use Rattle.tftp_server.specs.Draft.{Drafting, KeepsDraft, KeepsStore, drafting_sink, files_in}
 use Rattle.tftp_server.specs.Port.{Ask, Ignores, Refuses, Reads, Writes, Service, Silent, Refused, Sends, Takes}
 use Rattle.tftp_server.specs.Request.{Came, Goes, Left, Sent, Taken, left_by}
-use Rattle.tftp_server.specs.State.{HeldTransfer, ServerState}
+use Rattle.tftp_server.specs.State.{TransferState, ServerState}
 use Rattle.tftp_server.specs.Steps.{KeepsHeld, StepIn}
 use Rattle.tftp_server.specs.Work.{FilesWork, WorksAt}
 use Rattle.tftp_loop.specs.Run.{Start, Then}
@@ -89,7 +89,7 @@ module _ {S F D : Type 0} (Same : S → S → Type 0) (meaning : StoreMeaning S 
   work_so a b (Source source) (Sink draft) h = absurd h
   work_so a b (Sink draft) (Source source) h = absurd h
 
-  works_so : (tid : ℕ) (transfer : Option (HeldTransfer F D)) (old new : ServerState S F D)
+  works_so : (tid : ℕ) (transfer : Option (TransferState F D)) (old new : ServerState S F D)
       → WorksAt meaning sources tid transfer old new → Same old.store new.store
   works_so tid None old new h = stays (ap (λ (s : ServerState S F D). s.store) h)
   works_so tid (Some transfer) old new h = work_so old.store new.store transfer.files h.0.files h.1.files
@@ -98,7 +98,7 @@ module _ {S F D : Type 0} (Same : S → S → Type 0) (meaning : StoreMeaning S 
   kept_so a b (Source source) files' same kept = stays same
   kept_so a b (Sink draft) files' same kept = stays kept.0
 
-  held_so : (tid : ℕ) (transfer : Option (HeldTransfer F D)) (old new : ServerState S F D)
+  held_so : (tid : ℕ) (transfer : Option (TransferState F D)) (old new : ServerState S F D)
       → KeepsHeld meaning sources tid transfer old new → Same old.store new.store
   held_so tid None old new h = stays (ap (λ (s : ServerState S F D). s.store) h)
   held_so tid (Some transfer) old new h = kept_so old.store new.store transfer.files h.0.files h.1.stays h.1.draft

@@ -98,7 +98,8 @@ module _ (e : EndState) (from : Endpoint) (bytes : List ℕ) where
       if_either Fits (client && terms.by_oack) (Respond Ignore) (illegal_action terms) (λ _. tt) (λ _. s)
 
   next_fits : (held : List ℕ) (terms : Terms) (number : ℕ) (piece : List ℕ) → SentFits e (Some terms) →
-      e.position.held ≡ held → Spells (Data number piece) bytes → Fits (next_action e.role.mode held terms number piece)
+      e.position.held_back ≡ held → Spells (Data number piece) bytes →
+      Fits (next_action e.role.mode held terms number piece)
   next_fits held terms number piece s h d =
       let p = data_after_header number piece bytes d in
       let last = nat_lt (length piece) terms.size in
@@ -128,7 +129,7 @@ module _ (e : EndState) (from : Endpoint) (bytes : List ℕ) where
       (λ _. s)))
 
   data_fits : (held : List ℕ) (terms : Terms) (stored number : ℕ) (piece : List ℕ) → SentFits e (Some terms) →
-      e.position.held ≡ held → (0 < stored → HasAcked) → Spells (Data number piece) bytes →
+      e.position.held_back ≡ held → (0 < stored → HasAcked) → Spells (Data number piece) bytes →
       Fits (data_action e.role.mode held terms stored number piece)
   data_fits held terms stored number piece s h acked d =
       let next =
@@ -141,7 +142,7 @@ module _ (e : EndState) (from : Endpoint) (bytes : List ℕ) where
       (illegal_action terms) (λ _. next_fits held terms number piece s h d) (λ _. s)))
 
   receiver_fits : (client : Bool) (held : List ℕ) (terms : Terms) (stored : ℕ) (decoded : Option Packet) →
-      SentFits e (Some terms) → e.position.held ≡ held →
+      SentFits e (Some terms) → e.position.held_back ≡ held →
       ((client || (not terms.by_oack || nat_lt 0 stored)) ≡ true → HasAcked) → Decodes bytes decoded →
       Fits (receiver_action client e.role.mode held terms stored decoded)
   receiver_fits client held terms stored None s h acked d = s
@@ -183,7 +184,7 @@ module _ (e : EndState) (from : Endpoint) (bytes : List ℕ) where
   begin_with_fits length_now (Err refusal) w = refusal_fits refusal w
 
   reader_fits : (asked : Asked) (limit : ℕ) (decoded : Option Packet) → length e.position.last_sent ≤ MAX_REQUEST →
-      e.position.held ≡ [] → Decodes bytes decoded → Fits (reader_action e.role.mode asked limit from decoded)
+      e.position.held_back ≡ [] → Decodes bytes decoded → Fits (reader_action e.role.mode asked limit from decoded)
   reader_fits asked limit None w h d = w
   reader_fits asked limit (Some (Read r)) w h d = w
   reader_fits asked limit (Some (Write r)) w h d = w
@@ -241,7 +242,7 @@ module _ (e : EndState) (from : Endpoint) (bytes : List ℕ) where
   phase_fits decoded (Sending terms number) same fits resends s d =
       sender_fits (is_client e.role.side) terms number decoded s
   phase_fits decoded (Receiving terms number) same fits resends s d =
-      receiver_fits (is_client e.role.side) e.position.held terms number decoded s refl
+      receiver_fits (is_client e.role.side) e.position.held_back terms number decoded s refl
       (has_acked terms number same resends) d
   phase_fits decoded (Dallying terms number dally) same fits resends s d =
       dally_fits terms number decoded same resends d

@@ -90,7 +90,7 @@ module _ {S K : Type 0} (sources : SourceMeaning S) (sinks : SinkMeaning K) wher
     heard packet says = at_packet c packet (Receiving terms n) (own_peer terms.peer c.from f.peer) f.stands says
 
     abbrev next : ℕ → List ℕ → Action
-    next number piece = next_action c.e.role.mode c.e.position.held terms number piece
+    next number piece = next_action c.e.role.mode c.e.position.held_back terms number piece
 
     abbrev later : ℕ → List ℕ → Action
     later number piece = if number == n + 1 then next number piece else illegal_action terms
@@ -121,7 +121,8 @@ module _ {S K : Type 0} (sources : SourceMeaning S) (sinks : SinkMeaning K) wher
     -- a block of this transfer
     abbrev store : List ℕ → Action
     store piece =
-        if is_readable c.e.role.mode c.e.position.held piece (nat_lt (length piece) terms.size) then Store terms (n + 1)
+        if is_readable c.e.role.mode c.e.position.held_back piece (nat_lt (length piece) terms.size)
+        then Store terms (n + 1)
         else Respond (Refuse (Some terms) NotNetascii outcomes.NotNetascii)
 
     abbrev fitting : List ℕ → Action
@@ -165,7 +166,7 @@ module _ {S K : Type 0} (sources : SourceMeaning S) (sinks : SinkMeaning K) wher
   next_data_is_stored c terms n piece f says fits short =
       let step : (nat_lt n (n + 1) || false) ≡ true = ap (λ (b : Bool). b || false) (lt-ltb n (n + 1) (omega arith)) in
       let last : (nat_lt n (n + 1) || true) ≡ true = ap (λ (b : Bool). b || true) (lt-ltb n (n + 1) (omega arith)) in
-      next_row c (Receiving terms n) f.stands refl terms n refl step last c.e.position.held piece says fits
+      next_row c (Receiving terms n) f.stands refl terms n refl step last c.e.position.held_back piece says fits
       (within (n + 1) terms.size piece short) (is_next c terms n f piece says)
 
   pub error_closes_receiver : ErrorClosesReceiver sources sinks

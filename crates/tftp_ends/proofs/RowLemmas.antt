@@ -17,7 +17,8 @@ use Rattle.tftp_file.specs.declared.files.Files.{Files}
 use Rattle.tftp_file.specs.declared.files.Files.TheVariants.{Source, Sink}
 use Rattle.tftp_ends.specs.declared.action.Action.{Action}
 use Rattle.tftp_ends.specs.declared.action.Action.TheVariants.{Respond, Send, Store}
-use Rattle.tftp_ends.specs.declared.action.Response.TheVariants.{Ignore, Stranger, ResendReply, Close, Refuse, Complete}
+use Rattle.tftp_ends.specs.declared.action.Response.TheVariants.{Ignore, WrongPeer, ResendReply, Close, Refuse}
+use Rattle.tftp_ends.specs.declared.action.Response.TheVariants.{Complete}
 use Rattle.tftp_ends.specs.declared.endpoint.Endpoint.{Endpoint}
 use Rattle.tftp_ends.specs.declared.error_reply.ErrorReply.{ErrorReply}
 use Rattle.tftp_ends.specs.declared.error_reply.ErrorReply.TheVariants.{FileChanged, FileTooLarge, DiskFull, FileExists}
@@ -28,7 +29,7 @@ use Rattle.tftp_ends.specs.declared.phase.Dally.TheVariants.{Fresh}
 use Rattle.tftp_ends.specs.declared.phase.Phase.{Phase}
 use Rattle.tftp_ends.specs.declared.phase.Phase.TheVariants.{Sending, Receiving, Dallying, Closed}
 use Rattle.tftp_ends.specs.declared.phase.Terms.{Terms}
-use Rattle.tftp_ends.specs.Action.{Decodes, packet_action, garbled_response, is_stranger, same_address, same_endpoint}
+use Rattle.tftp_ends.specs.Action.{Decodes, packet_action, garbled_response, is_wrong_peer, same_address, same_endpoint}
 use Rattle.tftp_ends.specs.End.{EndState, terms_of, number_of, is_complete, is_progress}
 use Rattle.tftp_ends.specs.ErrorReply.{code_of, text_of}
 use Rattle.tftp_ends.specs.Phase.{closed, completed}
@@ -90,8 +91,8 @@ module _ {S K : Type 0} {sources : SourceMeaning S} {sinks : SinkMeaning K} (c :
   -- its action for the decoded bytes, in a phase
   abbrev does_at : Option Packet → Phase → Action
   does_at decoded phase =
-      if is_stranger (terms_of phase) c.e.position.last_sent_to c.from
-      then (if has_error_opcode c.bytes then Respond Ignore else Respond Stranger)
+      if is_wrong_peer (terms_of phase) c.e.position.last_sent_to c.from
+      then (if has_error_opcode c.bytes then Respond Ignore else Respond WrongPeer)
       else if has_error_opcode c.bytes && is_none decoded then Respond (garbled_response phase)
       else packet_action c.e c.from decoded phase
 
@@ -104,33 +105,33 @@ module _ {S K : Type 0} {sources : SourceMeaning S} {sinks : SinkMeaning K} (c :
 
   -- for a packet
   pub at_packet : (packet : Packet) (phase : Phase) →
-      is_stranger (terms_of phase) c.e.position.last_sent_to c.from ≡ false → c.e.position.phase ≡ phase →
+      is_wrong_peer (terms_of phase) c.e.position.last_sent_to c.from ≡ false → c.e.position.phase ≡ phase →
       Spells packet c.bytes →
       DidSo (packet_action c.e c.from (Some packet) phase)
   at_packet packet phase own stands says =
       if_no DidSo (has_error_opcode c.bytes && false) (Respond (garbled_response phase))
       (packet_action c.e c.from (Some packet) phase) (and_false (has_error_opcode c.bytes))
-      (if_no DidSo (is_stranger (terms_of phase) c.e.position.last_sent_to c.from)
-      (if has_error_opcode c.bytes then Respond Ignore else Respond Stranger)
+      (if_no DidSo (is_wrong_peer (terms_of phase) c.e.position.last_sent_to c.from)
+      (if has_error_opcode c.bytes then Respond Ignore else Respond WrongPeer)
       (if has_error_opcode c.bytes && false then Respond (garbled_response phase)
       else packet_action c.e c.from (Some packet) phase)
       own
       (did_at (Some packet) phase (decoded_is c.bytes packet c.step.decoded says c.step.says) stands))
 
   -- for bytes that spell no packet
-  pub nothing_at : (phase : Phase) → is_stranger (terms_of phase) c.e.position.last_sent_to c.from ≡ false →
+  pub nothing_at : (phase : Phase) → is_wrong_peer (terms_of phase) c.e.position.last_sent_to c.from ≡ false →
       c.e.position.phase ≡ phase → ((packet : Packet) → Spells packet c.bytes → ⊥) →
       DidSo (if has_error_opcode c.bytes && true then Respond (garbled_response phase)
       else packet_action c.e c.from None phase)
   nothing_at phase own stands none =
-      if_no DidSo (is_stranger (terms_of phase) c.e.position.last_sent_to c.from)
-      (if has_error_opcode c.bytes then Respond Ignore else Respond Stranger)
+      if_no DidSo (is_wrong_peer (terms_of phase) c.e.position.last_sent_to c.from)
+      (if has_error_opcode c.bytes then Respond Ignore else Respond WrongPeer)
       (if has_error_opcode c.bytes && true then Respond (garbled_response phase)
       else packet_action c.e c.from None phase)
       own
       (did_at None phase (decoded_none c.bytes c.step.decoded none c.step.says) stands)
 
-  pub at_malformed : (phase : Phase) → is_stranger (terms_of phase) c.e.position.last_sent_to c.from ≡ false →
+  pub at_malformed : (phase : Phase) → is_wrong_peer (terms_of phase) c.e.position.last_sent_to c.from ≡ false →
       c.e.position.phase ≡ phase → IsMalformed c →
       DidSo (packet_action c.e c.from None phase)
   at_malformed phase own stands m =
@@ -143,7 +144,7 @@ module _ {S K : Type 0} {sources : SourceMeaning S} {sinks : SinkMeaning K} (c :
   either_same false x h = h
 
   -- if both cases have the same answer
-  pub at_nothing : (phase : Phase) → is_stranger (terms_of phase) c.e.position.last_sent_to c.from ≡ false →
+  pub at_nothing : (phase : Phase) → is_wrong_peer (terms_of phase) c.e.position.last_sent_to c.from ≡ false →
       c.e.position.phase ≡ phase → ((packet : Packet) → Spells packet c.bytes → ⊥) →
       Respond (garbled_response phase) ≡ packet_action c.e c.from None phase →
       DidSo (packet_action c.e c.from None phase)
@@ -266,7 +267,7 @@ module _ {S K : Type 0} {sources : SourceMeaning S} {sinks : SinkMeaning K} (c :
         c.turn ≡ committed_turn terms (n + 1) c.from (holding after c.e) answer → CommitRow c terms n after answer
     commit_row after (Ok done) is = (
       answers phase (Dallying terms (n + 1) Fresh) (Ack (n + 1)) (holding after c.e) stands refl last is,
-      ap (λ (t : Turn). t.position.held) is,
+      ap (λ (t : Turn). t.position.held_back) is,
     )
     commit_row after (Err faults.Exists) is = gives_up_so FileExists outcomes.StoreFault (holding after c.e) stands is
     commit_row after (Err faults.Missing) is = gives_up_so DiskFull outcomes.StoreFault (holding after c.e) stands is
@@ -281,7 +282,7 @@ module _ {S K : Type 0} {sources : SourceMeaning S} {sinks : SinkMeaning K} (c :
     append_row false after mid sink' (Err fault) h = (gives_up_so DiskFull outcomes.StoreFault c.e stands h.0, h.1)
     append_row false after mid sink' (Ok done) h = (
       answers phase (Receiving terms (n + 1)) (Ack (n + 1)) (holding after c.e) stands refl more h.0,
-      ap (λ (t : Turn). t.position.held) h.0,
+      ap (λ (t : Turn). t.position.held_back) h.0,
       h.1,
     )
     append_row true after mid sink' (Ok done) h =

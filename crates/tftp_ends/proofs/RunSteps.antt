@@ -22,7 +22,7 @@ use Rattle.tftp_file.specs.declared.files.Files.TheVariants.{Source, Sink}
 use Rattle.tftp_ends.specs.declared.action.Action.{Action}
 use Rattle.tftp_ends.specs.declared.action.Action.TheVariants.{Respond, Send, Store}
 use Rattle.tftp_ends.specs.declared.action.Response.{Response}
-use Rattle.tftp_ends.specs.declared.action.Response.TheVariants.{Ignore, Stranger, ResendReply, Close, Refuse, Accept}
+use Rattle.tftp_ends.specs.declared.action.Response.TheVariants.{Ignore, WrongPeer, ResendReply, Close, Refuse, Accept}
 use Rattle.tftp_ends.specs.declared.action.Response.TheVariants.{Complete}
 use Rattle.tftp_ends.specs.declared.endpoint.Endpoint.{Endpoint}
 use Rattle.tftp_ends.specs.declared.error_reply.ErrorReply.{ErrorReply}
@@ -34,7 +34,7 @@ use Rattle.tftp_ends.specs.declared.phase.Dally.TheVariants.{Fresh}
 use Rattle.tftp_ends.specs.declared.phase.Phase.{Phase}
 use Rattle.tftp_ends.specs.declared.phase.Phase.TheVariants.{Waiting, Sending, Receiving, Dallying, Closed}
 use Rattle.tftp_ends.specs.declared.phase.Terms.{Terms}
-use Rattle.tftp_ends.specs.Action.{Decodes, is_stranger, garbled_response, packet_action, datagram_action}
+use Rattle.tftp_ends.specs.Action.{Decodes, is_wrong_peer, garbled_response, packet_action, datagram_action}
 use Rattle.tftp_ends.specs.End.{EndState, is_sender, is_client, is_progress, terms_of, outcome_of}
 use Rattle.tftp_ends.specs.Phase.{completed}
 use Rattle.tftp_ends.specs.Receiver.{receiver_action, data_action, next_action, dally_response}
@@ -63,9 +63,9 @@ module _ {S K : Type 0} (sources : SourceMeaning S) (sinks : SinkMeaning K)
   ignores : Moving (Respond Ignore)
   ignores = responds Ignore (stays e None kept (λ _. (refl, refl)))
 
-  answers_stranger : Moving (Respond Stranger)
-  answers_stranger =
-      responds Stranger
+  answers_wrong_peer : Moving (Respond WrongPeer)
+  answers_wrong_peer =
+      responds WrongPeer
       (stays e (Some (record { to = from; bytes = error_bytes replies.UnknownTransferId })) kept
       (λ _. (refl, refl)))
 
@@ -399,7 +399,7 @@ module _ {S K : Type 0} (sources : SourceMeaning S) (sinks : SinkMeaning K)
       (λ _. writer_goes asked limit decoded) (λ r. reader_goes asked limit r decoded d)
   packet_goes (Sending terms n) o kept decoded d = sender_goes (is_client e0.role.side) terms n kept decoded
   packet_goes (Receiving terms n) o kept decoded d =
-      receiver_goes (Receiving terms n) o kept (is_client e0.role.side) e0.position.held terms n decoded kept.1 d
+      receiver_goes (Receiving terms n) o kept (is_client e0.role.side) e0.position.held_back terms n decoded kept.1 d
       (omega arith) refl
   packet_goes (Dallying terms n dally) o kept decoded d = dally_goes terms n dally kept decoded
   packet_goes (Closed terms n complete outcome) o kept decoded d = absurd (true≢false o)
@@ -418,13 +418,13 @@ module _ {S K : Type 0} (sources : SourceMeaning S) (sinks : SinkMeaning K)
       Decodes bytes decoded → Going p o kept (datagram_action (at p) from bytes decoded)
   datagram_goes p o kept decoded d =
       let P = Going p o kept in
-      let strange = if has_error_opcode bytes then Respond Ignore else Respond Stranger in
+      let strange = if has_error_opcode bytes then Respond Ignore else Respond WrongPeer in
       let known =
       if has_error_opcode bytes && is_none decoded then Respond (garbled_response p)
       else packet_action (at p) from decoded p in
-      if_either P (is_stranger (terms_of p) e0.position.last_sent_to from) strange known
-      (λ _. if_either P (has_error_opcode bytes) (Respond Ignore) (Respond Stranger) (λ _. ignored p o kept)
-      (λ _. answers_stranger sources sinks (at p) from bytes o kept))
+      if_either P (is_wrong_peer (terms_of p) e0.position.last_sent_to from) strange known
+      (λ _. if_either P (has_error_opcode bytes) (Respond Ignore) (Respond WrongPeer) (λ _. ignored p o kept)
+      (λ _. answers_wrong_peer sources sinks (at p) from bytes o kept))
       (λ _. if_either P (has_error_opcode bytes && is_none decoded) (Respond (garbled_response p))
       (packet_action (at p) from decoded p) (λ _. garbled_goes p o kept) (λ _. packet_goes p o kept decoded d))
 

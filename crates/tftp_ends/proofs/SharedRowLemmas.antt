@@ -9,19 +9,19 @@ use Rattle.tftp_file.specs.Source.{SourceMeaning}
 use Rattle.tftp_file.specs.Sink.{SinkMeaning}
 use Rattle.tftp_ends.specs.declared.action.Action.TheVariants.{Respond}
 use Rattle.tftp_ends.specs.declared.action.Response.{Response}
-use Rattle.tftp_ends.specs.declared.action.Response.TheVariants.{Ignore, Stranger, Retransmit, Wait, Close}
+use Rattle.tftp_ends.specs.declared.action.Response.TheVariants.{Ignore, WrongPeer, Retransmit, Wait, Close}
 use Rattle.tftp_ends.specs.declared.endpoint.Endpoint.{Endpoint}
 use Rattle.tftp_ends.specs.declared.outcome.Outcome.TheVariants as outcomes
 use Rattle.tftp_ends.specs.declared.phase.Phase.{Phase}
 use Rattle.tftp_ends.specs.declared.phase.Phase.TheVariants.{Waiting, Sending, Receiving, Dallying, Closed}
 use Rattle.tftp_ends.specs.declared.phase.Terms.{Terms}
-use Rattle.tftp_ends.specs.Action.{is_stranger, same_address, same_endpoint, garbled_response, packet_action}
+use Rattle.tftp_ends.specs.Action.{is_wrong_peer, same_address, same_endpoint, garbled_response, packet_action}
 use Rattle.tftp_ends.specs.Action.{timeout_response}
 use Rattle.tftp_ends.specs.End.{EndState, Position, terms_of, number_of, is_complete}
 use Rattle.tftp_ends.specs.Phase.{waited}
 use Rattle.tftp_ends.specs.Rows.{Handled, AnswersAgain}
-use Rattle.tftp_ends.specs.SharedRows.{IsForeign, FromStranger, IsMalformedError, StrangerIsRefused}
-use Rattle.tftp_ends.specs.SharedRows.{ErrorOfStrangerIsNothing, MalformedErrorClosesSender}
+use Rattle.tftp_ends.specs.SharedRows.{IsForeign, FromWrongPeer, IsMalformedError, WrongPeerIsRefused}
+use Rattle.tftp_ends.specs.SharedRows.{ErrorOfWrongPeerIsNothing, MalformedErrorClosesSender}
 use Rattle.tftp_ends.specs.SharedRows.{MalformedErrorClosesReceiver, MalformedErrorClosesWaiting, TimeoutRetransmits}
 use Rattle.tftp_ends.specs.SharedRows.{LastTimeoutCloses, FirstDallyTimeoutIsCounted, SecondDallyTimeoutCompletes}
 use Rattle.tftp_ends.specs.Step.{Turn, response_turn}
@@ -47,38 +47,38 @@ same_as a b e =
     ∙ ap (endpoint a.ip) (sym (eqb-true a.port b.port h.1))
 
 foreign_is : (terms : Option Terms) (server from : Endpoint) → IsForeign terms server from
-    → is_stranger terms server from ≡ true
+    → is_wrong_peer terms server from ≡ true
 foreign_is None server from f = not_so (same_address server from) (λ e. f (sym (same_text server.ip from.ip (sym e))))
 foreign_is (Some terms) server from f = not_so (same_endpoint terms.peer from) (λ e. f (same_as terms.peer from e))
 
 module _ {S K : Type 0} (sources : SourceMeaning S) (sinks : SinkMeaning K) where
-  stranger_did : (c : Handled sources sinks) → FromStranger c
-      → DidSo c (if has_error_opcode c.bytes then Respond Ignore else Respond Stranger)
-  stranger_did c f =
-      if_yes (DidSo c) (is_stranger (terms_of c.e.position.phase) c.e.position.last_sent_to c.from)
-      (if has_error_opcode c.bytes then Respond Ignore else Respond Stranger)
+  wrong_peer_did : (c : Handled sources sinks) → FromWrongPeer c
+      → DidSo c (if has_error_opcode c.bytes then Respond Ignore else Respond WrongPeer)
+  wrong_peer_did c f =
+      if_yes (DidSo c) (is_wrong_peer (terms_of c.e.position.phase) c.e.position.last_sent_to c.from)
+      (if has_error_opcode c.bytes then Respond Ignore else Respond WrongPeer)
       (if has_error_opcode c.bytes && is_none c.step.decoded then Respond (garbled_response c.e.position.phase)
       else packet_action c.e c.from c.step.decoded c.e.position.phase)
       (foreign_is (terms_of c.e.position.phase) c.e.position.last_sent_to c.from f.foreign) (c.step.acts, c.step.again)
 
-  refuses_stranger : (c : Handled sources sinks) → DidSo c (Respond Stranger)
+  refuses_wrong_peer : (c : Handled sources sinks) → DidSo c (Respond WrongPeer)
       → AnswersAgain c (Error 5 (codes "unknown transfer id"))
-  refuses_stranger c h =
+  refuses_wrong_peer c h =
       record { reply = ap (λ (t : Turn). t.reply) h.0.0; position = ap (λ (t : Turn). t.position) h.0.0; files = h.0.1 }
 
-  pub stranger_is_refused : StrangerIsRefused sources sinks
-  stranger_is_refused c f no_error =
-      refuses_stranger c
-      (if_no (DidSo c) (has_error_opcode c.bytes) (Respond Ignore) (Respond Stranger) no_error (stranger_did c f))
+  pub wrong_peer_is_refused : WrongPeerIsRefused sources sinks
+  wrong_peer_is_refused c f no_error =
+      refuses_wrong_peer c
+      (if_no (DidSo c) (has_error_opcode c.bytes) (Respond Ignore) (Respond WrongPeer) no_error (wrong_peer_did c f))
 
-  pub error_of_stranger_is_nothing : ErrorOfStrangerIsNothing sources sinks
-  error_of_stranger_is_nothing c f error =
+  pub error_of_wrong_peer_is_nothing : ErrorOfWrongPeerIsNothing sources sinks
+  error_of_wrong_peer_is_nothing c f error =
       does_nothing c
-      (if_yes (DidSo c) (has_error_opcode c.bytes) (Respond Ignore) (Respond Stranger) error (stranger_did c f))
+      (if_yes (DidSo c) (has_error_opcode c.bytes) (Respond Ignore) (Respond WrongPeer) error (wrong_peer_did c f))
 
   -- ---- a malformed ERROR
   garbled : (c : Handled sources sinks) (phase : Phase)
-      → is_stranger (terms_of phase) c.e.position.last_sent_to c.from ≡ false → c.e.position.phase ≡ phase
+      → is_wrong_peer (terms_of phase) c.e.position.last_sent_to c.from ≡ false → c.e.position.phase ≡ phase
       → IsMalformedError c → DidSo c (Respond (garbled_response phase))
   garbled c phase own stands m =
       if_yes (DidSo c) (has_error_opcode c.bytes && true) (Respond (garbled_response phase))

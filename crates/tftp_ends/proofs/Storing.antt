@@ -31,7 +31,7 @@ module _ {K : Type 0} (sinks : SinkMeaning K) (terms : Terms) (number : ℕ) (fr
   -- the result of storing the block
   abbrev pub StoresNext : BlockStored → Type 0
   StoresNext block_stored =
-      StoresPiece sinks e.role.mode e.position.held piece
+      StoresPiece sinks e.role.mode e.position.held_back piece
       (ltb (length piece) terms.size) sink sink' block_stored held_after
 
   -- a receiver's step for an action that stores, and the bytes that the call lends

@@ -7,12 +7,12 @@ use Rattle.std.specs.Result.{IsOk, is_ok}
 use Rattle.tftp_wire.specs.declared.mode.Mode.{Mode}
 use Rattle.tftp_wire.specs.declared.mode.Mode.TheVariants.{Octet, Netascii}
 use Rattle.tftp_file.specs.Netascii.{wire_byte, netascii_text}
-use Rattle.tftp_file.specs.Decoding.{IsHeld, DecodesPiece, IsWrong, Refuses}
+use Rattle.tftp_file.specs.Decoding.{IsHeldBack, DecodesPiece, IsWrong, Refuses}
 use Rattle.tftp_file.specs.declared.netascii.NetFault.{NetFault}
 use Rattle.tftp_file.specs.declared.netascii.NetFault.TheVariants.{LoneCr, LoneLf, EndsInCr, Memory}
 use Rattle.tftp_ends.specs.Laws.{DecodedBegins, DecodedEnds}
 use Rattle.tftp_ends.specs.Text.{begins_netascii, ends_in_cr, is_readable}
-use Rattle.tftp_ends.specs.Sound.{HeldFits}
+use Rattle.tftp_ends.specs.Sound.{HeldBackFits}
 use Rattle.tftp_ends.specs.Step.{Done}
 
 -- a byte that is encoded as itself
@@ -55,7 +55,7 @@ text_begins (b ∷ bytes) rest =
     append_assoc (wire_byte b) (netascii_text bytes) rest in
     (ap begins_netascii split ∙ (one.0 ∙ more.0), ap ends_in_cr split ∙ (one.1 ∙ more.1))
 
-held_begins : (held : List ℕ) → IsHeld held → begins_netascii held ≡ true
+held_begins : (held : List ℕ) → IsHeldBack held → begins_netascii held ≡ true
 held_begins held h = elim h [
   | inl e ↦ ap begins_netascii e
   | inr e ↦ ap begins_netascii e
@@ -86,7 +86,7 @@ wrong_begins text LoneLf h =
 wrong_begins text EndsInCr h = absurd h.1
 wrong_begins text Memory h = absurd h.1
 
--- a push of the beginning of a wire text fails only if out of memory
+-- a push of the prefix of a wire text fails only if out of memory
 pub refused_for_memory : (text : List ℕ) (fault : NetFault) → begins_netascii text ≡ true → fault ≢ Memory
     → Refuses text fault → ⊥
 refused_for_memory text LoneCr b n h = true≢false (sym b ∙ wrong_begins text LoneCr h)
@@ -110,7 +110,7 @@ readable_more held piece bytes after size d l =
     sym (readable_by held piece bytes after (ltb (length piece) size) d
     ∙ ap (λ (b : Bool). not (b && ends_in_cr after)) (le-ltb (length piece) size l))
 
-ends_well : (after : List ℕ) (answer : Result Done NetFault) → IsHeld after → IsOk answer ↔ (after ≡ [])
+ends_well : (after : List ℕ) (answer : Result Done NetFault) → IsHeldBack after → IsOk answer ↔ (after ≡ [])
     → is_ok answer ≡ not (ends_in_cr after)
 ends_well after (Ok done) h iff = sym (ap (λ (t : List ℕ). not (ends_in_cr t)) (iff.0 refl))
 ends_well after (Err fault) h iff = elim h [
@@ -141,6 +141,6 @@ readable_begins held piece last e =
     (both_true (begins_netascii (held ++ piece)) (not (last && ends_in_cr (held ++ piece))) e).0
 
 -- an end that opens holds nothing back
-pub nothing_held : (mode : Mode) → HeldFits mode []
+pub nothing_held : (mode : Mode) → HeldBackFits mode []
 nothing_held Octet = refl
 nothing_held Netascii = inl refl

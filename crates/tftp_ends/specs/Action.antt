@@ -16,7 +16,8 @@ use Rattle.tftp_ends.specs.declared.phase.Terms.{Terms}
 use Rattle.tftp_ends.specs.declared.action.Action.{Action}
 use Rattle.tftp_ends.specs.declared.action.Action.TheVariants.{Respond}
 use Rattle.tftp_ends.specs.declared.action.Response.{Response}
-use Rattle.tftp_ends.specs.declared.action.Response.TheVariants.{Ignore, Stranger, Retransmit, Wait}
+use Rattle.tftp_ends.specs.declared.action.Response.TheVariants.{Ignore, WrongPeer}
+use Rattle.tftp_ends.specs.declared.action.Response.TheVariants.{Retransmit, Wait}
 use Rattle.tftp_ends.specs.declared.action.Response.TheVariants.{Close}
 use Rattle.tftp_ends.specs.End.{EndState, is_sender, is_client, terms_of}
 use Rattle.tftp_ends.specs.Waiting.{reader_action, writer_action}
@@ -37,9 +38,9 @@ abbrev pub same_endpoint : Endpoint → Endpoint → Bool
 same_endpoint a b = same_address a b && (a.port == b.port)
 
 -- the datagram is not from the peer or, while the peer is unknown, not from the server's address
-abbrev pub is_stranger : Option Terms → Endpoint → Endpoint → Bool
-is_stranger None to from = not (same_address to from)
-is_stranger (Some terms) to from = not (same_endpoint terms.peer from)
+abbrev pub is_wrong_peer : Option Terms → Endpoint → Endpoint → Bool
+is_wrong_peer None to from = not (same_address to from)
+is_wrong_peer (Some terms) to from = not (same_endpoint terms.peer from)
 
 -- a malformed ERROR closes the transfer without a reply; in a dally it is ignored
 abbrev pub garbled_response : Phase → Response
@@ -63,15 +64,15 @@ packet_action e from decoded (Waiting asked limit) =
 packet_action e from decoded (Sending terms number) =
     sender_action (is_client e.role.side) e.role.length terms number decoded
 packet_action e from decoded (Receiving terms number) =
-    receiver_action (is_client e.role.side) e.role.mode e.position.held terms number decoded
+    receiver_action (is_client e.role.side) e.role.mode e.position.held_back terms number decoded
 packet_action e from decoded (Dallying terms number dally) = Respond (dally_response number decoded)
 packet_action e from decoded (Closed terms number complete outcome) = Respond Ignore
 
 -- how an open end handles a datagram: it tests the sender first, and then for a malformed ERROR
 abbrev pub datagram_action : EndState → Endpoint → List ℕ → Option Packet → Action
 datagram_action e from bytes decoded =
-    if is_stranger (terms_of e.position.phase) e.position.last_sent_to from
-    then (if has_error_opcode bytes then Respond Ignore else Respond Stranger)
+    if is_wrong_peer (terms_of e.position.phase) e.position.last_sent_to from
+    then (if has_error_opcode bytes then Respond Ignore else Respond WrongPeer)
     else if has_error_opcode bytes && is_none decoded
     then Respond (garbled_response e.position.phase)
     else packet_action e from decoded e.position.phase

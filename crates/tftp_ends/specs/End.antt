@@ -24,7 +24,7 @@ pub record Position : Type 0 where
   pub last_sent : List ℕ
   pub last_sent_to : Endpoint
   -- a receiver's wire text that awaits its next byte
-  pub held : List ℕ
+  pub held_back : List ℕ
   pub phase : Phase
 
 -- an end: its role, which its opening fixes, and its position, which its steps change
@@ -113,7 +113,7 @@ record_of e =
 -- how many bytes an end keeps between two events
 abbrev pub held_by : EndState → Held
 held_by e =
-    record { datagram = list_length e.position.last_sent; text = list_length e.position.held }
+    record { datagram = list_length e.position.last_sent; text = list_length e.position.held_back }
 
 -- the peer became known, the number rose, or the end became complete
 abbrev pub is_progress : Phase → Phase → Bool

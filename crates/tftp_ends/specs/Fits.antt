@@ -39,7 +39,7 @@ ReplyFits e _ = Unit {0}
 -- the bytes spell the DATA to store, and its data continues the text
 pub record BlockFits (e : EndState) (bytes : List ℕ) (terms : Terms) (number : ℕ) : Type 0 where
   pub spelled : Spells (Data number (drop 4 bytes)) bytes
-  pub readable : is_readable e.role.mode e.position.held (drop 4 bytes)
+  pub readable : is_readable e.role.mode e.position.held_back (drop 4 bytes)
       (nat_lt (length (drop 4 bytes)) terms.size) ≡ true
 
 -- what an action requires of the last datagram sent and of the received bytes

@@ -76,7 +76,7 @@ module _ {K : Type 0} (sinks : SinkMeaning K) where
   ReceiverActLacksMemory (Respond response) bytes e before after = ⊥
   ReceiverActLacksMemory (Send terms number) bytes e before after = ⊥
   ReceiverActLacksMemory (Store terms number) bytes e before after =
-      StoreLacksMemory sinks e.role.mode e.position.held (drop 4 bytes) before after
+      StoreLacksMemory sinks e.role.mode e.position.held_back (drop 4 bytes) before after
 
   -- an open receiver did not handle a datagram, as `LacksMemory` has it
   pub record ReceiverLacksMemory (too_full : ℕ → Type 0) (from : Endpoint) (bytes : List ℕ)

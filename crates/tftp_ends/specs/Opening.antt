@@ -39,7 +39,7 @@ opened role phase to sent =
             retries_left = role.retries;
             last_sent = sent;
             last_sent_to = to;
-            held = [];
+            held_back = [];
             phase = phase;
           };
     }

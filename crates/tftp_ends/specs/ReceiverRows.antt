@@ -38,7 +38,7 @@ module _ {S K : Type 0} {sources : SourceMeaning S} {sinks : SinkMeaning K}
   abbrev pub CommitRow : List ℕ → Result Done StoreFault → Type 0
   -- committed: n rises, ACK n+1, complete, dally begins
   CommitRow after (Ok done) =
-      AnswersBy c (Dallying terms (n + 1) Fresh) (Ack (n + 1)) × (c.turn.position.held ≡ after)
+      AnswersBy c (Dallying terms (n + 1) Fresh) (Ack (n + 1)) × (c.turn.position.held_back ≡ after)
   -- refused as Exists: ERROR 6, n stays, not complete
   CommitRow after (Err faults.Exists) =
       GivesUp c (Some terms) n 6 (codes "file exists") outcomes.StoreFault
@@ -68,7 +68,7 @@ module _ {S K : Type 0} {sources : SourceMeaning S} {sinks : SinkMeaning K}
       GivesUp c (Some terms) n 3 (codes "disk full") outcomes.StoreFault × (sink' ≡ sink)
   -- a block of b bytes: stored, n rises, ACK n+1
   AppendRow false after sink sink' (Ok done) =
-      AnswersBy c (Receiving terms (n + 1)) (Ack (n + 1)) × (c.turn.position.held ≡ after)
+      AnswersBy c (Receiving terms (n + 1)) (Ack (n + 1)) × (c.turn.position.held_back ≡ after)
       × (sink' ≡ sink)
   -- a block of fewer bytes: the file is committed before the block is acknowledged
   AppendRow true after sink sink' (Ok done) = CommitsWhole after sink sink'
@@ -82,7 +82,7 @@ module _ {S K : Type 0} {sources : SourceMeaning S} {sinks : SinkMeaning K}
     pub files' : c.files' ≡ Sink sink'
     pub bytes : List ℕ
     pub after : List ℕ
-    pub decoded : Decoded c.e.role.mode c.e.position.held piece bytes after
+    pub decoded : Decoded c.e.role.mode c.e.position.held_back piece bytes after
     pub answer : Result Done StoreFault
     pub appended : Appended sinks bytes sink mid answer
     pub memory : answer ≢ Err faults.Memory
@@ -166,7 +166,7 @@ module _ {S K : Type 0} (sources : SourceMeaning S) (sinks : SinkMeaning K) wher
       → length piece ≤ terms.size
       → (n + 1 ≡ 65535 → length piece < terms.size)
       → NextRow c terms n piece
-      (is_readable c.e.role.mode c.e.position.held piece (nat_lt (length piece) terms.size))
+      (is_readable c.e.role.mode c.e.position.held_back piece (nat_lt (length piece) terms.size))
 
   -- ERROR: PeerError, closed without a reply
   abbrev pub ErrorClosesReceiver : Type 0

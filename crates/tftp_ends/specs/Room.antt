@@ -4,7 +4,7 @@ use Rattle.tftp_file.specs.declared.fault.FileFault.{FileFault}
 use Rattle.tftp_ends.specs.declared.action.Action.{Action}
 use Rattle.tftp_ends.specs.declared.action.Action.TheVariants.{Respond, Send, Store}
 use Rattle.tftp_ends.specs.declared.action.Response.{Response}
-use Rattle.tftp_ends.specs.declared.action.Response.TheVariants.{Ignore, Stranger, ResendReply}
+use Rattle.tftp_ends.specs.declared.action.Response.TheVariants.{Ignore, WrongPeer, ResendReply}
 use Rattle.tftp_ends.specs.declared.action.Response.TheVariants.{Retransmit, Wait, Close, Refuse}
 use Rattle.tftp_ends.specs.declared.action.Response.TheVariants.{Accept, Complete}
 use Rattle.tftp_ends.specs.End.{EndState}
@@ -14,7 +14,7 @@ use Rattle.tftp_ends.specs.Step.{ReadsBlock, block_length, data_bytes, result_co
 -- the capacity to reserve for a response
 abbrev pub response_room : EndState → Response → ℕ
 response_room e Ignore = 0
-response_room e Stranger = MAX_ERROR
+response_room e WrongPeer = MAX_ERROR
 response_room e ResendReply = length e.position.last_sent
 response_room e Retransmit = length e.position.last_sent
 response_room e Wait = 0

@@ -1,4 +1,4 @@
--- The rows that the tables of all ends share: a datagram of a stranger, a malformed ERROR and a
+-- The rows that the tables of all ends share: a datagram of a wrong peer, a malformed ERROR and a
 -- timeout, a statement for each (RFC 1350, sections 2, 4, 6 and 7).
 use Rattle.std.specs.Prelude.{ℕ, ◌≡◌, ◌≢◌, ◌<◌, ◌-◌, Bool, true, false, codes, Option, Some, None}
 use Rattle.tftp_wire.specs.Reading.{has_error_opcode}
@@ -29,7 +29,7 @@ IsForeign (Some terms) server from = from ≢ terms.peer
 module _ {S K : Type 0} {sources : SourceMeaning S} {sinks : SinkMeaning K}
     (c : Handled sources sinks) where
   -- an open end received a datagram with a wrong transfer identifier
-  pub record FromStranger : Type 0 where
+  pub record FromWrongPeer : Type 0 where
     pub open_end : IsOpen c.e
     pub foreign : IsForeign (terms_of c.e.position.phase) c.e.position.last_sent_to c.from
 
@@ -39,17 +39,17 @@ module _ {S K : Type 0} {sources : SourceMeaning S} {sinks : SinkMeaning K}
     pub error : has_error_opcode c.bytes ≡ true
 
 module _ {S K : Type 0} (sources : SourceMeaning S) (sinks : SinkMeaning K) where
-  -- ---- a stranger
-  -- any datagram but an ERROR: ERROR 5 to the stranger, and nothing has changed
-  abbrev pub StrangerIsRefused : Type 0
-  StrangerIsRefused =
-      (c : Handled sources sinks) → FromStranger c → has_error_opcode c.bytes ≡ false
+  -- ---- a wrong peer
+  -- any datagram but an ERROR: ERROR 5 to the wrong peer, and nothing has changed
+  abbrev pub WrongPeerIsRefused : Type 0
+  WrongPeerIsRefused =
+      (c : Handled sources sinks) → FromWrongPeer c → has_error_opcode c.bytes ≡ false
       → AnswersAgain c (Error 5 (codes "unknown transfer id"))
 
   -- bytes that begin as an ERROR: nothing
-  abbrev pub ErrorOfStrangerIsNothing : Type 0
-  ErrorOfStrangerIsNothing =
-      (c : Handled sources sinks) → FromStranger c → has_error_opcode c.bytes ≡ true
+  abbrev pub ErrorOfWrongPeerIsNothing : Type 0
+  ErrorOfWrongPeerIsNothing =
+      (c : Handled sources sinks) → FromWrongPeer c → has_error_opcode c.bytes ≡ true
       → DoesNothing c
 
   -- ---- a malformed ERROR of the peer: Illegal, closed without a reply; in a dally nothing, as the

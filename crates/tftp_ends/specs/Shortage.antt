@@ -58,7 +58,7 @@ module _ {S K : Type 0} (sources : SourceMeaning S) (sinks : SinkMeaning K) wher
   -- a block was not stored in a sink
   abbrev pub SinkLacksMemory : List ℕ → EndState → Files S K → Files S K → Type 0
   SinkLacksMemory piece e (Sink before) (Sink after) =
-      StoreLacksMemory sinks e.role.mode e.position.held piece before after
+      StoreLacksMemory sinks e.role.mode e.position.held_back piece before after
   SinkLacksMemory piece e _ _ = ⊥
 
   -- an action for a datagram of these bytes was not carried out; a response never lacks memory

@@ -4,7 +4,7 @@ use Rattle.std.specs.Prelude.{[], length, Option, Some, None}
 use Rattle.tftp_wire.specs.declared.limits.TheConstants.{HEADER, MAX_REQUEST}
 use Rattle.tftp_wire.specs.declared.mode.Mode.{Mode}
 use Rattle.tftp_wire.specs.declared.mode.Mode.TheVariants.{Octet, Netascii}
-use Rattle.tftp_file.specs.Decoding.{IsHeld}
+use Rattle.tftp_file.specs.Decoding.{IsHeldBack}
 use Rattle.tftp_negotiate.specs.Asked.{IsAskable}
 use Rattle.tftp_ends.specs.declared.phase.Phase.{Phase}
 use Rattle.tftp_ends.specs.declared.phase.Phase.TheVariants.{Waiting, Sending, Receiving, Dallying}
@@ -21,7 +21,7 @@ IsSending e terms =
 -- clients wait and have no text yet, senders send, receivers receive
 abbrev pub PhaseFits : EndState → Phase → Type 0
 PhaseFits e (Waiting asked limit) =
-    (is_client e.role.side ≡ true) × IsAskable asked × (e.position.held ≡ [])
+    (is_client e.role.side ≡ true) × IsAskable asked × (e.position.held_back ≡ [])
 PhaseFits e (Sending terms number) = IsSending e terms
 PhaseFits e (Receiving terms number) = is_sender e.role.side ≡ false
 PhaseFits e (Dallying terms number dally) = is_sender e.role.side ≡ false
@@ -42,9 +42,9 @@ ResendsAck e (Dallying terms number dally) = HasAcknowledged e terms number
 ResendsAck e (Closed terms number complete outcome) = Unit {0}
 
 -- the text held back: none in octet, and at most the CR of a pair in netascii (RFC 764)
-abbrev pub HeldFits : Mode → List ℕ → Type 0
-HeldFits Octet held = held ≡ []
-HeldFits Netascii held = IsHeld held
+abbrev pub HeldBackFits : Mode → List ℕ → Type 0
+HeldBackFits Octet held = held ≡ []
+HeldBackFits Netascii held = IsHeldBack held
 
 -- the longest datagram that an end keeps for retransmission, in bytes: a request while the peer is
 -- unknown, and then an OACK, or a header and a block of the agreed size
@@ -56,5 +56,5 @@ longest_sent (Some terms) = max MAX_REQUEST (HEADER + terms.size)
 pub record IsSound (e : EndState) : Type 0 where
   pub phase : PhaseFits e e.position.phase
   pub resends : ResendsAck e e.position.phase
-  pub held : HeldFits e.role.mode e.position.held
+  pub held_back : HeldBackFits e.role.mode e.position.held_back
   pub sent : length e.position.last_sent ≤ longest_sent (terms_of e.position.phase)

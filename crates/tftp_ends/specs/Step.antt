@@ -23,7 +23,7 @@ use Rattle.tftp_ends.specs.declared.record.Step.{Step}
 use Rattle.tftp_ends.specs.declared.action.Action.{Action}
 use Rattle.tftp_ends.specs.declared.action.Action.TheVariants.{Respond, Send, Store}
 use Rattle.tftp_ends.specs.declared.action.Response.{Response}
-use Rattle.tftp_ends.specs.declared.action.Response.TheVariants.{Ignore, Stranger, ResendReply}
+use Rattle.tftp_ends.specs.declared.action.Response.TheVariants.{Ignore, WrongPeer, ResendReply}
 use Rattle.tftp_ends.specs.declared.action.Response.TheVariants.{Retransmit, Wait, Close, Refuse}
 use Rattle.tftp_ends.specs.declared.action.Response.TheVariants.{Accept, Complete}
 use Rattle.tftp_ends.specs.declared.outgoing.Outgoing.{Outgoing}
@@ -77,7 +77,7 @@ data_bytes number bytes = canonical (Data number bytes)
 -- the position after a response to a datagram from `from`
 abbrev pub after : Response → Endpoint → EndState → Position
 after Ignore from e = e.position
-after Stranger from e = e.position
+after WrongPeer from e = e.position
 after ResendReply from e = e.position
 after Retransmit from e = record e.position { retries_left = e.position.retries_left - 1 }
 after Wait from e = record e.position { phase = waited e.position.phase }
@@ -90,7 +90,7 @@ after Complete from e = in_phase (completed e.position.phase) e
 -- the answer of a response
 abbrev pub reply_at : Response → Endpoint → EndState → Option Reply
 reply_at Ignore from e = None
-reply_at Stranger from e =
+reply_at WrongPeer from e =
     Some (record { to = from; bytes = error_bytes replies.UnknownTransferId })
 reply_at ResendReply from e = Some (record { to = from; bytes = e.position.last_sent })
 reply_at Retransmit from e =
@@ -120,7 +120,7 @@ IsAck number (Some reply) = reply.bytes ≡ ack_bytes number
 abbrev pub AcksAgain : EndState → Turn → Action → Type 0
 AcksAgain e turn (Respond ResendReply) = IsAck (number_of e.position.phase) turn.reply
 AcksAgain e turn (Respond Ignore) = Unit {0}
-AcksAgain e turn (Respond Stranger) = Unit {0}
+AcksAgain e turn (Respond WrongPeer) = Unit {0}
 AcksAgain e turn (Respond Retransmit) = Unit {0}
 AcksAgain e turn (Respond Wait) = Unit {0}
 AcksAgain e turn (Respond (Close outcome)) = Unit {0}
@@ -179,7 +179,7 @@ committed_turn terms number from e (Err fault) =
 
 -- a receiver that holds back this text
 abbrev pub holding : List ℕ → EndState → EndState
-holding held e = with_position (record e.position { held = held }) e
+holding held e = with_position (record e.position { held_back = held }) e
 
 -- `want` bytes were requested from a source, with this answer: it fails to read only if it may
 -- fail, and it does if it must
@@ -245,7 +245,7 @@ module _ {K : Type 0} (sinks : SinkMeaning K) where
     pub after : List ℕ
     pub mid : K
     pub answer : Result Done StoreFault
-    pub decoded : Decoded e.role.mode e.position.held piece bytes after
+    pub decoded : Decoded e.role.mode e.position.held_back piece bytes after
     pub appended : Appended bytes sink mid answer
     pub memory : answer ≢ Err store_faults.Memory
     pub rest : GoesOn terms number from e (nat_lt (length piece) terms.size) after mid answer turn
@@ -303,7 +303,7 @@ reply_bytes (Some reply) = reply.bytes
 -- a response that sends a datagram
 abbrev pub HasReply : Response → Type 0
 HasReply Ignore = ⊥
-HasReply Stranger = Unit {0}
+HasReply WrongPeer = Unit {0}
 HasReply ResendReply = Unit {0}
 HasReply Retransmit = Unit {0}
 HasReply Wait = ⊥

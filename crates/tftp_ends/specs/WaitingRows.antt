@@ -53,7 +53,7 @@ module _ {S K : Type 0} {sources : SourceMeaning S} {sinks : SinkMeaning K}
     pub stands : c.e.position.phase ≡ Waiting asked limit
     pub side : is_sender c.e.role.side ≡ writes
     pub server : c.from.ip ≡ c.e.position.last_sent_to.ip
-    pub no_text : c.e.position.held ≡ []
+    pub no_text : c.e.position.held_back ≡ []
 
   -- an OACK that does not match the requested options
   abbrev pub RefusesOack : Refusal → Type 0

@@ -21,7 +21,7 @@ pub enum Response {
     /// No datagram and no change.
     Ignore,
     /// ERROR 5 to the sender of the datagram, and no change.
-    Stranger,
+    WrongPeer,
     /// Send the last datagram again, and no change.
     ResendReply,
     /// A timeout with a retry left: send the last datagram again, for one retry.

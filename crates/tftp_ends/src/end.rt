@@ -61,7 +61,7 @@ impl Model for End {
         retries_left = e.retries_left;
         last_sent = e.last_sent.items;
         last_sent_to = e.last_sent_to;
-        held = e.decoder;
+        held_back = e.decoder;
         phase = e.phase;
       };
     } };
@@ -72,7 +72,7 @@ impl Model for End {
         retries_left = e.retries_left;
         last_sent = e.last_sent.items;
         last_sent_to = e.last_sent_to;
-        held = e.decoder;
+        held_back = e.decoder;
         phase = e.phase;
       };
     }) × (4 ≤ vec_capacity e.last_sent) × (e.spare.items ≡ [])
@@ -82,7 +82,7 @@ impl Model for End {
 impl End {
     ghost use Rattle.tftp_ends.specs.End.{record_of, held_by, outcome_of, terms_of, interval_of};
     ghost use Rattle.tftp_ends.specs.Action.{Decodes, datagram_action, packet_action};
-    ghost use Rattle.tftp_ends.specs.Action.{garbled_response, is_stranger, timeout_response};
+    ghost use Rattle.tftp_ends.specs.Action.{garbled_response, is_wrong_peer, timeout_response};
     ghost use Rattle.tftp_ends.specs.Action.{timeout_action};
     ghost use Rattle.tftp_ends.specs.Fits.{ActionFits, BytesFit, ReplyFits, ResponseFits};
     ghost use Rattle.tftp_ends.specs.Room.{response_room, room_of};
@@ -140,8 +140,8 @@ impl End {
 
     /// Whether a datagram is not from the peer or, while the peer is unknown, not from the server's
     /// address.
-    fn is_stranger(&self, from: Endpoint) -> bool
-        ensures { result ≡ is_stranger (terms_of self.now.position.phase)
+    fn is_wrong_peer(&self, from: Endpoint) -> bool
+        ensures { result ≡ is_wrong_peer (terms_of self.now.position.phase)
             self.now.position.last_sent_to from }
     {
         match self.phase.terms() {
@@ -204,11 +204,11 @@ impl End {
     {
         let decoded = decode_packet(bytes);
         let is_error = has_error_opcode(bytes);
-        if self.is_stranger(from) {
+        if self.is_wrong_peer(from) {
             return Action::Respond(if is_error {
                 Response::Ignore
             } else {
-                Response::Stranger
+                Response::WrongPeer
             });
         }
         if is_error && decoded.is_none() {

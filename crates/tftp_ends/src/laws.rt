@@ -22,7 +22,7 @@ ghost use Rattle.tftp_ends.specs.WaitingRows.{FirstDataIsStored, OackOpensReader
 ghost use Rattle.tftp_ends.specs.WaitingRows.{ReaderTakesNoOther, FirstAckBegins, OackOpensWriter};
 ghost use Rattle.tftp_ends.specs.WaitingRows.{WriterTakesNoOther, ErrorClosesWaiting};
 ghost use Rattle.tftp_ends.specs.WaitingRows.{MalformedClosesWaiting};
-ghost use Rattle.tftp_ends.specs.SharedRows.{StrangerIsRefused, ErrorOfStrangerIsNothing};
+ghost use Rattle.tftp_ends.specs.SharedRows.{WrongPeerIsRefused, ErrorOfWrongPeerIsNothing};
 ghost use Rattle.tftp_ends.specs.SharedRows.{MalformedErrorClosesSender};
 ghost use Rattle.tftp_ends.specs.SharedRows.{MalformedErrorClosesReceiver};
 ghost use Rattle.tftp_ends.specs.SharedRows.{MalformedErrorClosesWaiting, TimeoutRetransmits};
@@ -113,8 +113,8 @@ pub fn waiting_rows<S: Source, K: Sink>()
 /// The rows that the tables share: a datagram with a wrong transfer identifier, a malformed ERROR,
 /// and a timeout, in a dally and elsewhere (RFC 1350, sections 2, 4, 6 and 7).
 pub fn shared_rows<S: Source, K: Sink>()
-    ensures stranger { StrangerIsRefused S.meaning K.meaning }
-    ensures error_of_stranger { ErrorOfStrangerIsNothing S.meaning K.meaning }
+    ensures wrong_peer { WrongPeerIsRefused S.meaning K.meaning }
+    ensures error_of_wrong_peer { ErrorOfWrongPeerIsNothing S.meaning K.meaning }
     ensures error_at_sender { MalformedErrorClosesSender S.meaning K.meaning }
     ensures error_at_receiver { MalformedErrorClosesReceiver S.meaning K.meaning }
     ensures error_at_waiting { MalformedErrorClosesWaiting S.meaning K.meaning }

@@ -37,7 +37,7 @@ fills_held held (Some a) want k old new rest enough count given left = record {
       given ∙ ap (λ p. old ++ p) (sym (take-append-le want held a enough) ∙ ap (λ n. take n (held ++ a)) (sym count));
   rest =
       ap Some
-          (ap (λ l. l ++ a) left ∙ sym (drop-append-le want held a enough) ∙ ap (λ n. drop n (held ++ a)) (sym count));
+      (ap (λ l. l ++ a) left ∙ sym (drop-append-le want held a enough) ∙ ap (λ n. drop n (held ++ a)) (sym count));
 }
 
 -- enough bytes were read ahead and are given, or out of memory nothing has changed
@@ -67,9 +67,9 @@ fills_after held (Some a) b want k old mid new short begun fills = record {
   given =
       fills.given ∙ ap (λ l. l ++ take k a) begun ∙ append_assoc old held (take k a)
       ∙ ap (λ l. old ++ l)
-          (sym (take-add (length held) k (held ++ a)
-              ∙ ap (λ l. l ++ take k (drop (length held) (held ++ a))) (take_at held a (length held) refl)
-              ∙ ap (λ l. held ++ take k l) (drop_at held a (length held) refl)));
+      (sym (take-add (length held) k (held ++ a)
+      ∙ ap (λ l. l ++ take k (drop (length held) (held ++ a))) (take_at held a (length held) refl)
+      ∙ ap (λ l. held ++ take k l) (drop_at held a (length held) refl)));
   rest = fills.rest ∙ ap Some (sym (drop-append-add held a k));
 }
 
@@ -78,7 +78,7 @@ pub fills_rest : (items all : List ℕ) (at : ℕ) (a b : Option (List ℕ)) (wa
     (r : Result ℕ FileFault)
     → items ≡ all
     → Fills (prepend_known (take (length items - at) (drop at items)) a)
-        (prepend_known (take (length items - at) (drop at items)) b) want old new r
+    (prepend_known (take (length items - at) (drop at items)) b) want old new r
     → Fills (prepend_known (drop at all) a) (prepend_known (drop at all) b) want old new r
 fills_rest items all at a b want old new r same fills =
     let P : List ℕ → Type 0 = λ held. Fills (prepend_known held a) (prepend_known held b) want old new r in
@@ -97,14 +97,14 @@ module _ {S : Type 0} (sources : SourceMeaning S) (is_same : S → S → Type 0)
         later = h.later;
         stays = joins before.source after.source h.later same h.stays;
         want = h.want;
-        fails = h.fails
+        fails = h.fails;
       })
 
   left_or_failed : (before after : AheadState S) (failed : Bool) → after.failed ≡ failed → before.held ≡ []
       → (after.failed ≡ false
-          → StaysKnown (sources.left before.source) (prepend_known after.held (sources.left after.source)))
+      → StaysKnown (sources.left before.source) (prepend_known after.held (sources.left after.source)))
       → StaysKnown (prepend_known before.held (sources.left before.source))
-          (prepend_known after.held (sources.left after.source))
+      (prepend_known after.held (sources.left after.source))
       ⊎ ((want : ℕ) → (after.failed ≡ true) ⊎ ((after.held ≡ []) × sources.fails after.source want))
   left_or_failed before after true is empty left = inr (λ want. inl is)
   left_or_failed before after false is empty left =
@@ -114,10 +114,10 @@ module _ {S : Type 0} (sources : SourceMeaning S) (is_same : S → S → Type 0)
   pub reads_ahead : (before after : AheadState S) (size : ℕ) → before.failed ≡ false → before.held ≡ []
       → is_same before.source after.source
       → (after.failed ≡ false
-          → StaysKnown (sources.left before.source) (prepend_known after.held (sources.left after.source)))
+      → StaysKnown (sources.left before.source) (prepend_known after.held (sources.left after.source)))
       → (after.failed ≡ true → sources.may_fail before.source size)
       → (sources.fails before.source size
-          → (after.failed ≡ true) ⊎ ((after.source ≡ before.source) × (after.held ≡ [])))
+      → (after.failed ≡ true) ⊎ ((after.source ≡ before.source) × (after.held ≡ [])))
       → ReadsAhead (ahead_meaning sources is_same) before after
   reads_ahead before after size unfailed empty same left read fails = record {
     left = left_or_failed before after after.failed refl empty left;

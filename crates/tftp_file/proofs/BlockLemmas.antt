@@ -11,7 +11,7 @@ pub take-add : (m n : ℕ) (xs : List ℕ) → take (m + n) xs ≡ take m xs ++ 
 take-add m n xs =
     sym (take-append-drop m (take (m + n) xs))
     ∙ (ap (λ (t : List ℕ). t ++ drop m (take (m + n) xs)) (take-take m (m + n) xs (omega arith))
-        ∙ ap (λ (t : List ℕ). take m xs ++ t) (drop-take m n xs))
+    ∙ ap (λ (t : List ℕ). take m xs ++ t) (drop-take m n xs))
 
 -- one block more
 pub take_block : (text : List ℕ) (size n : ℕ)
@@ -43,9 +43,13 @@ module _ (text : List ℕ) (size : ℕ) (some : 0 < size) where
   pub length-last : length (block text size (block_count text size)) ≡ length text % size
   length-last =
       length-take size (drop ((block_count text size - 1) * size) text)
-      ∙ omega
-          (arith, last_offset, length-drop ((block_count text size - 1) * size) text, div-add-mod' (length text) size,
-              mod_below (length text) size some)
+      ∙ omega (
+        arith,
+        last_offset,
+        length-drop ((block_count text size - 1) * size) text,
+        div-add-mod' (length text) size,
+        mod_below (length text) size some,
+      )
 
   pub last_short : length (block text size (block_count text size)) < size
   last_short = omega (arith, length-last, mod_below (length text) size some)
@@ -53,14 +57,16 @@ module _ (text : List ℕ) (size : ℕ) (some : 0 < size) where
   pub others_full : (n : ℕ) → 1 ≤ n → n < block_count text size → length (block text size n) ≡ size
   others_full n low high =
       length-take size (drop ((n - 1) * size) text)
-      ∙ omega
-          (arith, length-drop ((n - 1) * size) text,
-              row_fits (n - 1) size (length text / size) size (omega arith) (omega arith),
-              div-add-mod' (length text) size)
+      ∙ omega (
+        arith,
+        length-drop ((n - 1) * size) text,
+        row_fits (n - 1) size (length text / size) size (omega arith) (omega arith),
+        div-add-mod' (length text) size,
+      )
 
   pub last_empty : (n : ℕ) → length text ≡ n * size → block text size (block_count text size) ≡ []
   last_empty n e =
       nil_from_length (block text size (block_count text size))
-          (length-last
-              ∙ (ap (λ (k : ℕ). k % size) (let f : length text ≡ n * size + 0 = omega (arith, e) in f)
-                  ∙ mod-mul-add n size 0 some))
+      (length-last
+      ∙ (ap (λ (k : ℕ). k % size) (let f : length text ≡ n * size + 0 = omega (arith, e) in f)
+      ∙ mod-mul-add n size 0 some))

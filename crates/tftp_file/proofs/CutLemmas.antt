@@ -5,7 +5,7 @@ use Rattle.std.specs.Prelude.{◌⊎◌}
 use Rattle.std.specs.List.{concat}
 use Rattle.std.proofs.lemmas.List.{append-nil, length-append}
 use Rattle.tftp_file.specs.Netascii.{wire_byte, netascii_text}
-use Rattle.tftp_file.specs.Decoding.{IsHeld, DecodesPiece, IsWrong, FirstWrong, BeginsWireText, TakesAll, RefusesAt}
+use Rattle.tftp_file.specs.Decoding.{IsHeldBack, DecodesPiece, IsWrong, FirstWrong, BeginsWireText, TakesAll, RefusesAt}
 use Rattle.tftp_file.specs.declared.netascii.NetFault.{NetFault}
 use Rattle.tftp_file.specs.declared.netascii.NetFault.TheVariants.{LoneCr, LoneLf, EndsInCr, Memory}
 use Rattle.tftp_file.proofs.NetasciiLemmas.{Line, Return, Itself, byte_form}
@@ -17,14 +17,15 @@ joins : (held piece between bytes next : List ℕ) → held ++ piece ≡ netasci
     → held ++ (piece ++ next) ≡ netascii_text bytes ++ (between ++ next)
 joins held piece between bytes next e =
     sym (append_assoc held piece next)
-        ∙ (ap (λ (t : List ℕ). t ++ next) e ∙ append_assoc (netascii_text bytes) between next)
+    ∙ (ap (λ (t : List ℕ). t ++ next) e ∙ append_assoc (netascii_text bytes) between next)
 
 decodes_joined : (held piece between next after first rest : List ℕ) → DecodesPiece held piece first between
     → DecodesPiece between next rest after → DecodesPiece held (piece ++ next) (first ++ rest) after
-decodes_joined held piece between next after first rest d k =
-    (k.0,
-        joins held piece between first next d.1
-            ∙ (ap (λ (t : List ℕ). netascii_text first ++ t) k.1 ∙ front_joins first rest after))
+decodes_joined held piece between next after first rest d k = (
+  k.0,
+  joins held piece between first next d.1
+      ∙ (ap (λ (t : List ℕ). netascii_text first ++ t) k.1 ∙ front_joins first rest after),
+)
 
 -- a text has one list of bytes, and one rest
 pub once : (held text bytes after others left : List ℕ) → DecodesPiece held text bytes after
@@ -32,10 +33,10 @@ pub once : (held text bytes after others left : List ℕ) → DecodesPiece held 
 once held text bytes after others left d k =
     one_way bytes others after left (stop_held after d.0) (stop_held left k.0) (sym d.1 ∙ k.1)
 
-pub pieces_join : (held : List ℕ) (pieces : List (List ℕ)) (bytes after : List ℕ) → IsHeld held
+pub pieces_join : (held : List ℕ) (pieces : List (List ℕ)) (bytes after : List ℕ) → IsHeldBack held
     → TakesAll held pieces bytes after → DecodesPiece held (concat pieces) bytes after
 pieces_join held [] bytes after h t = (
-  subst (λ (l : List ℕ). IsHeld l) (sym t.1) h,
+  subst (λ (l : List ℕ). IsHeldBack l) (sym t.1) h,
   append-nil held ∙ (sym t.1 ∙ ap (λ (l : List ℕ). netascii_text l ++ after) (sym t.0)),
 )
 pieces_join held (piece ∷ pieces) bytes after h t =
@@ -46,7 +47,7 @@ pieces_join held (piece ∷ pieces) bytes after h t =
 begins_cut : (held text bytes after : List ℕ) → DecodesPiece held text bytes after → BeginsWireText (held ++ text)
 begins_cut held text bytes after d = (bytes, after, d)
 
-pub whole_taken : (held : List ℕ) (pieces : List (List ℕ)) (bytes after : List ℕ) → IsHeld held
+pub whole_taken : (held : List ℕ) (pieces : List (List ℕ)) (bytes after : List ℕ) → IsHeldBack held
     → DecodesPiece held (concat pieces) bytes after → TakesAll held pieces bytes after
 whole_taken held [] bytes after h d =
     let o = one_way bytes [] after held (stop_held after d.0) (stop_held held h) (sym d.1 ∙ append-nil held) in
@@ -54,20 +55,21 @@ whole_taken held [] bytes after h d =
 whole_taken held (piece ∷ pieces) bytes after h d = elim (read (held ++ piece)) [
   | Wrong fault w ↦
       absurd (begins_or_wrong (held ++ (piece ++ concat pieces)) fault
-          (begins_cut held (piece ++ concat pieces) bytes after d)
-          (w.0,
-              subst (λ (t : List ℕ). FirstWrong t w.0 fault) (append_assoc held piece (concat pieces))
-                  (first_wrong_before (held ++ piece) (concat pieces) w.0 fault w.1)))
+      (begins_cut held (piece ++ concat pieces) bytes after d) (
+        w.0,
+        subst (λ (t : List ℕ). FirstWrong t w.0 fault) (append_assoc held piece (concat pieces))
+            (first_wrong_before (held ++ piece) (concat pieces) w.0 fault w.1),
+      ))
   | Begins b ↦ elim (read (b.1 ++ concat pieces)) [
     | Wrong fault w ↦
         absurd (begins_or_wrong (held ++ (piece ++ concat pieces)) fault
-            (begins_cut held (piece ++ concat pieces) bytes after d)
-            (subst (λ (t : List ℕ). IsWrong t fault) (sym (joins held piece b.1 b.0 (concat pieces) b.2.1))
-                (wrong_after b.0 (b.1 ++ concat pieces) fault w)))
+        (begins_cut held (piece ++ concat pieces) bytes after d)
+        (subst (λ (t : List ℕ). IsWrong t fault) (sym (joins held piece b.1 b.0 (concat pieces) b.2.1))
+        (wrong_after b.0 (b.1 ++ concat pieces) fault w)))
     | Begins r ↦
         let o =
-            once held (piece ++ concat pieces) bytes after (b.0 ++ r.0) r.1 d
-                (decodes_joined held piece b.1 (concat pieces) r.1 b.0 r.0 b.2 r.2) in (
+        once held (piece ++ concat pieces) bytes after (b.0 ++ r.0) r.1 d
+        (decodes_joined held piece b.1 (concat pieces) r.1 b.0 r.0 b.2 r.2) in (
           b.0,
           b.1,
           r.0,
@@ -100,15 +102,20 @@ lf_after [] piece rest e = absurd (let g : ◌≡◌ {A = ℕ} 13 10 = cc in ome
 lf_after (x ∷ xs) piece rest e = some_wire x xs
 
 -- the first wrong byte is not a byte held back
-wrong_after_held : (held piece : List ℕ) (at : ℕ) (fault : NetFault) → IsHeld held → FirstWrong (held ++ piece) at fault
+wrong_after_held : (held piece : List ℕ) (at : ℕ) (fault : NetFault) → IsHeldBack held
+    → FirstWrong (held ++ piece) at fault
     → length held ≤ at
 wrong_after_held held piece at LoneCr h w =
     elim h [ inl e ↦ omega (arith, ap length e) | inr e ↦ omega (arith, ap length e, w.offset) ]
 wrong_after_held held piece at LoneLf h w = elim h [
   | inl e ↦ omega (arith, ap length e)
   | inr e ↦
-      omega (arith, ap length e, w.offset,
-          lf_after w.bytes piece w.rest (ap (λ (t : List ℕ). t ++ piece) (sym e) ∙ w.split))
+      omega (
+        arith,
+        ap length e,
+        w.offset,
+        lf_after w.bytes piece w.rest (ap (λ (t : List ℕ). t ++ piece) (sym e) ∙ w.split),
+      )
 ]
 wrong_after_held held piece at EndsInCr h w = absurd w
 wrong_after_held held piece at Memory h w = absurd w
@@ -118,23 +125,23 @@ pub wrong_once : (text : List ℕ) (at other : ℕ) (fault wrong : NetFault) →
     → FirstWrong text other wrong → (at ≡ other) × (fault ≡ wrong)
 wrong_once text at other LoneCr LoneCr h k =
     let o =
-        one_way h.bytes k.bytes (13 ∷ h.byte ∷ h.rest) (13 ∷ k.byte ∷ k.rest)
-            (stop_lone_cr h.byte h.rest h.no_lf h.no_nul) (stop_lone_cr k.byte k.rest k.no_lf k.no_nul)
-            (sym h.split ∙ k.split) in
+    one_way h.bytes k.bytes (13 ∷ h.byte ∷ h.rest) (13 ∷ k.byte ∷ k.rest)
+    (stop_lone_cr h.byte h.rest h.no_lf h.no_nul) (stop_lone_cr k.byte k.rest k.no_lf k.no_nul)
+    (sym h.split ∙ k.split) in
     (omega (arith, h.offset, k.offset, ap (λ (t : List ℕ). length (netascii_text t)) o.0), refl)
 wrong_once text at other LoneLf LoneLf h k =
     let o =
-        one_way h.bytes k.bytes (10 ∷ h.rest) (10 ∷ k.rest) (stop_lf h.rest) (stop_lf k.rest) (sym h.split ∙ k.split) in
+    one_way h.bytes k.bytes (10 ∷ h.rest) (10 ∷ k.rest) (stop_lf h.rest) (stop_lf k.rest) (sym h.split ∙ k.split) in
     (omega (arith, h.offset, k.offset, ap (λ (t : List ℕ). length (netascii_text t)) o.0), refl)
 wrong_once text at other LoneCr LoneLf h k =
     let o =
-        one_way h.bytes k.bytes (13 ∷ h.byte ∷ h.rest) (10 ∷ k.rest) (stop_lone_cr h.byte h.rest h.no_lf h.no_nul)
-            (stop_lf k.rest) (sym h.split ∙ k.split) in
+    one_way h.bytes k.bytes (13 ∷ h.byte ∷ h.rest) (10 ∷ k.rest) (stop_lone_cr h.byte h.rest h.no_lf h.no_nul)
+    (stop_lf k.rest) (sym h.split ∙ k.split) in
     absurd (let e : 13 ∷ h.byte ∷ h.rest ≡ 10 ∷ k.rest = o.1 in let g : ◌≡◌ {A = ℕ} 13 10 = cc in omega arith)
 wrong_once text at other LoneLf LoneCr h k =
     let o =
-        one_way h.bytes k.bytes (10 ∷ h.rest) (13 ∷ k.byte ∷ k.rest) (stop_lf h.rest)
-            (stop_lone_cr k.byte k.rest k.no_lf k.no_nul) (sym h.split ∙ k.split) in
+    one_way h.bytes k.bytes (10 ∷ h.rest) (13 ∷ k.byte ∷ k.rest) (stop_lf h.rest)
+    (stop_lone_cr k.byte k.rest k.no_lf k.no_nul) (sym h.split ∙ k.split) in
     absurd (let e : 10 ∷ h.rest ≡ 13 ∷ k.byte ∷ k.rest = o.1 in let g : ◌≡◌ {A = ℕ} 10 13 = cc in omega arith)
 wrong_once text at other EndsInCr wrong h k = absurd h
 wrong_once text at other Memory wrong h k = absurd h
@@ -147,22 +154,22 @@ wrong_once text at other LoneLf Memory h k = absurd k
 pub either : (text : List ℕ) → BeginsWireText text ⊎ ((at : ℕ) × (fault : NetFault) × FirstWrong text at fault)
 either text = elim (read text) [ Begins b ↦ inl b | Wrong fault w ↦ inr (w.0, fault, w.1) ]
 
--- each beginning of a text that begins a wire text begins one, too
+-- each prefix of a text that begins a wire text begins one, too
 pub begins_front : (text rest : List ℕ) → BeginsWireText (text ++ rest) → BeginsWireText text
 begins_front text rest b = elim (read text) [
   | Begins h ↦ h
   | Wrong fault w ↦ absurd (begins_or_wrong (text ++ rest) fault b (w.0, first_wrong_before text rest w.0 fault w.1))
 ]
 
-pub refused_at : (held : List ℕ) (pieces : List (List ℕ)) (at : ℕ) (fault : NetFault) → IsHeld held
+pub refused_at : (held : List ℕ) (pieces : List (List ℕ)) (at : ℕ) (fault : NetFault) → IsHeldBack held
     → FirstWrong (held ++ concat pieces) at fault → RefusesAt held pieces at fault
 refused_at held [] at fault h w = absurd (begins_or_wrong (held ++ []) fault ([], held, (h, append-nil held)) (at, w))
 refused_at held (piece ∷ pieces) at fault h w = elim (read (held ++ piece)) [
   | Wrong wrong v ↦
       let o =
-          wrong_once (held ++ (piece ++ concat pieces)) at v.0 fault wrong w
-              (subst (λ (t : List ℕ). FirstWrong t v.0 wrong) (append_assoc held piece (concat pieces))
-                  (first_wrong_before (held ++ piece) (concat pieces) v.0 wrong v.1)) in
+      wrong_once (held ++ (piece ++ concat pieces)) at v.0 fault wrong w
+      (subst (λ (t : List ℕ). FirstWrong t v.0 wrong) (append_assoc held piece (concat pieces))
+      (first_wrong_before (held ++ piece) (concat pieces) v.0 wrong v.1)) in
       record {
         before = [];
         piece = piece;
@@ -178,18 +185,18 @@ refused_at held (piece ∷ pieces) at fault h w = elim (read (held ++ piece)) [
   | Begins b ↦ elim (read (b.1 ++ concat pieces)) [
     | Begins r ↦ absurd (begins_or_wrong (held ++ (piece ++ concat pieces)) fault
         (begins_cut held (piece ++ concat pieces) (b.0 ++ r.0) r.1
-            (decodes_joined held piece b.1 (concat pieces) r.1 b.0 r.0 b.2 r.2))
-            (at, w))
+        (decodes_joined held piece b.1 (concat pieces) r.1 b.0 r.0 b.2 r.2))
+        (at, w))
     | Wrong wrong v ↦
         let o = wrong_once (held ++ (piece ++ concat pieces)) at (length (netascii_text b.0) + v.0) fault wrong w
         (subst (λ (t : List ℕ). FirstWrong t (length (netascii_text b.0) + v.0) wrong)
-            (sym (joins held piece b.1 b.0 (concat pieces) b.2.1))
-            (first_wrong_after b.0 (b.1 ++ concat pieces) v.0 wrong v.1)) in
+        (sym (joins held piece b.1 b.0 (concat pieces) b.2.1))
+        (first_wrong_after b.0 (b.1 ++ concat pieces) v.0 wrong v.1)) in
         let i =
-            refused_at b.1 pieces v.0 fault b.2.0
-                (subst (λ (f : NetFault). FirstWrong (b.1 ++ concat pieces) v.0 f) (sym o.1) v.1) in
+        refused_at b.1 pieces v.0 fault b.2.0
+        (subst (λ (f : NetFault). FirstWrong (b.1 ++ concat pieces) v.0 f) (sym o.1) v.1) in
         let l : length held + length piece ≡ length (netascii_text b.0) + length b.1 =
-            sym (length-append held piece) ∙ (ap length b.2.1 ∙ length-append (netascii_text b.0) b.1) in
+        sym (length-append held piece) ∙ (ap length b.2.1 ∙ length-append (netascii_text b.0) b.1) in
         record {
           before = piece ∷ i.before;
           piece = i.piece;

@@ -5,7 +5,7 @@ use Rattle.std.proofs.lemmas.List.{append-nil, length-append, nil_from_length}
 use Rattle.std.proofs.lemmas.Bool.{cases_eq}
 use Rattle.tftp_file.specs.Netascii.{wire_byte, netascii_text}
 use Rattle.tftp_file.specs.Lines.{EndsAtLine}
-use Rattle.tftp_file.specs.Decoding.{IsHeld, DecodesPiece, IsWrong, Refuses, FirstWrong, BeginsWireText, held_bytes}
+use Rattle.tftp_file.specs.Decoding.{IsHeldBack, DecodesPiece, IsWrong, Refuses, FirstWrong, BeginsWireText, held_bytes}
 use Rattle.tftp_file.specs.declared.netascii.HeldText.{HeldText}
 use Rattle.tftp_file.specs.declared.netascii.HeldText.TheVariants.{Nothing, CarriageReturn}
 use Rattle.tftp_file.specs.declared.netascii.NetFault.{NetFault}
@@ -38,7 +38,7 @@ wrong_front (x ∷ y ∷ rest) h = (
   λ l e. lone_lf x (y ∷ rest) e,
   λ l e a b.
       elim h [
-        inl p ↦ absurd (e p)
+        | inl p ↦ absurd (e p)
         | inr p ↦ subst (λ (n : ℕ). IsWrong (n ∷ y ∷ rest) LoneCr) (sym p) (lone_cr y rest a b)
       ],
 )
@@ -48,7 +48,7 @@ pub front_joins : (front bytes rest : List ℕ)
     → netascii_text front ++ (netascii_text bytes ++ rest) ≡ netascii_text (front ++ bytes) ++ rest
 front_joins front bytes rest =
     sym (ap (λ (t : List ℕ). t ++ rest) (netascii-append front bytes)
-        ∙ append_assoc (netascii_text front) (netascii_text bytes) rest)
+    ∙ append_assoc (netascii_text front) (netascii_text bytes) rest)
 
 length_joins : (front bytes : List ℕ)
     → length (netascii_text (front ++ bytes)) ≡ length (netascii_text front) + length (netascii_text bytes)
@@ -142,7 +142,7 @@ stop_lf text x rest e = elim (byte_form x) [
   | Itself n _ w _ ↦ let f : x ∷ rest ≡ 10 ∷ text = rw w at e in n cc
 ]
 
-pub stop_held : (held : List ℕ) → IsHeld held → Stop held
+pub stop_held : (held : List ℕ) → IsHeldBack held → Stop held
 stop_held held h = elim h [
   | inl e ↦ subst (λ (t : List ℕ). Stop t) (sym e) stop_nil
   | inr e ↦ subst (λ (t : List ℕ). Stop t) (sym e) stop_cr
@@ -180,9 +180,9 @@ one_way (x ∷ xs) [] a b p q e =
     absurd (q x (netascii_text xs ++ a) (sym (append_assoc (wire_byte x) (netascii_text xs) a) ∙ e))
 one_way (x ∷ xs) (y ∷ ys) a b p q e =
     let n =
-        next_byte x y (netascii_text xs ++ a) (netascii_text ys ++ b) (byte_form x) (byte_form y)
-            (sym (append_assoc (wire_byte x) (netascii_text xs) a)
-                ∙ (e ∙ append_assoc (wire_byte y) (netascii_text ys) b)) in
+    next_byte x y (netascii_text xs ++ a) (netascii_text ys ++ b) (byte_form x) (byte_form y)
+    (sym (append_assoc (wire_byte x) (netascii_text xs) a)
+    ∙ (e ∙ append_assoc (wire_byte y) (netascii_text ys) b)) in
     let h = one_way xs ys a b p q n.1 in
     (ap (λ (k : ℕ). k ∷ xs) n.0 ∙ ap (λ (zs : List ℕ). y ∷ zs) h.0, h.1)
 
@@ -190,19 +190,19 @@ one_way (x ∷ xs) (y ∷ ys) a b p q e =
 pub begins_or_wrong : (text : List ℕ) (fault : NetFault) → BeginsWireText text → IsWrong text fault → ⊥
 begins_or_wrong text LoneCr h w =
     let o =
-        one_way h.0 w.1.bytes h.1 (13 ∷ w.1.byte ∷ w.1.rest) (stop_held h.1 h.2.0)
-            (stop_lone_cr w.1.byte w.1.rest w.1.no_lf w.1.no_nul) (sym h.2.1 ∙ w.1.split) in
+    one_way h.0 w.1.bytes h.1 (13 ∷ w.1.byte ∷ w.1.rest) (stop_held h.1 h.2.0)
+    (stop_lone_cr w.1.byte w.1.rest w.1.no_lf w.1.no_nul) (sym h.2.1 ∙ w.1.split) in
     let e : h.1 ≡ 13 ∷ w.1.byte ∷ w.1.rest = o.1 in
     elim h.2.0 [
-      inl n ↦ (let f : [] ≡ 13 ∷ w.1.byte ∷ w.1.rest = sym n ∙ e in cc)
+      | inl n ↦ (let f : [] ≡ 13 ∷ w.1.byte ∷ w.1.rest = sym n ∙ e in cc)
       | inr n ↦ (let f : 13 ∷ [] ≡ 13 ∷ w.1.byte ∷ w.1.rest = sym n ∙ e in cc)
     ]
 begins_or_wrong text LoneLf h w =
     let o =
-        one_way h.0 w.1.bytes h.1 (10 ∷ w.1.rest) (stop_held h.1 h.2.0) (stop_lf w.1.rest) (sym h.2.1 ∙ w.1.split) in
+    one_way h.0 w.1.bytes h.1 (10 ∷ w.1.rest) (stop_held h.1 h.2.0) (stop_lf w.1.rest) (sym h.2.1 ∙ w.1.split) in
     let e : h.1 ≡ 10 ∷ w.1.rest = o.1 in
     elim h.2.0 [
-      inl n ↦ (let f : [] ≡ 10 ∷ w.1.rest = sym n ∙ e in cc)
+      | inl n ↦ (let f : [] ≡ 10 ∷ w.1.rest = sym n ∙ e in cc)
       | inr n ↦ (let f : 13 ∷ [] ≡ 10 ∷ w.1.rest = sym n ∙ e in let g : ◌≡◌ {A = ℕ} 13 10 = cc in absurd (omega arith))
     ]
 begins_or_wrong text EndsInCr h w = w.1
@@ -216,11 +216,11 @@ pub data Reading (text : List ℕ) : Type 0 where
 read_byte : (x : ℕ) (text : List ℕ) → Reading text → Reading (wire_byte x ++ text)
 read_byte x text (Begins h) =
     Begins
-        (subst (λ (t : List ℕ). BeginsWireText (t ++ text)) (append-nil (wire_byte x)) (begins_after (x ∷ []) text h))
+    (subst (λ (t : List ℕ). BeginsWireText (t ++ text)) (append-nil (wire_byte x)) (begins_after (x ∷ []) text h))
 read_byte x text (Wrong fault h) =
     Wrong fault
-        (subst (λ (t : List ℕ). IsWrong (t ++ text) fault) (append-nil (wire_byte x))
-            (wrong_after (x ∷ []) text fault h))
+    (subst (λ (t : List ℕ). IsWrong (t ++ text) fault) (append-nil (wire_byte x))
+    (wrong_after (x ∷ []) text fault h))
 
 read_on : (text : List ℕ) → (Reading text) × (Reading (13 ∷ text))
 read_on [] = (Begins ([], [], (inl refl, refl)), Begins ([], 13 ∷ [], (inr refl, refl)))
@@ -249,10 +249,10 @@ pub pair_taken : (text left run rest tail bytes : List ℕ) (byte : ℕ) → tex
     → text ≡ netascii_text (bytes ++ (run ++ byte ∷ [])) ++ tail
 pair_taken text left run rest tail bytes byte e p n r =
     let pair : netascii_text (byte ∷ []) ++ tail ≡ rest =
-        ap (λ (t : List ℕ). t ++ tail) (append-nil (wire_byte byte)) ∙ sym r in
+    ap (λ (t : List ℕ). t ++ tail) (append-nil (wire_byte byte)) ∙ sym r in
     let line : netascii_text (run ++ byte ∷ []) ++ tail ≡ left =
-        sym (front_joins run (byte ∷ []) tail)
-            ∙ (ap (λ (t : List ℕ). netascii_text run ++ t) pair ∙ (ap (λ (t : List ℕ). t ++ rest) n ∙ sym p)) in
+    sym (front_joins run (byte ∷ []) tail)
+    ∙ (ap (λ (t : List ℕ). netascii_text run ++ t) pair ∙ (ap (λ (t : List ℕ). t ++ rest) n ∙ sym p)) in
     e ∙ (ap (λ (t : List ℕ). netascii_text bytes ++ t) (sym line) ∙ front_joins bytes (run ++ byte ∷ []) tail)
 
 -- after a run of unescaped bytes
@@ -260,15 +260,15 @@ pub run_taken : (text left run rest bytes : List ℕ) → text ≡ netascii_text
     → netascii_text run ≡ run → text ≡ netascii_text (bytes ++ run) ++ rest
 run_taken text left run rest bytes e p n =
     e
-        ∙ (ap (λ (t : List ℕ). netascii_text bytes ++ t) (p ∙ ap (λ (t : List ℕ). t ++ rest) (sym n))
-            ∙ front_joins bytes run rest)
+    ∙ (ap (λ (t : List ℕ). netascii_text bytes ++ t) (p ∙ ap (λ (t : List ℕ). t ++ rest) (sym n))
+    ∙ front_joins bytes run rest)
 
 -- a wrong byte after a run of unescaped bytes
 pub wrong_taken : (text left run rest bytes : List ℕ) (fault : NetFault) → text ≡ netascii_text bytes ++ left
     → left ≡ run ++ rest → netascii_text run ≡ run → IsWrong rest fault → IsWrong text fault
 wrong_taken text left run rest bytes fault e p n w =
     subst (λ (t : List ℕ). IsWrong t fault) (sym (run_taken text left run rest bytes e p n))
-        (wrong_after (bytes ++ run) rest fault w)
+    (wrong_after (bytes ++ run) rest fault w)
 
 -- a wrong byte is a reason to refuse
 pub wrong_refuses : (text : List ℕ) (fault : NetFault) → IsWrong text fault → Refuses text fault
@@ -284,14 +284,14 @@ decoded_once text bytes after more_bytes more_after h k =
     one_way bytes more_bytes after more_after (stop_held after h.0) (stop_held more_after k.0) (sym h.1 ∙ k.1)
 
 -- an empty piece changes nothing
-pub held_is : (held : HeldText) → IsHeld (held_bytes held)
+pub held_is : (held : HeldText) → IsHeldBack (held_bytes held)
 held_is Nothing = inl refl
 held_is CarriageReturn = inr refl
 
 pub nothing_taken : (held : HeldText) (before piece : List ℕ) → held_bytes held ≡ before → length piece ≡ 0
     → DecodesPiece before piece [] before
 nothing_taken held before piece e z = (
-  subst (λ (t : List ℕ). IsHeld t) e (held_is held),
+  subst (λ (t : List ℕ). IsHeldBack t) e (held_is held),
   ap (λ (t : List ℕ). before ++ t) (nil_from_length piece z) ∙ append-nil before,
 )
 
@@ -310,4 +310,4 @@ pub piece_wrong : (held piece first rest : List ℕ) (fault : NetFault) → held
     → IsWrong rest fault → Refuses (held ++ piece) fault
 piece_wrong held piece first rest fault e w =
     wrong_refuses (held ++ piece) fault
-        (subst (λ (t : List ℕ). IsWrong t fault) (sym e) (wrong_after first rest fault w))
+    (subst (λ (t : List ℕ). IsWrong t fault) (sym e) (wrong_after first rest fault w))

@@ -19,6 +19,6 @@ moved_front whole after left want n k old new within least moved =
       given = moved.given ∙ ap (λ (p : List ℕ). old ++ p) (sym (take-take k left whole fits));
       rest =
           ap (λ (l : List ℕ). Some l)
-              (ap (take (left - k)) rest
-                  ∙ (sym (drop-take k (left - k) whole) ∙ ap (λ (n : ℕ). drop k (take n whole)) both));
+          (ap (take (left - k)) rest
+          ∙ (sym (drop-take k (left - k) whole) ∙ ap (λ (n : ℕ). drop k (take n whole)) both));
     }

@@ -10,5 +10,5 @@ pub mod DecodingLemmas
 pub mod LengthLemmas
 pub mod PathLemmas
 pub mod BlockLemmas
-pub mod BeginningLemmas
+pub mod PrefixLemmas
 pub mod CutLemmas

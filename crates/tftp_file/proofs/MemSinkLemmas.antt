@@ -2,17 +2,17 @@
 use Rattle.std.proofs.Common.{◌≡◌, ℕ, ◌+◌, Bool, false, List, ◌++◌, length, take, drop, Some, refl}
 use Rattle.std.proofs.lemmas.List.{take-append-drop, take_at, drop_at}
 use Rattle.std.proofs.Math.Seq.{take-add}
-use Rattle.tftp_file.specs.Sink.{KeptBeginning}
+use Rattle.tftp_file.specs.Sink.{KeptPrefix}
 
--- the first n bytes of the piece are a beginning of it
+-- the first n bytes of the piece are a prefix of it
 pub kept_first : (bytes piece : List ℕ) (n : ℕ) (committed refuses : Bool)
-    → KeptBeginning (record { bytes = bytes; committed = committed; refuses = refuses })
+    → KeptPrefix (record { bytes = bytes; committed = committed; refuses = refuses })
     (Some (record { bytes = bytes ++ take n piece; committed = false; refuses = refuses })) piece
 kept_first bytes piece n committed refuses = record {
   holding = record { bytes = bytes ++ take n piece; committed = false; refuses = refuses };
   leaves = refl;
   kept = take n piece;
-  beginning = (drop n piece, take-append-drop n piece);
+  prefix = (drop n piece, take-append-drop n piece);
   bytes = refl;
   uncommitted = λ e. cc;
   refuses = refl;
@@ -22,5 +22,9 @@ kept_first bytes piece n committed refuses = record {
 pub kept_room : (bytes piece : List ℕ) (room n : ℕ) → length bytes + n ≡ room
     → bytes ++ take n piece ≡ take room (bytes ++ piece)
 kept_room bytes piece room n full =
-    rw (← full, take-add (length bytes) n (bytes ++ piece), take_at bytes piece (length bytes) refl,
-        drop_at bytes piece (length bytes) refl) refl
+    rw (
+      ← full,
+      take-add (length bytes) n (bytes ++ piece),
+      take_at bytes piece (length bytes) refl,
+      drop_at bytes piece (length bytes) refl,
+    ) refl

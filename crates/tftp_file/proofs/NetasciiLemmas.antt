@@ -59,12 +59,12 @@ first_index xs r e =
     elim (cases_lt p (length xs)) [
       | inl l ↦
           ap (λ (o : Option ℕ). unwrap_or o (length xs))
-              (e ∙ cond-true (ltb p (length xs)) (Some p) None (lt-ltb p (length xs) l))
+          (e ∙ cond-true (ltb p (length xs)) (Some p) None (lt-ltb p (length xs) l))
       | inr n ↦
           let m : length xs ≡ p = omega (arith, n, prefix_len-le-length (λ (x : ℕ). not (is_line_byte x)) xs) in
           ap (λ (o : Option ℕ). unwrap_or o (length xs))
-              (e ∙ cond-false (ltb p (length xs)) (Some p) None (le-ltb p (length xs) n))
-              ∙ m
+          (e ∙ cond-false (ltb p (length xs)) (Some p) None (le-ltb p (length xs) n))
+          ∙ m
     ]
 
 length-wire_byte : (x : ℕ) → length (wire_byte x) ≡ cond (is_line_byte x) 1 0 + 1
@@ -78,5 +78,10 @@ length-wire_byte x = elim (byte_form x) [
 pub length-netascii : (xs : List ℕ) → length (netascii_text xs) ≡ length xs + count_by is_line_byte xs
 length-netascii [] = refl
 length-netascii (x ∷ xs) =
-    omega (arith, length-append (wire_byte x) (netascii_text xs), length-wire_byte x, length-netascii xs,
-        sum_by-cons (λ (n : ℕ). cond (is_line_byte n) 1 0) x xs)
+    omega (
+      arith,
+      length-append (wire_byte x) (netascii_text xs),
+      length-wire_byte x,
+      length-netascii xs,
+      sum_by-cons (λ (n : ℕ). cond (is_line_byte n) 1 0) x xs,
+    )

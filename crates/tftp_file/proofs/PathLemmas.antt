@@ -41,8 +41,8 @@ module _ (path : List ℕ) (some : (length path == 0) ≡ false) (short : length
   deep many =
       let a : nat_lt 255 (length path) ≡ false = le-ltb 255 (length path) short in
       let b : nat_lt 8 (length (slice_split (λ byte. byte == 47) path)) ≡ true =
-          lt-ltb 8 (length (slice_split (λ byte. byte == 47) path))
-              (omega (arith, many, length-slice_split (λ byte. byte == 47) path)) in
+      lt-ltb 8 (length (slice_split (λ byte. byte == 47) path))
+      (omega (arith, many, length-slice_split (λ byte. byte == 47) path)) in
       rw (some, a, b)
 
   pub bad_segment : count_by (λ byte. byte == 47) path < 8
@@ -50,8 +50,8 @@ module _ (path : List ℕ) (some : (length path == 0) ≡ false) (short : length
   bad_segment few bad =
       let a : nat_lt 255 (length path) ≡ false = le-ltb 255 (length path) short in
       let b : nat_lt 8 (length (slice_split (λ byte. byte == 47) path)) ≡ false =
-          le-ltb 8 (length (slice_split (λ byte. byte == 47) path))
-              (omega (arith, few, length-slice_split (λ byte. byte == 47) path)) in
+      le-ltb 8 (length (slice_split (λ byte. byte == 47) path))
+      (omega (arith, few, length-slice_split (λ byte. byte == 47) path)) in
       rw (some, a, b, bad)
 
   pub good : count_by (λ byte. byte == 47) path < 8 → list_all is_segment (slice_split (λ byte. byte == 47) path) ≡ true
@@ -59,8 +59,8 @@ module _ (path : List ℕ) (some : (length path == 0) ≡ false) (short : length
   good few all =
       let a : nat_lt 255 (length path) ≡ false = le-ltb 255 (length path) short in
       let b : nat_lt 8 (length (slice_split (λ byte. byte == 47) path)) ≡ false =
-          le-ltb 8 (length (slice_split (λ byte. byte == 47) path))
-              (omega (arith, few, length-slice_split (λ byte. byte == 47) path)) in (
+      le-ltb 8 (length (slice_split (λ byte. byte == 47) path))
+      (omega (arith, few, length-slice_split (λ byte. byte == 47) path)) in (
         rw (some, a, b, all),
         record {
           segments = slice_split (λ byte. byte == 47) path;
@@ -116,9 +116,9 @@ path_passes : (path : List ℕ) → IsPath path → checked_path path ≡ Ok pat
 path_passes path p =
     let all : list_all is_segment p.segments ≡ true = list_all-from_AllPass is_segment p.segments p.allowed in
     let split : slice_split (λ byte. byte == 47) path ≡ p.segments =
-        ap (slice_split (λ byte. byte == 47)) p.joined ∙ split_joined p.segments all p.some in
+    ap (slice_split (λ byte. byte == 47)) p.joined ∙ split_joined p.segments all p.some in
     let good_parts : list_all is_segment (slice_split (λ byte. byte == 47) path) ≡ true =
-        ap (list_all is_segment) split ∙ all in
+    ap (list_all is_segment) split ∙ all in
     let count = length-slice_split (λ byte. byte == 47) path in
     let same = ap length split in
     let most = p.few in
@@ -146,8 +146,8 @@ passes_path path answer h =
     let few : length parts ≤ 8 = ltb-false 8 (length parts) c.0 in
     let count = length-slice_split (λ byte. byte == 47) path in
     let whole =
-        (good path a.0 (ltb-false 255 (length path) b.0) (omega (arith, few, count))
-            (negated (list_all is_segment parts) d.0)).1 in
+    (good path a.0 (ltb-false 255 (length path) b.0) (omega (arith, few, count))
+    (negated (list_all is_segment parts) d.0)).1 in
     (subst IsPath same whole, same)
 
 pub path_from_name : (name path : List ℕ) → path_of_name name ≡ Ok path → IsPath path × (without_slash name ≡ path)

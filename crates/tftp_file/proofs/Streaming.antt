@@ -22,7 +22,7 @@ moved_all : (left rest old new piece : List ℕ) (want n : ℕ) → left ≡ pie
 moved_all left rest old new piece want n split given count bound end = record {
   count =
       let short : n < want → length rest ≡ 0 = λ h. ap length (end h) in let both = length-append piece rest in
-          let all = ap length split in grind (arith, short);
+      let all = ap length split in grind (arith, short);
   given = given ∙ ap (λ p. old ++ p) (sym (ap (take n) split ∙ take_at piece rest n count));
   rest = ap Some (sym (ap (drop n) split ∙ drop_at piece rest n count));
 }
@@ -62,7 +62,7 @@ pub front_kept : (old zeros : List ℕ) (start end : ℕ) (resized lent full : L
     → lent ≡ resized → take start full ≡ take start lent → take start full ≡ old
 front_kept old zeros start end resized lent full at within items same kept =
     kept ∙ ap (take start) (same ∙ items) ∙ ap (λ l. take start (l ++ zeros)) (take_all end old (omega arith))
-        ∙ take_at old zeros start (sym at)
+    ∙ take_at old zeros start (sym at)
 
 -- the truncated bytes
 pub cut_at : (n : ℕ) (items full new : List ℕ) → items ≡ full → new ≡ take n items → new ≡ take n full
@@ -75,7 +75,7 @@ taken_all chunk held room taken count few within full rest =
     let front = take taken chunk in
     let back = drop taken chunk in
     let split =
-        ap length (ap netascii_text (sym (take-append-drop taken chunk)) ∙ flat_map-append wire_byte front back) in
+    ap length (ap netascii_text (sym (take-append-drop taken chunk)) ∙ flat_map-append wire_byte front back) in
     let both = length-append (netascii_text front) (netascii_text back) in
     let front_long = length-take-le taken chunk within in
     let front_text = length-netascii_text front in
@@ -93,7 +93,7 @@ encoded_consumes None b chunk piece held consumed split = tt
 encoded_consumes (Some x) None chunk piece held consumed split = absurd consumed
 encoded_consumes (Some x) (Some y) chunk piece held consumed split =
     ap netascii_text consumed ∙ flat_map-append wire_byte chunk y ∙ ap (λ l. l ++ netascii_text y) split
-        ∙ append_assoc piece (option_to_list held) (netascii_text y)
+    ∙ append_assoc piece (option_to_list held) (netascii_text y)
 
 -- a chunk that was read, and encoded in a capacity that lacks at most one byte
 pub gives_encoded : (a b : Option (List ℕ)) (chunk : List ℕ) (held : Option ℕ) (room taken count : ℕ) (old new : List ℕ)
@@ -108,7 +108,7 @@ gives_encoded a b chunk held room taken count old new consumed few within moved 
     let gone : drop taken chunk ≡ [] = drop_of_length-le chunk (omega arith) in
     let split : text ≡ take count text ++ option_to_list held =
     sym (take-append-drop count text)
-        ∙ ap (λ l. take count text ++ l) (sym rest ∙ ap (netascii_left held) gone ∙ append-nil (option_to_list held)) in
+    ∙ ap (λ l. take count text ++ l) (sym rest ∙ ap (netascii_left held) gone ∙ append-nil (option_to_list held)) in
     record {
       piece = take count text;
       given = moved.given;

@@ -14,9 +14,9 @@ block text size n = take size (drop ((n - 1) * size) text)
 abbrev pub Fits : List ℕ → ℕ → Type 0
 Fits text size = length text < 65535 * size
 
--- the first is a beginning of the second, possibly empty or all of it
-abbrev pub IsBeginningOf : List ℕ → List ℕ → Type 0
-IsBeginningOf xs ys = (rest : List ℕ) × (xs ++ rest ≡ ys)
+-- the first is a prefix of the second, possibly empty or all of it
+abbrev pub IsPrefixOf : List ℕ → List ℕ → Type 0
+IsPrefixOf xs ys = (rest : List ℕ) × (xs ++ rest ≡ ys)
 
 -- the first n blocks, joined
 abbrev pub first_blocks : List ℕ → ℕ → ℕ → List ℕ

@@ -29,13 +29,14 @@ held_again Nothing = refl
 held_again CarriageReturn = refl
 
 -- nothing is held back, or the CR that begins a pair
-abbrev pub IsHeld : List ℕ → Type 0
-IsHeld held = (held ≡ []) ⊎ (held ≡ 13 ∷ [])
+abbrev pub IsHeldBack : List ℕ → Type 0
+IsHeldBack held = (held ≡ []) ⊎ (held ≡ 13 ∷ [])
 
 -- the bytes held back before a piece, and the piece, are the wire text of the host bytes and the
 -- bytes held back after it
 abbrev pub DecodesPiece : List ℕ → List ℕ → List ℕ → List ℕ → Type 0
-DecodesPiece held piece bytes after = IsHeld after × (held ++ piece ≡ netascii_text bytes ++ after)
+DecodesPiece held piece bytes after =
+    IsHeldBack after × (held ++ piece ≡ netascii_text bytes ++ after)
 
 -- the wire text of some host bytes, and at most a CR
 abbrev pub BeginsWireText : List ℕ → Type 0

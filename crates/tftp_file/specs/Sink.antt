@@ -5,7 +5,7 @@ use Rattle.std.specs.Prelude.{Err, ⊤}
 use Rattle.std.specs.Borrow.{MutBor}
 use Rattle.tftp_file.specs.declared.fault.StoreFault.{StoreFault}
 use Rattle.tftp_file.specs.declared.fault.StoreFault.TheVariants.{Full, Memory}
-use Rattle.tftp_file.specs.Block.{IsBeginningOf}
+use Rattle.tftp_file.specs.Block.{IsPrefixOf}
 use Rattle.tftp_file.specs.Source.{StaysKnown}
 
 -- the content of a sink: its bytes, whether they are committed, and whether it is set to refuse its
@@ -66,12 +66,12 @@ pub record RefusedAsArmed {A : Type 0} (before : Holding) (after : Option Holdin
   pub answer : result ≡ Err Full
   pub leaves : after ≡ Some (disarmed before)
 
--- a beginning of the piece is appended, or the sink is unchanged
-pub record KeptBeginning (before : Holding) (after : Option Holding) (piece : List ℕ) : Type 0 where
+-- a prefix of the piece is appended, or the sink is unchanged
+pub record KeptPrefix (before : Holding) (after : Option Holding) (piece : List ℕ) : Type 0 where
   pub holding : Holding
   pub leaves : after ≡ Some holding
   pub kept : List ℕ
-  pub beginning : IsBeginningOf kept piece
+  pub prefix : IsPrefixOf kept piece
   pub bytes : holding.bytes ≡ before.bytes ++ kept
   pub uncommitted : holding.committed ≡ true → holding ≡ before
   pub refuses : holding.refuses ≡ before.refuses
@@ -81,7 +81,7 @@ abbrev pub AppendsFreely : {A : Type 0} → Holding → Option Holding → List 
     → Type 0
 AppendsFreely before after piece (Ok done) = after ≡ Some (with_piece before piece)
 AppendsFreely before after piece (Err Memory) = after ≡ Some before
-AppendsFreely before after piece (Err fault) = KeptBeginning before after piece
+AppendsFreely before after piece (Err fault) = KeptPrefix before after piece
 
 -- the effect of a commit on a sink that is not set to refuse it
 abbrev pub CommitsFreely : {A : Type 0} → Holding → Option Holding → Result A StoreFault → Type 0

@@ -7,7 +7,7 @@ use Rattle.tftp_file.specs.declared.encoding.Encoding.{Encoding}
 use Rattle.tftp_file.specs.declared.encoding.Encoding.TheVariants.{Octet, Netascii}
 use Rattle.tftp_file.specs.declared.stream.ReadSource.{ReadSource}
 use Rattle.tftp_file.specs.declared.stream.WriteSink.{WriteSink}
-use Rattle.tftp_file.specs.Block.{IsBeginningOf}
+use Rattle.tftp_file.specs.Block.{IsPrefixOf}
 use Rattle.tftp_file.specs.Encoding.{text_left}
 use Rattle.tftp_file.specs.Sink.{Holding}
 
@@ -50,14 +50,14 @@ pub record Gives (before after : Option (List ℕ)) (old new : List ℕ) (n : �
   pub count : length piece ≡ n
   pub consumed : Consumes before after piece
 
--- the content grew by a beginning of the piece
-pub record GrowsByBeginning (before after : Option (List ℕ)) (piece : List ℕ) : Type 0 where
+-- the content grew by a prefix of the piece
+pub record GrowsByPrefix (before after : Option (List ℕ)) (piece : List ℕ) : Type 0 where
   pub kept : List ℕ
-  pub beginning : IsBeginningOf kept piece
+  pub prefix : IsPrefixOf kept piece
   pub grown : Grows before after kept
 
--- all of a piece is written, or a beginning of it
+-- all of a piece is written, or a prefix of it
 abbrev pub Writes : {A : Type 0} → Option (List ℕ) → Option (List ℕ) → List ℕ → Result A StoreFault
     → Type 0
 Writes before after piece (Ok done) = Grows before after piece
-Writes before after piece (Err fault) = GrowsByBeginning before after piece
+Writes before after piece (Err fault) = GrowsByPrefix before after piece

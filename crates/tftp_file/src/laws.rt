@@ -1,4 +1,4 @@
-//! Laws of the definitions: text that is cut anywhere, blocks, beginnings and names.
+//! Laws of the definitions: text that is cut anywhere, blocks, prefixes and names.
 
 ghost use Rattle.std.specs.Prelude.{◌≡◌, ◌+◌, ◌*◌, ◌<◌, ◌≤◌, ◌↔◌, ◌⊎◌, ◌++◌, ℕ, List, [], Ok};
 ghost use Rattle.std.specs.Prelude.{length};
@@ -6,9 +6,9 @@ ghost use Rattle.std.specs.List.{concat};
 ghost use Rattle.tftp_wire.specs.declared.mode.Mode.{Mode};
 ghost use Rattle.tftp_file.specs.declared.netascii.NetFault.{NetFault};
 ghost use Rattle.tftp_file.specs.Netascii.{wire_text};
-ghost use Rattle.tftp_file.specs.Block.{block, block_count, first_blocks, IsBeginningOf};
+ghost use Rattle.tftp_file.specs.Block.{block, block_count, first_blocks, IsPrefixOf};
 ghost use Rattle.tftp_file.specs.Path.{IsPath, path_of_name, without_slash};
-ghost use Rattle.tftp_file.specs.Decoding.{IsHeld, DecodesPiece, BeginsWireText, FirstWrong};
+ghost use Rattle.tftp_file.specs.Decoding.{IsHeldBack, DecodesPiece, BeginsWireText, FirstWrong};
 ghost use Rattle.tftp_file.specs.Decoding.{TakesAll, RefusesAt};
 
 /// Netascii is decoded in the same way wherever it is cut (RFC 764).
@@ -16,14 +16,15 @@ ghost use Rattle.tftp_file.specs.Decoding.{TakesAll, RefusesAt};
 /// The pieces of any cut join to the whole. A text that begins no wire text is refused at the piece
 /// with its first wrong byte, with the same fault in every cut. The pieces before it are decoded.
 pub fn any_cut()
-    ensures joined { (held : List ℕ) (pieces : List (List ℕ)) (bytes after : List ℕ) → IsHeld held
+    ensures joined { (held : List ℕ) (pieces : List (List ℕ)) (bytes after : List ℕ)
+        → IsHeldBack held
         → (TakesAll held pieces bytes after ↔ DecodesPiece held (concat pieces) bytes after) }
     ensures refused { (held : List ℕ) (pieces : List (List ℕ)) (at : ℕ) (fault : NetFault)
-        → IsHeld held → FirstWrong (held ++ concat pieces) at fault
+        → IsHeldBack held → FirstWrong (held ++ concat pieces) at fault
         → RefusesAt held pieces at fault }
 {}
 
-/// A text begins a wire text or has a first wrong byte, never both. Each beginning of a text that
+/// A text begins a wire text or has a first wrong byte, never both. Each prefix of a text that
 /// begins a wire text begins one, too. A text decodes to one list of bytes, and its first wrong
 /// byte has one offset and one fault (RFC 764).
 pub fn one_reading()
@@ -54,9 +55,9 @@ pub fn blocks()
 {}
 
 /// Host bytes begin others exactly if their wire texts do, in each mode.
-pub fn beginnings()
+pub fn prefixes()
     ensures { (mode : Mode) (xs ys : List ℕ)
-        → IsBeginningOf xs ys ↔ IsBeginningOf (wire_text mode xs) (wire_text mode ys) }
+        → IsPrefixOf xs ys ↔ IsPrefixOf (wire_text mode xs) (wire_text mode ys) }
 {}
 
 /// A name spells a path exactly if the name without its leading slash, if any, is that path. This

@@ -3,7 +3,7 @@
 ghost use Rattle.std.specs.Prelude.{◌≡◌, ◌≢◌, ◌≤◌, ◌+◌, ◌++◌, ◌↔◌, ◌∷◌, [], ℕ, List, length};
 ghost use Rattle.std.specs.Prelude.{option_to_list, vec_len, vec_capacity, IsOk, IfOk, IfErr};
 ghost use Rattle.std.specs.Prelude.{IsErrOf, OnErr, OnOk, MatchOption};
-ghost use Rattle.tftp_file.specs.Decoding.{net_fault_number, held_bytes, IsHeld, DecodesPiece};
+ghost use Rattle.tftp_file.specs.Decoding.{net_fault_number, held_bytes, IsHeldBack, DecodesPiece};
 ghost use Rattle.tftp_file.specs.Decoding.{Refuses, BeginsWireText, IsWrong};
 ghost use Rattle.tftp_file.specs.Netascii.{netascii_text, wire_byte};
 ghost use Rattle.tftp_file.specs.Lines.{EndsAtLine};
@@ -56,7 +56,7 @@ impl From<AllocError> for NetFault {
 pub struct NetEncoder {}
 
 impl NetEncoder {
-    /// An encoder at the beginning of a text.
+    /// An encoder at the prefix of a text.
     pub fn new() -> NetEncoder {
         NetEncoder {}
     }
@@ -115,7 +115,7 @@ impl Model for NetDecoder {
 }
 
 impl NetDecoder {
-    /// A decoder at the beginning of a text.
+    /// A decoder at the prefix of a text.
     pub fn new() -> NetDecoder
         ensures { result ≡ [] }
     {
@@ -127,7 +127,7 @@ impl NetDecoder {
     /// The number of wire bytes that are held back, 0 or 1.
     pub fn held(&self) -> usize
         ensures count { result ≡ length self.now }
-        ensures held { IsHeld self.now }
+        ensures held { IsHeldBack self.now }
     {
         match self.held {
             HeldText::Nothing => 0,
@@ -246,7 +246,7 @@ fn complete_pair(held: HeldText, piece: &[u8]) -> Result<(Option<u8>, &[u8]), Ne
 #[tactic(auto, using(crate::proofs::DecodingLemmas::wrong_front))]
 fn split_pair(text: &[u8]) -> Result<Option<(u8, &[u8])>, NetFault>
     requires { EndsAtLine text.now }
-    ensures ok { IfOk result (λ pair. MatchOption pair (IsHeld text.now)
+    ensures ok { IfOk result (λ pair. MatchOption pair (IsHeldBack text.now)
         (λ parts. (text.now ≡ wire_byte parts.0 ++ parts.1.now)
         × (length parts.1.now + 2 ≤ length text.now))) }
     ensures wrong { IfErr result (λ fault. IsWrong text.now fault) }

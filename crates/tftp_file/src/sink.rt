@@ -25,7 +25,7 @@ pub trait Sink {
     /// Appends the bytes.
     ///
     /// After `Memory` nothing has changed. After another fault either nothing has changed, or a
-    /// beginning of the bytes, perhaps empty, is appended, and the content is not committed.
+    /// prefix of the bytes, perhaps empty, is appended, and the content is not committed.
     fn append(&mut self, bytes: &[u8]) -> Result<(), StoreFault>
         ensures appends { Appends (meaning.held self.old) (meaning.held self.new) bytes.now result }
         ensures refused { IfErr result (meaning.may_refuse_append self.old bytes.now) }

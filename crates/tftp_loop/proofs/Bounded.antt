@@ -16,7 +16,7 @@ use Rattle.tftp_store.specs.Store.{StoreMeaning}
 use Rattle.tftp_store.specs.declared.store.Opening.{Opening}
 use Rattle.tftp_server.specs.Port.{Ask, Ignores, Refuses, Reads, Writes, Service, Silent, Refused, Sends, Takes}
 use Rattle.tftp_server.specs.Request.{Came, Goes, Left, Nothing, Error_reply, A_transfer, Sent, Taken, left_by}
-use Rattle.tftp_server.specs.State.{HeldTransfer, ServerState, at, with_new, without}
+use Rattle.tftp_server.specs.State.{TransferState, ServerState, at, with_new, without}
 use Rattle.tftp_server.specs.declared.config.Config.{Config}
 use Rattle.tftp_loop.specs.Run.{Run}
 use Rattle.tftp_loop.specs.Run.Run.{Start, Then}
@@ -116,7 +116,7 @@ module _ {S F D : Type 0} (meaning : StoreMeaning S D) (sources : SourceMeaning 
   -- ---- at each timer
   pub record IsBounded (server : ServerState S F D) (now : ℕ) (timer : Timer) : Type 0 where
     pub near : IsNear now timer
-    pub limit : (transfer : HeldTransfer F D) → at timer.port server.held ≡ Some transfer
+    pub limit : (transfer : TransferState F D) → at timer.port server.held ≡ Some transfer
         → HasLimit server.config.retries transfer.end
 
   -- what is at the port of a timer is as it was
@@ -158,7 +158,7 @@ module _ {S F D : Type 0} (meaning : StoreMeaning S D) (sources : SourceMeaning 
             let limit = changes_limit (IsIdleAt meaning sources does)
             (ReceivesNoneAt meaning sources does) s.now timer next.timer some.0.end changed.next.end changed.changes
             s.server.config.retries (own.limit some.0 some.1) in
-            subst (λ (t : HeldTransfer F D). HasLimit next.server.config.retries t.end) here
+            subst (λ (t : TransferState F D). HasLimit next.server.config.retries t.end) here
             (subst (λ (n : ℕ). HasLimit n changed.next.end) (sym (ap (λ (c : Config). c.retries) config)) limit);
       }) k d (omega arith) h
 
@@ -182,7 +182,7 @@ module _ {S F D : Type 0} (meaning : StoreMeaning S D) (sources : SourceMeaning 
       same_bounded old new now t refl (inserted_apart tid t.port transfer old.held apart) (bounded k d h))
       (record {
         near = restarted_near now timer;
-        limit = λ held found. subst (λ (t : HeldTransfer F D). HasLimit old.config.retries t.end)
+        limit = λ held found. subst (λ (t : TransferState F D). HasLimit old.config.retries t.end)
             (same_Some transfer held (sym own ∙ found)) limit;
       })
 

@@ -12,7 +12,7 @@ use Rattle.tftp_file.specs.Sink.{SinkMeaning}
 use Rattle.tftp_file.specs.declared.fault.StoreFault.{StoreFault}
 use Rattle.tftp_file.specs.declared.files.Files.{Files}
 use Rattle.tftp_file.specs.declared.files.Files.TheVariants.{Source, Sink}
-use Rattle.tftp_ends.specs.Action.{datagram_action, garbled_response, is_stranger, packet_action}
+use Rattle.tftp_ends.specs.Action.{datagram_action, garbled_response, is_wrong_peer, packet_action}
 use Rattle.tftp_ends.specs.End.{EndState, Position, is_complete, is_progress, outcome_of, terms_of}
 use Rattle.tftp_ends.specs.Phase.{closed, completed, refused, waited}
 use Rattle.tftp_ends.specs.Receiver.{dally_response}
@@ -22,7 +22,7 @@ use Rattle.tftp_ends.specs.Step.{response_turn, result_count_is, block_length, s
 use Rattle.tftp_ends.specs.declared.action.Action.{Action}
 use Rattle.tftp_ends.specs.declared.action.Action.TheVariants.{Respond, Send, Store}
 use Rattle.tftp_ends.specs.declared.action.Response.{Response}
-use Rattle.tftp_ends.specs.declared.action.Response.TheVariants.{Ignore, Stranger, ResendReply, Retransmit, Wait}
+use Rattle.tftp_ends.specs.declared.action.Response.TheVariants.{Ignore, WrongPeer, ResendReply, Retransmit, Wait}
 use Rattle.tftp_ends.specs.declared.action.Response.TheVariants.{Close, Refuse, Accept, Complete as Completes}
 use Rattle.tftp_ends.specs.declared.endpoint.Endpoint.{Endpoint}
 use Rattle.tftp_ends.specs.declared.error_reply.ErrorReply.TheVariants.{DiskFull, FileChanged}
@@ -82,7 +82,7 @@ pub data Moves (e : EndState) (position : Position) : Type 0 where
 
 after_moves : (response : Response) (from : Endpoint) (e : EndState) → Moves e (after response from e)
 after_moves Ignore from e = Stays_in refl (omega arith)
-after_moves Stranger from e = Stays_in refl (omega arith)
+after_moves WrongPeer from e = Stays_in refl (omega arith)
 after_moves ResendReply from e = Stays_in refl (omega arith)
 after_moves Retransmit from e = Stays_in refl (omega arith)
 after_moves Wait from e = Waits_on (omega arith) refl
@@ -192,7 +192,7 @@ still_at_most p (Closed terms number was outcome) left complete still = omega ar
 -- an end that dallies or has closed takes nothing from a datagram
 abbrev IsQuiet : Action → Type 0
 IsQuiet (Respond Ignore) = Unit {0}
-IsQuiet (Respond Stranger) = Unit {0}
+IsQuiet (Respond WrongPeer) = Unit {0}
 IsQuiet (Respond ResendReply) = Unit {0}
 IsQuiet (Respond Retransmit) = ⊥
 IsQuiet (Respond Wait) = ⊥
@@ -218,7 +218,7 @@ dally_quiet number (Some (packets.Oack options)) = tt
 
 quiet_by : (stranger error garbled : Bool) (response : Response) (action : Action) → IsQuiet (Respond response)
     → IsQuiet action
-    → IsQuiet (if stranger then (if error then Respond Ignore else Respond Stranger) else if garbled then Respond
+    → IsQuiet (if stranger then (if error then Respond Ignore else Respond WrongPeer) else if garbled then Respond
     response else action)
 quiet_by true true garbled response action h k = tt
 quiet_by true false garbled response action h k = tt
@@ -245,7 +245,7 @@ module _ {S K : Type 0} (sources : SourceMeaning S) (sinks : SinkMeaning K) wher
       → Acts sources sinks action from bytes e files turn files'
       → turn.position ≡ e.position
   quiet_stays (Respond Ignore) quiet from bytes e files turn files' h = ap (λ (t : Turn). t.position) h.0
-  quiet_stays (Respond Stranger) quiet from bytes e files turn files' h = ap (λ (t : Turn). t.position) h.0
+  quiet_stays (Respond WrongPeer) quiet from bytes e files turn files' h = ap (λ (t : Turn). t.position) h.0
   quiet_stays (Respond ResendReply) quiet from bytes e files turn files' h = ap (λ (t : Turn). t.position) h.0
   quiet_stays (Respond Retransmit) quiet from bytes e files turn files' h = absurd quiet
   quiet_stays (Respond Wait) quiet from bytes e files turn files' h = absurd quiet
@@ -274,7 +274,7 @@ module _ {S K : Type 0} (sources : SourceMeaning S) (sinks : SinkMeaning K) wher
         omega (arith, fewer, most, own)
     | inr quiet ↦
         let stays = quiet_stays (datagram_action e from bytes steps.decoded)
-        (quiet_by (is_stranger (terms_of e.position.phase) e.position.last_sent_to from) (has_error_opcode bytes) _
+        (quiet_by (is_wrong_peer (terms_of e.position.phase) e.position.last_sent_to from) (has_error_opcode bytes) _
         (garbled_response e.position.phase) (packet_action e from steps.decoded e.position.phase) quiet.1
         (quiet.0 e from steps.decoded)) from bytes e files turn files' steps.acts in
         let same : timeouts_left (after_turn e turn) ≡ timeouts_left e =

@@ -14,7 +14,7 @@ use Rattle.tftp_ends.specs.declared.record.Record.{Record}
 use Rattle.tftp_ends.specs.End.{EndState, is_complete, outcome_of, record_of}
 use Rattle.tftp_ends.specs.Step.{after_turn, timeout_turn}
 use Rattle.tftp_store.specs.Store.{StoreMeaning}
-use Rattle.tftp_server.specs.State.{HeldTransfer, at, draft_of, is_closed, taken_of, with_new}
+use Rattle.tftp_server.specs.State.{TransferState, at, draft_of, is_closed, taken_of, with_new}
 use Rattle.tftp_server.specs.Request.{Came, Left, Nothing, Error_reply, A_transfer, left_by}
 use Rattle.tftp_sockets.specs.Watch.{deadline_of, last_moment}
 use Rattle.tftp_sockets.specs.declared.watch.TheConstants.{LONGEST_WAIT}
@@ -197,7 +197,7 @@ module _ {S F D : Type 0} (meaning : StoreMeaning S D) (sources : SourceMeaning 
     pub within : place < length s.timers
     pub is : (d : Timer) → slice_index_or s.timers place d ≡ here
     pub same : SameTimer timer here
-    pub transfer : HeldTransfer F D
+    pub transfer : TransferState F D
     pub found : at timer.port s.server.held ≡ Some transfer
     pub counts : CountsDown since here.deadline (timeouts_left transfer.end)
     pub complete : Quiet → is_complete transfer.end.position.phase ≡ is_complete e0.position.phase
@@ -237,7 +237,7 @@ module _ {S F D : Type 0} (meaning : StoreMeaning S D) (sources : SourceMeaning 
     is = λ d. ap (λ (ts : List Timer). slice_index_or ts lasts.place d) timers ∙ lasts.is d;
     same = lasts.same;
     transfer = lasts.transfer;
-    found = ap (λ (h : List (ℕ × HeldTransfer F D)). at timer.port h) held ∙ lasts.found;
+    found = ap (λ (h : List (ℕ × TransferState F D)). at timer.port h) held ∙ lasts.found;
     counts = lasts.counts;
     complete = λ quiet. lasts.complete (fewer quiet);
     closes = λ quiet. lasts.closes (fewer quiet);
@@ -406,7 +406,7 @@ module _ {S F D : Type 0} (meaning : StoreMeaning S D) (sources : SourceMeaning 
             ap (λ (u : Timer). u.peer.port) own_is ∙ ap (λ (p : Endpoint). p.port) lasts.same.peer in
             let line = λ (port peer : ℕ). Printed (line_text (Closed port peer d.outcome)) in
             let held : taken_of (Some lasts.transfer) ≡ Some d.taken =
-            ap (λ (o : Option (HeldTransfer F D)). taken_of o) (sym lasts.found)
+            ap (λ (o : Option (TransferState F D)). taken_of o) (sym lasts.found)
             ∙ (ap (λ (p : ℕ). taken_of (at p s.server.held)) (sym port_is) ∙ d.is_taken) in
             let record_is : record_of lasts.transfer.end ≡ d.taken.0 =
             ap (λ (p : Record × Option D). p.0) (taken_by (is_closed lasts.transfer)
@@ -542,7 +542,7 @@ module _ {S F D : Type 0} (meaning : StoreMeaning S D) (sources : SourceMeaning 
       let port_is : (slice_index_or s.timers lasts.place timer).port ≡ timer.port =
       ap (λ (u : Timer). u.port) (lasts.is timer) ∙ lasts.same.port in
       let not_closed : taken_of (Some lasts.transfer) ≡ None =
-      ap (λ (o : Option (HeldTransfer F D)). taken_of o) (sym lasts.found)
+      ap (λ (o : Option (TransferState F D)). taken_of o) (sym lasts.found)
       ∙ (ap (λ (p : ℕ). taken_of (at p s.server.held)) (sym port_is)
       ∙ (waits.may.transfers lasts.place timer lasts.within).not_closed) in
       let some = open_left lasts.transfer.end.position.phase lasts.transfer.end.position.retries_left
@@ -555,7 +555,7 @@ module _ {S F D : Type 0} (meaning : StoreMeaning S D) (sources : SourceMeaning 
 -- ---- the laws
 module _ {S F D : Type 0} (meaning : StoreMeaning S D) (sources : SourceMeaning F) where
   -- a transfer lasts at first
-  begins : (start first : LoopState S F D) (timer : Timer) (transfer : HeldTransfer F D)
+  begins : (start first : LoopState S F D) (timer : Timer) (transfer : TransferState F D)
       → start.timers ≡ [] → Run (Does meaning sources) start first → Contains first.timers timer
       → at timer.port first.server.held ≡ Some transfer
       → LivesOn meaning sources first timer transfer.end (Unit {0}) first
@@ -589,7 +589,7 @@ module _ {S F D : Type 0} (meaning : StoreMeaning S D) (sources : SourceMeaning 
         });
       }
 
-  pub times_out_in_silence : (start first last new : LoopState S F D) (timer : Timer) (transfer : HeldTransfer F D)
+  pub times_out_in_silence : (start first last new : LoopState S F D) (timer : Timer) (transfer : TransferState F D)
       → start.timers ≡ [] → Run (Does meaning sources) start first → Contains first.timers timer
       → at timer.port first.server.held ≡ Some transfer
       → (idles : Idles meaning sources timer.port first last) → NoneReceived meaning sources idles

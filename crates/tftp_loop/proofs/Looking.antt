@@ -7,7 +7,7 @@ use Rattle.std.proofs.lemmas.List.{length-map}
 use Rattle.tftp_file.specs.Source.{SourceMeaning}
 use Rattle.tftp_ends.specs.declared.endpoint.Endpoint.{Endpoint}
 use Rattle.tftp_store.specs.Store.{StoreMeaning}
-use Rattle.tftp_server.specs.State.{HeldTransfer, at}
+use Rattle.tftp_server.specs.State.{TransferState, at}
 use Rattle.tftp_sockets.specs.Watch.{deadline_of}
 use Rattle.tftp_sockets.specs.Journal.{Event}
 use Rattle.tftp_sockets.specs.Journal.Event.{Received, Elapsed, Watched, Quiet}
@@ -127,7 +127,7 @@ module _ {S F D : Type 0} (meaning : StoreMeaning S D) (sources : SourceMeaning 
   at_own now old new (Work d) h = subst (IsLooked new.events now) (sym d.timer)
       (subst (λ (es : List Event). IsLooked es now old.timer) (sym d.events) h)
 
-  with_looked : (es : List Event) (now : ℕ) (from : Endpoint) (tid : Option ℕ) (held : List (ℕ × HeldTransfer F D))
+  with_looked : (es : List Event) (now : ℕ) (from : Endpoint) (tid : Option ℕ) (held : List (ℕ × TransferState F D))
       (timers : List Timer)
       → All (IsLooked es now) timers → All (IsLooked es now) (with_timer now from tid held timers)
   with_looked es now from None held timers h = h

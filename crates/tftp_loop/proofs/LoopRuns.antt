@@ -10,7 +10,7 @@ use Rattle.tftp_store.specs.Store.{StoreMeaning}
 use Rattle.tftp_ends.specs.declared.outcome.Outcome.{Outcome}
 use Rattle.tftp_ends.specs.End.{record_of}
 use Rattle.std.proofs.lemmas.Option.{none-some, cond_some}
-use Rattle.tftp_server.specs.State.{HeldTransfer, ServerState, at, draft_of, is_closed, taken_of, without}
+use Rattle.tftp_server.specs.State.{TransferState, ServerState, at, draft_of, is_closed, taken_of, without}
 use Rattle.tftp_sockets.specs.declared.port.Port.{Port}
 use Rattle.tftp_sockets.specs.Journal.{Event}
 use Rattle.tftp_loop.specs.declared.transfer_port.TransferSocket.{TransferSocket}
@@ -42,7 +42,7 @@ same_state {S} {F} {D} s t a r b c d e f g h k = λ i. record {
 }
 
 -- a transfer that was taken has an outcome
-outcome_taken : {F D : Type 0} (o : Option (HeldTransfer F D)) (t : Record × Option D) → taken_of o ≡ Some t →
+outcome_taken : {F D : Type 0} (o : Option (TransferState F D)) (t : Record × Option D) → taken_of o ≡ Some t →
     IsSome t.0.outcome
 outcome_taken None t e = absurd (none-some t e)
 outcome_taken {F} {D} (Some held) t e =

@@ -7,7 +7,7 @@ use Rattle.std.proofs.lemmas.Bool.{cases_eq}
 use Rattle.tftp_file.specs.Source.{SourceMeaning}
 use Rattle.tftp_ends.specs.declared.endpoint.Endpoint.{Endpoint}
 use Rattle.tftp_store.specs.Store.{StoreMeaning}
-use Rattle.tftp_server.specs.State.{HeldTransfer, ServerState, at, with_new, without}
+use Rattle.tftp_server.specs.State.{TransferState, ServerState, at, with_new, without}
 use Rattle.tftp_server.specs.Request.{Came, Left, Nothing, Error_reply, A_transfer, left_by}
 use Rattle.tftp_sockets.specs.Journal.{Event, replied}
 use Rattle.tftp_sockets.specs.Quiet.{was_tried}
@@ -161,7 +161,7 @@ module _ {S F D : Type 0} (meaning : StoreMeaning S D) (sources : SourceMeaning 
     pub tried : AreTried s → AreTried t
 
   -- another transfer is held still
-  pub other_held : (old new : List (ℕ × HeldTransfer F D)) (timer : Timer) →
+  pub other_held : (old new : List (ℕ × TransferState F D)) (timer : Timer) →
       (IsSome (at timer.port old) → IsSome (at timer.port new)) → IsHeld old timer → IsHeld new timer
   other_held old new timer there h = record { there = there h.there; look = h.look }
 
@@ -200,7 +200,7 @@ module _ {S F D : Type 0} (meaning : StoreMeaning S D) (sources : SourceMeaning 
         (stays.read (subst (IsRead s.events) (sym is) (read index timer within))) k d (omega arith) h
 
   -- a transfer that closed is removed
-  pub removed_held : (held : List (ℕ × HeldTransfer F D)) (timers : List Timer) (index : ℕ) (timer : Timer) →
+  pub removed_held : (held : List (ℕ × TransferState F D)) (timers : List Timer) (index : ℕ) (timer : Timer) →
       index < length timers → timer ≡ slice_index_or timers index timer
       → AreKept held timers → AreKept (without timer.port held) (swap_remove timers index timer)
   removed_held held timers index timer within is kept =
@@ -218,8 +218,8 @@ module _ {S F D : Type 0} (meaning : StoreMeaning S D) (sources : SourceMeaning 
       }
 
   -- a transfer opens
-  opened_kept : (held : List (ℕ × HeldTransfer F D)) (timers : List Timer) (timer : Timer)
-      (transfer : HeldTransfer F D) → at timer.port held ≡ None → timer.look_at ≤ timer.deadline
+  opened_kept : (held : List (ℕ × TransferState F D)) (timers : List Timer) (timer : Timer)
+      (transfer : TransferState F D) → at timer.port held ≡ None → timer.look_at ≤ timer.deadline
       → AreKept held timers → AreKept (with_new timer.port transfer held) (timers ++ timer ∷ [])
   opened_kept held timers timer transfer free look kept =
       let H = IsHeld (with_new timer.port transfer held) in

@@ -11,7 +11,7 @@ use Rattle.tftp_ends.specs.End.{EndState, outcome_of, record_of}
 use Rattle.tftp_ends.specs.Opening.{ServesRead, serving_write}
 use Rattle.tftp_store.specs.declared.store.Opening.{Opening}
 use Rattle.tftp_store.specs.Store.{StoreMeaning}
-use Rattle.tftp_server.specs.State.{HeldTransfer, ServerState, at, draft_of, is_closed, taken_of, with_new}
+use Rattle.tftp_server.specs.State.{TransferState, ServerState, at, draft_of, is_closed, taken_of, with_new}
 use Rattle.tftp_server.specs.Request.{Came, Left, Nothing, Error_reply, A_transfer, Goes, Sent, Taken, Serves, left_by}
 use Rattle.tftp_server.specs.Port.{Ask, Ignores, Refuses, Reads, Writes, Service, Silent, Refused, Sends, Takes}
 use Rattle.tftp_loop.specs.Run.{Run}
@@ -39,25 +39,25 @@ taking_open (known ∷ others) peer mode retries = refl
 
 module _ {S F D : Type 0} where
   -- the transfer of a result
-  came_open : (came : Came S F D) (transfer : HeldTransfer F D) (end : EndState) (store store' : S)
-      (of : HeldTransfer F D) → of.end ≡ end → outcome_of end.position.phase ≡ None
+  came_open : (came : Came S F D) (transfer : TransferState F D) (end : EndState) (store store' : S)
+      (of : TransferState F D) → of.end ≡ end → outcome_of end.position.phase ≡ None
       → A_transfer transfer store ≡ A_transfer of store' → is_closed transfer ≡ false
   came_open came transfer end store store' of ends none e =
       let same : transfer ≡ of = (cc) in
-      ap (λ (t : HeldTransfer F D). is_some (outcome_of t.end.position.phase)) same
+      ap (λ (t : TransferState F D). is_some (outcome_of t.end.position.phase)) same
       ∙ (ap (λ (d : EndState). is_some (outcome_of d.position.phase)) ends ∙ ap is_some none)
 
 module _ {S F D : Type 0} (meaning : StoreMeaning S D) (sources : SourceMeaning F) (old : ServerState S F D)
     (from : Endpoint) (bytes : List ℕ) where
   serves_open : (path : List ℕ) (mode : Mode) (length : ℕ) (agreed : List Known) (source : F)
-      (transfer : HeldTransfer F D) (store : S)
+      (transfer : TransferState F D) (store : S)
       → Serves meaning sources old from bytes path mode length agreed source (A_transfer transfer store) →
       is_closed transfer ≡ false
   serves_open path mode length agreed source transfer store s =
       came_open (A_transfer transfer store) transfer s.end store old.store _ refl
       (served_open sources agreed from mode length old.config.retries source s.rest s.end s.serves) s.opens
 
-  sent_open : (service : Service) (file : Result (Opening F) StoreFault) (transfer : HeldTransfer F D) (store : S)
+  sent_open : (service : Service) (file : Result (Opening F) StoreFault) (transfer : TransferState F D) (store : S)
       → Sent meaning sources old from bytes service file (A_transfer transfer store) → is_closed transfer ≡ false
   sent_open Silent file transfer store h = absurd h
   sent_open (Refused reply) file transfer store h =
@@ -68,7 +68,7 @@ module _ {S F D : Type 0} (meaning : StoreMeaning S D) (sources : SourceMeaning 
   sent_open (Sends path mode length agreed) (Ok file) transfer store (inr x) = absurd (let e = x.2 in cc)
   sent_open (Takes path mode agreed) file transfer store h = absurd h
 
-  taken_open : (service : Service) (draft : Result D StoreFault) (begun : S) (transfer : HeldTransfer F D) (store : S)
+  taken_open : (service : Service) (draft : Result D StoreFault) (begun : S) (transfer : TransferState F D) (store : S)
       → Taken meaning sources old from bytes service draft begun (A_transfer transfer store) →
       is_closed transfer ≡ false
   taken_open Silent draft begun transfer store h = absurd h
@@ -80,7 +80,7 @@ module _ {S F D : Type 0} (meaning : StoreMeaning S D) (sources : SourceMeaning 
       came_open (A_transfer transfer store) transfer (serving_write agreed from mode old.config.retries) store begun _
       refl (taking_open agreed from mode old.config.retries) h
 
-  opens_open : (ask : Ask) (transfer : HeldTransfer F D) (store : S) →
+  opens_open : (ask : Ask) (transfer : TransferState F D) (store : S) →
       Goes meaning sources old from bytes ask (A_transfer transfer store) → is_closed transfer ≡ false
   opens_open Ignores transfer store h = absurd (let e : A_transfer transfer store ≡ Nothing = h in cc)
   opens_open (Refuses reply) transfer store h =
@@ -100,10 +100,10 @@ module _ {S F D : Type 0} (meaning : StoreMeaning S D) (sources : SourceMeaning 
       all_appended (IsOpen held) timers (started now tid from (interval_at (at tid held)))
       (λ k d h.
       let port = (slice_index_or timers k d).port in
-      ap (λ (o : Option (HeldTransfer F D)). taken_of o)
+      ap (λ (o : Option (TransferState F D)). taken_of o)
       (inserted_apart tid port transfer old.held (λ e. some_none (at port old.held) (kept.each k d h).there
       (ap (λ (p : ℕ). at p old.held) e ∙ free))) ∙ unclosed k d h)
-      (ap (λ (o : Option (HeldTransfer F D)). taken_of o) (inserted_own tid transfer old.held)
+      (ap (λ (o : Option (TransferState F D)). taken_of o) (inserted_own tid transfer old.held)
       ∙ ap (λ (b : Bool). if b then Some (record_of transfer.end, draft_of transfer.files) else None)
       (opens_open ask transfer store goes))
 

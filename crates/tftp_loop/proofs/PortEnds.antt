@@ -12,7 +12,7 @@ use Rattle.tftp_ends.specs.declared.record.Step.{Step}
 use Rattle.tftp_ends.specs.declared.role.Role.{Role}
 use Rattle.tftp_store.specs.Store.{StoreMeaning}
 use Rattle.tftp_server.specs.Draft.{drafting_sink}
-use Rattle.tftp_server.specs.State.{HeldTransfer, ServerState, at, is_closed, is_open, with_next}
+use Rattle.tftp_server.specs.State.{TransferState, ServerState, at, is_closed, is_open, with_next}
 use Rattle.tftp_server.specs.Steps.{KeepsHeld, with_end}
 use Rattle.tftp_server.specs.Work.{WorksAt}
 use Rattle.tftp_sockets.specs.Watch.{deadline_of}
@@ -144,22 +144,22 @@ module _ {S F D : Type 0} (meaning : StoreMeaning S D) (sources : SourceMeaning 
 
   -- the transfer is held still, and its end changed so
   pub record AtTransfer (Idle Silent : Type 0) (now : ℕ) (old new : PortState S F D)
-      (transfer : HeldTransfer F D) : Type 0 where
-    pub next : HeldTransfer F D
+      (transfer : TransferState F D) : Type 0 where
+    pub next : TransferState F D
     pub found : at old.timer.port new.server.held ≡ Some next
     pub changes : Changes Idle Silent now old.timer new.timer transfer.end next.end
 
-  same_transfer : (port : ℕ) (held : List (ℕ × HeldTransfer F D)) (a b : HeldTransfer F D) → at port held ≡ Some a
+  same_transfer : (port : ℕ) (held : List (ℕ × TransferState F D)) (a b : TransferState F D) → at port held ≡ Some a
       → at port held ≡ Some b → a ≡ b
   same_transfer port held a b h k = same_Some a b (sym h ∙ k)
 
-  put_next : (port : ℕ) (old new : List (ℕ × HeldTransfer F D)) (transfer next : HeldTransfer F D)
+  put_next : (port : ℕ) (old new : List (ℕ × TransferState F D)) (transfer next : TransferState F D)
       → at port old ≡ Some transfer → new ≡ with_next port next old → at port new ≡ Some next
   put_next port old new transfer next found is = ap (at port) is
       ∙ set_found (is_at (nat_cmp port)) transfer next old found
 
   pub at_transfer : (now : ℕ) (old new : PortState S F D) (does : AtPort meaning sources now old new)
-      (transfer : HeldTransfer F D) → at old.timer.port old.server.held ≡ Some transfer
+      (transfer : TransferState F D) → at old.timer.port old.server.held ≡ Some transfer
       → AtTransfer (IsIdleAt meaning sources does) (ReceivesNoneAt meaning sources does) now old new transfer
   at_transfer now old new (A_datagram d) transfer found =
       let takes = d.handles.takes in
@@ -179,13 +179,13 @@ module _ {S F D : Type 0} (meaning : StoreMeaning S D) (sources : SourceMeaning 
         next = takes.next;
         found = put_next old.timer.port old.server.held new.server.held takes.transfer takes.next takes.found
             takes.held;
-        changes = subst (λ (t : HeldTransfer F D). Changes
+        changes = subst (λ (t : TransferState F D). Changes
             (d.step.progress ≡ false) ⊥ now old.timer new.timer t.end takes.next.end) own
             (By_datagram d.step.progress handled (λ h. h) (λ h. h) d.timer);
       }
   at_transfer now old new (A_lost_datagram d) transfer found =
       let keeps =
-      subst (λ (o : Option (HeldTransfer F D)). KeepsHeld meaning sources old.timer.port o old.server new.server)
+      subst (λ (o : Option (TransferState F D)). KeepsHeld meaning sources old.timer.port o old.server new.server)
       found d.loses.keeps in
       record {
         next = keeps.0;
@@ -210,7 +210,7 @@ module _ {S F D : Type 0} (meaning : StoreMeaning S D) (sources : SourceMeaning 
         next = with_end t.end t.transfer;
         found = put_next old.timer.port old.server.held new.server.held t.transfer
             (with_end t.end t.transfer) t.found t.held;
-        changes = subst (λ (u : HeldTransfer F D). Changes ⊤ ⊤ now old.timer new.timer u.end t.end) own
+        changes = subst (λ (u : TransferState F D). Changes ⊤ ⊤ now old.timer new.timer u.end t.end) own
             (By_timeout t.carries.state d.timer);
       }
   at_transfer now old new (A_missed_timeout d) transfer found = record {
@@ -218,16 +218,16 @@ module _ {S F D : Type 0} (meaning : StoreMeaning S D) (sources : SourceMeaning 
     found = ap (λ (s : ServerState S F D). at old.timer.port s.held) d.server ∙ found;
     changes = By_late_timeout refl
         (closed_left transfer.end.position.phase transfer.end.position.retries_left
-        (closed_by (is_closed transfer) (ap (λ (o : Option (HeldTransfer F D)). is_open o) (sym found) ∙ d.closed)))
+        (closed_by (is_closed transfer) (ap (λ (o : Option (TransferState F D)). is_open o) (sym found) ∙ d.closed)))
         d.timer;
   }
   at_transfer now old new (Work d) transfer found =
       let works =
-      subst (λ (o : Option (HeldTransfer F D)). WorksAt meaning sources old.timer.port o old.server new.server)
+      subst (λ (o : Option (TransferState F D)). WorksAt meaning sources old.timer.port o old.server new.server)
       found d.works.works in
       record {
         next = works.0;
         found = put_next old.timer.port old.server.held new.server.held transfer works.0 found works.2;
-        changes = By_nothing (ap (λ (t : HeldTransfer F D). t.end) works.1.rest)
+        changes = By_nothing (ap (λ (t : TransferState F D). t.end) works.1.rest)
             (ap (λ (t : Timer). t.deadline) d.timer) (ap (λ (t : Timer). t.interval) d.timer);
       }

@@ -15,7 +15,7 @@ use Rattle.tftp_ends.specs.End.{EndState, outcome_of, record_of}
 use Rattle.tftp_ends.specs.Shortage.{AppendsNothing}
 use Rattle.tftp_ends.specs.Step.{Reply, lent, reply_bytes, timeout_turn}
 use Rattle.tftp_store.specs.Store.{StoreMeaning}
-use Rattle.tftp_server.specs.State.{HeldTransfer, ServerState, at, draft_of, taken_of}
+use Rattle.tftp_server.specs.State.{TransferState, ServerState, at, draft_of, taken_of}
 use Rattle.tftp_server.specs.Steps.{TakesDatagramLent, TimesOutLent, DatagramFaultLent, KeepsHeld, with_end}
 use Rattle.tftp_server.specs.Shortage.{LacksMemoryAt}
 use Rattle.tftp_server.specs.declared.fault.ServerFault.{ServerFault}
@@ -53,10 +53,10 @@ bytes_lent (Some b) d r m xs e f u = ap (λ (x : Bor (List ℕ)). x.now) u ∙ s
 
 module _ {F D : Type 0} where
   -- a transfer that closed can be taken
-  pub closed_taken : (o : Option (HeldTransfer F D)) (held : HeldTransfer F D) → o ≡ Some held →
+  pub closed_taken : (o : Option (TransferState F D)) (held : TransferState F D) → o ≡ Some held →
       IsSome (outcome_of held.end.position.phase) → IsSome (taken_of o)
   closed_taken o held e h =
-      ap (λ (x : Option (HeldTransfer F D)). is_some (taken_of x)) e
+      ap (λ (x : Option (TransferState F D)). is_some (taken_of x)) e
       ∙ ap (λ (b : Bool). is_some {T = Record × Option D} (if b then Some (record_of held.end, draft_of held.files) else
       None)) h
 

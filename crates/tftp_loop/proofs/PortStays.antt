@@ -8,7 +8,7 @@ use Rattle.tftp_file.specs.Source.{SourceMeaning}
 use Rattle.tftp_ends.specs.declared.endpoint.Endpoint.{Endpoint}
 use Rattle.tftp_ends.specs.Step.{Reply}
 use Rattle.tftp_store.specs.Store.{StoreMeaning}
-use Rattle.tftp_server.specs.State.{HeldTransfer, ServerState, at, with_next}
+use Rattle.tftp_server.specs.State.{TransferState, ServerState, at, with_next}
 use Rattle.tftp_server.specs.Steps.{KeepsHeld}
 use Rattle.tftp_server.specs.Work.{WorksAt}
 use Rattle.tftp_sockets.specs.Watch.{deadline_of}
@@ -55,26 +55,26 @@ received_tried port from bytes es before after noted tries =
 
 module _ {F D : Type 0} where
   -- the other transfers stay, and the one at the port stays held
-  pub record StaysHeld (port : ℕ) (old new : List (ℕ × HeldTransfer F D)) : Type 0 where
+  pub record StaysHeld (port : ℕ) (old new : List (ℕ × TransferState F D)) : Type 0 where
     pub others : (q : ℕ) → (q ≡ port → ⊥) → at q new ≡ at q old
     pub there : (q : ℕ) → IsSome (at q old) → IsSome (at q new)
 
-  pub same_held : (port : ℕ) (old new : List (ℕ × HeldTransfer F D)) → new ≡ old → StaysHeld port old new
+  pub same_held : (port : ℕ) (old new : List (ℕ × TransferState F D)) → new ≡ old → StaysHeld port old new
   same_held port old new e = record {
     others = λ q apart. ap (at q) e;
-    there = λ q h. subst (λ (held : List (ℕ × HeldTransfer F D)). IsSome (at q held)) (sym e) h;
+    there = λ q h. subst (λ (held : List (ℕ × TransferState F D)). IsSome (at q held)) (sym e) h;
   }
 
-  pub next_held : (port : ℕ) (old new : List (ℕ × HeldTransfer F D)) (next : HeldTransfer F D) →
+  pub next_held : (port : ℕ) (old new : List (ℕ × TransferState F D)) (next : TransferState F D) →
       new ≡ with_next port next old → StaysHeld port old new
   next_held port old new next e = record {
     others = λ q apart. ap (at q) e ∙ set_apart port q old next apart;
     there = λ q h.
-        subst (λ (held : List (ℕ × HeldTransfer F D)). IsSome (at q held)) (sym e)
+        subst (λ (held : List (ℕ × TransferState F D)). IsSome (at q held)) (sym e)
         (set_there (is_at (nat_cmp port)) (is_at (nat_cmp q)) old next ∙ h);
   }
 
-  pub held_onward : (port : ℕ) (a b c : List (ℕ × HeldTransfer F D)) → StaysHeld port a b → StaysHeld port b c →
+  pub held_onward : (port : ℕ) (a b c : List (ℕ × TransferState F D)) → StaysHeld port a b → StaysHeld port b c →
       StaysHeld port a c
   held_onward port a b c x y = record {
     others = λ q apart. y.others q apart ∙ x.others q apart;
@@ -99,12 +99,12 @@ after_port now true timer = refl
 after_port now false timer = refl
 
 module _ {S F D : Type 0} (meaning : StoreMeaning S D) (sources : SourceMeaning F) where
-  keeps_held : (port : ℕ) (o : Option (HeldTransfer F D)) (old new : ServerState S F D) →
+  keeps_held : (port : ℕ) (o : Option (TransferState F D)) (old new : ServerState S F D) →
       KeepsHeld meaning sources port o old new → StaysHeld port old.held new.held
   keeps_held port None old new keeps = same_held port old.held new.held (ap (λ (s : ServerState S F D). s.held) keeps)
   keeps_held port (Some transfer) old new keeps = next_held port old.held new.held keeps.0 keeps.2
 
-  pub works_held : (port : ℕ) (o : Option (HeldTransfer F D)) (old new : ServerState S F D) →
+  pub works_held : (port : ℕ) (o : Option (TransferState F D)) (old new : ServerState S F D) →
       WorksAt meaning sources port o old new → StaysHeld port old.held new.held
   works_held port None old new works = same_held port old.held new.held (ap (λ (s : ServerState S F D). s.held) works)
   works_held port (Some transfer) old new works = next_held port old.held new.held works.0 works.2

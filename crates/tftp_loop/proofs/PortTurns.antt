@@ -66,7 +66,7 @@ ports_distinct first last = elim (cases_lt last first) [
       (last_above 0 0 last (omega arith))
 ]
 
--- ---- beginnings
+-- ---- prefixes
 all_before : (P : ℕ → Type 0) (xs ys : List ℕ) → AllByRecursion P (xs ++ ys) → AllByRecursion P xs
 all_before P [] ys h = tt
 all_before P (x ∷ xs) ys h = (h.0, all_before P xs ys h.1)

@@ -8,7 +8,7 @@ use Rattle.std.proofs.lemmas.List.{length-map}
 use Rattle.tftp_file.specs.Source.{SourceMeaning}
 use Rattle.tftp_ends.specs.declared.endpoint.Endpoint.{Endpoint}
 use Rattle.tftp_store.specs.Store.{StoreMeaning}
-use Rattle.tftp_server.specs.State.{HeldTransfer, ServerState, at, taken_of, with_new}
+use Rattle.tftp_server.specs.State.{TransferState, ServerState, at, taken_of, with_new}
 use Rattle.tftp_server.specs.Request.{Came, Left, Nothing, Error_reply, A_transfer, left_by}
 use Rattle.tftp_sockets.specs.Journal.{Event, replied}
 use Rattle.tftp_sockets.specs.Journal.Event.{Received, Quiet}
@@ -109,7 +109,7 @@ module _ {S F D : Type 0} (meaning : StoreMeaning S D) (sources : SourceMeaning 
     within = subst (λ (ts : List Timer). due.place < length ts) (sym timers) due.within;
     has_port = λ d. ap (λ (ts : List Timer). (slice_index_or ts due.place d).port) timers ∙ due.has_port d;
     marked = λ d. ap (λ (ts : List Timer). (slice_index_or ts due.place d).marked) timers ∙ due.marked d;
-    unclosed = ap (λ (h : List (ℕ × HeldTransfer F D)). taken_of (at port h)) held ∙ due.unclosed;
+    unclosed = ap (λ (h : List (ℕ × TransferState F D)). taken_of (at port h)) held ∙ due.unclosed;
   }
 
   step_at : (port : ℕ) (s : LoopState S F D) (index : ℕ) (timer : Timer) (next : PortState S F D) →
@@ -157,7 +157,8 @@ module _ {S F D : Type 0} (meaning : StoreMeaning S D) (sources : SourceMeaning 
                   λ d. ap (λ (u : Timer). u.marked) (set_other s.timers index next.timer due.place d other)
                   ∙ due.marked d;
               unclosed =
-                  ap (λ (o : Option (HeldTransfer F D)). taken_of o) (stays.held.others port apart_port) ∙ due.unclosed;
+                  ap (λ (o : Option (TransferState F D)). taken_of o) (stays.held.others port apart_port)
+                  ∙ due.unclosed;
             })
       ]
 
@@ -187,7 +188,7 @@ module _ {S F D : Type 0} (meaning : StoreMeaning S D) (sources : SourceMeaning 
         has_port = λ d. ap (λ (u : Timer). u.port) (appended_at s.timers timer due.place d due.within) ∙ due.has_port d;
         marked = λ d. ap (λ (u : Timer). u.marked) (appended_at s.timers timer due.place d due.within) ∙ due.marked d;
         unclosed =
-            ap (λ (o : Option (HeldTransfer F D)). taken_of o) (inserted_apart tid port transfer s.server.held apart)
+            ap (λ (o : Option (TransferState F D)). taken_of o) (inserted_apart tid port transfer s.server.held apart)
             ∙ due.unclosed;
       }
 
@@ -253,7 +254,7 @@ module _ {S F D : Type 0} (meaning : StoreMeaning S D) (sources : SourceMeaning 
         has_port = λ e. ap (λ (u : Timer). u.port) (at_place.2 e) ∙ due.has_port e;
         marked = λ e. ap (λ (u : Timer). u.marked) (at_place.2 e) ∙ due.marked e;
         unclosed =
-            ap (λ (o : Option (HeldTransfer F D)). taken_of o) (removed_apart d.timer.port port s.server.held apart)
+            ap (λ (o : Option (TransferState F D)). taken_of o) (removed_apart d.timer.port port s.server.held apart)
             ∙ due.unclosed;
       }))
 

@@ -11,7 +11,7 @@ use Rattle.tftp_file.specs.Source.{SourceMeaning}
 use Rattle.tftp_store.specs.Store.{StoreMeaning}
 use Rattle.tftp_ends.specs.declared.record.Record.{Record}
 use Rattle.tftp_ends.specs.End.{record_of}
-use Rattle.tftp_server.specs.State.{HeldTransfer, ServerState, at, draft_of, is_closed, taken_of, without}
+use Rattle.tftp_server.specs.State.{TransferState, ServerState, at, draft_of, is_closed, taken_of, without}
 use Rattle.tftp_server.specs.Work.{WorksAt}
 use Rattle.tftp_sockets.specs.declared.port.Port.{Port}
 use Rattle.tftp_loop.specs.declared.transfer_port.TransferSocket.{TransferSocket}
@@ -73,7 +73,7 @@ module _ {S F D : Type 0} (meaning : StoreMeaning S D) (sources : SourceMeaning 
   others_open : AreSettled old.server.held (timers_of old) → (k : ℕ) (d : Timer) → k < length (timers_of old) →
       (k ≡ index → ⊥) → IsOpen middle.server.held (slice_index_or (timers_of old) k d)
   others_open settled k d h apart =
-      ap (λ (o : Option (HeldTransfer F D)). taken_of o)
+      ap (λ (o : Option (TransferState F D)). taken_of o)
       (stays.held.others (slice_index_or (timers_of old) k d).port
       (other_port (timers_of old) index was k d settled.kept.apart within is_timer h apart))
       ∙ settled.none_closed k d h
@@ -129,7 +129,7 @@ module _ {S F D : Type 0} (meaning : StoreMeaning S D) (sources : SourceMeaning 
       let other : t.port ≡ closes.timer.port → ⊥ =
       λ e. other_port (timers_of old) index was k d settled.kept.apart within is_timer h apart
       (e ∙ (ap (λ (u : Timer). u.port) own ∙ stays.port)) in
-      ap (λ (o : Option (HeldTransfer F D)). taken_of o)
+      ap (λ (o : Option (TransferState F D)). taken_of o)
       (removed_apart closes.timer.port t.port middle.server.held other) ∙ others_open settled k d h apart)
       closes same k d (omega arith) h
 
@@ -154,12 +154,12 @@ module _ {S F D : Type 0} (meaning : StoreMeaning S D) (sources : SourceMeaning 
         let kept_new =
         removed_held meaning sources middle.server.held (timers_of middle) closes.index closes.timer closes.within
         closes.is_timer kept_old in
-        let AtHeld : List (ℕ × HeldTransfer F D) → Type 0 =
+        let AtHeld : List (ℕ × TransferState F D) → Type 0 =
         λ hs. AreKept hs (swap_remove (timers_of middle) closes.index closes.timer) in
         record {
           kept = subst (AreKept new.server.held) (sym (closed_timers closes)) (subst AtHeld (sym held) kept_new);
           none_closed = λ k d h.
-              subst (λ (hs : List (ℕ × HeldTransfer F D)). IsOpen hs (slice_index_or (timers_of new) k d)) (sym held)
+              subst (λ (hs : List (ℕ × TransferState F D)). IsOpen hs (slice_index_or (timers_of new) k d)) (sym held)
               (removed_open closes same settled k d h);
         }
   ]
@@ -250,7 +250,8 @@ not_taken false x e = refl
 
 module _ {S F D : Type 0} (meaning : StoreMeaning S D) (sources : SourceMeaning F) where
   -- a file that works leaves its transfer unclosed
-  pub works_unclosed : (port : ℕ) (o : Option (HeldTransfer F D)) (old new : ServerState S F D) → at port old.held ≡ o →
+  pub works_unclosed : (port : ℕ) (o : Option (TransferState F D)) (old new : ServerState S F D) →
+      at port old.held ≡ o →
       WorksAt meaning sources port o old new → taken_of (at port old.held) ≡ None
       → taken_of (at port new.held) ≡ None
   works_unclosed port None old new found works unclosed =
@@ -261,9 +262,9 @@ module _ {S F D : Type 0} (meaning : StoreMeaning S D) (sources : SourceMeaning 
       ap (at port) works.2 ∙ set_found (is_at (nat_cmp port)) transfer next old.held found in
       let still =
       not_taken (is_closed transfer) (record_of transfer.end, draft_of transfer.files)
-      (ap (λ (p : Option (HeldTransfer F D)). taken_of p) (sym found) ∙ unclosed) in
-      let same : is_closed next ≡ is_closed transfer = ap (λ (t : HeldTransfer F D). is_closed t) works.1.rest in
-      ap (λ (p : Option (HeldTransfer F D)). taken_of p) now_found
+      (ap (λ (p : Option (TransferState F D)). taken_of p) (sym found) ∙ unclosed) in
+      let same : is_closed next ≡ is_closed transfer = ap (λ (t : TransferState F D). is_closed t) works.1.rest in
+      ap (λ (p : Option (TransferState F D)). taken_of p) now_found
       ∙ ap (λ (b : Bool). if b then Some (record_of next.end, draft_of next.files) else None) (same ∙ still)
 
   -- and all others
@@ -295,7 +296,7 @@ module _ {S F D : Type 0} (meaning : StoreMeaning S D) (sources : SourceMeaning 
                   ap (λ (p : ℕ). taken_of (at p new.server.held)) same ∙ works_unclosed was.port
                   (at was.port old.server.held) old.server new.server refl works.works unclosed
               | inr other ↦
-                  ap (λ (o : Option (HeldTransfer F D)). taken_of o) (held.others t.port other)
+                  ap (λ (o : Option (TransferState F D)). taken_of o) (held.others t.port other)
                   ∙ settled.none_closed k d h
             ];
       })
@@ -320,7 +321,7 @@ module _ {S F D : Type 0} (meaning : StoreMeaning S D) (sources : SourceMeaning 
       let kept : new.server.held ≡ old.server.held =
       held ∙ ap (λ (b : Bool). if b then without tid old.server.held else old.server.held) none in
       let server : new.server ≡ old.server =
-      rest ∙ ap (λ (h : List (ℕ × HeldTransfer F D)). record old.server { held = h }) kept in
+      rest ∙ ap (λ (h : List (ℕ × TransferState F D)). record old.server { held = h }) kept in
       Stays (is ∙ ap (λ (s : ServerState S F D). record old { server = s }) server)
       (λ d.
       ap (λ (t : Timer). taken_of (at t.port old.server.held)) (timer_is d)

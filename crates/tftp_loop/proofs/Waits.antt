@@ -7,7 +7,7 @@ use Rattle.std.specs.List.{list_any}
 use Rattle.tftp_file.specs.Source.{SourceMeaning}
 use Rattle.tftp_ends.specs.declared.endpoint.Endpoint.{Endpoint}
 use Rattle.tftp_store.specs.Store.{StoreMeaning}
-use Rattle.tftp_server.specs.State.{HeldTransfer, ServerState}
+use Rattle.tftp_server.specs.State.{TransferState, ServerState}
 use Rattle.tftp_sockets.specs.Watch.{wait_of}
 use Rattle.tftp_sockets.specs.declared.watch.TheConstants.{LONGEST_WAIT}
 use Rattle.tftp_sockets.specs.declared.port.Port.{Port}
@@ -120,7 +120,7 @@ marked_at ports timers k d h =
     any_default (map (marked_by ports) timers) k d (marked_by ports d) (omega (arith, e, h))
     ∙ map_at (marked_by ports) timers k d
 
-module _ {F D : Type 0} (held : List (ℕ × HeldTransfer F D)) (ports : List ℕ) (timers : List Timer) where
+module _ {F D : Type 0} (held : List (ℕ × TransferState F D)) (ports : List ℕ) (timers : List Timer) where
   short : (k : ℕ) → k < length (map (marked_by ports) timers) → k < length timers
   short k h = let e = length-map timers (marked_by ports) in omega (arith, e, h)
 

@@ -8,7 +8,7 @@ use Rattle.tftp_ends.specs.declared.outcome.Outcome.{Outcome}
 use Rattle.tftp_ends.specs.declared.outcome.Outcome.TheVariants.{Complete, TimedOut}
 use Rattle.tftp_ends.specs.declared.phase.Phase.{Phase}
 use Rattle.tftp_store.specs.Store.{StoreMeaning}
-use Rattle.tftp_server.specs.State.{HeldTransfer, at}
+use Rattle.tftp_server.specs.State.{TransferState, at}
 use Rattle.tftp_sockets.specs.Watch.{last_moment}
 use Rattle.tftp_sockets.specs.declared.watch.TheConstants.{LONGEST_WAIT}
 use Rattle.tftp_lines.specs.Printed.{line_text}
@@ -94,7 +94,7 @@ module _ {S F D : Type 0} (meaning : StoreMeaning S D) (sources : SourceMeaning 
   -- and if it received nothing, it timed out, unless it was complete or had closed before
   abbrev pub TimesOutInSilence : Type 0
   TimesOutInSilence =
-      (start first last new : LoopState S F D) (timer : Timer) (transfer : HeldTransfer F D)
+      (start first last new : LoopState S F D) (timer : Timer) (transfer : TransferState F D)
       → start.timers ≡ [] → Run (Does meaning sources) start first
       → Contains first.timers timer → at timer.port first.server.held ≡ Some transfer
       → (idles : Idles timer.port first last) → NoneReceived idles

@@ -16,7 +16,7 @@ use Rattle.tftp_ends.specs.End.{interval_of, terms_of}
 use Rattle.tftp_ends.specs.Shortage.{AppendsNothing, HasNoRoom}
 use Rattle.tftp_ends.specs.Step.{timeout_turn}
 use Rattle.tftp_store.specs.Store.{StoreMeaning}
-use Rattle.tftp_server.specs.State.{HeldTransfer, ServerState, at, is_open, taken_of, without}
+use Rattle.tftp_server.specs.State.{TransferState, ServerState, at, is_open, taken_of, without}
 use Rattle.tftp_server.specs.Steps.{TakesDatagramLent, TimesOutLent, DatagramFaultLent, KeepsHeld}
 use Rattle.tftp_server.specs.declared.fault.ServerFault.{ServerFault}
 use Rattle.tftp_server.specs.declared.fault.ServerFault.TheVariants.{Memory}
@@ -244,12 +244,12 @@ answering_port requests (Some port) = port
 
 module _ {F D : Type 0} where
   -- the agreed interval of a transfer in seconds, or the default
-  abbrev pub interval_at : Option (HeldTransfer F D) → ℕ
+  abbrev pub interval_at : Option (TransferState F D) → ℕ
   interval_at None = DEFAULT_INTERVAL
   interval_at (Some held) = interval_of (terms_of held.end.position.phase)
 
   -- the timers after a request: the timer of an opened transfer starts now
-  abbrev pub with_timer : ℕ → Endpoint → Option ℕ → List (ℕ × HeldTransfer F D)
+  abbrev pub with_timer : ℕ → Endpoint → Option ℕ → List (ℕ × TransferState F D)
       → List Timer → List Timer
   with_timer now from None held timers = timers
   with_timer now from (Some port) held timers =

@@ -7,7 +7,7 @@ use Rattle.tftp_file.specs.Source.{SourceMeaning}
 use Rattle.tftp_ends.specs.declared.endpoint.Endpoint.{Endpoint}
 use Rattle.tftp_ends.specs.declared.record.Record.{Record}
 use Rattle.tftp_store.specs.Store.{StoreMeaning}
-use Rattle.tftp_server.specs.State.{HeldTransfer, at, taken_of}
+use Rattle.tftp_server.specs.State.{TransferState, at, taken_of}
 use Rattle.tftp_sockets.specs.Watch.{deadline_of, wait_of}
 use Rattle.tftp_sockets.specs.declared.watch.TheConstants.{LONGEST_WAIT}
 use Rattle.tftp_sockets.specs.declared.port.Port.{Port}
@@ -60,21 +60,21 @@ AreApart timers =
 
 module _ {F D : Type 0} where
   -- a timer is of a transfer that is held, and its port is read at its deadline at the latest
-  pub record IsHeld (held : List (ℕ × HeldTransfer F D)) (timer : Timer) : Type 0 where
+  pub record IsHeld (held : List (ℕ × TransferState F D)) (timer : Timer) : Type 0 where
     pub there : IsSome (at timer.port held)
     pub look : timer.look_at ≤ timer.deadline
 
   -- each transfer has one timer, which no other has
-  pub record AreKept (held : List (ℕ × HeldTransfer F D)) (timers : List Timer) : Type 0 where
+  pub record AreKept (held : List (ℕ × TransferState F D)) (timers : List Timer) : Type 0 where
     pub apart : AreApart timers
     pub each : All (IsHeld held) timers
 
   -- the transfer of a timer has not closed
-  abbrev pub IsOpen : List (ℕ × HeldTransfer F D) → Timer → Type 0
+  abbrev pub IsOpen : List (ℕ × TransferState F D) → Timer → Type 0
   IsOpen held timer = taken_of (at timer.port held) ≡ None
 
   -- and none has closed
-  pub record AreSettled (held : List (ℕ × HeldTransfer F D)) (timers : List Timer) : Type 0 where
+  pub record AreSettled (held : List (ℕ × TransferState F D)) (timers : List Timer) : Type 0 where
     pub kept : AreKept held timers
     pub none_closed : All (IsOpen held) timers
 

@@ -76,7 +76,7 @@ module _ (judgement : RawOption → Result (Option Known) Refusal) where
   keeps_cons o os (Ok (Some k)) (Err e) is below = (below.0, tail below.0 o os below.1, below.2)
   keeps_cons o os (Ok (Some k)) (Ok ks) is below = λ x h.
       elim (cases x o os h) [
-        inl same ↦ subst (Kept (k ∷ ks)) (sym is ∙ ap judgement same) (head k ks)
+        | inl same ↦ subst (Kept (k ∷ ks)) (sym is ∙ ap judgement same) (head k ks)
         | inr others ↦ kept_more k ks (judgement x) (below x others)
       ]
 
@@ -168,7 +168,7 @@ in_timeouts n h = let least = h.0 in let most = h.1 in grind (arith, nat_tests)
 -- a value in its range is granted, or too large
 grants : (kind : Kind) (mode : Mode) (length : ℕ) (limits : Limits) (one : Name) (n : ℕ) → MayRequest kind mode one n
     → (answered kind mode length limits (Some one) (Some n) ≡ Ok (Some (granted kind length limits.max_block one n)))
-        ⊎ (answered kind mode length limits (Some one) (Some n) ≡ Err TooLarge)
+    ⊎ (answered kind mode length limits (Some one) (Some n) ≡ Err TooLarge)
 grants kind mode length limits name.Blksize n h = inl (ap Ok (cond-true _ _ _ (in_block_sizes n h)))
 grants kind mode length limits name.Timeout n h = inl (ap Ok (cond-true _ _ _ (in_timeouts n h)))
 grants kind Netascii length limits name.Tsize n h = let octet = h.0 in cc
@@ -182,7 +182,7 @@ answers : (options : List RawOption) (kind : Kind) (mode : Mode) (length : ℕ) 
     → (answer options kind mode length limits ≡ Err TooLarge)
     ⊎ ((known : List Known) × (answer options kind mode length limits ≡ Ok known)
     × ((one : Name) (n : ℕ) → HasOption options one n → MayRequest kind mode one n
-        → Contains known (granted kind length limits.max_block one n)))
+    → Contains known (granted kind length limits.max_block one n)))
 answers options kind mode length limits (Err e) is refused =
     inl (is ∙ ap Err (too_long-option kind mode length limits refused.0 e refused.2).0)
 answers options kind mode length limits (Ok ks) is keeps = inr (
@@ -192,7 +192,7 @@ answers options kind mode length limits (Ok ks) is keeps = inr (
       let reads = answered-reads kind mode length limits has.0 one n has.2 in
       let here = keeps has.0 has.1 in
       elim (grants kind mode length limits one n may) [
-        inl good ↦ subst (Kept ks) (reads ∙ good) here
+        | inl good ↦ subst (Kept ks) (reads ∙ good) here
         | inr large ↦ absurd (subst (Kept ks) (reads ∙ large) here)
       ],
 )
@@ -200,7 +200,7 @@ answers options kind mode length limits (Ok ks) is keeps = inr (
 pub answers_what_is_known : AnswersWhatIsKnown
 answers_what_is_known options kind mode length limits once =
     answers options kind mode length limits (each_judged (answered_option kind mode length limits) options)
-        (cond-false _ _ _ (repeats_none options once))
+    (cond-false _ _ _ (repeats_none options once))
     (keeps_all (answered_option kind mode length limits) options)
 
 refused_for : (b : Bool) (r : Result (List Known) Refusal) → cond b (Err Repeated) r ≡ Err TooLarge → r ≡ Err TooLarge
@@ -211,8 +211,8 @@ pub too_large_for_writes : TooLargeForWrites
 too_large_for_writes options kind mode length limits h =
     let judgement = answered_option kind mode length limits in
     let one =
-        subst (KeepsAll judgement options) (refused_for (repeats options) (each_judged judgement options) h)
-            (keeps_all judgement options) in
+    subst (KeepsAll judgement options) (refused_for (repeats options) (each_judged judgement options) h)
+    (keeps_all judgement options) in
     let why = too_long-option kind mode length limits one.0 TooLarge one.2 in
     (why.1, why.2, why.4, (one.0, one.1, why.3, why.5), why.6)
 
@@ -254,8 +254,8 @@ agrees : (asked : Asked) (kind : Kind) (mode : Mode) (options : List RawOption) 
     × ((one : Name) (n : ℕ) → HasOption options one n → Contains known (known_of one n))
 agrees asked kind mode options limit (Err e) is refused all =
     let w =
-        All-contains (AnswersAsked asked kind mode limit) options refused.0
-            (All-from_recursion (AnswersAsked asked kind mode limit) options all) refused.1 in
+    All-contains (AnswersAsked asked kind mode limit) options refused.0
+    (All-from_recursion (AnswersAsked asked kind mode limit) options all) refused.1 in
     let good = taken-reads asked kind mode limit refused.0 w.0 w.1 w.2 ∙ takes asked kind mode limit w.0 w.1 w.3 in
     let bad = refused.2 in
     cc
@@ -264,8 +264,8 @@ agrees asked kind mode options limit (Ok ks) is keeps all = (
   is,
   λ one n has.
       let w =
-          All-contains (AnswersAsked asked kind mode limit) options has.0
-              (All-from_recursion (AnswersAsked asked kind mode limit) options all) has.1 in
+      All-contains (AnswersAsked asked kind mode limit) options has.0
+      (All-from_recursion (AnswersAsked asked kind mode limit) options all) has.1 in
       let good = taken-reads asked kind mode limit has.0 w.0 w.1 w.2 ∙ takes asked kind mode limit w.0 w.1 w.3 in
       subst (Contains ks) (says_one has.0 w.0 one w.1 n w.2 has.2) (subst (Kept ks) good (keeps has.0 has.1)),
 )
@@ -273,5 +273,5 @@ agrees asked kind mode options limit (Ok ks) is keeps all = (
 pub takes_what_was_asked : TakesWhatWasAsked
 takes_what_was_asked asked kind mode options limit once all =
     agrees asked kind mode options limit (each_judged (taken_option asked kind mode limit) options)
-        (cond-false _ _ _ (repeats_none options once))
+    (cond-false _ _ _ (repeats_none options once))
     (keeps_all (taken_option asked kind mode limit) options) all

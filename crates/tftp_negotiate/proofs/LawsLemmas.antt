@@ -83,14 +83,15 @@ module _ (judgement : RawOption → Result (Option Known) Refusal) where
   comes-cons o os (Err e) others ks is below h = cc
   comes-cons o os (Ok None) others ks is below h =
       AllByRecursion-weaker (ComesFrom judgement os) (ComesFrom judgement (o ∷ os))
-          (λ k w. (w.0, Contains-tail o w.0 os w.1, w.2)) ks (below ks h)
+      (λ k w. (w.0, Contains-tail o w.0 os w.1, w.2)) ks (below ks h)
   comes-cons o os (Ok (Some k)) (Err e) ks is below h = cc
   comes-cons o os (Ok (Some k)) (Ok js) ks is below h =
       let same : k ∷ js ≡ ks = cc in
-      subst (AllByRecursion (ComesFrom judgement (o ∷ os))) same
-      ((o, Contains-head o os, is),
-          AllByRecursion-weaker (ComesFrom judgement os) (ComesFrom judgement (o ∷ os))
-              (λ k w. (w.0, Contains-tail o w.0 os w.1, w.2)) js (below js refl))
+      subst (AllByRecursion (ComesFrom judgement (o ∷ os))) same (
+        (o, Contains-head o os, is),
+        AllByRecursion-weaker (ComesFrom judgement os) (ComesFrom judgement (o ∷ os))
+            (λ k w. (w.0, Contains-tail o w.0 os w.1, w.2)) js (below js refl),
+      )
 
   -- each result is from an option of the list
   comes : (os : List RawOption) (ks : List Known) → each_judged judgement os ≡ Ok ks
@@ -123,7 +124,7 @@ within-tsize options Octet Read length n limits k r h =
     let some : cond (n == 0) (Some (Tsize length)) None ≡ Some k = cc in
     let test = cond_some _ _ _ some in
     subst (IsWithinRequest options Read length limits) test.1
-        (subst (Requests options name.Tsize) (eqb-true n 0 test.0) r, refl)
+    (subst (Requests options name.Tsize) (eqb-true n 0 test.0) r, refl)
 within-tsize options Octet Write length n limits k r h =
     let test : (nat_le n limits.max_file ≡ true) × (Some (Tsize n) ≡ Some k) = cond_ok _ _ _ _ h in
     let some : Some (Tsize n) ≡ Some k = test.1 in
@@ -154,9 +155,9 @@ unfolding answered_option
 answers_within_request options kind mode length limits known h =
     let ok = negotiated_ok (answered_option kind mode length limits) options known h in
     AllByRecursion-weaker (ComesFrom (answered_option kind mode length limits) options)
-        (IsWithinRequest options kind length limits)
+    (IsWithinRequest options kind length limits)
     (λ k w. within-request options kind mode length limits (name_of w.0.name) (number_of w.0.value) k
-        (λ nm n a b. (w.0, w.1, a, b)) w.2)
+    (λ nm n a b. (w.0, w.1, a, b)) w.2)
     known (comes (answered_option kind mode length limits) options known ok.1)
 
 -- an accepted option was requested
@@ -307,12 +308,12 @@ takes-one asked kind mode client_length length limit limits name.Blksize n k t m
     subst (Takes asked kind mode limit) test.1
     (taken-reads asked kind mode limit name.Blksize m (omega arith)
     ∙ (ap (λ a. taken_blksize a (Some m)) e
-        ∙ cond-true _ _ _ (both_true (le-leb 8 m (omega arith)) (le-leb m n (omega arith)))))
+    ∙ cond-true _ _ _ (both_true (le-leb 8 m (omega arith)) (le-leb m n (omega arith)))))
 takes-one asked kind mode client_length length limit limits name.Timeout n k t max fits e h =
     let some : answered_timeout n ≡ Some k = cc in
     subst (Takes asked kind mode limit) (cond_some _ _ _ some).1
     (taken-reads asked kind mode limit name.Timeout n fits
-        ∙ (ap (λ a. taken_timeout a (Some n)) e ∙ cond-true _ _ _ (eq-eqb n n refl)))
+    ∙ (ap (λ a. taken_timeout a (Some n)) e ∙ cond-true _ _ _ (eq-eqb n n refl)))
 takes-one asked kind mode client_length length limit limits name.Tsize n k t max fits e h =
     takes-tsize asked kind mode client_length length limit n limits k t fits e h
 
@@ -328,11 +329,11 @@ requested-if asked mode nm (Some n) e = ((nm, n, e, refl), tt)
 requested : (asked : Asked) (mode : Mode) → AllByRecursion (IsRequested asked mode) (asked_options asked mode)
 requested asked mode =
     AllByRecursion-append (IsRequested asked mode) (option_if name.Blksize asked.blksize)
-        (option_if name.Timeout asked.timeout ++ option_if name.Tsize (asked_tsize mode asked))
+    (option_if name.Timeout asked.timeout ++ option_if name.Tsize (asked_tsize mode asked))
     (requested-if asked mode name.Blksize asked.blksize refl)
     (AllByRecursion-append (IsRequested asked mode) (option_if name.Timeout asked.timeout)
-        (option_if name.Tsize (asked_tsize mode asked)) (requested-if asked mode name.Timeout asked.timeout refl)
-        (requested-if asked mode name.Tsize (asked_tsize mode asked) refl))
+    (option_if name.Tsize (asked_tsize mode asked)) (requested-if asked mode name.Timeout asked.timeout refl)
+    (requested-if asked mode name.Tsize (asked_tsize mode asked) refl))
 
 request_fits : (kind : Kind) (client_length : ℕ) → client_length < 2 ^ 64 → request_tsize kind client_length < 2 ^ 64
 request_fits Read client_length h = omega arith
@@ -346,7 +347,7 @@ asked_fits asked kind mode client_length name.Timeout n ok h e =
     let wait : IsTimeout n = subst (λ v. IfSome v IsTimeout) e ok.askable.timeout in omega arith
 asked_fits asked kind mode client_length name.Tsize n ok h e =
     let is : n ≡ request_tsize kind client_length =
-        subst (λ v. IfSome v (λ m. m ≡ request_tsize kind client_length)) e ok.tsize in
+    subst (λ v. IfSome v (λ m. m ≡ request_tsize kind client_length)) e ok.tsize in
     subst (λ m. m < 2 ^ 64) (sym is) (request_fits kind client_length h)
 
 -- the judgement of a list is the judgements of its options
@@ -399,14 +400,14 @@ ends_agree asked kind mode client_length length limit limits known ok t max h =
     let options = asked_options asked mode in
     let given = negotiated_ok server options known h in
     let rule : IsAgreement known =
-        IsAgreement-from_judged server (answered_option-Keeps kind mode length limits max) options (Ok known)
-            (once_from_repeats options given.0) (sym given.1) in
+    IsAgreement-from_judged server (answered_option-Keeps kind mode length limits max) options (Ok known)
+    (once_from_repeats options given.0) (sym given.1) in
     let each : AllByRecursion (Takes asked kind mode limit) known =
     AllByRecursion-weaker (ComesFrom server options) (Takes asked kind mode limit)
     (λ k w.
     let r : IsRequested asked mode w.0 =
-        All-contains (IsRequested asked mode) options w.0
-            (All-from_recursion (IsRequested asked mode) options (requested asked mode)) w.1 in
+    All-contains (IsRequested asked mode) options w.0
+    (All-from_recursion (IsRequested asked mode) options (requested asked mode)) w.1 in
     let fits = asked_fits asked kind mode client_length r.0 r.1 ok t.client_fits r.2 in
     takes-one asked kind mode client_length length limit limits r.0 r.1 k t max fits r.2
     (sym (answered-reads kind mode length limits r.0 r.1 fits) ∙ (ap server (sym r.3) ∙ w.2)))
@@ -423,12 +424,12 @@ may_be_agreed judgement keeps options known h =
 pub answers_may_be_agreed : AnswersMayBeAgreed
 answers_may_be_agreed options kind mode length limits known max h =
     may_be_agreed (answered_option kind mode length limits)
-        (answered_option-Keeps kind mode length limits max) options known h
+    (answered_option-Keeps kind mode length limits max) options known h
 
 pub taken_may_be_agreed : TakenMayBeAgreed
 taken_may_be_agreed asked kind mode options limit known askable h =
     may_be_agreed (taken_option asked kind mode limit)
-        (taken_option-Keeps asked kind mode limit askable) options known h
+    (taken_option-Keeps asked kind mode limit askable) options known h
 
 -- each option has one of three names
 by_names : (ks : List Known) → length ks ≡ count_of name.Blksize ks + count_of name.Timeout ks + count_of name.Tsize ks
@@ -442,8 +443,8 @@ by_names (k ∷ ks) =
     omega (arith, e, a, b, c, one) where
       one_name : (j : Known)
           → cond (same_name name.Blksize (name_of_known j)) 1 0 + cond (same_name name.Timeout (name_of_known j)) 1 0
-              + cond (same_name name.Tsize (name_of_known j)) 1 0
-              ≡ 1
+          + cond (same_name name.Tsize (name_of_known j)) 1 0
+          ≡ 1
       one_name (Blksize n) = refl
       one_name (Timeout n) = refl
       one_name (Tsize n) = refl

@@ -33,7 +33,7 @@ pub occurrences_of-cons : (name : Name) (o : RawOption) (os : List RawOption)
 unfolding occurrences_of
 occurrences_of-cons name o os =
     sum_by-append (λ x. occurrence name x) (o ∷ []) os
-        ∙ ap (λ n. n + occurrences_of name os) (zero-add (occurrence name o))
+    ∙ ap (λ n. n + occurrences_of name os) (zero-add (occurrence name o))
 
 pub count_of-cons : (name : Name) (k : Known) (ks : List Known)
     → count_of name (k ∷ ks) ≡ cond (same_name name (name_of_known k)) 1 0 + count_of name ks
@@ -68,7 +68,7 @@ pub each_judged-push : (judgement : RawOption → Result (Option Known) Refusal)
 each_judged-push judgement [] o = join_first (judgement o)
 each_judged-push judgement (x ∷ xs) o =
     ap (kept_before (judgement x)) (each_judged-push judgement xs o)
-        ∙ join_assoc (judgement x) (each_judged judgement xs) (judgement o)
+    ∙ join_assoc (judgement x) (each_judged judgement xs) (judgement o)
 
 -- the result of an option has its name, and a value that may be agreed
 pub record Keeps (judgement : RawOption → Result (Option Known) Refusal) : Type 0 where
@@ -81,7 +81,7 @@ none_twice a b c p q r = grind (arith, nat_tests)
 pub repeats_none : (os : List RawOption) → AreOnce os → repeats os ≡ false
 repeats_none os h =
     none_twice (occurrences_of Blksize os) (occurrences_of Timeout os) (occurrences_of Tsize os) (h Blksize) (h Timeout)
-        (h Tsize)
+    (h Tsize)
 
 some_twice : (a b c : ℕ) → 1 < a → (nat_lt 1 a || (nat_lt 1 b || nat_lt 1 c)) ≡ true
 some_twice a b c p = grind (arith, nat_tests)
@@ -147,7 +147,7 @@ module _ (judgement : RawOption → Result (Option Known) Refusal) (keeps : Keep
   IsAgreement-from_judged os (Err e) once h = tt
   IsAgreement-from_judged os (Ok ks) once h =
       let c : (name : Name) → count_of name ks ≤ 1 = λ name. let k = counts name os ks (sym h) in let o = once name in
-          omega arith in
+      omega arith in
       record { values = values os ks (sym h); once = none_twice _ _ _ (c Blksize) (c Timeout) (c Tsize) }
 
 -- the state of a negotiation after these options: the names seen, none repeated, and the outcome
@@ -229,12 +229,12 @@ module _ (judgement : RawOption → Result (Option Known) Refusal) where
         ap (λ s. has s name) is ∙ (has-with_name seen (name_of o.name) name
         ∙ (ap (λ b. is_name name (name_of o.name) || b) (reads.came name)
         ∙ (came-push (is_name name (name_of o.name)) (occurrences_of name os)
-            ∙ ap (nat_lt 0) (sym (occurrences_of-push name os o)))));
+        ∙ ap (nat_lt 0) (sym (occurrences_of-push name os o)))));
     once = λ name.
         let p = occurrences_of-push name os o in
         let n =
-            once-push (is_name name (name_of o.name)) (occurrences_of name os) (reads.once name)
-                (λ e. sym (reads.came name) ∙ fresh seen (name_of o.name) name new e) in
+        once-push (is_name name (name_of o.name)) (occurrences_of name os) (reads.once name)
+        (λ e. sym (reads.came name) ∙ fresh seen (name_of o.name) name new e) in
         subst (λ k. k ≤ 1) (sym p) n;
     judged = kept ∙ (ap (λ r. kept_after r (judgement o)) reads.judged ∙ sym (each_judged-push judgement os o));
   }
@@ -277,5 +277,5 @@ pub up_to : (os front : List RawOption) (n : ℕ) (o : RawOption) → front ≡ 
     → os ≡ (front ++ o ∷ []) ++ drop (n + 1) os
 up_to os front n o begins inside at =
     let now : front ++ o ∷ [] ≡ take (n + 1) os =
-        ap (λ xs. xs ++ o ∷ []) begins ∙ (ap (λ x. take n os ++ x ∷ []) at ∙ sym (take_more os n o inside)) in
+    ap (λ xs. xs ++ o ∷ []) begins ∙ (ap (λ x. take n os ++ x ∷ []) at ∙ sym (take_more os n o inside)) in
     sym (ap (λ xs. xs ++ drop (n + 1) os) now ∙ take-append-drop (n + 1) os)

@@ -61,11 +61,11 @@ number_of-decimal n small =
 pub decimal-number_of : (text : List ℕ) (n : ℕ) → number_of text ≡ Some n → (text ≡ decimal n) × (n < 2 ^ 64)
 decimal-number_of text n h =
     let s =
-        cond_some (bytes_eq (decimal (digits_value 10 text)) text && nat_lt (digits_value 10 text) (2 ^ 64))
-            (digits_value 10 text) n (sym (number_by text (digits_value 10 text) refl) ∙ h) in
+    cond_some (bytes_eq (decimal (digits_value 10 text)) text && nat_lt (digits_value 10 text) (2 ^ 64))
+    (digits_value 10 text) n (sym (number_by text (digits_value 10 text) refl) ∙ h) in
     let p = both_parts (bytes_eq (decimal (digits_value 10 text)) text) (nat_lt (digits_value 10 text) (2 ^ 64)) s.0 in
     let e : text ≡ decimal (digits_value 10 text) =
-        sym ((bytes_eq-Decides (decimal (digits_value 10 text)) text).0 p.0) in
+    sym ((bytes_eq-Decides (decimal (digits_value 10 text)) text).0 p.0) in
     (e ∙ ap decimal s.1, let m = p.1 in let k = s.1 in grind (arith, nat_tests))
 
 -- a text that is not the decimal digits of a number is not a number

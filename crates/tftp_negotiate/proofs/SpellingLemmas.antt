@@ -33,14 +33,16 @@ number_text n fits = elim (cases_eq n 0) [
 ]
 
 name_is : (name : Name) → (name_text name ≢ []) × IsText (name_text name) × (length (name_text name) ≤ 7)
-name_is Blksize =
-    ((λ e. cc),
-        (omega arith, (omega arith, (omega arith, (omega arith, (omega arith, (omega arith, (omega arith, tt))))))),
-        omega arith)
-name_is Timeout =
-    ((λ e. cc),
-        (omega arith, (omega arith, (omega arith, (omega arith, (omega arith, (omega arith, (omega arith, tt))))))),
-        omega arith)
+name_is Blksize = (
+  (λ e. cc),
+  (omega arith, (omega arith, (omega arith, (omega arith, (omega arith, (omega arith, (omega arith, tt))))))),
+  omega arith,
+)
+name_is Timeout = (
+  (λ e. cc),
+  (omega arith, (omega arith, (omega arith, (omega arith, (omega arith, (omega arith, (omega arith, tt))))))),
+  omega arith,
+)
 name_is Tsize = ((λ e. cc), (omega arith, (omega arith, (omega arith, (omega arith, (omega arith, tt))))), omega arith)
 
 -- an option as it is sent with its number
@@ -58,7 +60,7 @@ spelled_option name n fits =
     let short = h.2 in
     record {
       option = record { named = h.0; name = h.1; value = number_text n fits };
-      short = omega (arith, a, b, c, l, short)
+      short = omega (arith, a, b, c, l, short);
     }
 
 spelled_known : (k : Known) → HasWord k → Spelled (known_option k)
@@ -100,8 +102,8 @@ request_word Write length n fits e = omega (arith, e)
 pub asked_are_options : AskedAreOptions
 asked_are_options asked kind mode length fits is =
     options_if Blksize asked.blksize _
-        (word_if _ (λ n r. let b = r.1 in omega (arith, b)) asked.blksize is.askable.blksize)
+    (word_if _ (λ n r. let b = r.1 in omega (arith, b)) asked.blksize is.askable.blksize)
     (options_if Timeout asked.timeout _
-        (word_if _ (λ n r. let b = r.1 in omega (arith, b)) asked.timeout is.askable.timeout)
-        (last_if Tsize (asked_tsize mode asked)
-            (word_if _ (λ n e. request_word kind length n fits e) (asked_tsize mode asked) is.tsize)))
+    (word_if _ (λ n r. let b = r.1 in omega (arith, b)) asked.timeout is.askable.timeout)
+    (last_if Tsize (asked_tsize mode asked)
+    (word_if _ (λ n e. request_word kind length n fits e) (asked_tsize mode asked) is.tsize)))

@@ -5,8 +5,8 @@ use tftp_diagram::{
     Count, Course, Diagram, Flight, Host, Lane, MAX_ROWS, Mark, MarkKind, Row, shortened,
 };
 use tftp_ends::{Endpoint, Outcome, Record, Side};
-use tftp_machine::{CLIENT_IP, SERVER_IP, is_foreign};
 use tftp_player::{Event, Report, World};
+use tftp_rules::{CLIENT_IP, SERVER_IP, is_foreign};
 use tftp_wire::show_datagram;
 
 /// The part of a run that is drawn.

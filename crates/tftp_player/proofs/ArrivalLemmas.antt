@@ -5,9 +5,9 @@ use Rattle.std.specs.Prelude.{◌⊎◌, slice_get, slice_index_or}
 use Rattle.std.proofs.lemmas.List.{append-nil}
 use Rattle.std.proofs.lemmas.Option.{same_Some, slice_get_within}
 use Rattle.tftp_server.specs.declared.config.Config.{Config}
-use Rattle.tftp_machine.specs.Hosts.{request_port}
-use Rattle.tftp_machine.specs.Machine.{Endpoint}
-use Rattle.tftp_machine.specs.OpenEnds.{OpenEnd}
+use Rattle.tftp_rules.specs.Hosts.{request_port}
+use Rattle.tftp_rules.specs.Machine.{Endpoint}
+use Rattle.tftp_rules.specs.OpenEnds.{OpenEnd}
 use Rattle.tftp_player.specs.WorldKept.{HasPorts}
 use Rattle.tftp_player.specs.Effect.{no_effect, said_by, report_by}
 use Rattle.tftp_player.specs.Played.{ends_from, end_at, address_of, AllKept}

@@ -17,12 +17,12 @@ use Rattle.tftp_server.specs.Request.{RequestStep}
 use Rattle.tftp_server.specs.State.{at, draft_of}
 use Rattle.tftp_server.specs.State as server
 use Rattle.tftp_store.specs.Store.{Stored}
-use Rattle.tftp_machine.specs.OpenEnds.{OpenEnd}
+use Rattle.tftp_rules.specs.OpenEnds.{OpenEnd}
 use Rattle.tftp_player.specs.Arriving.{StageAsks}
 use Rattle.tftp_player.specs.Clients.{server_at, left_in}
 use Rattle.tftp_player.specs.Effect.{said_by, report_by}
-use Rattle.tftp_machine.specs.Hosts.{request_port}
-use Rattle.tftp_machine.specs.Machine.{Endpoint}
+use Rattle.tftp_rules.specs.Hosts.{request_port}
+use Rattle.tftp_rules.specs.Machine.{Endpoint}
 use Rattle.tftp_player.specs.Played.{PlayerKept, end_at, ends_from, records_from, served_as, served_end}
 use Rattle.tftp_player.specs.Requested.{IsRequested, OpensNone, IsAdmitted, new_served, requested_by}
 use Rattle.tftp_player.specs.Requests.{is_transfer, IsRepeated, open_transfers, served, service}
@@ -42,7 +42,7 @@ use Rattle.tftp_player.proofs.HeldLemmas.{with_new-last, at-with_new, at-with_ne
 use Rattle.tftp_player.proofs.OpenedLemmas.{ends_push, records_push}
 use Rattle.tftp_player.proofs.OwnedLemmas.{AllOwned, pushed_owned}
 use Rattle.tftp_player.proofs.EndsByPort.{mapped-same, kept-push, transfers-push}
-use Rattle.tftp_machine.proofs.Indices.{slice_get-push_new}
+use Rattle.tftp_rules.proofs.Indices.{slice_get-push_new}
 use Rattle.tftp_player.proofs.PlayLemmas.{ends_length, to_kept, from_kept}
 use Rattle.tftp_player.proofs.PortLemmas.{OpensFor, PortOpened, PortRefused, PortSilent, opens_asks, port_opened}
 use Rattle.tftp_player.proofs.PortLemmas.{port_not_opened, service_opens}

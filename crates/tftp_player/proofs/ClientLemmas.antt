@@ -5,8 +5,8 @@ use Rattle.tftp_wire.specs.declared.mode.Mode.TheVariants.{Octet, Netascii}
 use Rattle.tftp_negotiate.specs.declared.asked.Asked.{Asked}
 use Rattle.tftp_file.specs.Netascii.{wire_text}
 use Rattle.tftp_ends.specs.Opening.{getting, putting}
-use Rattle.tftp_machine.specs.Hosts.{client_ip, request_port}
-use Rattle.tftp_machine.specs.OpenEnds.{OpenEnd}
+use Rattle.tftp_rules.specs.Hosts.{client_ip, request_port}
+use Rattle.tftp_rules.specs.OpenEnds.{OpenEnd}
 use Rattle.tftp_player.specs.World.{WorldState, next_port}
 use Rattle.tftp_player.specs.Openings.{reading_client, writing_client}
 

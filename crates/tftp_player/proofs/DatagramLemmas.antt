@@ -14,8 +14,8 @@ use Rattle.tftp_ends.specs.Step.{Turn}
 use Rattle.tftp_server.specs.Draft.{files_in}
 use Rattle.tftp_store.specs.Memory.{memory_meaning, with_armed}
 use Rattle.tftp_server.specs.Steps.{StepIn}
-use Rattle.tftp_machine.specs.Machine.{Endpoint}
-use Rattle.tftp_machine.specs.OpenEnds.{OpenEnd, files_of, end_after}
+use Rattle.tftp_rules.specs.Machine.{Endpoint}
+use Rattle.tftp_rules.specs.OpenEnds.{OpenEnd, files_of, end_after}
 use Rattle.tftp_player.specs.Clients.{ClientDatagramStep}
 use Rattle.tftp_player.specs.Effect.{no_effect}
 use Rattle.tftp_player.specs.PlayedClient.{PlayedClient}

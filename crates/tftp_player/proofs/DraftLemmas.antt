@@ -14,11 +14,11 @@ use Rattle.tftp_file.specs.declared.fault.StoreFault.TheVariants as faults
 use Rattle.tftp_ends.specs.declared.action.Action.{Action}
 use Rattle.tftp_ends.specs.declared.action.Action.TheVariants.{Respond, Send, Store}
 use Rattle.tftp_ends.specs.declared.action.Response.{Response}
-use Rattle.tftp_ends.specs.declared.action.Response.TheVariants.{Ignore, Stranger, ResendReply}
+use Rattle.tftp_ends.specs.declared.action.Response.TheVariants.{Ignore, WrongPeer, ResendReply}
 use Rattle.tftp_ends.specs.declared.phase.Phase.{Phase}
 use Rattle.tftp_ends.specs.declared.phase.Phase.TheVariants.{Waiting, Sending, Receiving, Dallying, Closed}
 use Rattle.tftp_ends.specs.declared.phase.Terms.{Terms}
-use Rattle.tftp_ends.specs.Action.{datagram_action, is_stranger}
+use Rattle.tftp_ends.specs.Action.{datagram_action, is_wrong_peer}
 use Rattle.tftp_ends.specs.End.{EndState, is_complete, Position}
 use Rattle.tftp_ends.specs.Files.{AreSame}
 use Rattle.tftp_ends.specs.Receiver.{dally_response}
@@ -30,8 +30,8 @@ use Rattle.tftp_store.specs.Memory.{memory_meaning}
 use Rattle.tftp_server.specs.State.{draft_of}
 use Rattle.tftp_server.specs.Steps.{StepIn}
 use Rattle.tftp_store.specs.Store.{Stored, Drafted, FileList, with_file}
-use Rattle.tftp_machine.specs.Machine.{Endpoint}
-use Rattle.tftp_machine.specs.OpenEnds.{OpenEnd, end_after}
+use Rattle.tftp_rules.specs.Machine.{Endpoint}
+use Rattle.tftp_rules.specs.OpenEnds.{OpenEnd, end_after}
 use Rattle.tftp_player.specs.Clients.{left_in}
 use Rattle.tftp_player.specs.Played.{served_as}
 use Rattle.tftp_player.specs.Serving.{CommitsLast}
@@ -63,10 +63,10 @@ module _ (from : Endpoint) (bytes : List ℕ) (e0 : EndState) where
   ignores : (phase : Phase) → RestsIn phase (Respond Ignore)
   ignores phase = record { response = Ignore; is = refl; same = refl }
 
-  strange : (phase : Phase) → RestsIn phase (if has_error_opcode bytes then Respond Ignore else Respond Stranger)
+  strange : (phase : Phase) → RestsIn phase (if has_error_opcode bytes then Respond Ignore else Respond WrongPeer)
   strange phase =
-      rests_if phase (has_error_opcode bytes) (Respond Ignore) (Respond Stranger) (ignores phase)
-      (record { response = Stranger; is = refl; same = refl })
+      rests_if phase (has_error_opcode bytes) (Respond Ignore) (Respond WrongPeer) (ignores phase)
+      (record { response = WrongPeer; is = refl; same = refl })
 
   again_if : (phase : Phase) (b : Bool) → RestsIn phase (Respond (if b then ResendReply else Ignore))
   again_if phase true = record { response = ResendReply; is = refl; same = refl }
@@ -88,11 +88,11 @@ module _ (from : Endpoint) (bytes : List ℕ) (e0 : EndState) where
   complete_rests (Receiving terms n) decoded c = absurd (true≢false (sym c))
   complete_rests (Dallying terms n dally) decoded c =
       let phase = Dallying terms n dally in
-      rests_if phase (is_stranger (Some terms) e0.position.last_sent_to from) _ _ (strange phase)
+      rests_if phase (is_wrong_peer (Some terms) e0.position.last_sent_to from) _ _ (strange phase)
       (rests_if phase (has_error_opcode bytes && is_none decoded) _ _ (ignores phase) (dallies phase n decoded))
   complete_rests (Closed terms n complete outcome) decoded c =
       let phase = Closed terms n complete outcome in
-      rests_if phase (is_stranger terms e0.position.last_sent_to from) _ _ (strange phase)
+      rests_if phase (is_wrong_peer terms e0.position.last_sent_to from) _ _ (strange phase)
       (rests_if phase (has_error_opcode bytes && is_none decoded) _ _ (ignores phase) (ignores phase))
 
 -- ---- a datagram

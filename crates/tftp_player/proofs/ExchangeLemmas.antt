@@ -16,7 +16,7 @@ use Rattle.tftp_server.specs.Draft.{KeepsStore}
 use Rattle.tftp_store.specs.Memory.{with_armed}
 use Rattle.tftp_server.specs.State.{at, draft_of, with_next}
 use Rattle.tftp_store.specs.Store.{Stored, Drafted}
-use Rattle.tftp_machine.specs.OpenEnds.{OpenEnd, files_of, end_after}
+use Rattle.tftp_rules.specs.OpenEnds.{OpenEnd, files_of, end_after}
 use Rattle.tftp_player.specs.Clients.{server_at, left_in, holding_in, no_holding, ClientTurns}
 use Rattle.tftp_player.specs.Effect.{effect_of}
 use Rattle.tftp_player.specs.PlayedClient.{PlayedClient}

@@ -1,11 +1,11 @@
--- From wire text to the bytes of a file: a beginning on the wire is a beginning of the file.
+-- From wire text to the bytes of a file: a prefix on the wire is a prefix of the file.
 use Rattle.std.proofs.Common.{◌≡◌, ℕ, List, [], ◌∷◌, ◌++◌, sym, refl, ap, ◌∙◌, arith, inl, inr, append_assoc, length}
 use Rattle.std.specs.Prelude.{◌≢◌, ◌==◌, if◌then◌else◌}
 use Rattle.std.proofs.lemmas.Bool.{cases_eq, eq-eqb, ne_eqb, cond-true, cond-false}
 use Rattle.std.proofs.lemmas.List.{append-nil, length-append, nil_from_length}
 use Rattle.tftp_wire.specs.declared.mode.Mode.{Mode}
 use Rattle.tftp_wire.specs.declared.mode.Mode.TheVariants.{Octet, Netascii}
-use Rattle.tftp_file.specs.Block.{IsBeginningOf}
+use Rattle.tftp_file.specs.Block.{IsPrefixOf}
 use Rattle.tftp_file.specs.Netascii.{wire_byte, netascii_text, wire_text}
 
 -- the wire text of a byte
@@ -64,26 +64,26 @@ not_empty x xs (Itself a b) e = let f : x ∷ xs ≡ [] = rw b at e in cc
 joined : (x : ℕ) (xs rest : List ℕ) → netascii_text (x ∷ xs) ++ rest ≡ wire_byte x ++ (netascii_text xs ++ rest)
 joined x xs rest = append_assoc (wire_byte x) (netascii_text xs) rest
 
-netascii_beginning : (xs ys rest : List ℕ) → netascii_text xs ++ rest ≡ netascii_text ys → IsBeginningOf xs ys
-netascii_beginning [] ys rest e = (ys, refl)
-netascii_beginning (x ∷ xs) [] rest e =
+netascii_prefix : (xs ys rest : List ℕ) → netascii_text xs ++ rest ≡ netascii_text ys → IsPrefixOf xs ys
+netascii_prefix [] ys rest e = (ys, refl)
+netascii_prefix (x ∷ xs) [] rest e =
     absurd (not_empty x (netascii_text xs ++ rest) (byte_form x) (sym (joined x xs rest) ∙ e))
-netascii_beginning (x ∷ xs) (y ∷ ys) rest e =
+netascii_prefix (x ∷ xs) (y ∷ ys) rest e =
     let n =
     next_byte x y (netascii_text xs ++ rest) (netascii_text ys) (byte_form x) (byte_form y)
     (sym (joined x xs rest) ∙ e) in
-    let h = netascii_beginning xs ys rest n.1 in
+    let h = netascii_prefix xs ys rest n.1 in
     (h.0, ap (λ (k : ℕ). k ∷ (xs ++ h.0)) n.0 ∙ ap (λ (zs : List ℕ). y ∷ zs) h.1)
 
--- a beginning on the wire is a beginning of the file
-pub wire_beginning : (mode : Mode) (xs ys : List ℕ) → IsBeginningOf (wire_text mode xs) (wire_text mode ys) →
-    IsBeginningOf xs ys
-wire_beginning Octet xs ys h = h
-wire_beginning Netascii xs ys h = netascii_beginning xs ys h.0 h.1
+-- a prefix on the wire is a prefix of the file
+pub wire_prefix : (mode : Mode) (xs ys : List ℕ) → IsPrefixOf (wire_text mode xs) (wire_text mode ys) →
+    IsPrefixOf xs ys
+wire_prefix Octet xs ys h = h
+wire_prefix Netascii xs ys h = netascii_prefix xs ys h.0 h.1
 
--- each of two is a beginning of the other only if they are the same
-both_beginnings : (xs ys : List ℕ) → IsBeginningOf xs ys → IsBeginningOf ys xs → xs ≡ ys
-both_beginnings xs ys a b =
+-- each of two is a prefix of the other only if they are the same
+both_prefixes : (xs ys : List ℕ) → IsPrefixOf xs ys → IsPrefixOf ys xs → xs ≡ ys
+both_prefixes xs ys a b =
     let l = ap length a.1 in
     let m = ap length b.1 in
     let z : length a.0 ≡ 0 = omega (arith, l, m, length-append xs a.0, length-append ys b.0) in
@@ -93,5 +93,5 @@ both_beginnings xs ys a b =
 -- two files with one wire text are the same
 pub wire_same : (mode : Mode) (xs ys : List ℕ) → wire_text mode xs ≡ wire_text mode ys → xs ≡ ys
 wire_same mode xs ys e =
-    both_beginnings xs ys (wire_beginning mode xs ys ([], append-nil (wire_text mode xs) ∙ e))
-    (wire_beginning mode ys xs ([], append-nil (wire_text mode ys) ∙ sym e))
+    both_prefixes xs ys (wire_prefix mode xs ys ([], append-nil (wire_text mode xs) ∙ e))
+    (wire_prefix mode ys xs ([], append-nil (wire_text mode ys) ∙ sym e))

@@ -9,13 +9,13 @@ use Rattle.tftp_file.specs.declared.files.Files.TheVariants.{Source, Sink}
 use Rattle.tftp_ends.specs.End.{EndState}
 use Rattle.tftp_ends.specs.OtherSinks.{SourcesModel, SinksModel, step_as}
 use Rattle.tftp_ends.specs.Step.{Turn, DatagramStep}
-use Rattle.tftp_machine.specs.EndKept.{IsFromServer}
-use Rattle.tftp_machine.specs.Hosts.{request_port, two_hosts}
-use Rattle.tftp_machine.specs.KnownFiles.{known_source, known_sink}
-use Rattle.tftp_machine.specs.Machine.{Endpoint}
-use Rattle.tftp_machine.specs.OpenEnds.{OpenEnd}
-use Rattle.tftp_machine.proofs.HostLemmas.{host_server}
-use Rattle.tftp_machine.proofs.PhaseMoves.{same_ips}
+use Rattle.tftp_rules.specs.EndKept.{IsFromServer}
+use Rattle.tftp_rules.specs.Hosts.{request_port, two_hosts}
+use Rattle.tftp_rules.specs.KnownFiles.{known_source, known_sink}
+use Rattle.tftp_rules.specs.Machine.{Endpoint}
+use Rattle.tftp_rules.specs.OpenEnds.{OpenEnd}
+use Rattle.tftp_rules.proofs.HostLemmas.{host_server}
+use Rattle.tftp_rules.proofs.PhaseMoves.{same_ips}
 use Rattle.tftp_player.specs.WorldSteps.{world_sink}
 
 -- an answer from the address of the request port is from the server

@@ -1,7 +1,7 @@
 -- A client that opens.
 use Rattle.std.proofs.Common.{◌≡◌, ℕ, suc, zero, ◌+◌, ◌<◌, ◌≤◌, true, List, [], ◌∷◌, ◌++◌, length, Some, None, refl}
 use Rattle.std.proofs.Common.{sym, ap, ◌∙◌, subst, arith, length-append}
-use Rattle.tftp_machine.specs.OpenEnds.{OpenEnd}
+use Rattle.tftp_rules.specs.OpenEnds.{OpenEnd}
 use Rattle.tftp_player.specs.Clients.{AskRefuses}
 use Rattle.tftp_player.specs.WorldSteps.{EventRefuses, WorldRefuses}
 use Rattle.tftp_player.specs.declared.fault.WorldFault.{WorldFault}
@@ -15,7 +15,7 @@ use Rattle.tftp_ends.specs.End.{is_client, record_of}
 use Rattle.tftp_ends.specs.Files.{AreFilesOf}
 use Rattle.tftp_ends.specs.Opening.{MayGet, MayPut, getting, putting}
 use Rattle.tftp_server.specs.declared.config.Config.{Config}
-use Rattle.tftp_machine.specs.Hosts.{request_port}
+use Rattle.tftp_rules.specs.Hosts.{request_port}
 use Rattle.tftp_player.specs.Clients.{asking_client, asking_effect, sending_client, sending_effect}
 use Rattle.tftp_player.specs.Effect.{said_by, report_by}
 use Rattle.tftp_player.specs.PlayedClient.{PlayedClient}

@@ -14,7 +14,7 @@ use Rattle.tftp_player.specs.declared.player.Player.{Player}
 use Rattle.tftp_player.specs.declared.player.Player.TheVariants.{Client, Server}
 use Rattle.tftp_player.specs.declared.served.Served.{Served}
 use Rattle.tftp_player.proofs.HeldLemmas.{at_same, same_at, AllKeys-without, AllKeys-weaker, all_both, gone-without}
-use Rattle.tftp_machine.proofs.Indices.{slice_get-set_same, slice_get-set_other, slice_get-push_old}
+use Rattle.tftp_rules.proofs.Indices.{slice_get-set_same, slice_get-set_other, slice_get-push_old}
 
 -- each transfer is one of these ends
 abbrev pub AllOwned : List Player → List (ℕ × Transfer) → Type 0

@@ -6,7 +6,7 @@ use Rattle.std.proofs.lemmas.Bool.{true≢false}
 use Rattle.std.specs.List.{AllByRecursion}
 use Rattle.std.proofs.Math.ListN.{length-set}
 use Rattle.std.proofs.lemmas.List.{append-nil, set-get_or}
-use Rattle.tftp_machine.specs.OpenEnds.{OpenEnd, files_of, end_after}
+use Rattle.tftp_rules.specs.OpenEnds.{OpenEnd, files_of, end_after}
 use Rattle.tftp_player.specs.Requests.{is_transfer, open_transfers}
 use Rattle.std.proofs.lemmas.Option.{slice_get_read}
 use Rattle.tftp_file.specs.declared.files.Files.{Files}
@@ -21,7 +21,7 @@ use Rattle.tftp_ends.specs.End.{EndState, is_complete, outcome_of, terms_of}
 use Rattle.tftp_ends.specs.Step.{Turn, Reply, reply_bytes, timeout_turn, after_turn, with_position}
 use Rattle.tftp_server.specs.State.{at}
 use Rattle.tftp_server.specs.declared.config.Config.{Config}
-use Rattle.tftp_machine.specs.Machine.{Endpoint}
+use Rattle.tftp_rules.specs.Machine.{Endpoint}
 use Rattle.tftp_player.specs.Clients.{server_at}
 use Rattle.tftp_player.specs.Effect.{effect_of, no_effect, said_by, index_after, report_by}
 use Rattle.tftp_player.specs.Played.{served_end, end_at, ends_from, records_from, PlayerKept, IsServed, AllKept}

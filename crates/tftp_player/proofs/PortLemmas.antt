@@ -22,10 +22,10 @@ use Rattle.tftp_server.specs.Port.{Ask, Ignores, Refuses, Reads, Writes, Service
 use Rattle.tftp_server.specs.Port.{asks_store, by_draft, by_file, by_length, by_name, by_options, by_packet}
 use Rattle.tftp_server.specs.State.{draft_of, with_new}
 use Rattle.tftp_store.specs.Store.{measured}
-use Rattle.tftp_machine.specs.OpenEnds.{OpenEnd}
+use Rattle.tftp_rules.specs.OpenEnds.{OpenEnd}
 use Rattle.tftp_player.specs.Clients.{server_at, left_in}
-use Rattle.tftp_machine.specs.Hosts.{request_port}
-use Rattle.tftp_machine.specs.Machine.{Endpoint}
+use Rattle.tftp_rules.specs.Hosts.{request_port}
+use Rattle.tftp_rules.specs.Machine.{Endpoint}
 use Rattle.tftp_player.specs.Openings.{sending_end, receiving_end}
 use Rattle.tftp_player.specs.Played.{served_as}
 use Rattle.tftp_player.specs.Requested.{new_served, receiver_at, requested_by, sender_at}

@@ -16,7 +16,7 @@ use Rattle.tftp_ends.specs.Files.{AreFilesOf}
 use Rattle.tftp_server.specs.State.{at, draft_of, draft_at}
 use Rattle.tftp_store.specs.Store.{Drafted}
 use Rattle.tftp_server.specs.declared.config.Config.{Config}
-use Rattle.tftp_machine.specs.OpenEnds.{OpenEnd}
+use Rattle.tftp_rules.specs.OpenEnds.{OpenEnd}
 use Rattle.tftp_player.specs.Clients.{left_in, armed_files}
 use Rattle.tftp_player.specs.Played.{client_end, served_as, served_end, end_at, ends_from, records_from, PlayerKept}
 use Rattle.tftp_player.specs.Played.{IsServed, armed_by, armed_served, armed_served_end, armed_player}

@@ -13,7 +13,7 @@ use Rattle.tftp_ends.specs.declared.record.Record.{Record}
 use Rattle.tftp_ends.specs.End.{is_client, outcome_of}
 use Rattle.tftp_server.specs.State.{at}
 use Rattle.tftp_server.specs.State as server
-use Rattle.tftp_machine.specs.Machine.{Endpoint}
+use Rattle.tftp_rules.specs.Machine.{Endpoint}
 use Rattle.tftp_player.specs.Played.{AllKept, IsServed, PlayerKept, client_end, end_at, ends_from, served_as}
 use Rattle.tftp_player.specs.Played.{served_end}
 use Rattle.tftp_player.specs.Clients.{left_in}

@@ -22,9 +22,9 @@ use Rattle.tftp_ends.specs.declared.error_reply.ErrorReply.TheVariants.{IllegalO
 use Rattle.tftp_ends.specs.Action.{Decodes}
 use Rattle.tftp_ends.specs.Step.{Turn, timeout_turn}
 use Rattle.tftp_server.specs.Port.{Service, Silent, Refused, Sends, Takes, Ignores, Refuses}
-use Rattle.tftp_machine.specs.Hosts.{request_port}
-use Rattle.tftp_machine.specs.Machine.{Endpoint}
-use Rattle.tftp_machine.specs.OpenEnds.{OpenEnd, files_of, end_after, peer_of}
+use Rattle.tftp_rules.specs.Hosts.{request_port}
+use Rattle.tftp_rules.specs.Machine.{Endpoint}
+use Rattle.tftp_rules.specs.OpenEnds.{OpenEnd, files_of, end_after, peer_of}
 use Rattle.tftp_player.specs.Openings.{sending_end, receiving_end}
 use Rattle.tftp_player.specs.Repeating.{AsksForTransfer, RepeatsOpenNothing, IsNewRequest, OnlyNewRequestsOpen}
 use Rattle.tftp_player.specs.Repeating.{RequestsLast}
@@ -36,7 +36,7 @@ use Rattle.tftp_player.specs.WorldSteps.{OpeningStep, Stays, Turns, TimeoutStep,
 use Rattle.tftp_player.specs.declared.event.Event.{Event}
 use Rattle.tftp_player.specs.declared.event.Event.TheVariants.{Get, Put, Deliver, Timeout, RefuseStore, Stray}
 use Rattle.tftp_player.specs.declared.report.Report.{Report}
-use Rattle.tftp_machine.proofs.Indices.{slice_get-push_old, slice_get-set_cases}
+use Rattle.tftp_rules.proofs.Indices.{slice_get-push_old, slice_get-set_cases}
 use Rattle.tftp_player.proofs.ServerLemmas.{says_one}
 use Rattle.tftp_player.proofs.TermsKept.{step_has, timeout_has}
 

@@ -32,7 +32,8 @@ use Rattle.tftp_file.specs.declared.files.Files.TheVariants.{Source, Sink}
 use Rattle.tftp_ends.specs.declared.action.Action.{Action}
 use Rattle.tftp_ends.specs.declared.action.Action.TheVariants.{Respond, Send, Store}
 use Rattle.tftp_ends.specs.declared.action.Response.{Response}
-use Rattle.tftp_ends.specs.declared.action.Response.TheVariants.{Ignore, Stranger, ResendReply, Retransmit, Wait, Close}
+use Rattle.tftp_ends.specs.declared.action.Response.TheVariants.{Ignore, WrongPeer, ResendReply, Retransmit, Wait}
+use Rattle.tftp_ends.specs.declared.action.Response.TheVariants.{Close}
 use Rattle.tftp_ends.specs.declared.action.Response.TheVariants.{Refuse, Accept, Complete}
 use Rattle.tftp_ends.specs.declared.endpoint.Endpoint.{Endpoint}
 use Rattle.tftp_ends.specs.declared.error_reply.ErrorReply.{ErrorReply}
@@ -43,7 +44,7 @@ use Rattle.tftp_ends.specs.declared.phase.Phase.{Phase}
 use Rattle.tftp_ends.specs.declared.phase.Phase.TheVariants.{Waiting, Sending, Receiving, Dallying, Closed}
 use Rattle.tftp_ends.specs.declared.phase.Terms.{Terms}
 use Rattle.tftp_ends.specs.declared.reply.TheConstants.{MAX_ERROR}
-use Rattle.tftp_ends.specs.Action.{is_stranger, garbled_response, packet_action, datagram_action, timeout_response}
+use Rattle.tftp_ends.specs.Action.{is_wrong_peer, garbled_response, packet_action, datagram_action, timeout_response}
 use Rattle.tftp_ends.specs.End.{EndState, is_client, is_sender, number_of, record_of, size_of, terms_of}
 use Rattle.tftp_ends.specs.ErrorReply.{error_packet}
 use Rattle.tftp_ends.specs.Files.{AreFilesOf}
@@ -199,13 +200,13 @@ module _ (most : ℕ) where
         (reader_fits e.role.mode asked limit from decoded)
     packet_fits (Sending terms n) w = sender_fits (is_client e.role.side) e.role.length terms n decoded (w.1 refl)
     packet_fits (Receiving terms n) w =
-        receiver_fits (is_client e.role.side) e.role.mode e.position.held terms n decoded
+        receiver_fits (is_client e.role.side) e.role.mode e.position.held_back terms n decoded
     packet_fits (Dallying terms n dally) w = dally_new n decoded
     packet_fits (Closed terms n complete outcome) w = tt
 
     datagram_fits : Within e.position.phase → Fits (datagram_action e from bytes decoded)
     datagram_fits w =
-        either (is_stranger (terms_of e.position.phase) e.position.last_sent_to from) _ _
+        either (is_wrong_peer (terms_of e.position.phase) e.position.last_sent_to from) _ _
         (either (has_error_opcode bytes) _ _ tt tt)
         (either (has_error_opcode bytes && is_none decoded) _ _ (garbled_new e.position.phase)
         (packet_fits e.position.phase w))
@@ -261,7 +262,7 @@ module _ (from : Endpoint) (e : EndState) where
   response_short : (response : Response) (turn : Turn) → IsNew response → AcksAgain e turn (Respond response) →
       turn ≡ response_turn response from e → IsShort MAX_ERROR turn
   response_short Ignore turn n a is = short_so MAX_ERROR turn _ is (omega arith)
-  response_short Stranger turn n a is = short_so MAX_ERROR turn _ is (error_short replies.UnknownTransferId)
+  response_short WrongPeer turn n a is = short_so MAX_ERROR turn _ is (error_short replies.UnknownTransferId)
   response_short ResendReply turn n a is = ack_is (number_of e.position.phase) turn.reply a
   response_short Retransmit turn n a is = absurd n
   response_short Wait turn n a is = short_so MAX_ERROR turn _ is (omega arith)
@@ -399,7 +400,7 @@ module _ (most : ℕ) where
   response_agrees : (response : Response) (from : Endpoint) (e : EndState) → AgreesWithin most e.position.phase →
       Agrees (response_turn response from e)
   response_agrees Ignore from e w = w
-  response_agrees Stranger from e w = w
+  response_agrees WrongPeer from e w = w
   response_agrees ResendReply from e w = w
   response_agrees Retransmit from e w = w
   response_agrees Wait from e w = waited_agrees e.position.phase w

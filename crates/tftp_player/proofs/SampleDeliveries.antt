@@ -27,7 +27,7 @@ use Rattle.tftp_ends.specs.End.{is_client}
 use Rattle.tftp_ends.specs.Step.{Turn, Done, AcksAgain, Acts, Appended, GoesOn, block_length, holding, committed_turn}
 use Rattle.tftp_ends.specs.Step.{filled_turn, response_turn, sent_turn, ack_bytes}
 use Rattle.tftp_ends.specs.Text.{Decoded}
-use Rattle.tftp_machine.specs.OpenEnds.{OpenEnd, files_of, holding_of, end_after}
+use Rattle.tftp_rules.specs.OpenEnds.{OpenEnd, files_of, holding_of, end_after}
 use Rattle.tftp_player.specs.World.{WorldState, WorldEnd, Open_end, Closed_end, StoredFile, datagram, file_at}
 use Rattle.tftp_player.specs.World.{in_the_way, has_committed, no_report, report_of, world_after}
 use Rattle.tftp_player.specs.WorldRuns.{PlaysAll}
@@ -123,7 +123,7 @@ module _ (host : List ℕ → List ℕ) (d : Datagram) (x : OpenEnd) where
       (files_of x ≡ Source x.left) × (want terms number ≡ min (want terms number) (length x.left))
   CanAct (Store terms number) =
       (files_of x ≡ Sink (holding_of x)) × (x.refuses ≡ false) × (packet_in d.bytes ≡ Data number piece)
-      × HasBytes (host piece) × Decoded x.state.role.mode x.state.position.held piece (host piece) []
+      × HasBytes (host piece) × Decoded x.state.role.mode x.state.position.held_back piece (host piece) []
 
   goes_on : (may : Holding → StoreFault → Type 0) (terms : Terms) (number : ℕ) (last : Bool) → x.refuses ≡ false →
       GoesOn (world_sink may) terms number d.from x.state last [] with_block done (stored_turn last terms number)

@@ -11,9 +11,9 @@ use Rattle.tftp_file.specs.Sink.{Holding}
 use Rattle.tftp_server.specs.Port.{Service, Silent, Refused, Sends, Takes}
 use Rattle.rand_pcg.specs.Lcg.{Lcg}
 use Rattle.rand_pcg.specs.Pcg.{pcg32}
-use Rattle.tftp_machine.specs.OpenEnds.{OpenEnd, end_after}
+use Rattle.tftp_rules.specs.OpenEnds.{OpenEnd, end_after}
 use Rattle.tftp_player.specs.Draw.{drawn, words_drawn}
-use Rattle.tftp_machine.specs.Machine.{Endpoint}
+use Rattle.tftp_rules.specs.Machine.{Endpoint}
 use Rattle.tftp_player.specs.Played.{records_from}
 use Rattle.tftp_player.specs.PlayedWorld.{HasSentEach}
 use Rattle.tftp_player.specs.World.{WorldState, WorldEnd, Open_end, Closed_end, standing, replied}

@@ -40,9 +40,9 @@ use Rattle.tftp_server.specs.Request.{left_by, opened_length}
 use Rattle.tftp_store.specs.Memory.{MayRefuseBegin, MayRefuseOpen, memory_meaning}
 use Rattle.tftp_store.specs.Store.{Stored, Drafted, Opens, Begins, is_taken, measured, new_draft}
 use Rattle.tftp_store.specs.declared.store.Opening.{Opening}
-use Rattle.tftp_machine.specs.Machine.{Endpoint}
-use Rattle.tftp_machine.specs.OpenEnds.{OpenEnd}
-use Rattle.tftp_machine.proofs.WaitingMoves.{agreed_size}
+use Rattle.tftp_rules.specs.Machine.{Endpoint}
+use Rattle.tftp_rules.specs.OpenEnds.{OpenEnd}
+use Rattle.tftp_rules.proofs.WaitingMoves.{agreed_size}
 use Rattle.tftp_player.specs.World.{WorldState, StoredFile, file_at, in_the_way}
 use Rattle.tftp_player.specs.Openings.{sending_end, receiving_end}
 use Rattle.tftp_server.specs.Port.{Ask, Ignores, Refuses, Reads, Writes, Service, Silent, Refused, Sends, Takes}

@@ -22,7 +22,7 @@ use Rattle.tftp_store.specs.Memory.{memory_meaning, with_armed}
 use Rattle.tftp_server.specs.State.{at, with_next, draft_of, is_closed}
 use Rattle.tftp_server.specs.Steps.{StepIn, TimesOutLent, TakesDatagramLent, KeepsHeld, with_end}
 use Rattle.tftp_store.specs.Store.{Stored, Drafted, FileList, new_draft}
-use Rattle.tftp_machine.specs.Machine.{Endpoint}
+use Rattle.tftp_rules.specs.Machine.{Endpoint}
 use Rattle.tftp_player.specs.Clients.{server_at}
 use Rattle.tftp_player.specs.Effect.{effect_of}
 use Rattle.tftp_player.specs.Serving.{server_armed, PlayedServer, Transfer, ServedKept, ServedTurns, ServedTimeoutStep}

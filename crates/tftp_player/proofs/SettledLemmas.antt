@@ -11,9 +11,9 @@ use Rattle.tftp_ends.specs.declared.outcome.Outcome.{Outcome}
 use Rattle.tftp_ends.specs.End.{outcome_of}
 use Rattle.tftp_ends.specs.Step.{Turn}
 use Rattle.tftp_server.specs.Port.{Service, Silent, Refused, Sends, Takes}
-use Rattle.tftp_machine.specs.Machine.{Endpoint}
-use Rattle.tftp_machine.proofs.Indices.{slice_get-push_old}
-use Rattle.tftp_machine.specs.OpenEnds.{OpenEnd, end_after}
+use Rattle.tftp_rules.specs.Machine.{Endpoint}
+use Rattle.tftp_rules.proofs.Indices.{slice_get-push_old}
+use Rattle.tftp_rules.specs.OpenEnds.{OpenEnd, end_after}
 use Rattle.tftp_player.specs.Requests.{service}
 use Rattle.tftp_player.specs.Settling.{Settled}
 use Rattle.tftp_player.specs.Straight.{TookAll, AllTaken, HaveTaken, IsThrough, Ends, RunsStraight, ReadsStraight}

@@ -3,7 +3,7 @@ use Rattle.std.proofs.Common.{◌≡◌, [], ◌∷◌, refl}
 use Rattle.std.specs.Prelude.{codes}
 use Rattle.std.specs.Fmt.{digits}
 use Rattle.tftp_negotiate.specs.Options.{name_of, number_of}
-use Rattle.tftp_machine.specs.Said.{oack_size}
+use Rattle.tftp_rules.specs.Said.{oack_size}
 
 -- the block size of the example (RFC 2348, "Blocksize Option Specification"), granted
 example_size : oack_size (record { name = codes "blksize"; value = codes "1428" } ∷ []) ≡ 1428

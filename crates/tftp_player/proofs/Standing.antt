@@ -9,14 +9,14 @@ use Rattle.tftp_ends.specs.declared.outcome.Outcome.{Outcome}
 use Rattle.tftp_ends.specs.declared.phase.Phase.{Phase}
 use Rattle.tftp_ends.specs.declared.phase.Phase.TheVariants.{Waiting, Sending, Receiving, Dallying, Closed}
 use Rattle.tftp_ends.specs.End.{is_sender, is_client, is_complete, outcome_of, record_of}
-use Rattle.tftp_machine.specs.OpenEnds.{OpenEnd, with_phase, has_failed, open_view}
-use Rattle.tftp_machine.specs.EndKept.{EndKept}
+use Rattle.tftp_rules.specs.OpenEnds.{OpenEnd, with_phase, has_failed, open_view}
+use Rattle.tftp_rules.specs.EndKept.{EndKept}
 use Rattle.tftp_player.specs.Requests.{is_transfer}
-use Rattle.tftp_machine.specs.Hosts.{two_hosts}
-use Rattle.tftp_machine.specs.Machine.{Message}
-use Rattle.tftp_machine.proofs.Shown.{shown_forgets}
-use Rattle.tftp_machine.specs.Rules.{Rule}
-use Rattle.tftp_machine.specs.Shows.{EndView, IsInService, IsShownWithin}
+use Rattle.tftp_rules.specs.Hosts.{two_hosts}
+use Rattle.tftp_rules.specs.Machine.{Message}
+use Rattle.tftp_rules.proofs.Shown.{shown_forgets}
+use Rattle.tftp_rules.specs.Rules.{Rule}
+use Rattle.tftp_rules.specs.Shows.{EndView, IsInService, IsShownWithin}
 use Rattle.tftp_player.specs.World.{WorldState, WorldEnd, Open_end, Closed_end, end_record, end_address, is_closed}
 use Rattle.tftp_player.specs.World.{datagram, closed_end, by_outcome, standing, view_of_end, end_request, file_at}
 use Rattle.tftp_player.specs.WorldKept.{IsKeptIn}

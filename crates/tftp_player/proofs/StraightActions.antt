@@ -15,21 +15,21 @@ use Rattle.tftp_file.specs.Netascii.{netascii_text, wire_text}
 use Rattle.tftp_file.proofs.BlockLemmas.{last_short, others_full}
 use Rattle.tftp_file.proofs.CutLemmas.{begins_front}
 use Rattle.tftp_ends.specs.declared.action.Action.TheVariants.{Respond, Send, Store}
-use Rattle.tftp_ends.specs.declared.action.Response.TheVariants.{Ignore, Stranger, ResendReply, Complete, Refuse}
+use Rattle.tftp_ends.specs.declared.action.Response.TheVariants.{Ignore, WrongPeer, ResendReply, Complete, Refuse}
 use Rattle.tftp_ends.specs.declared.error_reply.ErrorReply.TheVariants.{FileTooLarge, NotNetascii}
 use Rattle.tftp_ends.specs.declared.outcome.Outcome.TheVariants as outcomes
 use Rattle.tftp_ends.specs.declared.phase.Phase.{Phase}
 use Rattle.tftp_ends.specs.declared.phase.Terms.{Terms}
 use Rattle.tftp_ends.specs.End.{EndState, terms_of}
-use Rattle.tftp_ends.specs.Action.{same_endpoint, is_stranger, garbled_response, packet_action, datagram_action}
+use Rattle.tftp_ends.specs.Action.{same_endpoint, is_wrong_peer, garbled_response, packet_action, datagram_action}
 use Rattle.tftp_ends.specs.Receiver.{next_action, data_action}
 use Rattle.tftp_ends.specs.Sender.{illegal_action, acked_action}
 use Rattle.tftp_ends.specs.Text.{is_readable, begins_netascii, ends_in_cr}
 use Rattle.tftp_ends.proofs.TextLemmas.{decoded_begins, decoded_ends}
-use Rattle.tftp_machine.specs.Machine.{Endpoint}
-use Rattle.tftp_machine.proofs.Blocks.{length-block}
-use Rattle.tftp_machine.proofs.StoredTexts.{wire_text-append}
-use Rattle.tftp_player.proofs.HostBytes.{wire_beginning}
+use Rattle.tftp_rules.specs.Machine.{Endpoint}
+use Rattle.tftp_rules.proofs.Blocks.{length-block}
+use Rattle.tftp_rules.proofs.StoredTexts.{wire_text-append}
+use Rattle.tftp_player.proofs.HostBytes.{wire_prefix}
 
 -- ---- from whom it is
 same_list : (xs : List ℕ) → pointwise nat_eq xs xs ≡ true
@@ -45,10 +45,10 @@ none_garbled false = refl
 
 -- a packet from a known sender is handled as what it is
 near : (e : EndState) (from : Endpoint) (bytes : List ℕ) (packet : Packet) →
-    is_stranger (terms_of e.position.phase) e.position.last_sent_to from ≡ false →
+    is_wrong_peer (terms_of e.position.phase) e.position.last_sent_to from ≡ false →
     datagram_action e from bytes (Some packet) ≡ packet_action e from (Some packet) e.position.phase
 near e from bytes packet known =
-    ap (λ (b : Bool). if b then (if has_error_opcode bytes then Respond Ignore else Respond Stranger)
+    ap (λ (b : Bool). if b then (if has_error_opcode bytes then Respond Ignore else Respond WrongPeer)
     else if has_error_opcode bytes && false then Respond (garbled_response e.position.phase)
     else packet_action e from (Some packet) e.position.phase) known
     ∙ ap
@@ -56,7 +56,7 @@ near e from bytes packet known =
     if b then Respond (garbled_response e.position.phase) else packet_action e from (Some packet) e.position.phase)
     (none_garbled (has_error_opcode bytes))
 
-peer_near : (terms : Terms) (to from : Endpoint) → terms.peer ≡ from → is_stranger (Some terms) to from ≡ false
+peer_near : (terms : Terms) (to from : Endpoint) → terms.peer ≡ from → is_wrong_peer (Some terms) to from ≡ false
 peer_near terms to from peer =
     ap (λ (b : Bool). not b) (ap (λ (p : Endpoint). same_endpoint p from) peer ∙ same_self from)
 
@@ -66,8 +66,8 @@ pub from_peer : (e : EndState) (phase : Phase) (terms : Terms) (from : Endpoint)
     datagram_action e from bytes (Some packet) ≡ packet_action e from (Some packet) phase
 from_peer e phase terms from bytes packet is agreed peer =
     near e from bytes packet
-    (ap (λ (p : Phase). is_stranger (terms_of p) e.position.last_sent_to from) is
-    ∙ (ap (λ (o : Option Terms). is_stranger o e.position.last_sent_to from) agreed
+    (ap (λ (p : Phase). is_wrong_peer (terms_of p) e.position.last_sent_to from) is
+    ∙ (ap (λ (o : Option Terms). is_wrong_peer o e.position.last_sent_to from) agreed
     ∙ peer_near terms e.position.last_sent_to from peer))
     ∙ ap (packet_action e from (Some packet)) is
 
@@ -77,8 +77,8 @@ pub from_server : (e : EndState) (phase : Phase) (from : Endpoint) (bytes : List
     datagram_action e from bytes (Some packet) ≡ packet_action e from (Some packet) phase
 from_server e phase from bytes packet is none server =
     near e from bytes packet
-    (ap (λ (p : Phase). is_stranger (terms_of p) e.position.last_sent_to from) is
-    ∙ (ap (λ (o : Option Terms). is_stranger o e.position.last_sent_to from) none
+    (ap (λ (p : Phase). is_wrong_peer (terms_of p) e.position.last_sent_to from) is
+    ∙ (ap (λ (o : Option Terms). is_wrong_peer o e.position.last_sent_to from) none
     ∙ ap (λ (b : Bool). not b) (ap (λ (ip : List ℕ). pointwise nat_eq ip from.ip) server ∙ same_list from.ip)))
     ∙ ap (packet_action e from (Some packet)) is
 
@@ -100,7 +100,7 @@ acked_last length n terms last =
     ∙ ap (λ (b : Bool). if b then Send terms (n + 1) else Respond Complete) (le-ltb n (length / terms.size + 1) last)
 
 -- ---- a receiver with its next block
--- a beginning of a text in netascii can be read
+-- a prefix of a text in netascii can be read
 begins_text : (text rest more : List ℕ) → text ++ rest ≡ netascii_text more → begins_netascii text ≡ true
 begins_text text rest more e =
     let b = begins_front text rest (more, [], (inl refl, e ∙ sym (append-nil (netascii_text more)))) in
@@ -129,7 +129,7 @@ piece_readable Netascii file stored held piece rest last e none =
     let joined : netascii_text stored ++ (t ++ rest) ≡ netascii_text file =
     sym (append_assoc (netascii_text stored) t rest)
     ∙ (ap (λ (z : List ℕ). z ++ rest) (sym (append_assoc (netascii_text stored) held piece)) ∙ e) in
-    let more = wire_beginning Netascii stored file (t ++ rest, joined) in
+    let more = wire_prefix Netascii stored file (t ++ rest, joined) in
     let whole_is : t ++ rest ≡ netascii_text more.0 =
     drop_front (netascii_text stored) (t ++ rest) (netascii_text more.0)
     (joined ∙ (ap netascii_text (sym more.1) ∙ wire_text-append Netascii stored more.0)) in

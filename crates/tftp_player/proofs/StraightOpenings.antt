@@ -31,12 +31,12 @@ use Rattle.tftp_ends.specs.Step.{ack_bytes, data_bytes}
 use Rattle.tftp_ends.specs.Waiting.{default_terms, agreed_terms, no_answer, accept_action, begin_action}
 use Rattle.tftp_ends.specs.Waiting.{begin_with_action}
 use Rattle.tftp_server.specs.Port.{Service, Sends, Takes}
-use Rattle.tftp_machine.specs.Hosts.{request_port}
-use Rattle.tftp_machine.specs.Machine.{Endpoint}
-use Rattle.tftp_machine.specs.OpenEnds.{OpenEnd}
-use Rattle.tftp_machine.specs.EndKept.{HeldFits}
-use Rattle.tftp_machine.proofs.WaitingMoves.{agreed_size}
-use Rattle.tftp_machine.proofs.SaidLemmas.{spells_own, own_oack, taken_oack}
+use Rattle.tftp_rules.specs.Hosts.{request_port}
+use Rattle.tftp_rules.specs.Machine.{Endpoint}
+use Rattle.tftp_rules.specs.OpenEnds.{OpenEnd}
+use Rattle.tftp_rules.specs.EndKept.{HeldBackFits}
+use Rattle.tftp_rules.proofs.WaitingMoves.{agreed_size}
+use Rattle.tftp_rules.proofs.SaidLemmas.{spells_own, own_oack, taken_oack}
 use Rattle.tftp_player.specs.Openings.{reading_client, writing_client, sending_end, receiving_end}
 use Rattle.tftp_player.specs.Straight.{IsAccepted, IsThrough, Ends, ReadsStraight, WritesStraight, ReadsComplete}
 use Rattle.tftp_player.specs.Straight.{WritesComplete, read_count, write_count}
@@ -46,9 +46,9 @@ use Rattle.tftp_player.specs.WorldRuns.{MayHappen}
 use Rattle.tftp_player.specs.WorldSteps.{ServiceStep, OpeningStep}
 use Rattle.tftp_player.specs.declared.event.Event.TheVariants.{Get, Put}
 use Rattle.tftp_player.specs.declared.report.Report.{Report}
-use Rattle.tftp_machine.proofs.EndOpenings.{nothing_held}
-use Rattle.tftp_machine.proofs.Granted.{answer_granted}
-use Rattle.tftp_machine.proofs.Indices.{slice_get-push_old, slice_get-push_new}
+use Rattle.tftp_rules.proofs.EndOpenings.{nothing_held}
+use Rattle.tftp_rules.proofs.Granted.{answer_granted}
+use Rattle.tftp_rules.proofs.Indices.{slice_get-push_old, slice_get-push_new}
 use Rattle.tftp_player.proofs.StraightActions.{from_server, data_next, block_within}
 use Rattle.tftp_player.proofs.StraightPort.{HasAsked, has_asked, port_comes, has_opened, accepted_answers}
 use Rattle.tftp_player.proofs.StraightRuns.{IsLeft, Reaches, walks, IsReady, ready_next, IsOver, stays_at, set_at}
@@ -110,10 +110,10 @@ new_text mode now stored held size text is none empty =
     ∙ (ap (λ (bytes : List ℕ). wire_text mode bytes ++ held) none
     ∙ (ap (λ (bytes : List ℕ). wire_text mode [] ++ bytes) empty ∙ nothing_yet mode size text))
 
-new_held : (mode now : Mode) (held : List ℕ) → now ≡ mode → held ≡ [] → HeldFits now held
+new_held : (mode now : Mode) (held : List ℕ) → now ≡ mode → held ≡ [] → HeldBackFits now held
 new_held mode now held is empty =
-    subst (λ (n : Mode). HeldFits n held) (sym is)
-    (subst (λ (bytes : List ℕ). HeldFits mode bytes) (sym empty) (nothing_held mode))
+    subst (λ (n : Mode). HeldBackFits n held) (sym is)
+    (subst (λ (bytes : List ℕ). HeldBackFits mode bytes) (sym empty) (nothing_held mode))
 
 before_next : (k : ℕ) → k ≢ k + 1
 before_next k e = omega (arith, e)
@@ -300,8 +300,8 @@ module _ (strangers : Bool) (old new : WorldState) (name : List ℕ) (mode : Mod
       awaits_now strangers (k + 1) k (before_next k) sa ra st rt mode file sp rp same true g.mid y.0 0 fit first
       (set_at b.w g.mid k (Open_end reader) (Open_end y.0) y.4.ends b.client_at) y.4.address y.1 (ap is_sender y.4.side)
       (ap is_client y.4.side, y.5) y.4.mode
-      (new_text mode y.0.state.role.mode y.0.stored y.0.state.position.held st.size text y.4.mode y.2 y.3)
-      (new_held mode y.0.state.role.mode y.0.state.position.held y.4.mode y.3) in
+      (new_text mode y.0.state.role.mode y.0.stored y.0.state.position.held_back st.size text y.4.mode y.2 y.3)
+      (new_held mode y.0.state.role.mode y.0.state.position.held_back y.4.mode y.3) in
       walks true g.mid new (k + 1) k (i + 1 + 1) (2 + 2 * m) ready.count g.left (λ n.
       let ready_then =
       ack_ready strangers (k + 1) k (before_next k) sa ra st rt mode file sp rp same g.mid n.mid (i + 1 + 1) 0 n.report
@@ -394,7 +394,7 @@ module _ (strangers : Bool) (old new : WorldState) (name : List ℕ) (mode : Mod
   -- from the server's answer on, which has the client send DATA 1
   write_on : (x : OpenEnd) (st rt : Terms) (packet : Packet) → (b : HasBegun false strangers old new writer x) →
       x.state.position.last_sent_to ≡ writer.address → x.state.position.phase ≡ Receiving rt 0 →
-      is_sender x.state.role.side ≡ false → x.state.role.mode ≡ mode → x.stored ≡ [] → x.state.position.held ≡ [] →
+      is_sender x.state.role.side ≡ false → x.state.role.mode ≡ mode → x.stored ≡ [] → x.state.position.held_back ≡ [] →
       Spells packet x.state.position.last_sent →
       datagram_action writer.state x.address x.state.position.last_sent (Some packet) ≡ Send st 1 →
       st.peer ≡ x.address → rt.peer ≡ writer.address → rt.size ≡ st.size →
@@ -436,8 +436,8 @@ module _ (strangers : Bool) (old new : WorldState) (name : List ℕ) (mode : Mod
       awaits_now strangers k (k + 1) (next_is_other k) sa ra st rt mode file sp rp same false g.mid x 0 fit first
       (stays_at b.w g.mid k (k + 1) (Open_end x) (Open_end y.0) y.2.ends (next_is_other k) b.server_at) refl phase
       receives tt mode_is
-      (new_text mode x.state.role.mode x.stored x.state.position.held st.size written mode_is stored held)
-      (new_held mode x.state.role.mode x.state.position.held mode_is held) in
+      (new_text mode x.state.role.mode x.stored x.state.position.held_back st.size written mode_is stored held)
+      (new_held mode x.state.role.mode x.state.position.held_back mode_is held) in
       from_data strangers k (k + 1) (next_is_other k) sa ra st rt mode file sp rp same false m (i + 1 + 1) 0 g.mid new
       rest ready sender receiver g.left)
 

@@ -21,12 +21,12 @@ use Rattle.tftp_ends.specs.End.{is_sender, is_client, is_complete}
 use Rattle.tftp_ends.specs.Action.{datagram_action}
 use Rattle.tftp_ends.specs.Receiver.{next_action}
 use Rattle.tftp_ends.specs.Step.{ack_bytes, data_bytes}
-use Rattle.tftp_machine.specs.Hosts.{two_hosts}
-use Rattle.tftp_machine.specs.Machine.{Endpoint}
-use Rattle.tftp_machine.specs.OpenEnds.{OpenEnd}
-use Rattle.tftp_machine.specs.EndKept.{IsUnderWay, PhaseKept, HeldFits}
-use Rattle.tftp_machine.proofs.SourceMoves.{valid_data, number_fits}
-use Rattle.tftp_machine.proofs.SaidLemmas.{spells_own}
+use Rattle.tftp_rules.specs.Hosts.{two_hosts}
+use Rattle.tftp_rules.specs.Machine.{Endpoint}
+use Rattle.tftp_rules.specs.OpenEnds.{OpenEnd}
+use Rattle.tftp_rules.specs.EndKept.{IsUnderWay, PhaseKept, HeldBackFits}
+use Rattle.tftp_rules.proofs.SourceMoves.{valid_data, number_fits}
+use Rattle.tftp_rules.proofs.SaidLemmas.{spells_own}
 use Rattle.tftp_player.specs.Straight.{TookAll, AllTaken}
 use Rattle.tftp_player.specs.World.{WorldState, datagram, WorldEnd, Open_end}
 use Rattle.tftp_player.specs.WorldKept.{Refines}
@@ -36,8 +36,8 @@ use Rattle.tftp_player.specs.WorldSteps.{WorldStep, Settles}
 use Rattle.tftp_player.specs.declared.datagram.Datagram.{Datagram}
 use Rattle.tftp_player.specs.declared.event.Event.TheVariants.{Deliver}
 use Rattle.tftp_player.specs.declared.report.Report.{Report}
-use Rattle.tftp_machine.proofs.Blocks.{take-block}
-use Rattle.tftp_machine.proofs.Indices.{slice_get-set_same, slice_get-set_other, slice_get-push_new}
+use Rattle.tftp_rules.proofs.Blocks.{take-block}
+use Rattle.tftp_rules.proofs.Indices.{slice_get-set_same, slice_get-set_other, slice_get-push_new}
 use Rattle.tftp_player.proofs.StraightActions.{from_peer, acked_more, acked_last, piece_readable, next_stores}
 use Rattle.tftp_player.proofs.StraightActions.{data_next, block_full, block_last, block_within, never_long, last_rest}
 use Rattle.tftp_player.proofs.StraightSteps.{ports_of, Handles, delivered, Becomes, handles_send, handles_last}
@@ -222,8 +222,8 @@ module _ (strangers : Bool) (ks kr : ℕ) (apart : kr ≢ ks) (sa ra : Endpoint)
     pub receiver : is_sender x.state.role.side ≡ false
     pub willing : IsWilling reads x
     pub mode_is : x.state.role.mode ≡ mode
-    pub received : wire_text x.state.role.mode x.stored ++ x.state.position.held ≡ take (n * st.size) text
-    pub holds : HeldFits x.state.role.mode x.state.position.held
+    pub received : wire_text x.state.role.mode x.stored ++ x.state.position.held_back ≡ take (n * st.size) text
+    pub holds : HeldBackFits x.state.role.mode x.state.position.held_back
     pub stores : datagram_action x.state sa (data_bytes (n + 1) (piece n)) (Some (Data (n + 1) (piece n)))
         ≡ Store rt (n + 1)
 
@@ -231,7 +231,7 @@ module _ (strangers : Bool) (ks kr : ℕ) (apart : kr ≢ ks) (sa ra : Endpoint)
   pub record HasAllAt (w : WorldState) : Type 0 where
     pub x : WorldEnd
     pub there : slice_get w.ends kr ≡ Some x
-    pub done : IsComplete x
+    pub complete : IsComplete x
 
   -- what holds of a sender, by its text
   pub record IsFit : Type 0 where
@@ -286,40 +286,41 @@ module _ (strangers : Bool) (ks kr : ℕ) (apart : kr ≢ ks) (sa ra : Endpoint)
 
   -- a receiver stores the next block of its sender's text
   pub next_is_stored : (x : OpenEnd) (n : ℕ) → IsFit → n + 1 ≤ blocks → x.state.role.mode ≡ mode →
-      wire_text x.state.role.mode x.stored ++ x.state.position.held ≡ take (n * st.size) text →
-      next_action x.state.role.mode x.state.position.held rt (n + 1) (piece n) ≡ Store rt (n + 1)
+      wire_text x.state.role.mode x.stored ++ x.state.position.held_back ≡ take (n * st.size) text →
+      next_action x.state.role.mode x.state.position.held_back rt (n + 1) (piece n) ≡ Store rt (n + 1)
   next_is_stored x n f l mode_is received =
       let within : length (piece n) ≤ rt.size = let e = block_within text st.size f.positive f.fits n l in
       omega (arith, e, same_size) in
       let text_is : wire_text x.state.role.mode file ≡ text = ap (λ (m : Mode). wire_text m file) mode_is in
       let rest = drop ((n + 1) * st.size) text in
-      let whole : ((wire_text x.state.role.mode x.stored ++ x.state.position.held) ++ piece n) ++ rest
+      let whole : ((wire_text x.state.role.mode x.stored ++ x.state.position.held_back) ++ piece n) ++ rest
       ≡ wire_text x.state.role.mode file =
       ap (λ (t : List ℕ). (t ++ piece n) ++ rest) received
       ∙ (ap (λ (t : List ℕ). t ++ rest) (take-block text n st.size)
       ∙ (take-append-drop ((n + 1) * st.size) text ∙ sym text_is)) in
-      next_stores x.state.role.mode x.state.position.held rt (n + 1) (piece n) within
+      next_stores x.state.role.mode x.state.position.held_back rt (n + 1) (piece n) within
       (λ a b. never_long text st.size f.positive f.fits n l a (b ∙ same_size))
-      (piece_readable x.state.role.mode file x.stored x.state.position.held (piece n) rest
+      (piece_readable x.state.role.mode file x.stored x.state.position.held_back (piece n) rest
       (nat_lt (length (piece n)) rt.size) whole
       (λ e. last_rest text st.size f.positive f.fits n (ap (nat_lt (length (piece n))) (sym same_size) ∙ e)))
 
   receiving_stores : (x : OpenEnd) (n : ℕ) → IsFit → n + 1 ≤ blocks → x.state.position.phase ≡ Receiving rt n →
       x.state.role.mode ≡ mode →
-      wire_text x.state.role.mode x.stored ++ x.state.position.held ≡ take (n * st.size) text →
+      wire_text x.state.role.mode x.stored ++ x.state.position.held_back ≡ take (n * st.size) text →
       datagram_action x.state sa (data_bytes (n + 1) (piece n)) (Some (Data (n + 1) (piece n))) ≡ Store rt (n + 1)
   receiving_stores x n f l phase mode_is received =
       from_peer x.state (Receiving rt n) rt sa (data_bytes (n + 1) (piece n)) (Data (n + 1) (piece n)) phase refl
       receiver_peer
-      ∙ (data_next x.state.role.mode x.state.position.held rt n (piece n) ∙ next_is_stored x n f l mode_is received)
+      ∙ (data_next x.state.role.mode x.state.position.held_back rt n (piece n)
+      ∙ next_is_stored x n f l mode_is received)
 
   -- a receiver that enters this phase with what it has
   pub awaits_now : (reads : Bool) (w : WorldState) (x : OpenEnd) (n : ℕ) → IsFit → n + 1 ≤ blocks →
       slice_get w.ends kr ≡ Some (Open_end x) → x.address ≡ ra → x.state.position.phase ≡ Receiving rt n →
       is_sender x.state.role.side ≡ false → IsWilling reads x →
       x.state.role.mode ≡ mode →
-      wire_text x.state.role.mode x.stored ++ x.state.position.held ≡ take (n * st.size) text →
-      HeldFits x.state.role.mode x.state.position.held → AwaitsAt reads w n
+      wire_text x.state.role.mode x.stored ++ x.state.position.held_back ≡ take (n * st.size) text →
+      HeldBackFits x.state.role.mode x.state.position.held_back → AwaitsAt reads w n
   awaits_now reads w x n f l there address phase receiver willing mode_is received holds = record {
     x = x;
     there = there;
@@ -375,10 +376,10 @@ module _ (strangers : Bool) (ks kr : ℕ) (apart : kr ≢ ks) (sa ra : Endpoint)
     pub data_sender : SendsAt v (n + 1)
     data_sender = sender_stays w v (n + 1) (Open_end stored.0) stored.1.becomes.ends s
 
-    has_more : wire_text stored.0.state.role.mode stored.0.stored ++ stored.0.state.position.held
+    has_more : wire_text stored.0.state.role.mode stored.0.stored ++ stored.0.state.position.held_back
         ≡ take ((n + 1) * st.size) text
     has_more =
-        ap (λ (m : Mode). wire_text m stored.0.stored ++ stored.0.state.position.held) stored.1.becomes.mode
+        ap (λ (m : Mode). wire_text m stored.0.stored ++ stored.0.state.position.held_back) stored.1.becomes.mode
         ∙ (stored.1.received ∙ (ap (λ (t : List ℕ). t ++ piece n) r.received ∙ take-block text n st.size))
 
     -- which is not the last
@@ -391,7 +392,7 @@ module _ (strangers : Bool) (ks kr : ℕ) (apart : kr ≢ ks) (sa ra : Endpoint)
         (stored.1.phase ∙ stored_more_phase rt (n + 1) (length (piece n)) full)
         (ap is_sender stored.1.becomes.side ∙ r.receiver) (stays_willing reads r.willing)
         (stored.1.becomes.mode ∙ r.mode_is) has_more
-        (subst (λ (m : Mode). HeldFits m y.state.position.held) (sym stored.1.becomes.mode) stored.1.holds)
+        (subst (λ (m : Mode). HeldBackFits m y.state.position.held_back) (sym stored.1.becomes.mode) stored.1.holds)
 
     -- or the last
     pub data_all : n + 1 ≡ blocks → HasAllAt v
@@ -402,7 +403,7 @@ module _ (strangers : Bool) (ks kr : ℕ) (apart : kr ≢ ks) (sa ra : Endpoint)
         record {
           x = Open_end y;
           there = set_at w v kr (Open_end r.x) (Open_end y) stored.1.becomes.ends r.there;
-          done = ap is_complete (stored.1.phase ∙ stored_last_phase rt (n + 1) (length (piece n)) short);
+          complete = ap is_complete (stored.1.phase ∙ stored_last_phase rt (n + 1) (length (piece n)) short);
         }
 
   -- ---- an ACK arrives at the sender
@@ -474,7 +475,7 @@ module _ (strangers : Bool) (ks kr : ℕ) (apart : kr ≢ ks) (sa ra : Endpoint)
         x_at = set_at w v ks (Open_end s.x) is_done.0 is_done.3 s.there;
         y_at = stays_at w v ks kr r.x is_done.0 is_done.3 apart r.there;
         x_done = is_done.1;
-        y_done = r.done;
+        y_done = r.complete;
         counted = let e = ap length is_done.2 in let f = length-append w.sent [] in let c = ready.count in
             omega (arith, e, f, c);
       }

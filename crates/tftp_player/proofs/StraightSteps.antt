@@ -32,14 +32,14 @@ use Rattle.tftp_ends.specs.Action.{Decodes, datagram_action}
 use Rattle.tftp_ends.specs.Step.{Turn, Done, Acts, Appended, GoesOn, Stores, StoresIn, response_turn, sent_turn}
 use Rattle.tftp_ends.specs.Step.{refused_turn, committed_turn, commit_reply, holding, ack_bytes, data_bytes, after_turn}
 use Rattle.tftp_ends.specs.Text.{Decoded}
-use Rattle.tftp_machine.specs.Machine.{Endpoint}
-use Rattle.tftp_machine.specs.OpenEnds.{OpenEnd, holding_of, files_of, with_files, in_state, end_after}
-use Rattle.tftp_machine.specs.EndKept.{HeldFits}
-use Rattle.tftp_machine.proofs.SinkMoves.{Took, All_of_it, Some_of_it, took, Kept_all, For_good, Not_yet, kept_by}
-use Rattle.tftp_machine.proofs.SinkMoves.{stores_in, goes_on_with, held_fits}
-use Rattle.tftp_machine.proofs.SourceMoves.{BlockSent, sends_from, block_sent}
-use Rattle.tftp_machine.proofs.SaidLemmas.{data_of}
-use Rattle.tftp_machine.proofs.StoredTexts.{stored_more}
+use Rattle.tftp_rules.specs.Machine.{Endpoint}
+use Rattle.tftp_rules.specs.OpenEnds.{OpenEnd, holding_of, files_of, with_files, in_state, end_after}
+use Rattle.tftp_rules.specs.EndKept.{HeldBackFits}
+use Rattle.tftp_rules.proofs.SinkMoves.{Took, All_of_it, Some_of_it, took, Kept_all, For_good, Not_yet, kept_by}
+use Rattle.tftp_rules.proofs.SinkMoves.{stores_in, goes_on_with, held_fits}
+use Rattle.tftp_rules.proofs.SourceMoves.{BlockSent, sends_from, block_sent}
+use Rattle.tftp_rules.proofs.SaidLemmas.{data_of}
+use Rattle.tftp_rules.proofs.StoredTexts.{stored_more}
 use Rattle.tftp_player.specs.Straight.{TookAll}
 use Rattle.tftp_player.specs.World.{WorldState, file_at, in_the_way, is_closed, datagram, replied, closed_at, standing}
 use Rattle.tftp_player.specs.World.{WorldEnd, Open_end, Closed_end, end_address}
@@ -256,7 +256,8 @@ module _ (w v : WorldState) (k : ℕ) (x : OpenEnd) (from : Endpoint) (bytes : L
   pub handles_oack : (packet : Packet) (terms : Terms) → Spells packet bytes →
       datagram_action x.state from bytes (Some packet) ≡ Respond (Accept terms) →
       (y : OpenEnd) × (y.state.position.phase ≡ Receiving terms 0) × (y.stored ≡ x.stored)
-      × (y.state.position.held ≡ x.state.position.held) × Becomes y (datagram x.address from (ack_bytes 0) ∷ [])
+      × (y.state.position.held_back ≡ x.state.position.held_back) ×
+      Becomes y (datagram x.address from (ack_bytes 0) ∷ [])
       × (y.refuses ≡ x.refuses)
   handles_oack packet terms spelled is =
       let a = acts_as packet (Respond (Accept terms)) spelled is in
@@ -285,9 +286,9 @@ module _ (w v : WorldState) (k : ℕ) (x : OpenEnd) (from : Endpoint) (bytes : L
   -- the end has this block and what it had before
   pub record HasStored (terms : Terms) (number : ℕ) (piece : List ℕ) (y : OpenEnd) : Type 0 where
     pub phase : y.state.position.phase ≡ stored_phase terms number (nat_lt (length piece) terms.size)
-    pub received : wire_text x.state.role.mode y.stored ++ y.state.position.held
-        ≡ (wire_text x.state.role.mode x.stored ++ x.state.position.held) ++ piece
-    pub holds : HeldFits x.state.role.mode y.state.position.held
+    pub received : wire_text x.state.role.mode y.stored ++ y.state.position.held_back
+        ≡ (wire_text x.state.role.mode x.stored ++ x.state.position.held_back) ++ piece
+    pub holds : HeldBackFits x.state.role.mode y.state.position.held_back
     pub armed : y.refuses ≡ is_armed h.held
     pub becomes : Becomes y (datagram x.address from (ack_bytes number) ∷ [])
 
@@ -345,7 +346,8 @@ module _ (w v : WorldState) (k : ℕ) (x : OpenEnd) (from : Endpoint) (bytes : L
         let p = piece_taken (holding_of x) b.mid b.bytes b.answer refuses_commit unarmed b.appended b.memory in
         goes_unarmed b.mid f.0 b.after b.answer (nat_lt (length piece) terms.size) f.1 p.1 p.0 b.rest
 
-  module _ (terms : Terms) (number : ℕ) (piece : List ℕ) (holds : HeldFits x.state.role.mode x.state.position.held)
+  module _ (terms : Terms) (number : ℕ) (piece : List ℕ)
+      (holds : HeldBackFits x.state.role.mode x.state.position.held_back)
       (all : TookAll report.closed) where
     -- no turn is that of a store that refused
     fault_none : (reply : ErrorReply) (e : EndState) → h.turn ≡ refused_turn terms reply outcomes.StoreFault from e → ⊥
@@ -364,7 +366,8 @@ module _ (w v : WorldState) (k : ℕ) (x : OpenEnd) (from : Endpoint) (bytes : L
 
     stores_as : (last : Bool) (sink : Holding) (bytes_now after : List ℕ) → nat_lt (length piece) terms.size ≡ last →
         h.turn ≡ stored_turn last after → h.held ≡ Sink sink →
-        sink.bytes ≡ x.stored ++ bytes_now → Decoded x.state.role.mode x.state.position.held piece bytes_now after →
+        sink.bytes ≡ x.stored ++ bytes_now →
+        Decoded x.state.role.mode x.state.position.held_back piece bytes_now after →
         (y : OpenEnd) × HasStored terms number piece y
     stores_as last sink bytes_now after is turns held same d = (
       end_after x (stored_turn last after) (Sink sink),
@@ -372,9 +375,9 @@ module _ (w v : WorldState) (k : ℕ) (x : OpenEnd) (from : Endpoint) (bytes : L
         phase = ap (stored_phase terms number) (sym is);
         received = ap (λ (z : List ℕ). wire_text x.state.role.mode z ++ after) same
             ∙ sym
-            (stored_more x.state.role.mode x.stored x.state.position.held piece bytes_now after
-            (goes_on_with x.state.role.mode x.state.position.held piece bytes_now after holds d));
-        holds = held_fits x.state.role.mode x.state.position.held piece bytes_now after holds d;
+            (stored_more x.state.role.mode x.stored x.state.position.held_back piece bytes_now after
+            (goes_on_with x.state.role.mode x.state.position.held_back piece bytes_now after holds d));
+        holds = held_fits x.state.role.mode x.state.position.held_back piece bytes_now after holds d;
         armed = sym (ap is_armed held);
         becomes = record {
           sent = h.sent ∙ ap (λ (t : Turn). w.sent ++ replied x.address t.reply) turns;
@@ -395,7 +398,7 @@ module _ (w v : WorldState) (k : ℕ) (x : OpenEnd) (from : Endpoint) (bytes : L
     -- a commit that was not refused
     commits_as : (mid sink : Holding) (bytes_now after : List ℕ) → nat_lt (length piece) terms.size ≡ true →
         h.held ≡ Sink sink → mid.bytes ≡ x.stored ++ bytes_now →
-        Decoded x.state.role.mode x.state.position.held piece bytes_now after →
+        Decoded x.state.role.mode x.state.position.held_back piece bytes_now after →
         (answer : Result Done StoreFault) → h.turn ≡ committed_turn terms number from (holding after x.state) answer →
         Kept_all mid sink answer → (y : OpenEnd) × HasStored terms number piece y
     commits_as mid sink bytes_now after is held same d answer t (For_good ok kept_bytes done) =
@@ -408,7 +411,7 @@ module _ (w v : WorldState) (k : ℕ) (x : OpenEnd) (from : Endpoint) (bytes : L
 
     appends_as : (mid sink : Holding) (bytes_now after : List ℕ) (answer : Result Done StoreFault) (last : Bool) →
         nat_lt (length piece) terms.size ≡ last → h.held ≡ Sink sink →
-        Decoded x.state.role.mode x.state.position.held piece bytes_now after →
+        Decoded x.state.role.mode x.state.position.held_back piece bytes_now after →
         Took (holding_of x) mid bytes_now answer →
         GoesOn (world_sink refuses_commit) terms number from x.state last after mid answer h.turn sink →
         (y : OpenEnd) × HasStored terms number piece y

@@ -11,17 +11,17 @@ use Rattle.tftp_file.specs.declared.files.Files.TheVariants.{Source, Sink}
 use Rattle.tftp_file.specs.Sink.{Holding}
 use Rattle.tftp_ends.specs.declared.action.Action.{Action}
 use Rattle.tftp_ends.specs.declared.action.Action.TheVariants.{Respond}
-use Rattle.tftp_ends.specs.declared.action.Response.TheVariants.{Ignore, Stranger}
+use Rattle.tftp_ends.specs.declared.action.Response.TheVariants.{Ignore, WrongPeer}
 use Rattle.tftp_ends.specs.declared.phase.Phase.{Phase}
 use Rattle.tftp_ends.specs.declared.phase.Phase.TheVariants.{Waiting, Sending, Receiving, Dallying, Closed}
 use Rattle.tftp_ends.specs.End.{is_client, terms_of, outcome_of, record_of, Position}
-use Rattle.tftp_ends.specs.Action.{same_address, same_endpoint, is_stranger, garbled_response, packet_action}
+use Rattle.tftp_ends.specs.Action.{same_address, same_endpoint, is_wrong_peer, garbled_response, packet_action}
 use Rattle.tftp_ends.specs.Step.{Turn, Acts, with_position}
-use Rattle.tftp_machine.specs.Hosts.{host_of, request_port, two_hosts}
-use Rattle.tftp_machine.specs.Machine.{Endpoint, At_server, Elsewhere}
-use Rattle.tftp_machine.specs.OpenEnds.{OpenEnd, files_of, end_after, peer_of, with_phase}
-use Rattle.tftp_machine.specs.EndKept.{PhaseKept}
-use Rattle.tftp_machine.proofs.PhaseMoves.{same_ips, same_endpoints}
+use Rattle.tftp_rules.specs.Hosts.{host_of, request_port, two_hosts}
+use Rattle.tftp_rules.specs.Machine.{Endpoint, At_server, Elsewhere}
+use Rattle.tftp_rules.specs.OpenEnds.{OpenEnd, files_of, end_after, peer_of, with_phase}
+use Rattle.tftp_rules.specs.EndKept.{PhaseKept}
+use Rattle.tftp_rules.proofs.PhaseMoves.{same_ips, same_endpoints}
 use Rattle.tftp_player.specs.Strangers.{HasNoStranger, IsRecordedSo, StraysChangeNoRecord, ClientsHaveServers}
 use Rattle.tftp_player.specs.World.{WorldState, WorldEnd, Open_end, end_record, end_address, file_at, in_the_way}
 use Rattle.tftp_player.specs.World.{standing, view_of_end}
@@ -30,9 +30,9 @@ use Rattle.tftp_player.specs.WorldSteps.{may_refuse_commit, ServiceStep, Arrives
 use Rattle.tftp_player.specs.WorldSteps.{At_closed_end, At_nobody, OpeningStep, OnDatagram, world_sink}
 use Rattle.tftp_server.specs.Port.{Service, Silent, Refused, Sends, Takes}
 use Rattle.tftp_player.specs.declared.report.Report.{Report}
-use Rattle.tftp_machine.proofs.Indices.{slice_get-set_same, slice_get-set_other, slice_get-push_old}
+use Rattle.tftp_rules.proofs.Indices.{slice_get-set_same, slice_get-set_other, slice_get-push_old}
 use Rattle.tftp_player.proofs.WorldTurns.{view_at}
-use Rattle.tftp_machine.proofs.Shown.{shown_by}
+use Rattle.tftp_rules.proofs.Shown.{shown_by}
 use Rattle.tftp_player.proofs.Standing.{standing_record}
 
 -- a test that cannot hold
@@ -50,7 +50,7 @@ not_server from far same =
 -- to an open end whose peer is no stranger
 is_strange : (phase : Phase) (x0 : OpenEnd) (from : Endpoint) → PhaseKept two_hosts (with_phase phase x0) phase →
     host_of from ≡ Elsewhere → ((p : Endpoint) → peer_of phase ≡ Some p → host_of p ≢ Elsewhere) →
-    is_some (outcome_of phase) ≡ false → is_stranger (terms_of phase) x0.state.position.last_sent_to from ≡ true
+    is_some (outcome_of phase) ≡ false → is_wrong_peer (terms_of phase) x0.state.position.last_sent_to from ≡ true
 is_strange (Waiting asked limit) x0 from kept far home o =
     fails (same_address x0.state.position.last_sent_to from)
     (λ e.
@@ -75,11 +75,11 @@ module _ (w : WorldState) (k : ℕ) (x : OpenEnd) (from : Endpoint) (bytes : Lis
       (world_sink (may_refuse_commit (is_client x.state.role.side) (in_the_way w.overwrite (file_at w.files x.path))))
       action from bytes x.state (files_of x) t.turn t.held
 
-  stays_by : (b : Bool) → Acts_at (if b then Respond Ignore else Respond Stranger) → t.turn.position ≡ x.state.position
+  stays_by : (b : Bool) → Acts_at (if b then Respond Ignore else Respond WrongPeer) → t.turn.position ≡ x.state.position
   stays_by true h = ap (λ (u : Turn). u.position) h.0
   stays_by false h = ap (λ (u : Turn). u.position) h.0
 
-  strange_same : is_stranger (terms_of x.state.position.phase) x.state.position.last_sent_to from ≡ true →
+  strange_same : is_wrong_peer (terms_of x.state.position.phase) x.state.position.last_sent_to from ≡ true →
       t.turn.position ≡ x.state.position
   strange_same strange =
       let near =
@@ -89,7 +89,7 @@ module _ (w : WorldState) (k : ℕ) (x : OpenEnd) (from : Endpoint) (bytes : Lis
       stays_by (has_error_opcode bytes)
       (subst
       (λ (b : Bool).
-      Acts_at (if b then (if has_error_opcode bytes then Respond Ignore else Respond Stranger) else near)) strange
+      Acts_at (if b then (if has_error_opcode bytes then Respond Ignore else Respond WrongPeer) else near)) strange
       t.steps.acts)
 
 -- the record of an end whose state is unchanged

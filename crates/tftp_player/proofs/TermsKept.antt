@@ -17,21 +17,22 @@ use Rattle.tftp_file.specs.Sink.{Holding}
 use Rattle.tftp_ends.specs.declared.action.Action.{Action}
 use Rattle.tftp_ends.specs.declared.action.Action.TheVariants.{Respond, Send, Store}
 use Rattle.tftp_ends.specs.declared.action.Response.{Response}
-use Rattle.tftp_ends.specs.declared.action.Response.TheVariants.{Ignore, Stranger, ResendReply, Retransmit, Wait, Close}
+use Rattle.tftp_ends.specs.declared.action.Response.TheVariants.{Ignore, WrongPeer, ResendReply, Retransmit, Wait}
+use Rattle.tftp_ends.specs.declared.action.Response.TheVariants.{Close}
 use Rattle.tftp_ends.specs.declared.action.Response.TheVariants.{Refuse, Accept, Complete}
 use Rattle.tftp_ends.specs.declared.phase.Dally.TheVariants.{Fresh, Waited}
 use Rattle.tftp_ends.specs.declared.phase.Phase.{Phase}
 use Rattle.tftp_ends.specs.declared.phase.Phase.TheVariants.{Waiting, Sending, Receiving, Dallying, Closed}
 use Rattle.tftp_ends.specs.declared.phase.Terms.{Terms}
 use Rattle.tftp_ends.specs.End.{EndState, is_client, terms_of, Position}
-use Rattle.tftp_ends.specs.Action.{is_stranger, garbled_response, packet_action, datagram_action, timeout_response}
+use Rattle.tftp_ends.specs.Action.{is_wrong_peer, garbled_response, packet_action, datagram_action, timeout_response}
 use Rattle.tftp_ends.specs.Phase.{waited}
 use Rattle.tftp_ends.specs.Sender.{sender_action}
 use Rattle.tftp_ends.specs.Receiver.{receiver_action, next_action, dally_response}
 use Rattle.tftp_ends.specs.Text.{is_readable}
 use Rattle.tftp_ends.specs.Step.{Turn, DatagramStep, Acts, SendsFrom, StoresIn, GoesOn, Done, response_turn}
 use Rattle.tftp_ends.specs.Step.{filled_turn, committed_turn, result_count_is, block_length, timeout_turn, holding}
-use Rattle.tftp_machine.specs.Machine.{Endpoint}
+use Rattle.tftp_rules.specs.Machine.{Endpoint}
 use Rattle.tftp_player.specs.WorldSteps.{world_sink}
 
 module _ (agreed : Terms) where
@@ -118,13 +119,14 @@ module _ (agreed : Terms) where
     packet_names (Sending terms n) h =
         sender_names (is_client e.role.side) e.role.length terms n decoded (same_Some terms agreed h)
     packet_names (Receiving terms n) h =
-        receiver_names (is_client e.role.side) e.role.mode e.position.held terms n decoded (same_Some terms agreed h)
+        receiver_names (is_client e.role.side) e.role.mode e.position.held_back terms n decoded
+        (same_Some terms agreed h)
     packet_names (Dallying terms n dally) h = dally_says n decoded
     packet_names (Closed terms n complete outcome) h = tt
 
     datagram_names : terms_of e.position.phase ≡ Some agreed → Names (datagram_action e from bytes decoded)
     datagram_names h =
-        either (is_stranger (terms_of e.position.phase) e.position.last_sent_to from) _ _
+        either (is_wrong_peer (terms_of e.position.phase) e.position.last_sent_to from) _ _
         (either (has_error_opcode bytes) _ _ tt tt)
         (either (has_error_opcode bytes && is_none decoded) _ _ (garbled_says e.position.phase)
         (packet_names e.position.phase h))
@@ -146,7 +148,7 @@ module _ (agreed : Terms) where
   response_has : (response : Response) (from : Endpoint) (e : EndState) → Says response → Has e.position →
       Has (response_turn response from e).position
   response_has Ignore from e s h = h
-  response_has Stranger from e s h = h
+  response_has WrongPeer from e s h = h
   response_has ResendReply from e s h = h
   response_has Retransmit from e s h = h
   response_has Wait from e s h = waited_terms e.position.phase ∙ h

@@ -5,8 +5,8 @@ use Rattle.std.specs.Prelude.{not, option_map, slice_get}
 use Rattle.std.proofs.lemmas.Bool.{true≢false}
 use Rattle.std.proofs.lemmas.Option.{same_Some, slice_get-map}
 use Rattle.tftp_wire.specs.declared.packet.Packet.{Packet}
-use Rattle.tftp_machine.specs.Machine.{Endpoint}
-use Rattle.tftp_machine.specs.Shows.{EndView, IsAnswering, NoneAnswers}
+use Rattle.tftp_rules.specs.Machine.{Endpoint}
+use Rattle.tftp_rules.specs.Shows.{EndView, IsAnswering, NoneAnswers}
 use Rattle.tftp_player.specs.Requests.{IsRepeated, Repeats, AnyRepeats}
 use Rattle.tftp_player.specs.World.{WorldEnd, Open_end, Closed_end, view_of_end}
 

@@ -16,8 +16,8 @@ use Rattle.tftp_file.specs.Netascii.{wire_text}
 use Rattle.tftp_ends.specs.End.{is_sender, is_client}
 use Rattle.tftp_server.specs.Port.{Service, Sends, Takes}
 use Rattle.tftp_server.specs.declared.config.Config.{Config}
-use Rattle.tftp_machine.specs.Hosts.{request_port}
-use Rattle.tftp_machine.specs.OpenEnds.{OpenEnd}
+use Rattle.tftp_rules.specs.Hosts.{request_port}
+use Rattle.tftp_rules.specs.OpenEnds.{OpenEnd}
 use Rattle.tftp_player.specs.Completing.{IsTransferred, Transfers}
 use Rattle.tftp_player.specs.Openings.{MayGet, MayPut, reading_client, writing_client, sending_end, receiving_end}
 use Rattle.tftp_player.specs.Requests.{IsRepeated, service}

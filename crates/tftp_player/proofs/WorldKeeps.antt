@@ -33,18 +33,18 @@ use Rattle.tftp_ends.specs.ErrorReply.{error_packet}
 use Rattle.tftp_wire.specs.Reading.{has_error_opcode}
 use Rattle.tftp_ends.specs.Step.{error_bytes}
 use Rattle.tftp_store.specs.Store.{measured}
-use Rattle.tftp_machine.specs.Hosts.{host_of, server_ip, client_ip, request_port, two_hosts}
-use Rattle.tftp_machine.specs.Machine.{Endpoint, Elsewhere, Message}
-use Rattle.tftp_machine.specs.Rules.{Rule, message}
-use Rattle.tftp_machine.specs.Said.{said}
-use Rattle.tftp_machine.specs.EndOpens.{AreGranted, IsNewly}
-use Rattle.tftp_machine.proofs.Actions.{asks, says_error}
-use Rattle.tftp_machine.proofs.EndOpenings.{no_text, nothing_held, opens_to_send, opens_to_store}
-use Rattle.tftp_machine.proofs.Granted.{answer_granted, answer_small}
-use Rattle.tftp_machine.proofs.EndMoves.{valid_error}
-use Rattle.tftp_machine.proofs.SaidLemmas.{spells_own}
-use Rattle.tftp_machine.proofs.HostLemmas.{host_server, host_client}
-use Rattle.tftp_machine.specs.Shows.{NoneAt, requested, EndView, IsShownAt, IsShownWithin}
+use Rattle.tftp_rules.specs.Hosts.{host_of, server_ip, client_ip, request_port, two_hosts}
+use Rattle.tftp_rules.specs.Machine.{Endpoint, Elsewhere, Message}
+use Rattle.tftp_rules.specs.Rules.{Rule, message}
+use Rattle.tftp_rules.specs.Said.{said}
+use Rattle.tftp_rules.specs.EndOpens.{AreGranted, IsNewly}
+use Rattle.tftp_rules.proofs.Actions.{asks, says_error}
+use Rattle.tftp_rules.proofs.EndOpenings.{no_text, nothing_held, opens_to_send, opens_to_store}
+use Rattle.tftp_rules.proofs.Granted.{answer_granted, answer_small}
+use Rattle.tftp_rules.proofs.EndMoves.{valid_error}
+use Rattle.tftp_rules.proofs.SaidLemmas.{spells_own}
+use Rattle.tftp_rules.proofs.HostLemmas.{host_server, host_client}
+use Rattle.tftp_rules.specs.Shows.{NoneAt, requested, EndView, IsShownAt, IsShownWithin}
 use Rattle.tftp_player.specs.World.{WorldState, WorldEnd, file_at, in_the_way, datagram, said_in, view_of_end}
 use Rattle.tftp_player.specs.Openings.{request_of, reading_client, writing_client, MayGet, MayPut, sending_end}
 use Rattle.tftp_player.specs.Openings.{receiving_end}
@@ -54,7 +54,7 @@ use Rattle.tftp_player.specs.Requests.{IsRepeated, open_transfers, opened_of, be
 use Rattle.tftp_player.specs.WorldSteps.{Stays, ServiceStep, OpeningStep}
 use Rattle.tftp_player.specs.WorldKept.{RefinesBy, RefinesAt, RefinesWithin}
 use Rattle.tftp_player.specs.declared.report.Report.{Report}
-use Rattle.tftp_machine.proofs.Shown.{shown_still, shown_within}
+use Rattle.tftp_rules.proofs.Shown.{shown_still, shown_within}
 use Rattle.tftp_player.proofs.UnansweredLemmas.{none_answers}
 use Rattle.tftp_player.proofs.Measured.{measured_fits}
 use Rattle.tftp_player.proofs.WorldTurns.{viewed_at, opening_keeps, saying_keeps}
@@ -120,7 +120,7 @@ reading_keeps first strangers w v name mode asked report ok may o =
     opening_keeps first strangers w v ok x report p (spells_own p may.valid) shown_now (at_client a refl) refl refl
     (record {
       phase = (refl, may.options.askable, refl, refl, λ _. refl, λ e. absurd (true≢false (sym e)));
-      held = nothing_held mode;
+      held_back = nothing_held mode;
       committed = λ _. refl;
     }) refl refl o
 
@@ -140,7 +140,7 @@ writing_keeps first strangers w v name mode asked file report ok may o =
     opening_keeps first strangers w v ok x report p (spells_own p may.valid) shown_now (at_client a refl) refl refl
     (record {
       phase = (refl, may.options.askable, refl, refl, λ _. refl, λ _. refl);
-      held = nothing_held mode;
+      held_back = nothing_held mode;
       committed = λ e. absurd (true≢false e);
     }) refl refl o
 
@@ -195,7 +195,8 @@ taking_keeps first strangers w v from bytes request path [] report ok come grant
     w.retries ok.shown (host_server x.address refl) (none_at_next first strangers w ok x.address refl) come granted in
     let spelled = spells_at x.state.position.last_sent opens.packet opens.valid opens.last_sent in
     opening_keeps first strangers w v ok x report opens.packet spelled opens.shown (at_server x.address refl) refl refl
-    (record { phase = opens.kept.phase; held = opens.kept.held; committed = opens.kept.committed }) refl refl o
+    (record { phase = opens.kept.phase; held_back = opens.kept.held_back; committed = opens.kept.committed }) refl refl
+    o
 taking_keeps first strangers w v from bytes request path (known ∷ agreed) report ok come granted o =
     let x = receiving_end w from bytes request.mode path (known ∷ agreed) in
     let opens =
@@ -204,7 +205,8 @@ taking_keeps first strangers w v from bytes request path (known ∷ agreed) repo
     (none_at_next first strangers w ok x.address refl) come granted in
     let spelled = spells_at x.state.position.last_sent opens.packet opens.valid opens.last_sent in
     opening_keeps first strangers w v ok x report opens.packet spelled opens.shown (at_server x.address refl) refl refl
-    (record { phase = opens.kept.phase; held = opens.kept.held; committed = opens.kept.committed }) refl refl o
+    (record { phase = opens.kept.phase; held_back = opens.kept.held_back; committed = opens.kept.committed }) refl refl
+    o
 
 -- the request port refuses
 refusing_keeps : (first : List Rule) (strangers : Bool) (w v : WorldState) (from : Endpoint) (reply : ErrorReply) →

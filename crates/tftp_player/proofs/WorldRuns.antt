@@ -18,17 +18,17 @@ use Rattle.tftp_ends.specs.declared.phase.Phase.TheVariants.{Waiting, Sending, R
 use Rattle.tftp_ends.specs.End.{is_sender, is_client}
 use Rattle.tftp_ends.specs.Action.{Decodes}
 use Rattle.tftp_ends.specs.Step.{timeout_turn}
-use Rattle.tftp_machine.specs.Hosts.{host_of, two_hosts}
-use Rattle.tftp_machine.specs.Machine.{Endpoint, Elsewhere, Message}
-use Rattle.tftp_machine.specs.Rules.{Rule, message}
-use Rattle.tftp_machine.specs.Said.{said}
-use Rattle.tftp_machine.specs.OpenEnds.{OpenEnd, files_of, open_view}
-use Rattle.tftp_machine.specs.EndKept.{PhaseKept}
-use Rattle.tftp_machine.specs.EndShown.{Stands, IsOpenAt, IsThere}
-use Rattle.tftp_machine.proofs.Actions.{strays}
-use Rattle.tftp_machine.proofs.SaidLemmas.{says_spelled}
-use Rattle.tftp_machine.proofs.EndTurns.{datagram_goes, timeout_goes}
-use Rattle.tftp_machine.specs.Shows.{EndView, IsShownAt, IsShownWithin, IsShown}
+use Rattle.tftp_rules.specs.Hosts.{host_of, two_hosts}
+use Rattle.tftp_rules.specs.Machine.{Endpoint, Elsewhere, Message}
+use Rattle.tftp_rules.specs.Rules.{Rule, message}
+use Rattle.tftp_rules.specs.Said.{said}
+use Rattle.tftp_rules.specs.OpenEnds.{OpenEnd, files_of, open_view}
+use Rattle.tftp_rules.specs.EndKept.{PhaseKept}
+use Rattle.tftp_rules.specs.EndShown.{Stands, IsOpenAt, IsThere}
+use Rattle.tftp_rules.proofs.Actions.{strays}
+use Rattle.tftp_rules.proofs.SaidLemmas.{says_spelled}
+use Rattle.tftp_rules.proofs.EndTurns.{datagram_goes, timeout_goes}
+use Rattle.tftp_rules.specs.Shows.{EndView, IsShownAt, IsShownWithin, IsShown}
 use Rattle.tftp_player.specs.World.{WorldState, WorldEnd, Open_end, Closed_end, StoredFile, file_at, in_the_way}
 use Rattle.tftp_player.specs.World.{datagram, new_world, view_of_end}
 use Rattle.tftp_player.specs.WorldSteps.{may_refuse_commit, OnDatagram, Arrives, At_request_port, At_open_end}
@@ -40,10 +40,10 @@ use Rattle.tftp_player.specs.declared.datagram.Datagram.{Datagram}
 use Rattle.tftp_player.specs.declared.event.Event.{Event}
 use Rattle.tftp_player.specs.declared.event.Event.TheVariants.{Get, Put, Deliver, Timeout, RefuseStore, Stray}
 use Rattle.tftp_player.specs.declared.report.Report.{Report}
-use Rattle.tftp_machine.proofs.Indices.{slice_get-set_cases}
+use Rattle.tftp_rules.proofs.Indices.{slice_get-set_cases}
 use Rattle.tftp_player.proofs.Standing.{open_is}
-use Rattle.tftp_machine.proofs.Shown.{shown_start, shown_within}
-use Rattle.tftp_machine.proofs.ViewSafe.{shown_at_home}
+use Rattle.tftp_rules.proofs.Shown.{shown_start, shown_within}
+use Rattle.tftp_rules.proofs.ViewSafe.{shown_at_home}
 use Rattle.tftp_player.proofs.KnownSteps.{from_server, known_step}
 use Rattle.tftp_player.proofs.WorldTurns.{ports_set, nothing_in, one_in, turn_keeps, view_at}
 use Rattle.tftp_player.proofs.WorldKeeps.{reading_keeps, writing_keeps, serving_keeps, asked_so, stays_ok, none_more}
@@ -176,7 +176,7 @@ armed_kept w false x h = record {
     kept =
         record {
           phase = phase_armed x.state.position.phase x h.stands.kept.phase;
-          held = h.stands.kept.held;
+          held_back = h.stands.kept.held_back;
           committed = h.stands.kept.committed;
         };
     last_sent = h.stands.last_sent;

@@ -7,30 +7,30 @@ use Rattle.std.proofs.lemmas.List.{append-nil}
 use Rattle.std.proofs.lemmas.Option.{same_Some}
 use Rattle.tftp_wire.specs.declared.mode.Mode.{Mode}
 use Rattle.tftp_wire.specs.declared.mode.Mode.TheVariants.{Octet, Netascii}
-use Rattle.tftp_file.specs.Block.{IsBeginningOf}
+use Rattle.tftp_file.specs.Block.{IsPrefixOf}
 use Rattle.tftp_file.specs.Netascii.{wire_text}
 use Rattle.tftp_ends.specs.declared.phase.Phase.{Phase}
 use Rattle.tftp_ends.specs.declared.phase.Phase.TheVariants.{Waiting, Sending, Receiving, Dallying, Closed}
 use Rattle.tftp_ends.specs.End.{is_sender, is_client, is_complete}
-use Rattle.tftp_machine.specs.Facts.{home, IsSoundParty}
-use Rattle.tftp_machine.specs.Hosts.{host_of, server_ip, client_ip, two_hosts}
-use Rattle.tftp_machine.specs.Machine.{Endpoint, At_server, At_client, Elsewhere, is_same_ip}
-use Rattle.tftp_machine.specs.Shows.{EndView, Matches}
-use Rattle.tftp_machine.specs.Safety.{AreSafe, IsSenderAt}
-use Rattle.tftp_machine.specs.ViewSafety.{IsAmong, IsSafeViews, safety_view}
-use Rattle.tftp_machine.specs.OpenEnds.{goes_on, received_text}
-use Rattle.tftp_machine.proofs.SinkMoves.{text_else}
-use Rattle.tftp_machine.proofs.SourceMoves.{text_if}
+use Rattle.tftp_rules.specs.Facts.{home, IsSoundParty}
+use Rattle.tftp_rules.specs.Hosts.{host_of, server_ip, client_ip, two_hosts}
+use Rattle.tftp_rules.specs.Machine.{Endpoint, At_server, At_client, Elsewhere, is_same_ip}
+use Rattle.tftp_rules.specs.Shows.{EndView, Matches}
+use Rattle.tftp_rules.specs.Safety.{AreSafe, IsSenderAt}
+use Rattle.tftp_rules.specs.ViewSafety.{IsAmong, IsSafeViews, safety_view}
+use Rattle.tftp_rules.specs.OpenEnds.{goes_on, received_text}
+use Rattle.tftp_rules.proofs.SinkMoves.{text_else}
+use Rattle.tftp_rules.proofs.SourceMoves.{text_if}
 use Rattle.tftp_player.specs.World.{WorldState, WorldEnd, Open_end, Closed_end, end_record, end_address, end_mode}
 use Rattle.tftp_player.specs.World.{end_file, end_stored, end_committed, end_text, end_wire, new_world, view_of_end}
 use Rattle.tftp_player.specs.WorldSafety.{HasPeer, IsIn, IsSafe, endpoint_of_end, safety_of}
 use Rattle.tftp_player.specs.WorldKept.{IsKeptIn, Refines}
 use Rattle.tftp_player.specs.WorldRuns.{WorldsAreSafe, PeersStayHome, KeptIsSafe}
-use Rattle.tftp_player.proofs.HostBytes.{wire_beginning, wire_same}
-use Rattle.tftp_machine.proofs.Endpoints.{endpoint_from}
-use Rattle.tftp_machine.proofs.ViewSafe.{IsBeginningOf-trans, first_of_empty, shown_safe}
+use Rattle.tftp_player.proofs.HostBytes.{wire_prefix, wire_same}
+use Rattle.tftp_rules.proofs.Endpoints.{endpoint_from}
+use Rattle.tftp_rules.proofs.ViewSafe.{IsPrefixOf-trans, first_of_empty, shown_safe}
 use Rattle.tftp_player.proofs.WorldTurns.{view_at, viewed_at}
-use Rattle.tftp_machine.proofs.Shown.{shown_by}
+use Rattle.tftp_rules.proofs.Shown.{shown_by}
 use Rattle.tftp_player.proofs.WorldRuns.{run_keeps, new_ok, any_may, ok_at_home}
 
 end_of : (w : WorldState) (e : EndView) → IsAmong (map view_of_end w.ends) e →
@@ -38,7 +38,7 @@ end_of : (w : WorldState) (e : EndView) → IsAmong (map view_of_end w.ends) e �
 end_of w e i = let h = viewed_at w.ends i.0 e i.1 in (h.0, (i.0, h.1), h.2)
 
 -- what a receiver stored begins its text
-stored_begins : (b g : Bool) (f w h : List ℕ) → b ≡ false → IsBeginningOf w (if b then f else if g then w ++ h else w)
+stored_begins : (b g : Bool) (f w h : List ℕ) → b ≡ false → IsPrefixOf w (if b then f else if g then w ++ h else w)
 stored_begins true g f w h e = absurd (true≢false e)
 stored_begins false true f w h e = (h, refl)
 stored_begins false false f w h e = ([], append-nil w)
@@ -78,10 +78,10 @@ module _ (strangers : Bool) (w : WorldState) (ok : Refines strangers w) where
   among x i = (i.0, view_at w.ends i.0 x i.1)
 
   begins : (x : WorldEnd) → is_sender (end_record x).side ≡ false →
-      IsBeginningOf (wire_text (end_mode x) (end_stored x)) (end_text x)
+      IsPrefixOf (wire_text (end_mode x) (end_stored x)) (end_text x)
   begins (Open_end x) r =
       stored_begins (is_sender x.state.role.side) (goes_on x.state.position.phase) x.text
-      (wire_text x.state.role.mode x.stored) x.state.position.held r
+      (wire_text x.state.role.mode x.stored) x.state.position.held_back r
   begins (Closed_end x) r = stored_begins (is_sender x.recorded.side) false x.text (wire_text x.mode x.stored) [] r
 
   whole : (x : WorldEnd) → is_sender (end_record x).side ≡ false → (end_record x).complete ≡ true →
@@ -89,7 +89,7 @@ module _ (strangers : Bool) (w : WorldState) (ok : Refines strangers w) where
   whole (Open_end x) r d =
       let t = wire_text x.state.role.mode x.stored in
       text_else (is_sender x.state.role.side) x.text (received_text x.state x.stored) r
-      ∙ ap (λ (b : Bool). if b then t ++ x.state.position.held else t) (complete_stops x.state.position.phase d)
+      ∙ ap (λ (b : Bool). if b then t ++ x.state.position.held_back else t) (complete_stops x.state.position.phase d)
   whole (Closed_end x) r d = text_else (is_sender x.recorded.side) x.text (wire_text x.mode x.stored) r
 
   wire_of : (x : WorldEnd) → is_sender (end_record x).side ≡ true → end_text x ≡ end_wire x
@@ -150,15 +150,15 @@ module _ (strangers : Bool) (w : WorldState) (ok : Refines strangers w) where
     is_empty = λ x i r e.
         let t = safe.is_empty (view_of_end x) (among x i) r e in
         let b =
-        subst (λ (z : List ℕ). IsBeginningOf (wire_text (end_mode x) (end_stored x)) z)
+        subst (λ (z : List ℕ). IsPrefixOf (wire_text (end_mode x) (end_stored x)) z)
         (t ∙ sym (nothing_travels (end_mode x))) (begins x r) in
-        first_of_empty (end_stored x) (wire_beginning (end_mode x) (end_stored x) [] b);
-    is_beginning = λ x p i r e own.
-        let h = safe.is_beginning (view_of_end x) p (among x i) r e own in
+        first_of_empty (end_stored x) (wire_prefix (end_mode x) (end_stored x) [] b);
+    is_prefix = λ x p i r e own.
+        let h = safe.is_prefix (view_of_end x) p (among x i) r e own in
         let z = sender_at x p h.0 h.1 in
-        let b = subst (λ (t : List ℕ). IsBeginningOf (wire_text (end_mode x) (end_stored x)) t) z.2
-        (IsBeginningOf-trans (wire_text (end_mode x) (end_stored x)) (end_text x) h.0.text (begins x r) h.2) in
-        (z.0, z.1, wire_beginning (end_mode x) (end_stored x) (end_file z.0) b);
+        let b = subst (λ (t : List ℕ). IsPrefixOf (wire_text (end_mode x) (end_stored x)) t) z.2
+        (IsPrefixOf-trans (wire_text (end_mode x) (end_stored x)) (end_text x) h.0.text (begins x r) h.2) in
+        (z.0, z.1, wire_prefix (end_mode x) (end_stored x) (end_file z.0) b);
     is_committed = λ x i r d. committed x (ok.ends i.0 x i.1) r d;
     is_whole = λ x i r d.
         let g = safe.is_whole (view_of_end x) (among x i) r d in (
@@ -181,7 +181,7 @@ module _ (strangers : Bool) (w : WorldState) (ok : Refines strangers w) where
                   is_end = y.1;
                   address = ap (λ (v : EndView). v.address) y.2 ∙ h.1.address;
                   peer = ap (λ (v : EndView). v.peer) y.2 ∙ h.1.peer;
-                  complete = ap (λ (v : EndView). v.done) y.2 ∙ h.1.complete;
+                  complete = ap (λ (v : EndView). v.complete) y.2 ∙ h.1.complete;
                 },
               ),
         );

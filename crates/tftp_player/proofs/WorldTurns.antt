@@ -16,17 +16,17 @@ use Rattle.tftp_file.specs.Sink.{Holding}
 use Rattle.tftp_file.specs.Netascii.{wire_text}
 use Rattle.tftp_ends.specs.End.{is_sender, is_client, is_complete, outcome_of}
 use Rattle.tftp_ends.specs.Step.{Turn, Reply, after_turn}
-use Rattle.tftp_machine.specs.Hosts.{host_of, two_hosts}
-use Rattle.tftp_machine.specs.Machine.{Endpoint, Elsewhere, Message, Machine}
-use Rattle.tftp_machine.specs.Rules.{Rule, message}
-use Rattle.tftp_machine.specs.Said.{said}
-use Rattle.tftp_machine.specs.OpenEnds.{OpenEnd, with_files, end_after}
-use Rattle.tftp_machine.specs.EndKept.{EndKept}
-use Rattle.tftp_machine.specs.Facts.{home, Holds}
-use Rattle.tftp_machine.specs.Recorded.{AreRecorded}
-use Rattle.tftp_machine.specs.Shows.{EndView, Shows, IsShownWithin}
-use Rattle.tftp_machine.specs.EndShown.{Goes, Replies, Newest}
-use Rattle.tftp_machine.proofs.Shown.{shown_by}
+use Rattle.tftp_rules.specs.Hosts.{host_of, two_hosts}
+use Rattle.tftp_rules.specs.Machine.{Endpoint, Elsewhere, Message, Machine}
+use Rattle.tftp_rules.specs.Rules.{Rule, message}
+use Rattle.tftp_rules.specs.Said.{said}
+use Rattle.tftp_rules.specs.OpenEnds.{OpenEnd, with_files, end_after}
+use Rattle.tftp_rules.specs.EndKept.{EndKept}
+use Rattle.tftp_rules.specs.Facts.{home, Holds}
+use Rattle.tftp_rules.specs.Recorded.{AreRecorded}
+use Rattle.tftp_rules.specs.Shows.{EndView, Shows, IsShownWithin}
+use Rattle.tftp_rules.specs.EndShown.{Goes, Replies, Newest}
+use Rattle.tftp_rules.proofs.Shown.{shown_by}
 use Rattle.tftp_player.specs.World.{WorldState, WorldEnd, Open_end, Closed_end, end_address, end_path, end_stored}
 use Rattle.tftp_player.specs.World.{StoredFile, file_at, in_the_way, datagram, replied, standing, has_committed}
 use Rattle.tftp_player.specs.World.{world_after, opened_in, said_in, view_of_end}
@@ -35,7 +35,7 @@ use Rattle.tftp_player.specs.WorldKept.{HasPorts, IsOpenIn, StandsIn, IsKeptIn, 
 use Rattle.tftp_player.specs.WorldKept.{RefinesWithin}
 use Rattle.tftp_player.specs.declared.datagram.Datagram.{Datagram}
 use Rattle.tftp_player.specs.declared.report.Report.{Report}
-use Rattle.tftp_machine.proofs.Indices.{slice_get-set_cases, slice_get-push_cases}
+use Rattle.tftp_rules.proofs.Indices.{slice_get-set_cases, slice_get-push_cases}
 use Rattle.tftp_player.proofs.Standing.{standing_address, standing_shown, standing_kept}
 
 pub nothing_in : {X : Type 0} (x : X) → Contains [] x → ⊥

@@ -1,9 +1,9 @@
 -- The effect of a datagram on the ends of a world and the server, for every list of sent datagrams.
 use Rattle.std.specs.Prelude.{ℕ, ◌≡◌, ◌+◌, ◌<◌, ⊤, List, ◌++◌, length}
 use Rattle.tftp_player.specs.Effect.{said_by, report_by}
-use Rattle.tftp_machine.specs.Hosts.{host_of, request_port}
-use Rattle.tftp_machine.specs.Machine.{Endpoint}
-use Rattle.tftp_machine.specs.Machine.{Elsewhere as Far}
+use Rattle.tftp_rules.specs.Hosts.{host_of, request_port}
+use Rattle.tftp_rules.specs.Machine.{Endpoint}
+use Rattle.tftp_rules.specs.Machine.{Elsewhere as Far}
 use Rattle.tftp_player.specs.Serving.{PlayedServer}
 use Rattle.tftp_player.specs.Exchange.{world_of}
 use Rattle.tftp_player.specs.World.{WorldState}

@@ -15,8 +15,8 @@ use Rattle.tftp_ends.specs.End.{EndState, record_of, outcome_of}
 use Rattle.tftp_ends.specs.Files.{AreSame}
 use Rattle.tftp_ends.specs.Opening.{request_of}
 use Rattle.tftp_ends.specs.Step.{Turn, after_turn}
-use Rattle.tftp_machine.specs.Hosts.{server_ip, client_ip, request_port}
-use Rattle.tftp_machine.specs.Machine.{Endpoint}
+use Rattle.tftp_rules.specs.Hosts.{server_ip, client_ip, request_port}
+use Rattle.tftp_rules.specs.Machine.{Endpoint}
 use Rattle.tftp_player.specs.Effect.{effect_of}
 use Rattle.tftp_player.specs.PlayedClient.{PlayedClient}
 use Rattle.tftp_player.specs.WorldSteps.{EndStep}

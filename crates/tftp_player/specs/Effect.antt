@@ -2,7 +2,7 @@
 use Rattle.std.specs.Prelude.{ℕ, List, [], ◌∷◌, length, Option, Some, None, option_map}
 use Rattle.tftp_ends.specs.End.{outcome_of}
 use Rattle.tftp_ends.specs.Step.{Turn, Reply, reply_bytes}
-use Rattle.tftp_machine.specs.Machine.{Endpoint}
+use Rattle.tftp_rules.specs.Machine.{Endpoint}
 use Rattle.tftp_player.specs.World.{datagram, closed_at}
 use Rattle.tftp_player.specs.declared.datagram.Datagram.{Datagram}
 use Rattle.tftp_player.specs.declared.effect.Effect.{Effect}

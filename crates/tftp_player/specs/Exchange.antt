@@ -9,13 +9,13 @@ use Rattle.tftp_file.specs.Sink.{Holding}
 use Rattle.tftp_ends.specs.declared.record.Record.{Record}
 use Rattle.tftp_ends.specs.End.{is_sender, is_client}
 use Rattle.tftp_ends.specs.Step.{Turn, timeout_turn}
-use Rattle.tftp_machine.specs.OpenEnds.{OpenEnd, files_of, end_after}
+use Rattle.tftp_rules.specs.OpenEnds.{OpenEnd, files_of, end_after}
 use Rattle.tftp_player.specs.Effect.{effect_of, no_effect, said_by, report_by}
 use Rattle.tftp_player.specs.Played.{client_end, ends_from, records_from, AllKept}
 use Rattle.tftp_player.specs.PlayedClient.{PlayedClient}
 use Rattle.tftp_player.specs.Serving.{PlayedServer, Transfer}
 use Rattle.tftp_player.specs.Requests.{open_transfers}
-use Rattle.tftp_machine.specs.Machine.{Endpoint}
+use Rattle.tftp_rules.specs.Machine.{Endpoint}
 use Rattle.tftp_player.specs.World.{WorldState, ClosedEnd, WorldEnd, Open_end, Closed_end}
 use Rattle.tftp_player.specs.World.{end_record, end_address, end_stored, end_committed, StoredFile}
 use Rattle.tftp_player.specs.World.{file_at, in_the_way, has_committed}

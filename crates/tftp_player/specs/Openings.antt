@@ -9,10 +9,10 @@ use Rattle.tftp_file.specs.Netascii.{wire_text}
 use Rattle.tftp_ends.specs.End.{EndState}
 pub use Rattle.tftp_ends.specs.Opening.{request_of, getting, putting, serving_read, serving_write}
 pub use Rattle.tftp_ends.specs.Opening.{MayGet, MayPut}
-use Rattle.tftp_machine.specs.EndOpens.{left_at_first}
-use Rattle.tftp_machine.specs.Hosts.{request_port}
-use Rattle.tftp_machine.specs.Machine.{Endpoint}
-use Rattle.tftp_machine.specs.OpenEnds.{OpenEnd}
+use Rattle.tftp_rules.specs.EndOpens.{left_at_first}
+use Rattle.tftp_rules.specs.Hosts.{request_port}
+use Rattle.tftp_rules.specs.Machine.{Endpoint}
+use Rattle.tftp_rules.specs.OpenEnds.{OpenEnd}
 use Rattle.tftp_player.specs.World.{WorldState, next_port, ip_of}
 
 -- an end as it opens at the next port, for this request and the file at a path, with this text left

@@ -11,8 +11,8 @@ use Rattle.tftp_ends.specs.Files.{AreFilesOf}
 use Rattle.tftp_ends.specs.Step.{timeout_turn}
 use Rattle.tftp_server.specs.State.{at, draft_of, draft_at}
 use Rattle.tftp_store.specs.Store.{Drafted, new_draft}
-use Rattle.tftp_machine.specs.Machine.{Endpoint}
-use Rattle.tftp_machine.specs.OpenEnds.{OpenEnd}
+use Rattle.tftp_rules.specs.Machine.{Endpoint}
+use Rattle.tftp_rules.specs.OpenEnds.{OpenEnd}
 use Rattle.tftp_player.specs.Clients.{client_at, server_at, left_in, holding_in, ClientTurns}
 use Rattle.tftp_player.specs.Clients.{ClientDatagramStep, stored_by, armed_client}
 use Rattle.tftp_player.specs.PlayedClient.{PlayedClient}

@@ -3,8 +3,8 @@ use Rattle.std.specs.Prelude.{◌≡◌, ◌<◌, ℕ, Bool, false, List, length
 use Rattle.tftp_wire.specs.Spelling.{Spells}
 use Rattle.tftp_wire.specs.declared.packet.Packet.{Packet}
 use Rattle.tftp_wire.specs.declared.packet.Packet.TheVariants.{Read, Write}
-use Rattle.tftp_machine.specs.Hosts.{request_port}
-use Rattle.tftp_machine.specs.Machine.{Endpoint}
+use Rattle.tftp_rules.specs.Hosts.{request_port}
+use Rattle.tftp_rules.specs.Machine.{Endpoint}
 use Rattle.tftp_player.specs.Requests.{Repeats, AnyRepeats}
 use Rattle.tftp_player.specs.World.{WorldState, WorldEnd, is_closed, no_report}
 use Rattle.tftp_player.specs.WorldKept.{Refines}

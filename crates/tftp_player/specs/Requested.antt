@@ -10,7 +10,7 @@ use Rattle.tftp_ends.specs.Action.{Decodes}
 use Rattle.tftp_server.specs.Port.{asks, asks_store}
 use Rattle.tftp_server.specs.State.{IsRepeated}
 use Rattle.tftp_store.specs.Store.{FileList, file_at}
-use Rattle.tftp_machine.specs.Machine.{Endpoint}
+use Rattle.tftp_rules.specs.Machine.{Endpoint}
 use Rattle.tftp_player.specs.Serving.{PlayedServer}
 use Rattle.tftp_player.specs.declared.served.Served.{Served}
 

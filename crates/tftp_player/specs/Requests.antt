@@ -9,8 +9,8 @@ use Rattle.tftp_ends.specs.End.{is_client}
 use Rattle.tftp_server.specs.Port.{Ask, Service, answered, service as service_by}
 use Rattle.tftp_server.specs.State.{WasRequested, AnyByRecursion, RepeatsOne}
 use Rattle.tftp_store.specs.Store.{measured}
-use Rattle.tftp_machine.specs.Machine.{Endpoint}
-use Rattle.tftp_machine.specs.OpenEnds.{OpenEnd, peer_of}
+use Rattle.tftp_rules.specs.Machine.{Endpoint}
+use Rattle.tftp_rules.specs.OpenEnds.{OpenEnd, peer_of}
 use Rattle.tftp_player.specs.World.{WorldState, WorldEnd, Open_end, Closed_end, file_at}
 use Rattle.tftp_player.specs.World.{in_the_way}
 

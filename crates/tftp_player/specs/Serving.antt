@@ -13,11 +13,11 @@ use Rattle.tftp_ends.specs.Files.{AreFilesOf, AreSame}
 use Rattle.tftp_ends.specs.Step.{Turn, after_turn, lent, timeout_turn}
 use Rattle.tftp_server.specs.Draft.{files_in, KeepsStore}
 use Rattle.tftp_store.specs.Memory.{memory_meaning, with_armed}
-use Rattle.tftp_server.specs.State.{HeldTransfer, ServerState, at, draft_of, with_next, without}
+use Rattle.tftp_server.specs.State.{TransferState, ServerState, at, draft_of, with_next, without}
 use Rattle.tftp_server.specs.State as server
 use Rattle.tftp_server.specs.Steps.{StepIn, with_end}
 use Rattle.tftp_store.specs.Store.{Stored, Drafted}
-use Rattle.tftp_machine.specs.Machine.{Endpoint}
+use Rattle.tftp_rules.specs.Machine.{Endpoint}
 use Rattle.tftp_player.specs.Clients.{server_at}
 use Rattle.tftp_player.specs.Effect.{effect_of}
 use Rattle.tftp_player.specs.declared.effect.Effect.{Effect}
@@ -28,7 +28,7 @@ abbrev pub PlayedServer : Type 0
 PlayedServer = ServerState Stored (List ℕ) Drafted
 
 abbrev pub Transfer : Type 0
-Transfer = HeldTransfer (List ℕ) Drafted
+Transfer = TransferState (List ℕ) Drafted
 
 -- the server, with its store set to refuse or not
 abbrev pub server_armed : PlayedServer → Bool → PlayedServer

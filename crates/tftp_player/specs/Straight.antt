@@ -16,7 +16,7 @@ use Rattle.tftp_ends.specs.declared.outcome.Outcome.{Outcome}
 use Rattle.tftp_ends.specs.declared.outcome.Outcome.TheVariants.{StoreFault}
 use Rattle.tftp_ends.specs.Action.{Decodes}
 use Rattle.tftp_server.specs.Port.{Service, Sends, Takes}
-use Rattle.tftp_machine.specs.OpenEnds.{OpenEnd}
+use Rattle.tftp_rules.specs.OpenEnds.{OpenEnd}
 use Rattle.tftp_player.specs.Openings.{reading_client, writing_client}
 use Rattle.tftp_player.specs.Requests.{IsRepeated, service}
 use Rattle.tftp_player.specs.Settling.{Settled}

@@ -1,8 +1,8 @@
 -- What a datagram of neither host leaves unchanged (RFC 1350, section 4).
 use Rattle.std.specs.Prelude.{◌≡◌, ◌≢◌, ℕ, Bool, true, List, slice_get, Some}
 use Rattle.tftp_ends.specs.End.{is_client}
-use Rattle.tftp_machine.specs.Hosts.{host_of}
-use Rattle.tftp_machine.specs.Machine.{Endpoint, At_server, Elsewhere}
+use Rattle.tftp_rules.specs.Hosts.{host_of}
+use Rattle.tftp_rules.specs.Machine.{Endpoint, At_server, Elsewhere}
 use Rattle.tftp_player.specs.World.{WorldState, WorldEnd, end_record}
 use Rattle.tftp_player.specs.WorldKept.{Refines}
 use Rattle.tftp_player.specs.WorldSafety.{IsIn, HasPeer}

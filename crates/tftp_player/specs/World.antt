@@ -16,10 +16,10 @@ use Rattle.tftp_ends.specs.declared.record.Record.{Record}
 use Rattle.tftp_ends.specs.declared.side.Side.{Side}
 use Rattle.tftp_ends.specs.End.{is_sender, is_client, outcome_of, record_of}
 use Rattle.tftp_ends.specs.Step.{Turn, Reply}
-use Rattle.tftp_machine.specs.Hosts.{server_ip, client_ip}
-use Rattle.tftp_machine.specs.Machine.{Endpoint}
-use Rattle.tftp_machine.specs.OpenEnds.{OpenEnd, end_after, text_of}
-use Rattle.tftp_machine.specs.Shows.{EndView}
+use Rattle.tftp_rules.specs.Hosts.{server_ip, client_ip}
+use Rattle.tftp_rules.specs.Machine.{Endpoint}
+use Rattle.tftp_rules.specs.OpenEnds.{OpenEnd, end_after, text_of}
+use Rattle.tftp_rules.specs.Shows.{EndView}
 use Rattle.tftp_player.specs.declared.datagram.Datagram.{Datagram}
 use Rattle.tftp_player.specs.declared.report.Report.{Report}
 
@@ -242,7 +242,7 @@ view_of_end x =
       peer = (end_record x).peer;
       size = (end_record x).size;
       number = (end_record x).number;
-      done = (end_record x).complete;
+      complete = (end_record x).complete;
       failed = is_closed x && not (end_record x).complete;
       text = end_text x;
       request = end_request x;

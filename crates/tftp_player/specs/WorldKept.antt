@@ -7,13 +7,13 @@ use Rattle.tftp_wire.specs.Spelling.{Spells}
 use Rattle.tftp_negotiate.specs.Ranges.{IsBlockSize}
 use Rattle.tftp_file.specs.Netascii.{wire_text}
 use Rattle.tftp_ends.specs.End.{is_sender, is_client, outcome_of}
-use Rattle.tftp_machine.specs.EndKept.{EndKept}
-use Rattle.tftp_machine.specs.Hosts.{host_of, two_hosts}
-use Rattle.tftp_machine.specs.Machine.{Endpoint, Elsewhere, Message}
-use Rattle.tftp_machine.specs.OpenEnds.{OpenEnd}
-use Rattle.tftp_machine.specs.Rules.{Rule, message}
-use Rattle.tftp_machine.specs.Said.{said}
-use Rattle.tftp_machine.specs.Shows.{EndView, IsShownAt, IsShown, IsShownWithin}
+use Rattle.tftp_rules.specs.EndKept.{EndKept}
+use Rattle.tftp_rules.specs.Hosts.{host_of, two_hosts}
+use Rattle.tftp_rules.specs.Machine.{Endpoint, Elsewhere, Message}
+use Rattle.tftp_rules.specs.OpenEnds.{OpenEnd}
+use Rattle.tftp_rules.specs.Rules.{Rule, message}
+use Rattle.tftp_rules.specs.Said.{said}
+use Rattle.tftp_rules.specs.Shows.{EndView, IsShownAt, IsShown, IsShownWithin}
 use Rattle.tftp_player.specs.World.{WorldState, ClosedEnd, WorldEnd, Open_end, Closed_end}
 use Rattle.tftp_player.specs.World.{end_record, end_address, end_path, end_stored, file_at}
 use Rattle.tftp_player.specs.World.{datagram, view_of_end, end_wire, end_mode, end_file}

@@ -2,9 +2,9 @@
 use Rattle.std.specs.Prelude.{◌≡◌, ◌≢◌, ℕ, ◌+◌, true, false, length, slice_get, Some}
 use Rattle.tftp_ends.specs.End.{is_sender, is_client}
 use Rattle.tftp_ends.specs.declared.side.Side.{Side}
-use Rattle.tftp_machine.specs.Hosts.{host_of}
-use Rattle.tftp_machine.specs.Machine.{Endpoint, At_server, Elsewhere}
-use Rattle.tftp_machine.specs.Safety.{SafetyView, AreSafe}
+use Rattle.tftp_rules.specs.Hosts.{host_of}
+use Rattle.tftp_rules.specs.Machine.{Endpoint, At_server, Elsewhere}
+use Rattle.tftp_rules.specs.Safety.{SafetyView, AreSafe}
 use Rattle.tftp_player.specs.World.{WorldState, WorldEnd, ip_of, end_record, end_address, end_mode}
 use Rattle.tftp_player.specs.World.{end_path, end_file, end_stored, end_committed, file_at}
 

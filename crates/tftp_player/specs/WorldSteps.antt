@@ -12,9 +12,9 @@ use Rattle.tftp_file.specs.Sink.{Holding, SinkMeaning}
 use Rattle.tftp_ends.specs.End.{EndState, is_sender, is_client}
 use Rattle.tftp_ends.specs.Action.{Decodes}
 use Rattle.tftp_ends.specs.Step.{Turn, DatagramStep, timeout_turn, error_bytes}
-use Rattle.tftp_machine.specs.Hosts.{host_of, request_port}
-use Rattle.tftp_machine.specs.Machine.{Endpoint, Elsewhere}
-use Rattle.tftp_machine.specs.OpenEnds.{OpenEnd, files_of, end_after}
+use Rattle.tftp_rules.specs.Hosts.{host_of, request_port}
+use Rattle.tftp_rules.specs.Machine.{Endpoint, Elsewhere}
+use Rattle.tftp_rules.specs.OpenEnds.{OpenEnd, files_of, end_after}
 use Rattle.tftp_player.specs.World.{StoredFile, file_at, in_the_way, ClosedEnd, WorldEnd}
 use Rattle.tftp_player.specs.World.{Open_end, Closed_end, end_address, WorldState, next_port}
 use Rattle.tftp_player.specs.World.{datagram, has_committed, world_after}

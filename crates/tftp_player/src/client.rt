@@ -6,7 +6,7 @@ ghost use Rattle.tftp_ends.specs.End.{record_of, outcome_of};
 ghost use Rattle.tftp_file.specs.Netascii.{wire_text};
 ghost use Rattle.tftp_ends.specs.Opening.{MayGet, MayPut, getting, putting};
 ghost use Rattle.tftp_ends.specs.Step.{timeout_turn};
-ghost use Rattle.tftp_machine.specs.Hosts.{request_port};
+ghost use Rattle.tftp_rules.specs.Hosts.{request_port};
 ghost use Rattle.tftp_player.specs.Clients.{ClientTurns, ClientDatagramStep, asking_client};
 ghost use Rattle.tftp_player.specs.Clients.{sending_client, stored_by, armed_client, client_at};
 ghost use Rattle.tftp_player.specs.Clients.{holding_in, asking_effect, sending_effect, open_fault};

@@ -4,7 +4,7 @@ ghost use Rattle.std.specs.Prelude.{◌≡◌};
 ghost use Rattle.tftp_player.specs.Clients.{client_at, server_at};
 
 use tftp_ends::Endpoint;
-use tftp_machine::{CLIENT_IP, SERVER_IP};
+use tftp_rules::{CLIENT_IP, SERVER_IP};
 
 /// The server's request port (RFC 1350, section 4).
 pub(crate) const REQUEST_PORT: Endpoint = Endpoint {

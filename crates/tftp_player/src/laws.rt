@@ -20,7 +20,7 @@ ghost use Rattle.tftp_player.specs.WorldRuns.{StepsAreRules, KeptIsSafe};
 ghost use Rattle.tftp_player.specs.WorldRuns.{NewWorldsBegin};
 
 /// After every list of events, from a world in which nothing has happened: the ends of an
-/// established transfer have one block size, what a receiver stored is a beginning of its peer's
+/// established transfer have one block size, what a receiver stored is a prefix of its peer's
 /// file, a receiver that is complete has stored and committed all of it, and a complete sender has
 /// a complete peer. Nothing is claimed of a peer at neither host; without strangers every peer is
 /// at one of the two.

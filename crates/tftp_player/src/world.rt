@@ -4,8 +4,8 @@ ghost use Rattle.std.specs.Prelude.{◌≡◌, true, false, option_map, IfOk, If
 ghost use Rattle.std.specs.Prelude.{◌↔◌};
 ghost use Rattle.tftp_server.specs.Config.{IsConfig};
 ghost use Rattle.tftp_store.specs.Memory.{contents, has_distinct_paths, in_path_order};
-ghost use Rattle.tftp_machine.specs.Hosts.{host_of};
-ghost use Rattle.tftp_machine.specs.Machine.{Elsewhere};
+ghost use Rattle.tftp_rules.specs.Hosts.{host_of};
+ghost use Rattle.tftp_rules.specs.Machine.{Elsewhere};
 ghost use Rattle.tftp_player.specs.Played.{records_from};
 ghost use Rattle.tftp_player.specs.PlayedWorld.{strayed_after, HasSentEach, IsHome, WasPlayed};
 ghost use Rattle.tftp_player.specs.Exchange.{stored_at, committed_at};
@@ -24,7 +24,7 @@ use std::alloc::Global;
 use std::marker::Model;
 use tftp_ends::{Endpoint, Record};
 use tftp_file::Path;
-use tftp_machine::is_foreign;
+use tftp_rules::is_foreign;
 use tftp_server::Config;
 
 /// One server, its clients, and a network from which no datagram is ever removed.
@@ -35,7 +35,7 @@ use tftp_server::Config;
 /// 1,024 on.
 ///
 /// It is safe at all times: the two ends of an established transfer have one block size, what a
-/// receiver stored is a beginning of its peer's file and all of it once it is complete, and a
+/// receiver stored is a prefix of its peer's file and all of it once it is complete, and a
 /// sender is complete only after its receiver. The laws on a world that was played (`WasPlayed`)
 /// hold of any `World`.
 #[derive(Drop)]

@@ -4,30 +4,32 @@ use Rattle.std.specs.Prelude.{◌⊎◌}
 use Rattle.slab.specs.Slab.{Slab, get}
 use Rattle.tftp_wire.specs.declared.packet.Packet.{Packet}
 use Rattle.tftp_ends.specs.declared.endpoint.Endpoint.{Endpoint}
-use Rattle.tftp_server.specs.State.{HeldTransfer, AnyRepeats}
+use Rattle.tftp_server.specs.State.{TransferState, AnyRepeats}
 use Rattle.tftp_server.specs.Table.{joined, with_found, IsJoined, KeyRepeats, AnyKeyRepeats}
 
 module _ {F D : Type 0} (from : Endpoint) (packet : Packet) where
-  found : (tid : ℕ) (o : Option (HeldTransfer F D)) (others : List (ℕ × HeldTransfer F D)) (rest : Type 0) → IsSome o →
+  found : (tid : ℕ) (o : Option (TransferState F D)) (others : List (ℕ × TransferState F D)) (rest : Type 0) →
+      IsSome o →
       KeyRepeats from packet o ⊎ rest → (rest → AnyRepeats from packet others) →
       AnyRepeats from packet (with_found tid o others)
   found tid None others rest here k more = absurd (cc)
   found tid (Some held) others rest here k more = elim k [ inl r ↦ inl r | inr r ↦ inr (more r) ]
 
-  keyed : (tid : ℕ) (o : Option (HeldTransfer F D)) (others : List (ℕ × HeldTransfer F D)) (rest : Type 0) → IsSome o →
+  keyed : (tid : ℕ) (o : Option (TransferState F D)) (others : List (ℕ × TransferState F D)) (rest : Type 0) →
+      IsSome o →
       AnyRepeats from packet (with_found tid o others) → (AnyRepeats from packet others → rest) →
       KeyRepeats from packet o ⊎ rest
   keyed tid None others rest here k more = absurd (cc)
   keyed tid (Some held) others rest here k more = elim k [ inl r ↦ inl r | inr r ↦ inr (more r) ]
 
-  pub repeats_joined : (index : List (ℕ × ℕ)) (slots : Slab (HeldTransfer F D)) → IsJoined index slots →
+  pub repeats_joined : (index : List (ℕ × ℕ)) (slots : Slab (TransferState F D)) → IsJoined index slots →
       AnyKeyRepeats from packet slots (map (λ e. e.1) index) → AnyRepeats from packet (joined index slots)
   repeats_joined [] slots h k = k
   repeats_joined (e ∷ index) slots h k =
       found e.0 (get slots e.1) (joined index slots) (AnyKeyRepeats from packet slots (map (λ f. f.1) index)) h.0 k
       (repeats_joined index slots h.2)
 
-  pub joined_repeats : (index : List (ℕ × ℕ)) (slots : Slab (HeldTransfer F D)) → IsJoined index slots →
+  pub joined_repeats : (index : List (ℕ × ℕ)) (slots : Slab (TransferState F D)) → IsJoined index slots →
       AnyRepeats from packet (joined index slots) → AnyKeyRepeats from packet slots (map (λ e. e.1) index)
   joined_repeats [] slots h k = k
   joined_repeats (e ∷ index) slots h k =

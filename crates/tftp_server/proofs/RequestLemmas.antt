@@ -40,7 +40,7 @@ use Rattle.tftp_server.specs.Port.{begin_reply}
 use Rattle.tftp_server.specs.Request.{Acts, Admits, CarriesOut, Came, Nothing, Error_reply, A_transfer, IsRequest}
 use Rattle.tftp_server.specs.Request.{AsksToWrite, Goes, RequestStep, Left, ask_of, came_to, decided_bytes, left_by}
 use Rattle.tftp_server.specs.Shortage.{NamesAPath}
-use Rattle.tftp_server.specs.State.{HeldTransfer, ServerState, IsRepeated, with_new}
+use Rattle.tftp_server.specs.State.{TransferState, ServerState, IsRepeated, with_new}
 use Rattle.tftp_store.specs.Store.{StoreMeaning, Begins}
 
 -- what was appended is truncated
@@ -188,7 +188,7 @@ module _ {S F D : Type 0} (meaning : StoreMeaning S D) (sources : SourceMeaning 
     (from : Endpoint) (bytes : List ℕ) where
   -- a draft was begun
   pub asks_to_write : (path : List ℕ) (mode : Mode) (agreed : List Known) (store : S) (draft : D) (end : EndState)
-      (request : List ℕ) (held : HeldTransfer F D) →
+      (request : List ℕ) (held : TransferState F D) →
       Begins meaning.drafted (meaning.stored old.store) (meaning.stored store) path old.config.overwrite (Ok draft) →
       meaning.begun old.store store None →
       end ≡ serving_write agreed from mode old.config.retries → request ≡ bytes →
@@ -208,7 +208,7 @@ module _ {S F D : Type 0} (meaning : StoreMeaning S D) (sources : SourceMeaning 
         refused = tt;
         begun = begun;
         memory = λ e. cc;
-        goes_on = ap (λ (h : HeldTransfer F D). A_transfer h store) held-is;
+        goes_on = ap (λ (h : TransferState F D). A_transfer h store) held-is;
       }
 
   -- or none was, and an ERROR is sent
@@ -305,13 +305,13 @@ module _ {S F D : Type 0} (meaning : StoreMeaning S D) (sources : SourceMeaning 
 
 -- ---- a write, for which the table reserved capacity first
 module _ {S F D : Type 0} (meaning : StoreMeaning S D) (sources : SourceMeaning F) (config : Config) (store : S)
-    (held none : List (ℕ × HeldTransfer F D)) (from : Endpoint) (bytes : List ℕ) (path : List ℕ) (mode : Mode)
+    (held none : List (ℕ × TransferState F D)) (from : Endpoint) (bytes : List ℕ) (path : List ℕ) (mode : Mode)
     (agreed : List Known) (after : ServerState S F D)
-    (config' : Config) (store' : S) (others : List (ℕ × HeldTransfer F D)) (table : List (ℕ × HeldTransfer F D)) where
-  abbrev before_write : List (ℕ × HeldTransfer F D) → ServerState S F D
+    (config' : Config) (store' : S) (others : List (ℕ × TransferState F D)) (table : List (ℕ × TransferState F D)) where
+  abbrev before_write : List (ℕ × TransferState F D) → ServerState S F D
   before_write transfers = record { config = config; store = store; held = transfers }
 
-  abbrev after_write : List (ℕ × HeldTransfer F D) → ServerState S F D
+  abbrev after_write : List (ℕ × TransferState F D) → ServerState S F D
   after_write transfers = record { config = config'; store = store'; held = transfers }
 
   module _ (seen : after_write others ≡ after) (rest : after ≡ record (before_write none) { store = after.store }) where
@@ -343,7 +343,7 @@ module _ {S F D : Type 0} (meaning : StoreMeaning S D) (sources : SourceMeaning 
         × (out ≡ was ++ sent) × (record { new = after_write table; opened = opened; sent = sent } ≡ left_by came
         (before_write held) from tid)
 
-    pub write_opened : (tid : ℕ) (was out : List ℕ) (d : Decision F D) (transfer : HeldTransfer F D) →
+    pub write_opened : (tid : ℕ) (was out : List ℕ) (d : Decision F D) (transfer : TransferState F D) →
         d ≡ Open transfer → table ≡ with_new tid transfer held →
         AsksToWrite meaning sources (before_write none) from bytes path mode agreed (came_to d after.store) →
         out ≡ was ++ decided_bytes d →

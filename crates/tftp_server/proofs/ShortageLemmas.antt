@@ -27,7 +27,7 @@ use Rattle.tftp_server.specs.declared.fault.ServerFault.TheVariants as faults
 use Rattle.tftp_server.specs.Draft.{Drafting, drafting_sink}
 use Rattle.tftp_server.specs.Fault.{of_end}
 use Rattle.tftp_server.specs.Shortage.{TransferLacksMemory, LacksMemoryAt, TimeoutLacksMemory}
-use Rattle.tftp_server.specs.State.{HeldTransfer, ServerState, at, with_next}
+use Rattle.tftp_server.specs.State.{TransferState, ServerState, at, with_next}
 use Rattle.tftp_server.specs.Steps.{StaysAs}
 use Rattle.tftp_store.specs.Store.{StoreMeaning}
 use Rattle.tftp_server.proofs.StepsLemmas.{drafting_of, found_now}
@@ -61,7 +61,7 @@ module _ {K L : Type 0} (sinks : SinkMeaning L) (g : K → L) where
       ReceiverActLacksMemory sinks action bytes e (g k) (g k')
   act_as (Respond response) bytes e k k' h = h
   act_as (Send terms number) bytes e k k' h = h
-  act_as (Store terms number) bytes e k k' h = store_as e.role.mode e.position.held _ k k' h
+  act_as (Store terms number) bytes e k k' h = store_as e.role.mode e.position.held_back _ k k' h
 
   lacks_as : (too_full : ℕ → Type 0) (from : Endpoint) (bytes : List ℕ) (e : EndState) (k k' : K) →
       ReceiverLacksMemory (sink_through sinks g) too_full from bytes e k k' →
@@ -135,7 +135,7 @@ module _ {S D : Type 0} (meaning : StoreMeaning S D) where
       ReceiverActLacksMemory (drafting_sink meaning) action bytes e d d' → d' ≡ d
   act_stays (Respond response) bytes e d d' h = absurd h
   act_stays (Send terms number) bytes e d d' h = absurd h
-  act_stays (Store terms number) bytes e d d' h = store_stays e.role.mode e.position.held _ d d' h
+  act_stays (Store terms number) bytes e d d' h = store_stays e.role.mode e.position.held_back _ d d' h
 
   lacks_stays : (too_full : ℕ → Type 0) (from : Endpoint) (bytes : List ℕ) (e : EndState) (d d' : Drafting S D) →
       ReceiverLacksMemory (drafting_sink meaning) too_full from bytes e d d' → d' ≡ d
@@ -207,8 +207,8 @@ memory_of_end fault server same is =
     ap Err (of_memory fault (sym same ∙ memory))
 
 pub lacks_at : {S F D : Type 0} (meaning : StoreMeaning S D) (sources : SourceMeaning F) (too_full : ℕ → Type 0)
-    (tid : ℕ) (from : Endpoint) (bytes : List ℕ) (old new : ServerState S F D) (table : List (ℕ × HeldTransfer F D))
-    (transfer next : HeldTransfer F D) → table ≡ old.held → Some transfer ≡ at tid table →
+    (tid : ℕ) (from : Endpoint) (bytes : List ℕ) (old new : ServerState S F D) (table : List (ℕ × TransferState F D))
+    (transfer next : TransferState F D) → table ≡ old.held → Some transfer ≡ at tid table →
     new.held ≡ with_next tid next table →
     TransferLacksMemory meaning sources too_full old.config.overwrite from bytes old.store new.store transfer next →
     LacksMemoryAt meaning sources too_full tid from bytes old new

@@ -26,7 +26,7 @@ use Rattle.tftp_server.specs.declared.fault.ServerFault.TheVariants as faults
 use Rattle.tftp_server.specs.declared.config.Config.{Config}
 use Rattle.tftp_server.specs.Draft.{Drafting, drafting_sink}
 use Rattle.tftp_server.specs.Fault.{of_end}
-use Rattle.tftp_server.specs.State.{HeldTransfer, ServerState, is_closed, at, with_next}
+use Rattle.tftp_server.specs.State.{TransferState, ServerState, is_closed, at, with_next}
 use Rattle.tftp_server.specs.Steps.{Gives, StepIn, TakesBy, TakesDatagramBy, TimesOutBy, StaysAs, KeepsHeld}
 use Rattle.tftp_server.specs.Steps.{TimeoutFault, DatagramFaultBy, with_end}
 use Rattle.tftp_server.specs.Work.{Works, WorksAt}
@@ -156,7 +156,7 @@ different {R = R} fault memory e =
     subst (λ (f : EndFault). IsErrOf {T = R} (Err f) ends.Closed) memory e in cc
 
 module _ {F D : Type 0} where
-  open_unless_closed : {R : Type 0} (held : HeldTransfer F D) (fault : EndFault) →
+  open_unless_closed : {R : Type 0} (held : TransferState F D) (fault : EndFault) →
       (IsErrOf {T = R} (Err fault) ends.Closed ↔ (is_closed held ≡ true)) → fault ≡ ends.Memory → is_closed held ≡ false
   open_unless_closed {R = R} held fault closed memory = by (is_closed held) refl
     where
@@ -164,13 +164,13 @@ module _ {F D : Type 0} where
       by true h = absurd (different {R = R} fault memory (closed.1 h))
       by false h = refl
 
-  pub timeout_fault : (transfer : Option (HeldTransfer F D)) (held : HeldTransfer F D) (fault : EndFault)
+  pub timeout_fault : (transfer : Option (TransferState F D)) (held : TransferState F D) (fault : EndFault)
       (server : ServerFault) → transfer ≡ Some held → server ≡ of_end fault →
       (IsErrOf {T = Step} (Err fault) ends.Closed ↔ (is_closed held ≡ true)) →
       (IsErrOf {T = Step} (Err fault) ends.Memory →
       IsAnswered (timeout_action held.end.position.retries_left held.end.position.phase)) → TimeoutFault transfer server
   timeout_fault transfer held fault server there same closed memory =
-      subst (λ (t : Option (HeldTransfer F D)). TimeoutFault t server) (sym there)
+      subst (λ (t : Option (TransferState F D)). TimeoutFault t server) (sym there)
       (subst (λ (f : ServerFault). TimeoutFault (Some held) f) (sym same) (by fault closed memory))
     where
       by : (f : EndFault) → (IsErrOf {T = Step} (Err f) ends.Closed ↔ (is_closed held ≡ true)) →
@@ -181,13 +181,13 @@ module _ {F D : Type 0} where
       by ends.Memory c m = (open_unless_closed {R = Step} held ends.Memory c refl, m refl)
 
   pub datagram_fault : {R : Type 0} (kind : Action → Type 0) (from : Endpoint) (bytes : List ℕ)
-      (transfer : Option (HeldTransfer F D)) (held : HeldTransfer F D) (fault : EndFault) (server : ServerFault) →
+      (transfer : Option (TransferState F D)) (held : TransferState F D) (fault : EndFault) (server : ServerFault) →
       transfer ≡ Some held → server ≡ of_end fault →
       (IsErrOf {T = R} (Err fault) ends.Closed ↔ (is_closed held ≡ true)) →
       (IsErrOf {T = R} (Err fault) ends.Memory → (decoded : Option Packet) × Decodes bytes decoded
       × kind (datagram_action held.end from bytes decoded)) → DatagramFaultBy kind from bytes transfer server
   datagram_fault {R = R} kind from bytes transfer held fault server there same closed memory =
-      subst (λ (t : Option (HeldTransfer F D)). DatagramFaultBy kind from bytes t server) (sym there)
+      subst (λ (t : Option (TransferState F D)). DatagramFaultBy kind from bytes t server) (sym there)
       (subst (λ (f : ServerFault). DatagramFaultBy kind from bytes (Some held) f) (sym same)
       (by fault closed memory))
     where
@@ -199,11 +199,12 @@ module _ {F D : Type 0} where
           let said = m refl in (open_unless_closed {R = R} held ends.Memory c refl, said.0, said.1, said.2)
 
   -- ---- what is written back to the transfers
-  pub found_now : (tid : ℕ) (table now : List (ℕ × HeldTransfer F D)) (transfer : HeldTransfer F D) → table ≡ now →
+  pub found_now : (tid : ℕ) (table now : List (ℕ × TransferState F D)) (transfer : TransferState F D) → table ≡ now →
       Some transfer ≡ at tid table → at tid now ≡ Some transfer
   found_now tid table now transfer same found = ap (at tid) (sym same) ∙ sym found
 
-  pub times_out : (gives : Gives) (tid : ℕ) (table now : List (ℕ × HeldTransfer F D)) (transfer next : HeldTransfer F D)
+  pub times_out : (gives : Gives) (tid : ℕ) (table now : List (ℕ × TransferState F D))
+      (transfer next : TransferState F D)
       (step : Step) → table ≡ now → Some transfer ≡ at tid table →
       gives transfer.end (timeout_turn transfer.end) next.end step.to
       × (step ≡ reported transfer.end (timeout_turn transfer.end)) × (next ≡ with_end next.end transfer) →
@@ -216,15 +217,15 @@ module _ {F D : Type 0} where
         carries = h.0;
         reports = h.1;
         held =
-            ap (λ (t : HeldTransfer F D). with_next tid t table) h.2 ∙ ap (with_next tid (with_end next.end transfer))
+            ap (λ (t : TransferState F D). with_next tid t table) h.2 ∙ ap (with_next tid (with_end next.end transfer))
             same;
       }
 
   -- writing an unchanged transfer back changes nothing
-  pub nothing_written : (tid : ℕ) (table : List (ℕ × HeldTransfer F D)) (transfer next : HeldTransfer F D) →
+  pub nothing_written : (tid : ℕ) (table : List (ℕ × TransferState F D)) (transfer next : TransferState F D) →
       Some transfer ≡ at tid table → next ≡ transfer → with_next tid next table ≡ table
   nothing_written tid table transfer next found same =
-      ap (λ (t : HeldTransfer F D). with_next tid t table) same ∙ set_value_same (is_at (nat_cmp tid)) table transfer
+      ap (λ (t : TransferState F D). with_next tid t table) same ∙ set_value_same (is_at (nat_cmp tid)) table transfer
       (sym found)
 
 of_closed : (fault : EndFault) → of_end fault ≡ faults.NoSuchTid → fault ≡ ends.Closed
@@ -233,7 +234,8 @@ of_closed ends.Memory e = absurd (cc)
 
 -- a datagram to a closed transfer changes nothing of the server
 pub leaves_unmoved : {S F D R Q : Type 0} (config : Config) (store store' : S) (tid : ℕ)
-    (table : List (ℕ × HeldTransfer F D)) (transfer next : HeldTransfer F D) (fault : EndFault) (server : ServerFault) →
+    (table : List (ℕ × TransferState F D)) (transfer next : TransferState F D) (fault : EndFault)
+    (server : ServerFault) →
     Some transfer ≡ at tid table → server ≡ of_end fault →
     (IsErrOf {T = R} (Err fault) ends.Closed → (next ≡ transfer) × (store' ≡ store)) →
     IsErrOf {T = Q} (Err server) faults.NoSuchTid →
@@ -246,11 +248,11 @@ leaves_unmoved {S = S} {F = F} {D = D} config store store' tid table transfer ne
     (record { config = config; store = store'; held = with_next tid next table })
     (record { config = config; store = store; held = with_next tid next table }) = ap
     (λ (s : S). record { config = config; store = s; held = with_next tid next table }) k.1 in
-    step-1 ∙ ap (λ (held : List (ℕ × HeldTransfer F D)). record { config = config; store = store; held = held })
+    step-1 ∙ ap (λ (held : List (ℕ × TransferState F D)). record { config = config; store = store; held = held })
     (nothing_written tid table transfer next found k.0)
 
 module _ {S F D : Type 0} (meaning : StoreMeaning S D) (sources : SourceMeaning F) (tid : ℕ)
-    (old new : ServerState S F D) (table : List (ℕ × HeldTransfer F D)) (transfer next : HeldTransfer F D)
+    (old new : ServerState S F D) (table : List (ℕ × TransferState F D)) (transfer next : TransferState F D)
     (same : table ≡ old.held) (found : Some transfer ≡ at tid table)
     (written : new.held ≡ with_next tid next table) where
   pub takes_datagram : (gives : Gives) (from : Endpoint) (bytes : List ℕ) (step : Step) →
@@ -268,11 +270,11 @@ module _ {S F D : Type 0} (meaning : StoreMeaning S D) (sources : SourceMeaning 
   pub keeps_held : StaysAs meaning sources old.config.overwrite old.store new.store transfer next →
       KeepsHeld meaning sources tid (at tid old.held) old new
   keeps_held h =
-      subst (λ (t : Option (HeldTransfer F D)). KeepsHeld meaning sources tid t old new)
+      subst (λ (t : Option (TransferState F D)). KeepsHeld meaning sources tid t old new)
       (sym (found_now tid table old.held transfer same found)) (next, h, written ∙ ap (with_next tid next) same)
 
   pub works_at : Works meaning sources old.store new.store transfer next →
       WorksAt meaning sources tid (at tid old.held) old new
   works_at h =
-      subst (λ (t : Option (HeldTransfer F D)). WorksAt meaning sources tid t old new)
+      subst (λ (t : Option (TransferState F D)). WorksAt meaning sources tid t old new)
       (sym (found_now tid table old.held transfer same found)) (next, h, written ∙ ap (with_next tid next) same)

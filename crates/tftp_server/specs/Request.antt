@@ -30,7 +30,7 @@ use Rattle.tftp_server.specs.declared.server.admission.PortAction.TheVariants as
 use Rattle.tftp_server.specs.declared.server.request.Decision.{Decision}
 use Rattle.tftp_server.specs.declared.server.request.Decision.TheVariants.{Refuse, Open}
 use Rattle.tftp_store.specs.declared.store.Opening.{Opening}
-use Rattle.tftp_server.specs.State.{HeldTransfer, ServerState, IsRepeated, with_new}
+use Rattle.tftp_server.specs.State.{TransferState, ServerState, IsRepeated, with_new}
 use Rattle.tftp_server.specs.Port.{Ask, Ignores, Refuses, Reads, Writes, Service, Refused, Sends}
 use Rattle.tftp_server.specs.Port.{Takes, asks, by_file, by_draft}
 use Rattle.tftp_store.specs.Store.{StoreMeaning, Opens, Begins, FailsIf, RefusedIf}
@@ -47,7 +47,7 @@ pub data Came (S F D : Type 0) : Type 0 where
   -- an ERROR is sent, and this is the new store
   Error_reply : ErrorReply → S → Came S F D
   -- a transfer opens, and this is the new store
-  A_transfer : HeldTransfer F D → S → Came S F D
+  A_transfer : TransferState F D → S → Came S F D
 
 -- a datagram to the request port, and what the port decided for it
 pub record AdmissionState : Type 0 where

@@ -21,14 +21,14 @@ use Rattle.tftp_store.specs.Store.{StoreMeaning, Opens, RefusedIf}
 use Rattle.tftp_server.specs.Draft.{files_in, drafting_sink}
 use Rattle.tftp_server.specs.Port.{Ask, Ignores, Refuses, Reads, Writes, Service, Refused, by_file}
 use Rattle.tftp_server.specs.Request.{Admits, IsRequest, opened_length}
-use Rattle.tftp_server.specs.State.{HeldTransfer, ServerState, IsRepeated, at, with_next}
+use Rattle.tftp_server.specs.State.{TransferState, ServerState, IsRepeated, at, with_next}
 
 -- ---- an event of a transfer
 
 -- `out`, of this capacity and length, has no room for the datagram of a timeout
 pub record TimeoutLacksMemory {F D : Type 0} (capacity used tid : ℕ)
-    (held : List (ℕ × HeldTransfer F D)) : Type 0 where
-  pub transfer : HeldTransfer F D
+    (held : List (ℕ × TransferState F D)) : Type 0 where
+  pub transfer : TransferState F D
   pub found : at tid held ≡ Some transfer
   pub room : HasNoRoom capacity used (response_room transfer.end
       (timeout_response transfer.end.position.retries_left transfer.end.position.phase))
@@ -36,7 +36,7 @@ pub record TimeoutLacksMemory {F D : Type 0} (capacity used tid : ℕ)
 module _ {S F D : Type 0} (meaning : StoreMeaning S D) (sources : SourceMeaning F) where
   -- the end of a transfer lacks memory for a datagram
   abbrev pub TransferLacksMemory : (ℕ → Type 0) → Bool → Endpoint → List ℕ → S → S
-      → HeldTransfer F D → HeldTransfer F D → Type 0
+      → TransferState F D → TransferState F D → Type 0
   TransferLacksMemory too_full replace from bytes store store' transfer next =
       LacksMemory sources (drafting_sink meaning) too_full from bytes transfer.end
       (files_in store transfer.path replace transfer.files)
@@ -45,8 +45,8 @@ module _ {S F D : Type 0} (meaning : StoreMeaning S D) (sources : SourceMeaning 
   -- so does that of the transfer at the identifier
   pub record LacksMemoryAt (too_full : ℕ → Type 0) (tid : ℕ) (from : Endpoint) (bytes : List ℕ)
       (old new : ServerState S F D) : Type 0 where
-    pub transfer : HeldTransfer F D
-    pub next : HeldTransfer F D
+    pub transfer : TransferState F D
+    pub next : TransferState F D
     pub found : at tid old.held ≡ Some transfer
     pub lacks : TransferLacksMemory too_full old.config.overwrite from bytes old.store new.store
         transfer next

@@ -15,7 +15,7 @@ use Rattle.tftp_server.specs.declared.config.Config.{Config}
 
 -- a held transfer: its end, its source or draft, the path of the file, and the datagram of the
 -- request
-pub record HeldTransfer (F D : Type 0) : Type 0 where
+pub record TransferState (F D : Type 0) : Type 0 where
   pub end : EndState
   pub files : Files F D
   pub path : List ℕ
@@ -25,15 +25,15 @@ pub record HeldTransfer (F D : Type 0) : Type 0 where
 pub record ServerState (S F D : Type 0) : Type 0 where
   pub config : Config
   pub store : S
-  pub held : List (ℕ × HeldTransfer F D)
+  pub held : List (ℕ × TransferState F D)
 
 module _ {F D : Type 0} where
   -- the transfer has closed
-  abbrev pub is_closed : HeldTransfer F D → Bool
+  abbrev pub is_closed : TransferState F D → Bool
   is_closed held = is_some (outcome_of held.end.position.phase)
 
   -- there is a transfer, and it is open
-  abbrev pub is_open : Option (HeldTransfer F D) → Bool
+  abbrev pub is_open : Option (TransferState F D) → Bool
   is_open None = false
   is_open (Some held) = not (is_closed held)
 
@@ -47,19 +47,19 @@ module _ {F D : Type 0} where
   draft_of (Source source) = None
   draft_of (Sink draft) = Some draft
 
-  abbrev pub draft_at : Option (HeldTransfer F D) → Option D
+  abbrev pub draft_at : Option (TransferState F D) → Option D
   draft_at None = None
   draft_at (Some held) = draft_of held.files
 
   -- the identifier and the record of each open transfer
-  abbrev pub open_records : List (ℕ × HeldTransfer F D) → List (ℕ × Record)
+  abbrev pub open_records : List (ℕ × TransferState F D) → List (ℕ × Record)
   open_records [] = []
   open_records (e ∷ held) =
       if is_closed e.1 then open_records held
       else (e.0, record_of e.1.end) ∷ open_records held
 
   -- what `take_closed` returns of a transfer: nothing unless it is closed
-  abbrev pub taken_of : Option (HeldTransfer F D) → Option (Record × Option D)
+  abbrev pub taken_of : Option (TransferState F D) → Option (Record × Option D)
   taken_of None = None
   taken_of (Some held) =
       if is_closed held then Some (record_of held.end, draft_of held.files) else None
@@ -85,16 +85,16 @@ module _ {T : Type 0} where
 
 module _ {F D : Type 0} where
   -- an open transfer was requested from this endpoint by a datagram that spells this packet
-  abbrev pub Repeats : Endpoint → Packet → HeldTransfer F D → Type 0
+  abbrev pub Repeats : Endpoint → Packet → TransferState F D → Type 0
   Repeats from packet held =
       WasRequested (is_closed held) (record_of held.end).peer held.request from packet
 
   -- one of the transfers was so requested
-  abbrev pub AnyRepeats : Endpoint → Packet → List (ℕ × HeldTransfer F D) → Type 0
+  abbrev pub AnyRepeats : Endpoint → Packet → List (ℕ × TransferState F D) → Type 0
   AnyRepeats from packet held = AnyByRecursion (λ e. Repeats from packet e.1) held
 
   -- whether a datagram repeats the request of an open transfer
-  abbrev pub IsRepeated : Bool → Endpoint → Option Packet → List (ℕ × HeldTransfer F D) → Type 0
+  abbrev pub IsRepeated : Bool → Endpoint → Option Packet → List (ℕ × TransferState F D) → Type 0
   IsRepeated repeated from decoded held =
       RepeatsOne (λ packet e. Repeats from packet e.1) repeated decoded held
 

@@ -15,7 +15,7 @@ use Rattle.tftp_ends.specs.declared.outgoing.Outgoing.{Outgoing}
 use Rattle.tftp_server.specs.declared.fault.ServerFault.{ServerFault}
 use Rattle.tftp_server.specs.declared.fault.ServerFault.TheVariants.{NoSuchTid, Memory}
 use Rattle.tftp_server.specs.Draft.{Drafting, files_in, drafting_sink, KeepsDraft, KeepsStore}
-use Rattle.tftp_server.specs.State.{HeldTransfer, ServerState, at, is_open, is_closed, with_next}
+use Rattle.tftp_server.specs.State.{TransferState, ServerState, at, is_open, is_closed, with_next}
 use Rattle.tftp_store.specs.Store.{StoreMeaning}
 
 -- what a call returns for a step of an end, by the end that it leaves and the answer's destination
@@ -32,13 +32,13 @@ lends outgoing e turn e' to = Lends e turn e' to outgoing
 
 module _ {F D : Type 0} where
   -- the transfer with another state of its end
-  abbrev pub with_end : EndState → HeldTransfer F D → HeldTransfer F D
+  abbrev pub with_end : EndState → TransferState F D → TransferState F D
   with_end e held = record held { end = e }
 
   -- the step of the transfer at the identifier at a timeout; every other transfer is unchanged
-  pub record TimesOutBy (gives : Gives) (tid : ℕ) (old new : List (ℕ × HeldTransfer F D))
+  pub record TimesOutBy (gives : Gives) (tid : ℕ) (old new : List (ℕ × TransferState F D))
       (step : Step) : Type 0 where
-    pub transfer : HeldTransfer F D
+    pub transfer : TransferState F D
     pub found : at tid old ≡ Some transfer
     pub end : EndState
     pub carries : gives transfer.end (timeout_turn transfer.end) end step.to
@@ -46,16 +46,16 @@ module _ {F D : Type 0} where
     pub held : new ≡ with_next tid (with_end end transfer) old
 
   -- its datagram is appended, or lent
-  abbrev pub TimesOut : ℕ → List (ℕ × HeldTransfer F D) → List (ℕ × HeldTransfer F D) → Step
+  abbrev pub TimesOut : ℕ → List (ℕ × TransferState F D) → List (ℕ × TransferState F D) → Step
       → List ℕ → List ℕ → Type 0
   TimesOut tid old new step before after = TimesOutBy (appends before after) tid old new step
 
-  abbrev pub TimesOutLent : ℕ → List (ℕ × HeldTransfer F D) → List (ℕ × HeldTransfer F D) → Step
+  abbrev pub TimesOutLent : ℕ → List (ℕ × TransferState F D) → List (ℕ × TransferState F D) → Step
       → Outgoing → Type 0
   TimesOutLent tid old new step outgoing = TimesOutBy (lends outgoing) tid old new step
 
   -- why a timeout was not handled: there is no open transfer, or no memory for its datagram
-  abbrev pub TimeoutFault : Option (HeldTransfer F D) → ServerFault → Type 0
+  abbrev pub TimeoutFault : Option (TransferState F D) → ServerFault → Type 0
   TimeoutFault transfer NoSuchTid = is_open transfer ≡ false
   TimeoutFault (Some held) Memory =
       (is_closed held ≡ false)
@@ -64,7 +64,7 @@ module _ {F D : Type 0} where
 
   -- why a datagram was not handled: there is no open transfer, or no memory for an action of this
   -- kind
-  abbrev pub DatagramFaultBy : (Action → Type 0) → Endpoint → List ℕ → Option (HeldTransfer F D)
+  abbrev pub DatagramFaultBy : (Action → Type 0) → Endpoint → List ℕ → Option (TransferState F D)
       → ServerFault → Type 0
   DatagramFaultBy kind from bytes transfer NoSuchTid = is_open transfer ≡ false
   DatagramFaultBy kind from bytes (Some held) Memory =
@@ -73,10 +73,10 @@ module _ {F D : Type 0} where
   DatagramFaultBy kind from bytes transfer _ = ⊥
 
   -- where the answer is appended, or lent
-  abbrev pub DatagramFault : Endpoint → List ℕ → Option (HeldTransfer F D) → ServerFault → Type 0
+  abbrev pub DatagramFault : Endpoint → List ℕ → Option (TransferState F D) → ServerFault → Type 0
   DatagramFault from bytes transfer fault = DatagramFaultBy IsAnswered from bytes transfer fault
 
-  abbrev pub DatagramFaultLent : Endpoint → List ℕ → Option (HeldTransfer F D) → ServerFault
+  abbrev pub DatagramFaultLent : Endpoint → List ℕ → Option (TransferState F D) → ServerFault
       → Type 0
   DatagramFaultLent from bytes transfer fault = DatagramFaultBy UsesFile from bytes transfer fault
 
@@ -89,7 +89,7 @@ module _ {S F D : Type 0} (meaning : StoreMeaning S D) (sources : SourceMeaning 
 
   -- the step of a transfer at a datagram, and its effect on the store
   pub record TakesBy (gives : Gives) (replace : Bool) (from : Endpoint) (bytes : List ℕ)
-      (store store' : S) (transfer next : HeldTransfer F D) (step : Step) : Type 0 where
+      (store store' : S) (transfer next : TransferState F D) (step : Step) : Type 0 where
     pub turn : Turn
     pub steps : StepIn from bytes transfer.end
         (files_in store transfer.path replace transfer.files) turn
@@ -104,14 +104,14 @@ module _ {S F D : Type 0} (meaning : StoreMeaning S D) (sources : SourceMeaning 
   -- the step of the transfer at the identifier at a datagram; every other transfer is unchanged
   pub record TakesDatagramBy (gives : Gives) (tid : ℕ) (from : Endpoint) (bytes : List ℕ)
       (old new : ServerState S F D) (step : Step) : Type 0 where
-    pub transfer : HeldTransfer F D
-    pub next : HeldTransfer F D
+    pub transfer : TransferState F D
+    pub next : TransferState F D
     pub found : at tid old.held ≡ Some transfer
     pub takes : TakesBy gives old.config.overwrite from bytes old.store new.store transfer next step
     pub held : new.held ≡ with_next tid next old.held
 
   -- its answer is appended, or lent
-  abbrev pub TakesIn : Bool → Endpoint → List ℕ → S → S → HeldTransfer F D → HeldTransfer F D
+  abbrev pub TakesIn : Bool → Endpoint → List ℕ → S → S → TransferState F D → TransferState F D
       → Step → List ℕ → List ℕ → Type 0
   TakesIn replace from bytes store store' transfer next step before after =
       TakesBy (appends before after) replace from bytes store store' transfer next step
@@ -128,7 +128,7 @@ module _ {S F D : Type 0} (meaning : StoreMeaning S D) (sources : SourceMeaning 
 
   -- the transfer and the store are unchanged, but for a source, which holds the same bytes
   pub record StaysAs (replace : Bool) (store store' : S)
-      (transfer next : HeldTransfer F D) : Type 0 where
+      (transfer next : TransferState F D) : Type 0 where
     pub end : next.end ≡ transfer.end
     pub path : next.path ≡ transfer.path
     pub request : next.request ≡ transfer.request
@@ -139,10 +139,10 @@ module _ {S F D : Type 0} (meaning : StoreMeaning S D) (sources : SourceMeaning 
         (files_in store' next.path replace next.files)
 
   -- nothing changes but the source of the transfer at the identifier, which holds the same bytes
-  abbrev pub KeepsHeld : ℕ → Option (HeldTransfer F D) → ServerState S F D → ServerState S F D
+  abbrev pub KeepsHeld : ℕ → Option (TransferState F D) → ServerState S F D → ServerState S F D
       → Type 0
   KeepsHeld tid None old new = new ≡ old
   KeepsHeld tid (Some transfer) old new =
-      (next : HeldTransfer F D)
+      (next : TransferState F D)
       × StaysAs old.config.overwrite old.store new.store transfer next
       × (new.held ≡ with_next tid next old.held)

@@ -7,7 +7,7 @@ use Rattle.std.specs.Ordering.{nat_cmp}
 use Rattle.slab.specs.Slab.{Slab, HasRoomFor, get}
 use Rattle.tftp_wire.specs.declared.packet.Packet.{Packet}
 use Rattle.tftp_ends.specs.declared.endpoint.Endpoint.{Endpoint}
-use Rattle.tftp_server.specs.State.{HeldTransfer, Repeats}
+use Rattle.tftp_server.specs.State.{TransferState, Repeats}
 
 -- an entry before the others, if its key has a value
 abbrev pub with_found : {T : Type 0} → ℕ → Option T → List (ℕ × T) → List (ℕ × T)
@@ -31,12 +31,12 @@ IsKeyFor None key slots = get slots key ≡ None
 IsKeyFor (Some found) key slots = key ≡ found
 
 -- there is an open transfer under a key, and it was requested from this endpoint by this packet
-abbrev pub KeyRepeats : {F D : Type 0} → Endpoint → Packet → Option (HeldTransfer F D) → Type 0
+abbrev pub KeyRepeats : {F D : Type 0} → Endpoint → Packet → Option (TransferState F D) → Type 0
 KeyRepeats from packet None = ⊥
 KeyRepeats from packet (Some held) = Repeats from packet held
 
 -- one of the transfers under the keys was so requested
-abbrev pub AnyKeyRepeats : {F D : Type 0} → Endpoint → Packet → Slab (HeldTransfer F D) → List ℕ
+abbrev pub AnyKeyRepeats : {F D : Type 0} → Endpoint → Packet → Slab (TransferState F D) → List ℕ
     → Type 0
 AnyKeyRepeats from packet slots [] = ⊥
 AnyKeyRepeats from packet slots (key ∷ keys) =

@@ -4,7 +4,7 @@ use Rattle.tftp_file.specs.Source.{SourceMeaning, ReadsAhead}
 use Rattle.tftp_file.specs.declared.files.Files.{Files}
 use Rattle.tftp_file.specs.declared.files.Files.TheVariants.{Source, Sink}
 use Rattle.tftp_store.specs.Store.{StoreMeaning, WritesBehind}
-use Rattle.tftp_server.specs.State.{HeldTransfer, ServerState, with_next}
+use Rattle.tftp_server.specs.State.{TransferState, ServerState, with_next}
 
 module _ {S F D : Type 0} (meaning : StoreMeaning S D) (sources : SourceMeaning F) where
   -- a source reads ahead, and the store is unchanged; or a draft is written back
@@ -16,15 +16,15 @@ module _ {S F D : Type 0} (meaning : StoreMeaning S D) (sources : SourceMeaning 
   FilesWork store store' files files' = ⊥
 
   -- the file of a transfer works, and nothing else of the transfer changes
-  pub record Works (store store' : S) (transfer next : HeldTransfer F D) : Type 0 where
+  pub record Works (store store' : S) (transfer next : TransferState F D) : Type 0 where
     pub files : FilesWork store store' transfer.files next.files
     pub rest : next ≡ record transfer { files = next.files }
 
   -- the file of the transfer at the identifier works, if one is held; every other transfer is
   -- unchanged
-  abbrev pub WorksAt : ℕ → Option (HeldTransfer F D) → ServerState S F D → ServerState S F D
+  abbrev pub WorksAt : ℕ → Option (TransferState F D) → ServerState S F D → ServerState S F D
       → Type 0
   WorksAt tid None old new = new ≡ old
   WorksAt tid (Some transfer) old new =
-      (next : HeldTransfer F D) × Works old.store new.store transfer next
+      (next : TransferState F D) × Works old.store new.store transfer next
       × (new.held ≡ with_next tid next old.held)

@@ -35,10 +35,10 @@ pub(crate) struct Transfer<F, D> {
 }
 
 impl<F, D> Model for Transfer<F, D> {
-    ghost use Rattle.tftp_server.specs.State.{HeldTransfer};
+    ghost use Rattle.tftp_server.specs.State.{TransferState};
     ghost use Rattle.tftp_ends.specs.Files.{AreFilesOf};
 
-    ghost Value = { HeldTransfer F D };
+    ghost Value = { TransferState F D };
 
     ghost view = { λ t. record {
       end = t.end;

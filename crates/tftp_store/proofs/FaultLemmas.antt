@@ -26,7 +26,7 @@ module _ {F : Type 0} (sources : SourceMeaning F) (before after : F) (h : ReadsA
   -- reading ahead below does not change the source above it
   pub reads_ahead : (fails : Bool)
       → ReadsAhead (opened_meaning sources) (record { source = before; fails = fails })
-          (record { source = after; fails = fails })
+      (record { source = after; fails = fails })
   reads_ahead fails = record {
     left = left_or_fails fails _ h.left;
     may_fail = may_fail_still fails;

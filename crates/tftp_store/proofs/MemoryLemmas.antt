@@ -37,17 +37,17 @@ module _ {X : Type 0} where
   inserted_at : (o : Ordering) (path k : List ℕ) (v : X) (e : List ℕ × X) (es more : List (List ℕ × X))
       → path_cmp k e.0 ≡ o
       → lookup (is_at (path_cmp path)) more
-          ≡ cond (is_at (path_cmp path) k) (Some v) (lookup (is_at (path_cmp path)) es)
+      ≡ cond (is_at (path_cmp path) k) (Some v) (lookup (is_at (path_cmp path)) es)
       → lookup (is_at (path_cmp path)) (match_ordering o ((k, v) ∷ e ∷ es) ((e.0, v) ∷ es) (e ∷ more))
-          ≡ cond (is_at (path_cmp path) k) (Some v) (lookup (is_at (path_cmp path)) (e ∷ es))
+      ≡ cond (is_at (path_cmp path) k) (Some v) (lookup (is_at (path_cmp path)) (e ∷ es))
   inserted_at Less path k v e es more order rest = refl
   inserted_at Equal path k v e es more order rest =
       replaced (is_at (path_cmp path) e.0) (is_at (path_cmp path) k) e.1 v (lookup (is_at (path_cmp path)) es)
-          (sym (ap (is_at (path_cmp path)) (exact_bytes k e.0 order)))
+      (sym (ap (is_at (path_cmp path)) (exact_bytes k e.0 order)))
   inserted_at Greater path k v e es more order rest =
       ap (λ o. cond (is_at (path_cmp path) e.0) (Some e.1) o) rest
       ∙ swapped (is_at (path_cmp path) e.0) (is_at (path_cmp path) k) e.1 v (lookup (is_at (path_cmp path)) es)
-          (λ here there. apart here there)
+      (λ here there. apart here there)
     where
       apart : is_at (path_cmp path) e.0 ≡ true → is_at (path_cmp path) k ≡ true → ⊥
       apart here there =
@@ -55,14 +55,14 @@ module _ {X : Type 0} where
           let at_e = same_path path e.0 here in
           let equal : path_cmp path k ≡ Equal = equal_from_is_eq (path_cmp path k) there in
           let moved : path_cmp k e.0 ≡ path_cmp path k =
-              ap (λ x. path_cmp x e.0) (sym at_k) ∙ ap (path_cmp path) (sym at_e ∙ at_k) in
+          ap (λ x. path_cmp x e.0) (sym at_k) ∙ ap (path_cmp path) (sym at_e ∙ at_k) in
           let both : Greater ≡ Equal = sym order ∙ moved ∙ equal in
           cc
 
   -- an added file is found at its path, and every other file as before
   pub lookup-insert_entry : (path k : List ℕ) (v : X) (es : List (List ℕ × X))
       → lookup (is_at (path_cmp path)) (insert_entry path_cmp es k v)
-          ≡ cond (is_at (path_cmp path) k) (Some v) (lookup (is_at (path_cmp path)) es)
+      ≡ cond (is_at (path_cmp path) k) (Some v) (lookup (is_at (path_cmp path)) es)
   lookup-insert_entry path k v [] = refl
   lookup-insert_entry path k v (e ∷ es) =
       inserted_at (path_cmp k e.0) path k v e es _ refl (lookup-insert_entry path k v es)
@@ -93,7 +93,7 @@ put_all-lookup path held (e ∷ files) distinct =
     ∙ ap (or_else (file_at path files)) (lookup-insert_entry path e.0 e.1 held)
     ∙ put_first (is_at (path_cmp path) e.0) e.1 (file_at path files) (file_at path held)
     (λ same. ap (λ p. file_at p files) (same_path path e.0 same)
-        ∙ absent_from (file_at e.0 files) (has_distinct_paths files) distinct)
+    ∙ absent_from (file_at e.0 files) (has_distinct_paths files) distinct)
 
 or_nothing : (o : Option (List ℕ)) → or_else o None ≡ o
 or_nothing None = refl

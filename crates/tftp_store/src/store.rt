@@ -71,7 +71,7 @@ pub trait Store {
 
     /// Appends the bytes to a draft.
     ///
-    /// After `Memory` nothing has changed. After another fault a beginning of the bytes may be
+    /// After `Memory` nothing has changed. After another fault a prefix of the bytes may be
     /// appended, and no earlier byte is lost.
     fn append(&mut self, draft: &mut Self::Draft, bytes: &[u8]) -> Result<(), StoreFault>
         ensures appends { Appends

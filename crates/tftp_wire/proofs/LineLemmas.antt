@@ -56,8 +56,11 @@ pub data_fits : (block : ℕ) (bytes : List ℕ) → block < 2 ^ 16 → length b
     → length (line (Data block bytes)) ≤ 40
 data_fits block bytes b l =
     simp length-append
-        (omega (arith, length-decimal-le 5 block (omega arith) (omega arith) (omega arith),
-            length-decimal-le 20 (length bytes) (omega arith) (omega arith) (omega arith)))
+    (omega (
+      arith,
+      length-decimal-le 5 block (omega arith) (omega arith) (omega arith),
+      length-decimal-le 20 (length bytes) (omega arith) (omega arith) (omega arith),
+    ))
 
 -- an ACK
 pub ack_fits : (block : ℕ) → block < 2 ^ 16 → length (line (Ack block)) ≤ 40
@@ -69,7 +72,7 @@ pub error_fits : (code : ℕ) (text : List ℕ) → code < 2 ^ 16
     → length (line (Error code text)) ≤ 3 * length (canonical (Error code text)) + 40
 error_fits code text b =
     simp length-append
-        (omega (arith, message_fits text, length-decimal-le 5 code (omega arith) (omega arith) (omega arith)))
+    (omega (arith, message_fits text, length-decimal-le 5 code (omega arith) (omega arith) (omega arith)))
 
 -- an OACK
 pub oack_fits : (os : List RawOption) → length (line (Oack os)) ≤ 3 * length (canonical (Oack os)) + 40
@@ -93,4 +96,4 @@ name_fits kinds.Memory = omega arith
 pub fault_fits : (kind : PacketFaultKind) (at : ℕ) → at < 2 ^ 64 → length (fault_line kind at) ≤ 40
 fault_fits kind at b =
     simp length-append
-        (omega (arith, name_fits kind, length-decimal-le 20 at (omega arith) (omega arith) (omega arith)))
+    (omega (arith, name_fits kind, length-decimal-le 20 at (omega arith) (omega arith) (omega arith)))

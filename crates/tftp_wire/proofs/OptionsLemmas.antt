@@ -23,7 +23,7 @@ pub options_rest : (bytes name after value rest : List ℕ) → IsText name × (
 options_rest bytes name after value rest n v o =
     let first = options_first bytes name after value rest n v in
     let parts : bytes ≡ zero_ended name ++ zero_ended value ++ rest =
-        n.1 ∙ ap (λ bs. zero_ended name ++ bs) v.1 ∙ sym (append_assoc (zero_ended name) (zero_ended value) rest) in
+    n.1 ∙ ap (λ bs. zero_ended name ++ bs) v.1 ∙ sym (append_assoc (zero_ended name) (zero_ended value) rest) in
     record {
       whole =
           append_cancel_left (zero_ended name ++ zero_ended value) _ _ (sym (ap options_bytes first) ∙ o.whole ∙ parts);

@@ -33,7 +33,7 @@ text_split at bytes (Some parts) h = (
 -- an option with a name
 pub named_option : (at : ℕ) (name value : List ℕ) (others : List (List ℕ)) (rest : List ℕ) → length name ≢ 0
     → options_fault at (name ∷ value ∷ others) rest
-        ≡ options_fault (at + (length name + 1) + (length value + 1)) others rest
+    ≡ options_fault (at + (length name + 1) + (length value + 1)) others rest
 named_option at [] value others rest h = absurd (h refl)
 named_option at (c ∷ name) value others rest h = refl
 
@@ -48,10 +48,10 @@ pub option_skipped : (at : ℕ) (bytes name after value rest : List ℕ) → Beg
     → BeginsWith after value rest → bytes_fault at bytes ≡ bytes_fault (at + (length bytes - length rest)) rest
 option_skipped at bytes name after value rest n h v =
     let offset : at + (length name + 1) + (length value + 1) ≡ at + (length bytes - length rest) =
-        omega (arith, n.2, v.2) in
+    omega (arith, n.2, v.2) in
     rw (n.0, n.1, v.0, v.1)
-        (named_option at name value (texts rest) (unended rest) h
-            ∙ ap (λ k. options_fault k (texts rest) (unended rest)) offset)
+    (named_option at name value (texts rest) (unended rest) h
+    ∙ ap (λ k. options_fault k (texts rest) (unended rest)) offset)
 
 -- past the mode of a request the first fault is that of its options
 pub request_skipped : (bytes name after word rest : List ℕ) (mode : Mode) → 2 ≤ length bytes
@@ -61,7 +61,7 @@ pub request_skipped : (bytes name after word rest : List ℕ) (mode : Mode) → 
 request_skipped bytes name after word rest mode least most shorter n h w m =
     let offset : 2 + (length name + 1) + (length word + 1) ≡ length bytes - length rest = omega (arith, n.2, w.2) in
     rw (le-ltb MAX_REQUEST (length bytes) most, n.0, n.1, named_texts name (texts after) (unended after) h, w.0, w.1, m)
-        (ap (λ k. options_fault k (texts rest) (unended rest)) offset)
+    (ap (λ k. options_fault k (texts rest) (unended rest)) offset)
 
 -- the request of a file name, a mode and options
 pub request_parts : (bytes name after word rest : List ℕ) (mode : Mode) (options : List RawOption)
@@ -81,7 +81,7 @@ pub texts_joined : (bs : List ℕ) → flat_map zero_ended (texts bs) ++ unended
 texts_joined [] = refl
 texts_joined (b ∷ bs) = ⊎_elim
     (λ q. rw q.0
-        (ap (λ c. c ∷ (flat_map zero_ended (texts bs) ++ unended bs)) (sym q.1) ∙ ap (λ r. b ∷ r) (texts_joined bs)))
+    (ap (λ c. c ∷ (flat_map zero_ended (texts bs) ++ unended bs)) (sym q.1) ∙ ap (λ r. b ∷ r) (texts_joined bs)))
     (λ q. rw q.0 (first_joined b (texts bs) (unended bs) ∙ ap (λ r. b ∷ r) (texts_joined bs)))
     (eqb_tells b 0)
 
@@ -156,14 +156,14 @@ trailing_is false x fault h = (refl, h)
 pub error_trailing : (bytes text rest : List ℕ) (fault : PacketFault) → length bytes ≤ MAX_REQUEST
     → number_fault bytes ≡ None → length (drop 4 bytes) ≡ length bytes - 4 → BeginsWith (drop 4 bytes) text rest
     → cond (not (eqb (length rest) 0)) (Some (record { kind = Trailing; at = length bytes - length rest })) None
-        ≡ Some fault
+    ≡ Some fault
     → error_fault bytes ≡ Some fault
 error_trailing bytes text rest fault most number shorter t found =
     let long : ltb (length bytes) 4 ≡ false = (guard_none _ _ _ number).0 in
     let least : 4 ≤ length bytes = ltb-false _ _ long in
     let f =
-        trailing_is (eqb (length rest) 0) (record { kind = Trailing; at = length bytes - length rest }) fault found in
+    trailing_is (eqb (length rest) 0) (record { kind = Trailing; at = length bytes - length rest }) fault found in
     let offset : 4 + (length text + 1) ≡ length bytes - length rest = omega (arith, t.2) in
     rw (le-ltb MAX_REQUEST (length bytes) most, long, t.0, t.1)
-        (text_left text (texts rest) (unended rest) rest (texts_joined rest) (eqb-false _ _ f.0)
-            ∙ ap (λ k. Some (record { kind = Trailing; at = k })) offset ∙ f.1)
+    (text_left text (texts rest) (unended rest) rest (texts_joined rest) (eqb-false _ _ f.0)
+    ∙ ap (λ k. Some (record { kind = Trailing; at = k })) offset ∙ f.1)

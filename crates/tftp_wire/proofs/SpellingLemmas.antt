@@ -77,17 +77,17 @@ nonempty (x ∷ xs) h e = absurd (omega arith)
 
 options_spelled : (at : ℕ) (os : List RawOption) → AllByRecursion IsOption os
     → (options_fault at (texts (options_bytes os)) (unended (options_bytes os)) ≡ None)
-        × (paired (texts (options_bytes os)) ≡ os)
+    × (paired (texts (options_bytes os)) ≡ os)
 options_spelled at [] h = (refl, refl)
 options_spelled at (o ∷ os) h =
     let more = options_bytes os in
     let whole = append_assoc (zero_ended o.name) (zero_ended o.value) more in
     let t : texts (options_bytes (o ∷ os)) ≡ o.name ∷ o.value ∷ texts more =
-        ap texts whole ∙ texts_first o.name (zero_ended o.value ++ more) h.0.name
-            ∙ ap (λ ts. o.name ∷ ts) (texts_first o.value more h.0.value) in
+    ap texts whole ∙ texts_first o.name (zero_ended o.value ++ more) h.0.name
+    ∙ ap (λ ts. o.name ∷ ts) (texts_first o.value more h.0.value) in
     let u : unended (options_bytes (o ∷ os)) ≡ unended more =
-        ap unended whole ∙ unended_rest o.name (zero_ended o.value ++ more) h.0.name
-            ∙ unended_rest o.value more h.0.value in
+    ap unended whole ∙ unended_rest o.name (zero_ended o.value ++ more) h.0.name
+    ∙ unended_rest o.value more h.0.value in
     let r = options_spelled (at + (length o.name + 1) + (length o.value + 1)) os h.1 in (
       rw (t, u) (named_option at o.name o.value (texts more) (unended more) (nonempty o.name h.0.named) ∙ r.0),
       rw t (ap (λ rest. o ∷ rest) r.1),
@@ -96,19 +96,23 @@ options_spelled at (o ∷ os) h =
 request_spelled : (opcode : ℕ) (word : List ℕ) (r : Request) → IsRequest r
     → str_to_ascii_lowercase word ≡ mode_word r.mode → length (request_bytes opcode word r) ≤ MAX_REQUEST
     → (request_fault (request_bytes opcode word r) ≡ None)
-        × (request_of (texts (drop 2 (request_bytes opcode word r))) ≡ r)
+    × (request_of (texts (drop 2 (request_bytes opcode word r))) ≡ r)
 request_spelled opcode word r v m limit =
     let more = options_bytes r.options in
     let body = zero_ended r.name ++ (zero_ended word ++ more) in
     let w = word_text r.mode word m in
     let t : texts body ≡ r.name ∷ word ∷ texts more =
-        texts_first r.name (zero_ended word ++ more) v.name ∙ ap (λ ts. r.name ∷ ts) (texts_first word more w) in
+    texts_first r.name (zero_ended word ++ more) v.name ∙ ap (λ ts. r.name ∷ ts) (texts_first word more w) in
     let u : unended body ≡ unended more =
-        unended_rest r.name (zero_ended word ++ more) v.name ∙ unended_rest word more w in
+    unended_rest r.name (zero_ended word ++ more) v.name ∙ unended_rest word more w in
     let o = options_spelled (2 + (length r.name + 1) + (length word + 1)) r.options v.options in (
-      rw (le-ltb MAX_REQUEST (length (request_bytes opcode word r)) limit, t, u,
-          named_texts r.name (word ∷ texts more) (unended more) (nonempty r.name v.named),
-          mode_of_word r.mode word m) o.0,
+      rw (
+        le-ltb MAX_REQUEST (length (request_bytes opcode word r)) limit,
+        t,
+        u,
+        named_texts r.name (word ∷ texts more) (unended more) (nonempty r.name v.named),
+        mode_of_word r.mode word m,
+      ) o.0,
       rw (t, mode_of_word r.mode word m, o.1) refl,
     )
 
@@ -127,7 +131,7 @@ word_length word other h = sym (length-map word to_ascii_lowercase) ∙ ap lengt
 requests_spelled : (opcode : ℕ) (word : List ℕ) (r : Request) → IsRequest r
     → length (request_bytes opcode (mode_word r.mode) r) ≤ MAX_REQUEST → str_to_ascii_lowercase word ≡ mode_word r.mode
     → (request_fault (request_bytes opcode word r) ≡ None)
-        × (request_of (texts (drop 2 (request_bytes opcode word r))) ≡ r)
+    × (request_of (texts (drop 2 (request_bytes opcode word r))) ≡ r)
 requests_spelled opcode word r v limit m =
     let e = request_length opcode word (mode_word r.mode) r (word_length word (mode_word r.mode) m) in
     request_spelled opcode word r v m (omega arith)
@@ -148,17 +152,21 @@ error_spelled code text v =
     let number = big_number-reads_back 2 code (zero_ended text) v.0 in
     let least : 4 ≤ length all = omega arith in
     let t : texts (zero_ended text) ≡ text ∷ [] =
-        ap texts (sym (append-nil (zero_ended text))) ∙ texts_first text [] v.1 in
+    ap texts (sym (append-nil (zero_ended text))) ∙ texts_first text [] v.1 in
     let u : unended (zero_ended text) ≡ [] =
-        ap unended (sym (append-nil (zero_ended text))) ∙ unended_rest text [] v.1 in
+    ap unended (sym (append-nil (zero_ended text))) ∙ unended_rest text [] v.1 in
     (rw (le-ltb MAX_REQUEST (length all) v.2, le-ltb (length all) 4 least, t, u) refl, number, rw t refl)
 
 options_longer : (os : List RawOption) → os ≢ [] → length (options_bytes os) ≢ 0
 options_longer [] h e = h refl
 options_longer (o ∷ os) h e =
-    absurd (omega
-        (arith, length-append (zero_ended o.name ++ zero_ended o.value) (options_bytes os),
-            length-append (zero_ended o.name) (zero_ended o.value), length-append o.name (0 ∷ []), e))
+    absurd (omega (
+      arith,
+      length-append (zero_ended o.name ++ zero_ended o.value) (options_bytes os),
+      length-append (zero_ended o.name) (zero_ended o.value),
+      length-append o.name (0 ∷ []),
+      e,
+    ))
 
 oack_spelled : (os : List RawOption) → IsValid (Oack os) → let all = written [] (Oack os) in
     (oack_fault all ≡ None) × (options_in (drop 2 all) ≡ os)
@@ -248,13 +256,13 @@ texts_whole ((c ∷ name) ∷ word ∷ ts) u t h =
       mode = word_of_mode word m.0;
       all =
           ap (λ v. flat_map zero_ended ((c ∷ name) ∷ word ∷ ts) ++ v) o.0
-              ∙ append-nil (flat_map zero_ended ((c ∷ name) ∷ word ∷ ts))
-              ∙ ap (λ r. zero_ended (c ∷ name) ++ (zero_ended word ++ r)) (sym o.1);
+          ∙ append-nil (flat_map zero_ended ((c ∷ name) ∷ word ∷ ts))
+          ∙ ap (λ r. zero_ended (c ∷ name) ++ (zero_ended word ++ r)) (sym o.1);
     }
 
 request_whole : (opcode : ℕ) (bytes : List ℕ) → bytes ≡ big_bytes 2 opcode ++ drop 2 bytes → request_fault bytes ≡ None
     → (w : Whole (texts (drop 2 bytes)) (unended (drop 2 bytes)))
-        × (bytes ≡ request_bytes opcode w.word (request_of (texts (drop 2 bytes)))) × (length bytes ≤ MAX_REQUEST)
+    × (bytes ≡ request_bytes opcode w.word (request_of (texts (drop 2 bytes)))) × (length bytes ≤ MAX_REQUEST)
 request_whole opcode bytes start h =
     let g = guard_none (ltb MAX_REQUEST (length bytes)) _ _ h in
     let w = texts_whole (texts (drop 2 bytes)) (unended (drop 2 bytes)) (texts_each (drop 2 bytes)) g.1 in
@@ -275,7 +283,7 @@ read_whole bytes start h =
       valid = (w.0.request, request_limit 1 w.0.word bytes _ w.0.mode w.1 w.2);
       word = w.0.word;
       mode = w.0.mode;
-      whole = w.1
+      whole = w.1;
     }
 
 write_whole : (bytes : List ℕ) → bytes ≡ big_bytes 2 2 ++ drop 2 bytes → request_fault bytes ≡ None
@@ -286,21 +294,21 @@ write_whole bytes start h =
       valid = (w.0.request, request_limit 2 w.0.word bytes _ w.0.mode w.1 w.2);
       word = w.0.word;
       mode = w.0.mode;
-      whole = w.1
+      whole = w.1;
     }
 
 -- the second number too
 second_back : (opcode : ℕ) (bytes : List ℕ) → bytes ≡ big_bytes 2 opcode ++ drop 2 bytes → 4 ≤ length bytes
     → ((k : ℕ) → get_or bytes k 0 < 256)
     → (bytes ≡ big_bytes 2 opcode ++ (big_bytes 2 (big_number 2 (drop 2 bytes)) ++ drop 4 bytes))
-        × (big_number 2 (drop 2 bytes) < 2 ^ 16)
+    × (big_number 2 (drop 2 bytes) < 2 ^ 16)
 second_back opcode bytes start least h =
     let rest = drop 2 bytes in
     let small : (k : ℕ) → get_or rest k 0 < 256 = λ k. rw get_or-drop (h (2 + k)) in
     let two : 2 ≤ length rest = omega (arith, length-drop 2 bytes) in (
       start
           ∙ ap (λ r. big_bytes 2 opcode ++ r)
-              (number_back rest two small ∙ ap (λ r. big_bytes 2 (big_number 2 rest) ++ r) (drop-drop 2 2 bytes)),
+          (number_back rest two small ∙ ap (λ r. big_bytes 2 (big_number 2 rest) ++ r) (drop-drop 2 2 bytes)),
       big_from-lt 0 2 rest small,
     )
 
@@ -317,7 +325,7 @@ data_whole bytes start h f =
       valid = (eqb-false _ _ zero.0, s.1, omega (arith, length-drop 4 bytes));
       word = [];
       mode = refl;
-      whole = s.0
+      whole = s.0;
     }
 
 ack_whole : (bytes : List ℕ) → bytes ≡ big_bytes 2 4 ++ drop 2 bytes → ((k : ℕ) → get_or bytes k 0 < 256)
@@ -333,7 +341,7 @@ ack_whole bytes start h f =
       valid = s.1;
       word = [];
       mode = refl;
-      whole = s.0 ∙ ap (λ r. big_bytes 2 4 ++ (big_bytes 2 (big_number 2 (drop 2 bytes)) ++ r)) e
+      whole = s.0 ∙ ap (λ r. big_bytes 2 4 ++ (big_bytes 2 (big_number 2 (drop 2 bytes)) ++ r)) e;
     }
 
 message_whole : (ts : List (List ℕ)) (u : List ℕ) → AllByRecursion IsText ts → message_fault ts u ≡ None
@@ -354,9 +362,9 @@ error_whole bytes start h f =
     let s = second_back 5 bytes start l h in
     let t = message_whole (texts (drop 4 bytes)) (unended (drop 4 bytes)) (texts_each (drop 4 bytes)) least.1 in
     let whole =
-        s.0
-            ∙ ap (λ r. big_bytes 2 5 ++ (big_bytes 2 (big_number 2 (drop 2 bytes)) ++ r))
-                (sym (texts_joined (drop 4 bytes)) ∙ t.1) in
+    s.0
+    ∙ ap (λ r. big_bytes 2 5 ++ (big_bytes 2 (big_number 2 (drop 2 bytes)) ++ r))
+    (sym (texts_joined (drop 4 bytes)) ∙ t.1) in
     record { valid = (s.1, t.0, omega (arith, ap length whole)); word = []; mode = refl; whole = whole }
 
 oack_whole : (bytes : List ℕ) → bytes ≡ big_bytes 2 6 ++ drop 2 bytes → oack_fault bytes ≡ None
@@ -367,15 +375,17 @@ oack_whole bytes start f =
     let m : length bytes ≤ MAX_REQUEST = ltb-false _ _ most.0 in
     let o = options_fine 2 (drop 2 bytes) some.1 in
     let whole : bytes ≡ big_bytes 2 6 ++ options_bytes (options_in (drop 2 bytes)) =
-        start ∙ ap (λ r. big_bytes 2 6 ++ r) (sym o.whole) in
+    start ∙ ap (λ r. big_bytes 2 6 ++ r) (sym o.whole) in
     let long : length bytes ≢ 2 = eqb-false _ _ some.0 in
     record {
-      valid =
-          ((λ e. long (ap length (whole ∙ ap (λ os. big_bytes 2 6 ++ options_bytes os) e))), o.each,
-              omega (arith, ap length whole));
+      valid = (
+        (λ e. long (ap length (whole ∙ ap (λ os. big_bytes 2 6 ++ options_bytes os) e))),
+        o.each,
+        omega (arith, ap length whole),
+      );
       word = [];
       mode = refl;
-      whole = whole
+      whole = whole;
     }
 
 opcode_whole : (opcode : ℕ) (bytes : List ℕ) → bytes ≡ big_bytes 2 opcode ++ drop 2 bytes

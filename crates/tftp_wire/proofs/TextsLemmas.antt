@@ -22,13 +22,13 @@ text_from_indices (b ∷ bs) h =
 pub text_from_none : (bs : List ℕ) → position is_zero bs ≡ None → IsText bs
 text_from_none bs h =
     text_from_indices bs
-        (λ k l. fails_before_first is_zero bs k 0
-            (past (ltb (position_or_len is_zero bs) (length bs)) refl h k l)) where
-  past : (b : Bool) → ltb (position_or_len is_zero bs) (length bs) ≡ b
-      → cond b (Some (position_or_len is_zero bs)) None ≡ None → (k : ℕ) → k < length bs
-      → k < position_or_len is_zero bs
-  past true e n k l = absurd (cc)
-  past false e n k l = let m : length bs ≤ position_or_len is_zero bs = ltb-false _ _ e in omega arith
+    (λ k l. fails_before_first is_zero bs k 0
+    (past (ltb (position_or_len is_zero bs) (length bs)) refl h k l)) where
+      past : (b : Bool) → ltb (position_or_len is_zero bs) (length bs) ≡ b
+          → cond b (Some (position_or_len is_zero bs)) None ≡ None → (k : ℕ) → k < length bs
+          → k < position_or_len is_zero bs
+      past true e n k l = absurd (cc)
+      past false e n k l = let m : length bs ≤ position_or_len is_zero bs = ltb-false _ _ e in omega arith
 
 -- the index of the first zero byte splits the bytes
 pub text_from_some : (bs : List ℕ) (n : ℕ) → position is_zero bs ≡ Some n

@@ -28,15 +28,15 @@ abbrev pub SpelledIsFound : Type 0
 SpelledIsFound = (p : Packet) (bytes : List ℕ) → Spells p bytes → packet_in bytes ≡ p
 
 -- the request without its options
-abbrev pub beginning : Request → Request
-beginning r = default_request r.name r.mode
+abbrev pub prefix : Request → Request
+prefix r = default_request r.name r.mode
 
 -- the options of a packet follow the packet without them
 pub record OptionsFollow : Type 0 where
   pub read : (r : Request) →
-      canonical (Read r) ≡ canonical (Read (beginning r)) ++ options_bytes r.options
+      canonical (Read r) ≡ canonical (Read (prefix r)) ++ options_bytes r.options
   pub write : (r : Request) →
-      canonical (Write r) ≡ canonical (Write (beginning r)) ++ options_bytes r.options
+      canonical (Write r) ≡ canonical (Write (prefix r)) ++ options_bytes r.options
   pub oack : (os : List RawOption) → canonical (Oack os) ≡ canonical (Oack []) ++ options_bytes os
 
 -- the canonical bytes of a valid packet spell it

@@ -39,7 +39,7 @@ impl<R: FileSystem + Drop> Completed<R> {
     }
 
     /// Waits until the end is closed: a receiver's after two timeouts, a sender's at once.
-    pub(crate) fn linger<C: Clock>(self, clock: &C, journal: &mut Journal)
+    pub(crate) fn dally<C: Clock>(self, clock: &C, journal: &mut Journal)
         ensures { StaysOn ⟦<LocalSource<R::File> as Source>⟧.meaning
             ⟦<LocalFile<R> as Sink>⟧.meaning self.conversation.socket.port
             (state_of self.conversation journal.old.events) self.files journal.new.events }
@@ -49,6 +49,6 @@ impl<R: FileSystem + Drop> Completed<R> {
             mut files,
             ..
         } = self;
-        conversation.linger(clock, journal, &mut files);
+        conversation.dally(clock, journal, &mut files);
     }
 }

@@ -135,7 +135,7 @@ impl Conversation {
 
     /// Runs the end of a complete transfer until it closes. For two timeouts a receiver
     /// acknowledges its last block again whenever that is repeated (RFC 1350, section 6).
-    pub(crate) fn linger<C: Clock, S: Source, K: Sink>(
+    pub(crate) fn dally<C: Clock, S: Source, K: Sink>(
         &mut self,
         clock: &C,
         journal: &mut Journal,

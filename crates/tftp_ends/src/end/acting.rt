@@ -88,7 +88,7 @@ impl End {
     {
         match response {
             Response::ResendReply | Response::Retransmit => self.last_sent.len(),
-            Response::Stranger | Response::Refuse { .. } | Response::Accept { .. } => MAX_ERROR,
+            Response::WrongPeer | Response::Refuse { .. } | Response::Accept { .. } => MAX_ERROR,
             Response::Ignore | Response::Wait | Response::Close { .. } | Response::Complete => 0,
         }
     }
@@ -108,7 +108,7 @@ impl End {
     {
         match response {
             Response::Ignore => (None, Outgoing::Nothing),
-            Response::Stranger => (Some(from), Outgoing::Error(ErrorReply::UnknownTransferId)),
+            Response::WrongPeer => (Some(from), Outgoing::Error(ErrorReply::UnknownTransferId)),
             Response::ResendReply => (Some(from), Outgoing::LastSent),
             Response::Retransmit => {
                 self.retries_left -= 1;

@@ -203,7 +203,7 @@ impl End {
     ) -> Result<Outgoing, AllocError>
         requires receiver { is_sender self.old.role.side ≡ false }
         requires sent { SentFits self.old (Some terms) }
-        requires reads { is_readable self.old.role.mode self.old.position.held piece.now
+        requires reads { is_readable self.old.role.mode self.old.position.held_back piece.now
             (nat_lt (length piece.now) terms.size) ≡ true }
         ensures stores { IfOk result (λ outgoing. (turn : Turn)
             × Stores K.meaning terms number from piece.now self.old sink.old turn sink.new
@@ -212,7 +212,7 @@ impl End {
         ensures err { OnErr result ((self.new ≡ self.old)
             × KeepsSink K.meaning sink.old sink.new) }
         ensures why { OnErr result (StoreLacksMemory K.meaning self.old.role.mode
-            self.old.position.held piece.now sink.old sink.new) }
+            self.old.position.held_back piece.now sink.old sink.new) }
         ensures same { K.is_same sink.old sink.new }
     {
         let kind = block_kind(piece, terms.size);

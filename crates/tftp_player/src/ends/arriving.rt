@@ -2,7 +2,7 @@
 
 ghost use Rattle.std.specs.Prelude.{◌≡◌, ◌≢◌, true, false, ◌<◌, ◌+◌, length, IfOk, IfErr, OnErr};
 ghost use Rattle.tftp_negotiate.specs.Ranges.{IsBlockSize};
-ghost use Rattle.tftp_machine.specs.Hosts.{request_port};
+ghost use Rattle.tftp_rules.specs.Hosts.{request_port};
 ghost use Rattle.tftp_player.specs.Exchange.{AreConsistent, AreAsBefore, StageDatagramStep};
 ghost use Rattle.tftp_player.specs.Arriving.{StageAsks, StageArrives, StageLacksPort, StageRefuses};
 

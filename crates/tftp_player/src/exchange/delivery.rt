@@ -1,8 +1,8 @@
 //! What a datagram does at its destination.
 
 ghost use Rattle.std.specs.Prelude.{◌≡◌, IfOk, IfErr, OnErr};
-ghost use Rattle.tftp_machine.specs.Hosts.{host_of};
-ghost use Rattle.tftp_machine.specs.Machine.{Elsewhere};
+ghost use Rattle.tftp_rules.specs.Hosts.{host_of};
+ghost use Rattle.tftp_rules.specs.Machine.{Elsewhere};
 ghost use Rattle.tftp_player.specs.Arriving.{ArrivalRefuses};
 ghost use Rattle.tftp_player.specs.WorldSteps.{Arrives, WorldRefuses, WorldStep};
 ghost use Rattle.tftp_player.specs.declared.event.Event.TheVariants.{Deliver, Stray};

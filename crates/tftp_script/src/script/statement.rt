@@ -1,15 +1,15 @@
 //! The statements of a script.
 
 ghost use Rattle.std.specs.Prelude.{◌≡◌};
-ghost use Rattle.tftp_machine.specs.Hosts.{host_of};
-ghost use Rattle.tftp_machine.specs.Machine.{Elsewhere};
+ghost use Rattle.tftp_rules.specs.Hosts.{host_of};
+ghost use Rattle.tftp_rules.specs.Machine.{Elsewhere};
 
 use crate::script::line::LineFault;
 use crate::script::word::{asked, bytes, content, endpoint, mode, number};
 use std::alloc::Global;
 use tftp_ends::Endpoint;
-use tftp_machine::is_foreign;
 use tftp_negotiate::Asked;
+use tftp_rules::is_foreign;
 use tftp_wire::{Bytes, Mode};
 
 /// A line on which something happens: an `Event` of `tftp_player`, or one of two statements for a

@@ -15,5 +15,5 @@ returns c =
     c.word-local.ensures c.in_ok-arg.ensures in
     let options = c.in_ok-command-3.ensures _ words in
     let flags = commands_grow.adds (commands_grow.adds options c.flag-replace.ensures c.in_ok-command-4.ensures)
-    c.flag-no_linger.ensures c.in_ok-arg-2.ensures in
+    c.flag-no_dally.ensures c.in_ok-arg-2.ensures in
     commands_grow.stays _ flags c.after_help.ensures refl refl

@@ -1,4 +1,4 @@
--- After its line the client returns, or lingers.
+-- After its line the client returns, or dallies.
 use Rattle.std.proofs.Common.{refl, sym}
 use Rattle.tftp_client.specs.Conversation.{state_of}
 use Rattle.tftp_client.specs.Converses.Converses.{Begins}
@@ -17,4 +17,4 @@ returns-then-not-order-clause-goes g c =
     }
 
 pub returns-clause-goes : goal.returns-clause-goes
-returns-clause-goes g c = goes_on _ _ (state_is refl refl refl c.print_complete-status.ensures.noted) c.linger.ensures
+returns-clause-goes g c = goes_on _ _ (state_is refl refl refl c.print_complete-status.ensures.noted) c.dally.ensures

@@ -1,15 +1,15 @@
 -- The lemmas that are the law.
-use Rattle.tftp_ends.proofs.SharedRowLemmas.{stranger_is_refused, error_of_stranger_is_nothing}
+use Rattle.tftp_ends.proofs.SharedRowLemmas.{wrong_peer_is_refused, error_of_wrong_peer_is_nothing}
 use Rattle.tftp_ends.proofs.SharedRowLemmas.{malformed_error_closes_sender, malformed_error_closes_receiver}
 use Rattle.tftp_ends.proofs.SharedRowLemmas.{malformed_error_closes_waiting, timeout_retransmits, last_timeout_closes}
 use Rattle.tftp_ends.proofs.SharedRowLemmas.{first_dally_timeout_is_counted, second_dally_timeout_completes}
 use Rattle.tftp_ends.proofs.laws.shared_rows.Goals as goal
 
-pub returns-clause-stranger : goal.returns-clause-stranger
-returns-clause-stranger g c = stranger_is_refused g.S.Source.meaning g.K.Sink.meaning
+pub returns-clause-wrong_peer : goal.returns-clause-wrong_peer
+returns-clause-wrong_peer g c = wrong_peer_is_refused g.S.Source.meaning g.K.Sink.meaning
 
-pub returns-clause-error_of_stranger : goal.returns-clause-error_of_stranger
-returns-clause-error_of_stranger g c = error_of_stranger_is_nothing g.S.Source.meaning g.K.Sink.meaning
+pub returns-clause-error_of_wrong_peer : goal.returns-clause-error_of_wrong_peer
+returns-clause-error_of_wrong_peer g c = error_of_wrong_peer_is_nothing g.S.Source.meaning g.K.Sink.meaning
 
 pub returns-clause-error_at_sender : goal.returns-clause-error_at_sender
 returns-clause-error_at_sender g c = malformed_error_closes_sender g.S.Source.meaning g.K.Sink.meaning

@@ -17,11 +17,11 @@ returns-then-want-held-clause-fills g c =
     let taken = c.take_held.ensures in
     let long : c.len.result ≡ length items = search (rules, places) in
     fills_or_keeps
-        (drop c.args.at.now items) _ c.args.want c.args.out.now.items c.take_held.new.out.items _ c.take_held.result
+    (drop c.args.at.now items) _ c.args.want c.args.out.now.items c.take_held.new.out.items _ c.take_held.result
     (omega (arith, long, c.if-want-held.true, length-drop c.args.at.now items)) taken.count taken.given taken.rest
-        taken.err taken.kept taken.fault
+    taken.err taken.kept taken.fault
 
 pub returns-in-Err-clause-fills : goal.returns-in-Err-clause-fills
 returns-in-Err-clause-fills g c =
     fills_rest c.deref.result.now c.args.buffer.now.items c.args.at.now _ _ c.args.want _ _
-        (Err c.in-Err.fault) c.deref.ensures.value c.in-Err.ensures.err
+    (Err c.in-Err.fault) c.deref.ensures.value c.in-Err.ensures.err

@@ -11,4 +11,4 @@ returns-clause-index c =
     c.unwrap_or.ensures
     ∙ first_index c.args.text.now c.position-end.result
     (position_from_yields_List is_line_byte _ _ c.position-end.result c.position-end.ensures.ran
-        (YieldsList-from_slice c.args.text.now c.iter.ensures.rest) (λ x b q k. search (rules, tests)))
+    (YieldsList-from_slice c.args.text.now c.iter.ensures.rest) (λ x b q k. search (rules, tests)))

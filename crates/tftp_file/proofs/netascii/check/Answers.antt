@@ -22,9 +22,9 @@ returns-in_err-remaining-clause-wrong c =
     let i = c.loop-remaining.invariant in
     let p = err_from_is_err_and c.from_residual.result c.from_residual.ensures.1 in
     rw (p.1, p.2)
-        (wrong_taken c.args.text.now c.loop-remaining.left.now c.split_run.result.0.now c.split_run.result.1.now i.0
-            c.in_err-remaining.field-0.0 i.1 c.split_run.ensures.parts c.split_run.ensures.unescaped
-            c.in_err-remaining.ensures.wrong)
+    (wrong_taken c.args.text.now c.loop-remaining.left.now c.split_run.result.0.now c.split_run.result.1.now i.0
+    c.in_err-remaining.field-0.0 i.1 c.split_run.ensures.parts c.split_run.ensures.unescaped
+    c.in_err-remaining.ensures.wrong)
 
 pub returns-in-None-clause-ok : goal.returns-in-None-clause-ok
 returns-in-None-clause-ok c =
@@ -36,7 +36,7 @@ returns-in-None-clause-ok c =
         run_taken c.args.text.now c.loop-remaining.left.now c.split_run.result.0.now c.split_run.result.1.now i.0 i.1
             c.split_run.ensures.parts c.split_run.ensures.unescaped
             ∙ ap (λ (t : List ℕ). netascii_text (i.0 ++ c.split_run.result.0.now) ++ t)
-                (nil_from_length c.split_run.result.1.now z),
+            (nil_from_length c.split_run.result.1.now z),
       ),
     )
 
@@ -47,8 +47,8 @@ returns-in-None-2-clause-ok c =
     elim held [
       | inl e ↦
           absurd (let f : false ≡ true =
-              c.if-is_empty.ensures ∙ eq-eqb (length c.split_run.result.1.now) 0 (ap length e) in
-              cc)
+          c.if-is_empty.ensures ∙ eq-eqb (length c.split_run.result.1.now) 0 (ap length e) in
+          cc)
       | inr e ↦ (
         i.0 ++ c.split_run.result.0.now,
         (

@@ -9,6 +9,6 @@ use Rattle.tftp_file.proofs.path.check.Goals as goal
 pub returns-clause-path : goal.returns-clause-path
 returns-clause-path c =
     let few : count_by (λ byte. byte == 47) c.args.path.now < 8 =
-        omega (arith, c.slash_count.ensures, c.if-slash_count-ge-MAX_DEPTH.false) in
+    omega (arith, c.slash_count.ensures, c.if-slash_count-ge-MAX_DEPTH.false) in
     let all : list_all is_segment (slice_split (λ byte. byte == 47) c.args.path.now) ≡ true = cc in
     (good c.args.path.now (sym c.if-is_empty.ensures) c.if-path-gt-MAX_LENGTH.false few all).1

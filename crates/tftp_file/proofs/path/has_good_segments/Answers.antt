@@ -10,6 +10,6 @@ pub returns : goal.returns
 returns c =
     all_from_yields_List is_segment _ _ c.all.result c.all.ensures.ran
     (YieldsList-from_slice_split _
-        (λ byte. byte == 47) c.args.path.now c.split.ensures.rest c.split.ensures.done c.split.ensures.closure
-        (λ x b q k. search (rules, tests)))
+    (λ byte. byte == 47) c.args.path.now c.split.ensures.rest c.split.ensures.done c.split.ensures.closure
+    (λ x b q k. search (rules, tests)))
     (λ x b q k. search (rules, tests))

@@ -8,12 +8,12 @@ pub returns-clause-fills : goal.returns-clause-fills
 returns-clause-fills g c =
     let read = c.read_from-outcome.ensures in
     fills_at_end _ _ c.args.want c.args.out.now.items c.len-start.result c.read_from-outcome.new.buffer
-        c.read_from-outcome.result c.unwrap_or.result c.truncate.new.self.items
+    c.read_from-outcome.result c.unwrap_or.result c.truncate.new.self.items
     (search (rules, places)) (search (rules, places))
     (front_kept c.args.out.now.items _ c.len-start.result c.in-Some.end _ _ c.read_from-outcome.new.buffer
-        (search (rules, places))
-        (search (rules, places)) c.in_ok-resize.ensures.items c.as_mut_slice.ensures.value read.front)
+    (search (rules, places))
+    (search (rules, places)) c.in_ok-resize.ensures.items c.as_mut_slice.ensures.value read.front)
     read.bound read.bytes read.end read.fault c.unwrap_or.ensures
     (cut_at _ _ c.read_from-outcome.new.buffer c.truncate.new.self.items
-        (with_items_is c.resize.new.self c.read_from-outcome.new.buffer (search (rules, places)))
-            c.truncate.ensures.items)
+    (with_items_is c.resize.new.self c.read_from-outcome.new.buffer (search (rules, places)))
+    c.truncate.ensures.items)

@@ -15,7 +15,7 @@ loop-at-preserved g c =
       front = front_stays c.args.start c.loop-at.at old new c.args.buffer.now before.after read.front before.front;
       consumed =
           read_more _ _ _ c.args.start c.loop-at.at c.in_ok-count.count old new before.after before.within read.bound
-              read.front before.consumed read.bytes;
+          read.front before.consumed read.bytes;
     }
 
 pub returns-then-count-eq0-clause-bytes : goal.returns-then-count-eq0-clause-bytes
@@ -23,5 +23,5 @@ returns-then-count-eq0-clause-bytes g c =
     let before = c.loop-at.invariant in
     let read = c.in_ok-count.ensures in
     read_none _ _ _ c.args.start c.loop-at.at c.in_ok-count.count c.loop-at.buffer c.read_at.new.buffer
-        c.if-count-eq0.true
+    c.if-count-eq0.true
     before.after before.within read.bound read.front before.consumed read.bytes

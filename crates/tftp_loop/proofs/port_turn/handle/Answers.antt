@@ -6,7 +6,8 @@ use Rattle.tftp_loop.proofs.port_turn.handle.Goals as goal
 
 pub returns-in_default-clause-handled : goal.returns-in_default-clause-handled
 returns-in_default-clause-handled g c = (
-  lost g.S.Store.meaning g.S.Source.Source.meaning c.args.tid c.args.udp.now.port c.args.datagram.from c.args.datagram.bytes.now
+  lost g.S.Store.meaning g.S.Source.Source.meaning c.args.tid c.args.udp.now.port c.args.datagram.from
+      c.args.datagram.bytes.now
       c.args.server.now c.handle_datagram.new.self c.in_default.field-0 c.requires c.in_default.ensures.fault
       (λ e. c.in_default.ensures.why (ap Err e)) c.in_default.ensures.err c.in_default.ensures.rest,
   refl,
@@ -29,4 +30,5 @@ returns-clause-handled g c =
 pub returns-clause-closed : goal.returns-clause-closed
 returns-clause-closed g c =
     closed_by g.S.Store.meaning g.S.Source.Source.meaning c.args.tid c.args.server.now c.handle_datagram.new.self
-    c.in-Ok.step c.in-Ok.outgoing c.args.udp.now.port c.args.datagram.from c.args.datagram.bytes.now c.requires c.in-Ok.ensures.takes
+    c.in-Ok.step c.in-Ok.outgoing c.args.udp.now.port c.args.datagram.from c.args.datagram.bytes.now c.requires
+    c.in-Ok.ensures.takes

@@ -6,4 +6,4 @@ use Rattle.tftp_negotiate.proofs.answer.accept_ref.Goals as goal
 pub returns-clause-answers : goal.returns-clause-answers
 returns-clause-answers c =
     c.negotiate.ensures.agreed c.args.options.now
-        (YieldsList-from_first owned_option (λ s. s) c.args.options.now c.iter.ensures).runs
+    (YieldsList-from_first owned_option (λ s. s) c.args.options.now c.iter.ensures).runs

@@ -26,7 +26,7 @@ kept_after-outcome-requires g c =
     Reads-rule (judged c.args.policy.now) (judged-Keeps c.args.policy.now c.requires.sound) _ _ _
     (Reads-more (judged c.args.policy.now) _ seen c.loop-option.outcome option (with_name seen (name_of option.name))
     (kept_after c.loop-option.outcome c.judge.result) c.loop-option.invariant fresh refl
-        (ap (kept_after c.loop-option.outcome) c.judge.ensures))
+    (ap (kept_after c.loop-option.outcome) c.judge.ensures))
 
 pub loop-option-preserved : goal.loop-option-preserved
 loop-option-preserved g c =
@@ -37,18 +37,18 @@ loop-option-preserved g c =
     subst (λ os. Reads (judged c.args.policy.now) os c.insert.new.self c.kept_after-outcome.result)
     (sym (map-append owned_option c.loop-option.yielded (c.in-Some.option ∷ [])))
     (Reads-more
-        (judged c.args.policy.now) _ seen c.loop-option.outcome option c.insert.new.self c.kept_after-outcome.result
-            c.loop-option.invariant fresh
-        (c.insert.ensures.added ∙ ap (with_name seen) c.of.ensures)
-        (c.kept_after-outcome.ensures ∙ ap (kept_after c.loop-option.outcome) c.judge.ensures))
+    (judged c.args.policy.now) _ seen c.loop-option.outcome option c.insert.new.self c.kept_after-outcome.result
+    c.loop-option.invariant fresh
+    (c.insert.ensures.added ∙ ap (with_name seen) c.of.ensures)
+    (c.kept_after-outcome.ensures ∙ ap (kept_after c.loop-option.outcome) c.judge.ensures))
 
 pub returns-clause-agreed : goal.returns-clause-agreed
 returns-clause-agreed g c = λ os runs.
     let given : YieldsList g.I.Iterator.next_gives owned_option c.args.options os = record { runs = runs } in
     let yields =
-        YieldsList-at {steps = g.I.Iterator.next_gives} c.into_iter-option-iterator.ensures.into_iter_gives given in
+    YieldsList-at {steps = g.I.Iterator.next_gives} c.into_iter-option-iterator.ensures.into_iter_gives given in
     let whole =
-        YieldsList-end {steps = g.I.Iterator.next_gives} yields c.loop-option.yielded c.loop-option.option-iterator
+    YieldsList-end {steps = g.I.Iterator.next_gives} yields c.loop-option.yielded c.loop-option.option-iterator
     c.loop-option.yielded_by c.next.result c.next.new.self c.in-None.is c.next.ensures.steps in
     Reads-all (judged c.args.policy.now) _ c.loop-option.seen c.loop-option.outcome c.loop-option.invariant
     ∙ ap (negotiated (judged c.args.policy.now)) whole.0
@@ -56,7 +56,7 @@ returns-clause-agreed g c = λ os runs.
 pub returns-clause-rule : goal.returns-clause-rule
 returns-clause-rule g c =
     Reads-rule (judged c.args.policy.now)
-        (judged-Keeps c.args.policy.now c.requires.sound) _ _ _ c.loop-option.invariant
+    (judged-Keeps c.args.policy.now c.requires.sound) _ _ _ c.loop-option.invariant
 
 pub returns-then-not-insert-clause-agreed : goal.returns-then-not-insert-clause-agreed
 returns-then-not-insert-clause-agreed g c = λ os runs.
@@ -65,17 +65,17 @@ returns-then-not-insert-clause-agreed g c = λ os runs.
     let front = map owned_option c.loop-option.yielded in
     let given : YieldsList g.I.Iterator.next_gives owned_option c.args.options os = record { runs = runs } in
     let yields =
-        YieldsList-at {steps = g.I.Iterator.next_gives} c.into_iter-option-iterator.ensures.into_iter_gives given in
+    YieldsList-at {steps = g.I.Iterator.next_gives} c.into_iter-option-iterator.ensures.into_iter_gives given in
     let begins =
-        YieldsList-so_far {steps =
-            g.I.Iterator.next_gives} yields c.loop-option.yielded c.loop-option.option-iterator
-                c.loop-option.yielded_by in
+    YieldsList-so_far {steps =
+    g.I.Iterator.next_gives} yields c.loop-option.yielded c.loop-option.option-iterator
+    c.loop-option.yielded_by in
     let turn =
-        YieldsList-turn {steps =
-            g.I.Iterator.next_gives} yields c.loop-option.yielded c.loop-option.option-iterator c.loop-option.yielded_by
+    YieldsList-turn {steps =
+    g.I.Iterator.next_gives} yields c.loop-option.yielded c.loop-option.option-iterator c.loop-option.yielded_by
     c.next.result c.next.new.self c.in-Some.option c.in-Some.is c.next.ensures.steps in
     let old : has_name seen (name_of option.name) ≡ true =
     ap (has_name seen) (sym c.of.ensures) ∙ was_there _ _ c.insert.ensures.new c.if-not-insert.true in
     sym (ap (negotiated (judged c.args.policy.now))
-        (up_to os front (length c.loop-option.yielded) option begins turn.0 turn.1)
-        ∙ Reads-again (judged c.args.policy.now) front seen c.loop-option.outcome option _ c.loop-option.invariant old)
+    (up_to os front (length c.loop-option.yielded) option begins turn.0 turn.1)
+    ∙ Reads-again (judged c.args.policy.now) front seen c.loop-option.outcome option _ c.loop-option.invariant old)

@@ -15,7 +15,7 @@ pub returns-in_err-ok : goal.returns-in_err-ok
 returns-in_err-ok c =
     c.from_residual.ensures ∙ number_of_none c.args.text.now (λ n small e.
     why_none c.from_utf8.result _ _ (IsUtf8 c.args.text.now) c.from_utf8.ensures.cases
-        (sym c.ok.ensures.value ∙ c.in_err-ok.was)
+    (sym c.ok.ensures.value ∙ c.in_err-ok.was)
     (IsUtf8-from_decimal c.args.text.now n small e))
 
 -- the text is the parsed one
@@ -37,8 +37,8 @@ returns-in_err-number c =
 pub returns-then-is_digits_of : goal.returns-then-is_digits_of
 returns-then-is_digits_of c =
     let small =
-        parsed_small c.in_ok-ok.field-0.now c.parse.result c.in_ok-number.number c.parse.ensures.value.0
-            c.in_ok-number.ensures.value in
+    parsed_small c.in_ok-ok.field-0.now c.parse.result c.in_ok-number.number c.parse.ensures.value.0
+    c.in_ok-number.ensures.value in
     sym (ap number_of (c.is_digits_of.ensures.0 c.if-is_digits_of.true) ∙ number_of-decimal c.in_ok-number.number small)
 
 pub returns-else-is_digits_of : goal.returns-else-is_digits_of

@@ -6,4 +6,4 @@ use Rattle.tftp_negotiate.proofs.oack.check_oack_ref.Goals as goal
 pub returns-clause-agrees : goal.returns-clause-agrees
 returns-clause-agrees c =
     c.negotiate.ensures.agreed c.args.options.now
-        (YieldsList-from_first owned_option (λ s. s) c.args.options.now c.iter.ensures).runs
+    (YieldsList-from_first owned_option (λ s. s) c.args.options.now c.iter.ensures).runs

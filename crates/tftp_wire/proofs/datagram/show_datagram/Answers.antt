@@ -19,5 +19,5 @@ returns-in_ok-show_ref-in-Ok-clause-appended c =
     let spells = c.in-Ok.ensures.found in
     c.in_ok-show_ref-in-Ok.ensures.ok
     ∙ ap (λ l. string_bytes c.args.out.now ++ l)
-        (packet_shown (owned c.in-Ok.packet) c.args.bytes.now (c.fault_or_packet.ensures.spelled _ _ spells)
-            (c.spelled_is_found.ensures _ _ spells))
+    (packet_shown (owned c.in-Ok.packet) c.args.bytes.now (c.fault_or_packet.ensures.spelled _ _ spells)
+    (c.spelled_is_found.ensures _ _ spells))

@@ -22,7 +22,7 @@ pub returns-in-Error : goal.returns-in-Error
 returns-in-Error c =
     let p = owned c.args.packet.now in
     let fits : length (line p) ≤ 3 * length (canonical p) + 40 =
-        rw c.in-Error.is (error_fits c.in-Error.code _ (omega arith)) in
+    rw c.in-Error.is (error_fits c.in-Error.code _ (omega arith)) in
     omega (arith, fits, c.canonical_len_ref-in-Error.ensures, c.shown_room-in-Error.ensures)
 
 pub returns-in-Oack : goal.returns-in-Oack

@@ -8,7 +8,7 @@ returns-in_err-decode_ref-clause-only c p s = absurd (c.in_err-decode_ref.ensure
 pub returns-clause-only : goal.returns-clause-only
 returns-clause-only c p s =
     copied_only c.to_packet.result _ p c.to_packet.ensures.ok c.to_packet.ensures.err
-        (c.in_ok-decode_ref.ensures.only p s)
+    (c.in_ok-decode_ref.ensures.only p s)
 
 pub returns-clause-fault : goal.returns-clause-fault
 returns-clause-fault c =

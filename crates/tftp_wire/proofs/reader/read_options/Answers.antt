@@ -12,4 +12,4 @@ none_more (suc n) more h e = absurd (true≢false (sym (h (omega arith)) ∙ e))
 pub new-requires : goal.new-requires
 new-requires c =
     options_fine _ _
-        (c.loop-rest.invariant.same ∙ nothing_left _ _ (none_more _ _ c.has_more.ensures.1 c.loop-rest-test.false))
+    (c.loop-rest.invariant.same ∙ nothing_left _ _ (none_more _ _ c.has_more.ensures.1 c.loop-rest-test.false))

@@ -11,9 +11,9 @@ returns-in_err-options c =
     let name = rw c.split_at.ensures.back at c.in_ok-name.ensures in
     let mode = sym c.mode_of.ensures ∙ c.in_ok-mode.ensures.ok_part in
     rw (p.1, p.2)
-        (request_skipped _ _ _ _ _ _ c.requires (omega arith) (length-drop 2 _) name
-            (eqb-false _ _ (sym c.if-is_empty.ensures)) c.in_ok-word.ensures mode
-            ∙ c.in_err-options.ensures)
+    (request_skipped _ _ _ _ _ _ c.requires (omega arith) (length-drop 2 _) name
+    (eqb-false _ _ (sym c.if-is_empty.ensures)) c.in_ok-word.ensures mode
+    ∙ c.in_err-options.ensures)
 
 pub returns : goal.returns
 returns c =

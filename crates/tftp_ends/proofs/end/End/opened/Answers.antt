@@ -8,7 +8,7 @@ invariant_of-result c =
       record {
         phase = c.requires.phase;
         resends = c.requires.resends;
-        held = nothing_held c.args.role.mode;
+        held_back = nothing_held c.args.role.mode;
         sent = c.requires.sent;
       },
       c.requires.room,

@@ -39,7 +39,7 @@ returns-in-Uncommitted-clause-stores g c =
             retries_left = c.self.inside.retries_left;
             last_sent = c.self.inside.last_sent.items;
             last_sent_to = c.self.inside.last_sent_to;
-            held = c.self.inside.decoder;
+            held_back = c.self.inside.decoder;
             phase = c.self.inside.phase;
           };
     } in

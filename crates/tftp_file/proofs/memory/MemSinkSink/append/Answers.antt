@@ -1,4 +1,4 @@
--- The bytes of the piece that fit are a beginning of it.
+-- The bytes of the piece that fit are a prefix of it.
 use Rattle.std.proofs.Common.{arith}
 use Rattle.tftp_file.proofs.MemSinkLemmas.{kept_first, kept_room}
 use Rattle.tftp_file.proofs.memory.MemSinkSink.append.Goals as goal

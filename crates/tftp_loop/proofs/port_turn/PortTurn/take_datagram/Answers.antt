@@ -34,9 +34,11 @@ returns-in-Nothing-clause-serves g c =
       same = record { server = refl; port = refl; journal = refl; now = refl; active = refl };
       serves =
           finds_nothing g.S.Store.meaning g.S.Source.Source.meaning old.now old.server.now (timer_of old.port.now)
-          (timer_of c.mark_empty.new.port) old.journal.now.events c.receive.new.journal.events noted c.mark_empty.ensures;
+          (timer_of c.mark_empty.new.port) old.journal.now.events c.receive.new.journal.events noted
+          c.mark_empty.ensures;
       received =
-          receives_none (Empty old.port.now.socket.udp.port) 1 old.journal.now.events c.receive.new.journal.events noted;
+          receives_none
+          (Empty old.port.now.socket.udp.port) 1 old.journal.now.events c.receive.new.journal.events noted;
     }
 
 pub returns-in-Failed-clause-serves : goal.returns-in-Failed-clause-serves
@@ -47,7 +49,9 @@ returns-in-Failed-clause-serves g c =
       same = record { server = refl; port = refl; journal = refl; now = refl; active = refl };
       serves =
           fails_to_receive g.S.Store.meaning g.S.Source.Source.meaning old.now old.server.now (timer_of old.port.now)
-          (timer_of c.mark_ready.new.port) old.journal.now.events c.receive.new.journal.events noted c.mark_ready.ensures;
+          (timer_of c.mark_ready.new.port) old.journal.now.events c.receive.new.journal.events noted
+          c.mark_ready.ensures;
       received =
-          receives_none (Failed old.port.now.socket.udp.port) 1 old.journal.now.events c.receive.new.journal.events noted;
+          receives_none
+          (Failed old.port.now.socket.udp.port) 1 old.journal.now.events c.receive.new.journal.events noted;
     }

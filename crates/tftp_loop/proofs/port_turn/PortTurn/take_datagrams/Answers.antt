@@ -8,7 +8,8 @@ loop-turn-init g c = (idles g.S.Store.meaning g.S.Source.Source.meaning 0 _, inl
 
 pub loop-turn-preserved : goal.loop-turn-preserved
 loop-turn-preserved g c = (
-  serves_onward g.S.Store.meaning g.S.Source.Source.meaning c.loop-turn.turn 1 (c.loop-turn.turn + 1) _ _ _ (omega arith)
+  serves_onward g.S.Store.meaning g.S.Source.Source.meaning c.loop-turn.turn 1 (c.loop-turn.turn + 1) _ _ _
+      (omega arith)
       c.loop-turn.invariant.0 c.take_datagram.ensures.serves,
   inr (c.take_datagram.ensures.tried, c.in-Unfinished.ensures.status.timer),
 )

@@ -9,5 +9,6 @@ returns-then-not-is_due-clause-serves g c =
 
 pub returns-clause-serves : goal.returns-clause-serves
 returns-clause-serves g c =
-    serves_onward g.S.Store.meaning g.S.Source.Source.meaning MOST_AT_ONCE 0 MOST_AT_ONCE c.args.self.now _ _ (omega arith)
+    serves_onward g.S.Store.meaning g.S.Source.Source.meaning MOST_AT_ONCE 0 MOST_AT_ONCE c.args.self.now _ _
+    (omega arith)
     c.take_datagrams-status.ensures.serves c.time_out_if_due.ensures.serves

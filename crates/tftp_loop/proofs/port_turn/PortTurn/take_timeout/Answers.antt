@@ -14,7 +14,8 @@ returns-clause-serves g c =
       serves =
           elapses_either g.S.Store.meaning g.S.Source.Source.meaning old.now old.server.now c.time_out.new.server
           (timer_of old.port.now) (timer_of c.restart.new.port)
-          old.journal.now.events c.elapsed.new.self.events c.time_out.new.journal.events c.port-number.result c.time_out.result
+          old.journal.now.events c.elapsed.new.self.events c.time_out.new.journal.events c.port-number.result
+          c.time_out.result
           c.restart.new.port.socket.udp.port
           c.requires.due c.requires.tried c.requires.look c.elapsed.ensures
           (c.port-number.ensures ∙ same) same c.time_out.ensures.steps c.restart.ensures;

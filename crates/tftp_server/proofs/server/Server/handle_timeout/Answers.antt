@@ -1,6 +1,6 @@
 -- A timeout of the transfer at the identifier is the server's.
 use Rattle.std.proofs.Common.{◌≡◌, ap, ◌∙◌, List, ℕ}
-use Rattle.tftp_server.specs.State.{ServerState, HeldTransfer}
+use Rattle.tftp_server.specs.State.{ServerState, TransferState}
 use Rattle.tftp_server.specs.Steps.{lends}
 use Rattle.tftp_server.proofs.StepsLemmas.{times_out, nothing_written}
 use Rattle.tftp_server.proofs.server.Server.handle_timeout.Goals as goal
@@ -21,7 +21,7 @@ returns-clause-steps g c =
 
 pub returns-clause-err : goal.returns-clause-err
 returns-clause-err g c =
-    let with_held : List (ℕ × HeldTransfer g.row.S-Source.Denot g.row.S-Draft.Denot) →
+    let with_held : List (ℕ × TransferState g.row.S-Source.Denot g.row.S-Draft.Denot) →
     ServerState g.row.S.Denot g.row.S-Source.Denot g.row.S-Draft.Denot =
     λ held. record { config = c.self.inside.config; store = c.self.inside.store; held = held }
     in elim c.match-handle_timeout.branch [

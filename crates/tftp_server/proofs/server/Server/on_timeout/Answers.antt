@@ -1,6 +1,6 @@
 -- A fault is that of the transfer at the identifier, or there is no transfer.
 use Rattle.std.proofs.Common.{◌≡◌, ap, ◌∙◌, List, ℕ}
-use Rattle.tftp_server.specs.State.{ServerState, HeldTransfer, at}
+use Rattle.tftp_server.specs.State.{ServerState, TransferState, at}
 use Rattle.tftp_server.specs.Steps.{appends}
 use Rattle.tftp_ends.specs.declared.record.Step.{Step}
 use Rattle.tftp_server.proofs.ShortageLemmas.{memory_of_end}
@@ -37,7 +37,7 @@ returns-clause-steps g c =
 
 pub returns-clause-err : goal.returns-clause-err
 returns-clause-err g c =
-    let with_held : List (ℕ × HeldTransfer g.row.S-Source.Denot g.row.S-Draft.Denot) →
+    let with_held : List (ℕ × TransferState g.row.S-Source.Denot g.row.S-Draft.Denot) →
     ServerState g.row.S.Denot g.row.S-Source.Denot g.row.S-Draft.Denot =
     λ held. record { config = c.self.inside.config; store = c.self.inside.store; held = held }
     in elim c.match-on_timeout.branch [

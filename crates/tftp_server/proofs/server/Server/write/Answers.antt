@@ -29,8 +29,8 @@ returns-clause-err g c =
       | in-Ok-begin w ↦ rw w.result-is tt
       | in-Err w ↦
           rw (w.result-is, w.out-is, ← c.self.view_is)
-          (nothing_begun g.S.Store.meaning g.S.Source.Source.meaning old c.args.incoming.from c.args.incoming.bytes.now c.begin.new.self
-          w.in-Err.fault c.args.out.now.items w.truncate.new.self.items w.begin_refused.result
+          (nothing_begun g.S.Store.meaning g.S.Source.Source.meaning old c.args.incoming.from c.args.incoming.bytes.now
+          c.begin.new.self w.in-Err.fault c.args.out.now.items w.truncate.new.self.items w.begin_refused.result
           w.in-Err.ensures.memory w.begin_refused.ensures.why
           (cut_on_err c.args.out.now.items c.in-Ok.end.position.last_sent c.prepare.new.out.items
           w.truncate.new.self.items c.len-start.result w.begin_refused.result start c.in-Ok.ensures.end.1
@@ -44,14 +44,14 @@ returns-clause-asks g c =
     elim c.match-begin.branch [
       | in-Ok-begin w ↦
           rw (w.result-is, ← c.self.view_is)
-          (asks_to_write g.S.Store.meaning g.S.Source.Source.meaning old c.args.incoming.from c.args.incoming.bytes.now c.args.write.path
-          c.args.write.mode c.args.write.agreed c.begin.new.self w.in-Ok-begin.draft c.in-Ok.end c.in-Ok.request.items
-          w.new-transfer.result
-          w.in-Ok-begin.ensures.begins w.in-Ok-begin.ensures.begun c.in-Ok.ensures.end.0 c.in-Ok.ensures.request
-          w.new-transfer.ensures)
+          (asks_to_write g.S.Store.meaning g.S.Source.Source.meaning old c.args.incoming.from c.args.incoming.bytes.now
+          c.args.write.path c.args.write.mode c.args.write.agreed c.begin.new.self w.in-Ok-begin.draft c.in-Ok.end
+          c.in-Ok.request.items w.new-transfer.result w.in-Ok-begin.ensures.begins w.in-Ok-begin.ensures.begun
+          c.in-Ok.ensures.end.0 c.in-Ok.ensures.request w.new-transfer.ensures)
       | in-Err w ↦
           rw (w.result-is, ← c.self.view_is)
-          (refused_to_write g.S.Store.meaning g.S.Source.Source.meaning old c.args.incoming.from c.args.incoming.bytes.now c.args.write.path
-          c.args.write.mode c.args.write.agreed c.begin.new.self w.in-Err.fault w.begin_refused.result
-          w.in-Err.ensures.begins w.in-Err.ensures.refused w.in-Err.ensures.begun w.begin_refused.ensures.refused)
+          (refused_to_write g.S.Store.meaning g.S.Source.Source.meaning old c.args.incoming.from
+          c.args.incoming.bytes.now c.args.write.path c.args.write.mode c.args.write.agreed c.begin.new.self
+          w.in-Err.fault w.begin_refused.result w.in-Err.ensures.begins w.in-Err.ensures.refused
+          w.in-Err.ensures.begun w.begin_refused.ensures.refused)
     ]

@@ -12,7 +12,8 @@ returns-in-Ok-Open-clause-writes g c =
     ∙ ap (λ xs. insert_entry nat_cmp xs c.args.tid c.in-Ok-Open.transfer) c.replace-table.ensures.value in
     rw (← c.self.view_is)
     (write_opened g.S.Store.meaning g.S.Source.Source.meaning c.self.inside.config c.self.inside.store
-    c.self.inside.table _ c.args.incoming.from c.args.incoming.bytes.now c.args.write.path c.args.write.mode c.args.write.agreed c.write.new.self
+    c.self.inside.table _ c.args.incoming.from c.args.incoming.bytes.now c.args.write.path c.args.write.mode
+    c.args.write.agreed c.write.new.self
     c.self-in-Ok.inside.config c.self-in-Ok.inside.store c.self-in-Ok.inside.table c.fill.result c.self-in-Ok.view_is
     c.write.ensures.rest
     c.args.tid c.args.out.now.items c.write.new.out.items c.in-Ok-Open.field-0 c.in-Ok-Open.transfer
@@ -23,7 +24,8 @@ returns-in-Ok-Refuse-clause-writes g c =
     let back = c.give_up.ensures c.replace-table.result c.in-Ok.ensures.spot ∙ c.replace-table.ensures.value in
     rw (← c.self.view_is)
     (write_refused g.S.Store.meaning g.S.Source.Source.meaning c.self.inside.config c.self.inside.store
-    c.self.inside.table _ c.args.incoming.from c.args.incoming.bytes.now c.args.write.path c.args.write.mode c.args.write.agreed c.write.new.self
+    c.self.inside.table _ c.args.incoming.from c.args.incoming.bytes.now c.args.write.path c.args.write.mode
+    c.args.write.agreed c.write.new.self
     c.self-in-Ok.inside.config c.self-in-Ok.inside.store c.self-in-Ok.inside.table c.give_up.result c.self-in-Ok.view_is
     c.write.ensures.rest
     c.args.tid c.args.out.now.items c.write.new.out.items c.refuse_in_room.new.out.items c.in-Ok-Refuse.field-0
@@ -37,7 +39,8 @@ returns-in-Err-write-clause-err g c =
     c.give_up-in-Err-write.ensures c.replace-table.result c.in-Ok.ensures.spot ∙ c.replace-table.ensures.value in
     rw (← c.self.view_is) (
       write_kept g.S.Store.meaning g.S.Source.Source.meaning c.self.inside.config c.self.inside.store
-          c.self.inside.table _ c.args.incoming.from c.args.incoming.bytes.now c.args.write.path c.args.write.mode c.args.write.agreed c.write.new.self
+          c.self.inside.table _ c.args.incoming.from c.args.incoming.bytes.now c.args.write.path c.args.write.mode
+          c.args.write.agreed c.write.new.self
           c.self-in-Ok.inside.config c.self-in-Ok.inside.store c.self-in-Ok.inside.table c.give_up-in-Err-write.result
           c.self-in-Ok.view_is c.write.ensures.rest back c.in-Err-write.ensures.err.0,
       c.in-Err-write.ensures.err.1,

@@ -3,7 +3,7 @@ use Rattle.std.proofs.Common.{Option, refl, sym, subst}
 use Rattle.tftp_wire.specs.declared.packet.Packet.{Packet}
 use Rattle.tftp_ends.specs.Action.{Decodes, datagram_action}
 use Rattle.tftp_ends.specs.Step.{UsesFile}
-use Rattle.tftp_server.specs.State.{HeldTransfer}
+use Rattle.tftp_server.specs.State.{TransferState}
 use Rattle.tftp_ends.specs.declared.outgoing.Outgoing.{Outgoing}
 use Rattle.tftp_ends.specs.declared.record.Step.{Step}
 use Rattle.tftp_server.specs.Steps.{lends}
@@ -66,13 +66,13 @@ returns-in-Source-clause-why g c = λ memory.
 
 pub returns-in-Source-clause-memory : goal.returns-in-Source-clause-memory
 returns-in-Source-clause-memory g c = λ memory.
-    subst (λ (held : HeldTransfer g.row.F.Denot g.row.D.Denot). (decoded : Option Packet)
+    subst (λ (held : TransferState g.row.F.Denot g.row.D.Denot). (decoded : Option Packet)
     × Decodes c.args.bytes.now decoded × UsesFile (datagram_action held.end c.args.from c.args.bytes.now decoded))
     c.self.view_is (c.handle_datagram_as_sender.ensures.memory memory)
 
 pub returns-in-Sink-clause-memory : goal.returns-in-Sink-clause-memory
 returns-in-Sink-clause-memory g c = λ memory.
-    subst (λ (held : HeldTransfer g.row.F.Denot g.row.D.Denot). (decoded : Option Packet)
+    subst (λ (held : TransferState g.row.F.Denot g.row.D.Denot). (decoded : Option Packet)
     × Decodes c.args.bytes.now decoded × UsesFile (datagram_action held.end c.args.from c.args.bytes.now decoded))
     c.self.view_is (c.handle_datagram_as_receiver.ensures.memory memory)
 

@@ -8,4 +8,4 @@ use Rattle.tftp_store.proofs.memory.MemStore.new.Goals as goal
 pub returns-clause-found : goal.returns-clause-found
 returns-clause-found c =
     λ path. ap (file_at path) c.in_ok-in_path_order.ensures
-        ∙ in_path_order-lookup path (contents c.args.files.items) c.requires
+    ∙ in_path_order-lookup path (contents c.args.files.items) c.requires

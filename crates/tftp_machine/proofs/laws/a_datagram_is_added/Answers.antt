@@ -1,6 +1,0 @@
--- The lemma that is the law.
-use Rattle.tftp_machine.proofs.Shown.{shown_speaks}
-use Rattle.tftp_machine.proofs.laws.a_datagram_is_added.Goals as goal
-
-pub returns : goal.returns
-returns g = shown_speaks

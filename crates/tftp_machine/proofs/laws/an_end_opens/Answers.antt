@@ -1,6 +1,0 @@
--- The lemma that is the law.
-use Rattle.tftp_machine.proofs.Shown.{shown_opens}
-use Rattle.tftp_machine.proofs.laws.an_end_opens.Goals as goal
-
-pub returns : goal.returns
-returns g = shown_opens

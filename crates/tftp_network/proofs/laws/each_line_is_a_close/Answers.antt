@@ -1,6 +1,0 @@
--- The lemma that is the law.
-use Rattle.tftp_network.proofs.ClosedLines.{lines_are_closes}
-use Rattle.tftp_network.proofs.laws.each_line_is_a_close.Goals as goal
-
-pub returns : goal.returns
-returns g c = λ port first before now run. lines_are_closes port first before now run

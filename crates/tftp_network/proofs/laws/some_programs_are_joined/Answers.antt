@@ -1,9 +1,0 @@
--- The lemmas that are the law.
-use Rattle.tftp_network.proofs.Exchange.{some_joined, some_served}
-use Rattle.tftp_network.proofs.laws.some_programs_are_joined.Goals as goal
-
-pub returns-clause-joined : goal.returns-clause-joined
-returns-clause-joined g = some_joined
-
-pub returns-clause-served : goal.returns-clause-served
-returns-clause-served g = some_served

@@ -1,0 +1,469 @@
+-- In the end state of the journals what a receiver was handed is what its peer's file gave: the invariant by the run
+-- says it of a text that is padded, and no padding is part of what is claimed.
+use Rattle.std.proofs.Common.{◌≡◌, ℕ, true, false, List, [], length, Option, Some, None, refl, sym, ap, ◌∙◌, subst, inl}
+use Rattle.std.proofs.Common.{inr}
+use Rattle.std.specs.Prelude.{◌≢◌, slice_get, option_map}
+use Rattle.std.proofs.lemmas.Bool.{true≢false}
+use Rattle.std.proofs.lemmas.Option.{same_Some, slice_get-map}
+use Rattle.tftp_wire.specs.declared.mode.Mode.{Mode}
+use Rattle.tftp_file.specs.Block.{IsPrefixOf}
+use Rattle.tftp_file.specs.Sink.{SinkMeaning}
+use Rattle.tftp_file.specs.Source.{SourceMeaning}
+use Rattle.tftp_file.specs.declared.files.Files.{Files}
+use Rattle.tftp_file.specs.declared.files.Files.TheVariants.{Source, Sink}
+use Rattle.tftp_ends.specs.declared.role.Role.{Role}
+use Rattle.tftp_ends.specs.End.{EndState, is_client, is_complete, is_sender, record_of}
+use Rattle.tftp_store.specs.Store.{StoreMeaning}
+use Rattle.tftp_server.specs.State.{TransferState}
+use Rattle.tftp_rules.specs.Facts.{IsServing}
+use Rattle.tftp_rules.specs.Machine.{At_server, Elsewhere, Endpoint, Host, Machine, Party}
+use Rattle.tftp_rules.specs.OpenEnds.{OpenEnd, goes_on, open_view, received_text}
+use Rattle.tftp_rules.specs.Safety.{IsCompleteAt, IsSenderAt}
+use Rattle.tftp_rules.specs.Shows.{EndView, Matches, Shows}
+use Rattle.tftp_rules.specs.ViewSafety.{IsAmong, IsSafeViews, safety_view}
+use Rattle.tftp_rules.proofs.Shown.{shown_by}
+use Rattle.tftp_rules.proofs.ViewSafe.{shown_safe}
+use Rattle.tftp_promises.specs.ClientRuns.{moved_in}
+use Rattle.tftp_promises.specs.AnyFiles.{IsEnd, IsOurs, IsServingAt, KeepAnyFiles, ProgramEnd, WasOpened, client_end}
+use Rattle.tftp_promises.specs.AnyFiles.{has_of, peer_of}
+use Rattle.tftp_promises.specs.AnyFiles.{safety_of, transfer_end}
+use Rattle.tftp_promises.specs.Arrived.{ViewsEnd}
+use Rattle.tftp_promises.specs.Moved.{Moved}
+use Rattle.tftp_promises.specs.Openings.{moved_at, opened_at}
+use Rattle.tftp_promises.specs.Order.{Programs, IsStranger}
+use Rattle.tftp_promises.specs.Programs.{ClientProgram, endpoint, requests_at}
+use Rattle.tftp_promises.specs.Promises.{HasOpened, joined}
+use Rattle.tftp_promises.specs.Snapshots.{Has_asked, all_of}
+use Rattle.tftp_promises.proofs.Kept.{By_run, ClientKept, GaveSo, HasFile, HasStored, IsKept, IsOpened, IsViewed}
+use Rattle.tftp_promises.proofs.Kept.{TookSo}
+use Rattle.tftp_promises.proofs.Kept.{length_of}
+use Rattle.tftp_promises.proofs.KeptShown.{receiver_text, text_if, views_end}
+use Rattle.tftp_promises.proofs.KeptViews.{view_there}
+use Rattle.tftp_promises.proofs.Places.{strangers_elsewhere}
+use Rattle.tftp_promises.proofs.Texts.{begin_each_other, begins_unpadded, pad_length, pad_to}
+
+module _ {S F D G K : Type 0} {stores : StoreMeaning S D} {sources : SourceMeaning F} {inputs : SourceMeaning G}
+    {outputs : SinkMeaning K}
+    (programs : Programs stores sources inputs outputs) (kept : (pad : ℕ) →
+    IsKept programs (By_run pad) (all_of programs)) where
+  abbrev Client : Type 0
+  Client = ClientProgram inputs outputs (requests_at stores sources programs.server)
+
+  abbrev views : ℕ → List EndView
+  views pad = (kept pad).views
+
+  safe : (pad : ℕ) → IsSafeViews (joined programs) (views pad)
+  safe pad = shown_safe (joined programs) (views pad) (kept pad).messages (kept pad).shown
+
+  -- ---- the ends
+  -- what stands for an end among the views
+  record StandsFor (pad : ℕ) (x : ProgramEnd) : Type 0 where
+    end : OpenEnd
+    address : end.address ≡ x.address
+    state : end.state ≡ x.state
+    viewed : IsViewed (joined programs) (views pad) (kept pad).messages end
+    text : is_sender end.state.role.side ≡ true → end.text ≡ pad_to pad end.state.role.length x.moved.bytes
+    gave : is_sender end.state.role.side ≡ true → GaveSo end x.moved
+    took : is_sender end.state.role.side ≡ false → TookSo end x.moved
+
+  client_kept : (pad k : ℕ) (client : Client) → slice_get programs.clients k ≡ Some client →
+      ClientKept programs (By_run pad) (views pad) (kept pad).messages client client.last client.files
+      (moved_in client.runs)
+  client_kept pad k client found =
+      (kept pad).clients k client (Has_asked client.last client.files client.noted (moved_in client.runs)) found
+      (slice_get-map (λ (c : Client). Has_asked c.last c.files c.noted (moved_in c.runs)) programs.clients k
+      ∙ ap (option_map (λ (c : Client). Has_asked c.last c.files c.noted (moved_in c.runs))) found)
+
+  module _ (pad : ℕ) (client : Client) (x : OpenEnd) where
+    client_stands : (files : Files G K) → HasFile programs (By_run pad) client x files (moved_in client.runs) →
+        (is_sender x.state.role.side ≡ true → x.text ≡ pad_to pad x.state.role.length (moved_in client.runs).bytes)
+        × (is_sender x.state.role.side ≡ true → GaveSo x (moved_in client.runs))
+        × (is_sender x.state.role.side ≡ false → TookSo x (moved_in client.runs))
+    client_stands (Source source) has = (
+      λ s. has.text ∙ ap (λ (r : Role). pad_to pad r.length (moved_in client.runs).bytes) (sym has.role),
+      λ s. has.gave,
+      λ r. absurd (true≢false (sym has.sender ∙ r)),
+    )
+    client_stands (Sink sink) has = (
+      λ s. absurd (true≢false (sym s ∙ has.receiver)),
+      λ s. absurd (true≢false (sym s ∙ has.receiver)),
+      λ r. has.took,
+    )
+
+  module _ (pad : ℕ) (a : Endpoint) (x : OpenEnd) (at : x.address ≡ a) where
+    moved_there : moved_at programs x.address programs.server.run ≡ moved_at programs a programs.server.run
+    moved_there = ap (λ (e : Endpoint). moved_at programs e programs.server.run) at
+
+    measured : IsOpened programs (all_of programs) x →
+        length_of (opened_at programs x.address programs.server.run) ≡ x.state.role.length
+    measured h = ap length_of h.opened ∙ ap (λ (r : Role). r.length) h.role
+
+    transfer_stands : (files : Files F D) → HasStored programs (By_run pad) (all_of programs) x files →
+        (is_sender x.state.role.side ≡ true →
+        x.text ≡ pad_to pad x.state.role.length (moved_at programs a programs.server.run).bytes)
+        × (is_sender x.state.role.side ≡ true → GaveSo x (moved_at programs a programs.server.run))
+        × (is_sender x.state.role.side ≡ false → TookSo x (moved_at programs a programs.server.run))
+    transfer_stands (Source source) has = (
+      λ s. has.text ∙ (ap (λ (n : ℕ). pad_to pad n (moved_at programs x.address programs.server.run).bytes)
+          (measured has.opened) ∙ ap (λ (m : Moved). pad_to pad x.state.role.length m.bytes) moved_there),
+      λ s. subst (λ (m : Moved). GaveSo x m) moved_there has.gave,
+      λ r. absurd (true≢false (sym has.sender ∙ r)),
+    )
+    transfer_stands (Sink draft) has = (
+      λ s. absurd (true≢false (sym s ∙ has.receiver)),
+      λ s. absurd (true≢false (sym s ∙ has.receiver)),
+      λ r. subst (λ (m : Moved). TookSo x m) moved_there has.took,
+    )
+
+  -- each end stands among the views
+  of_client : (pad k : ℕ) (client : Client) → slice_get programs.clients k ≡ Some client →
+      StandsFor pad (client_end programs client)
+  of_client pad k client found =
+      let h = client_kept pad k client found in
+      let got = client_stands pad client h.end client.files h.has in
+      record {
+        end = h.end;
+        address = h.address;
+        state = h.state;
+        viewed = h.viewed;
+        text = got.0;
+        gave = got.1;
+        took = got.2;
+      }
+
+  of_transfer : (pad port : ℕ) (transfer : TransferState F D) (a : Endpoint) → HasOpened programs port transfer a →
+      StandsFor pad (transfer_end programs transfer a)
+  of_transfer pad port transfer a opened =
+      let h = (kept pad).transfers port transfer a opened in
+      let got = transfer_stands pad a h.end h.address transfer.files h.has in
+      record {
+        end = h.end;
+        address = h.address;
+        state = h.state;
+        viewed = h.viewed;
+        text = got.0;
+        gave = got.1;
+        took = got.2;
+      }
+
+  stands : (pad : ℕ) (x : ProgramEnd) → IsEnd programs x → StandsFor pad x
+  stands pad x (inl of) = subst (λ (z : ProgramEnd). StandsFor pad z) (sym of.3) (of_client pad of.0 of.1 of.2)
+  stands pad x (inr of) = subst (λ (z : ProgramEnd). StandsFor pad z) (sym of.4) (of_transfer pad of.0 of.1 of.2 of.3)
+
+  -- and each view is of an end
+  viewed_end : (pad : ℕ) (view : EndView) → IsAmong (views pad) view →
+      (x : ProgramEnd) × IsEnd programs x × (view.address ≡ x.address)
+  viewed_end pad view among = elim ((kept pad).only view among) [
+    | inl of ↦ (client_end programs of.client, inl (of.k, of.client, of.found, refl), of.address)
+    | inr of ↦ (
+      transfer_end programs of.transfer view.address,
+      inr (of.port, of.transfer, view.address, of.is_transfer, refl),
+      refl,
+    )
+  ]
+
+  module _ (pad : ℕ) (x : ProgramEnd) (s : StandsFor pad x) where
+    abbrev view : EndView
+    view = open_view s.end
+
+    among : IsAmong (views pad) view
+    among = (s.viewed.index, s.viewed.viewed)
+
+    -- its view says what it is
+    says : ViewsEnd x.address x.state view
+    says = views_end s.end x.address x.state s.address s.state
+
+    -- and the view at its endpoint is its own
+    own_view : (v : EndView) → IsAmong (views pad) v → v.address ≡ x.address → v ≡ view
+    own_view v inside same =
+        view_there (joined programs) (views pad) (kept pad).messages s.end v (kept pad).shown s.viewed inside
+        (same ∙ sym s.address)
+
+    sender_at : is_sender x.state.role.side ≡ true → is_sender s.end.state.role.side ≡ true
+    sender_at sends = ap (λ (e : EndState). is_sender e.role.side) s.state ∙ sends
+
+    receiver_at : is_sender x.state.role.side ≡ false → is_sender s.end.state.role.side ≡ false
+    receiver_at receives = ap (λ (e : EndState). is_sender e.role.side) s.state ∙ receives
+
+    -- the text of a sender, and that of a receiver
+    sent_text : is_sender x.state.role.side ≡ true → view.text ≡ pad_to pad x.state.role.length x.moved.bytes
+    sent_text sends =
+        let sender = sender_at sends in
+        text_if (is_sender s.end.state.role.side) s.end.text (received_text s.end.state s.end.stored) sender
+        ∙ (s.text sender ∙ ap (λ (e : EndState). pad_to pad e.role.length x.moved.bytes) s.state)
+
+    has_text : is_sender x.state.role.side ≡ false → view.text ≡ has_of x
+    has_text receives =
+        let receiver = receiver_at receives in
+        receiver_text s.end receiver ∙ (ap (received_text s.end.state) (s.took receiver).stored
+        ∙ ap (λ (e : EndState). received_text e x.moved.bytes) s.state)
+
+  -- ---- the promises
+  not_elsewhere : (p : Endpoint) → IsOurs programs p → (joined programs).host_of p ≢ Elsewhere
+  not_elsewhere p ours e = ours ((strangers_elsewhere programs p).0 e)
+
+  -- the peer of a client is no stranger
+  client_peer : (x : ProgramEnd) (p : Endpoint) → IsEnd programs x → is_client x.state.role.side ≡ true →
+      peer_of x ≡ Some p → IsOurs programs p
+  client_peer x p is_end client peer stranger =
+      let s = stands 0 x is_end in
+      let told = says 0 x s in
+      (safe 0).ours (view 0 x s) p (among 0 x s) (told.client ∙ client) (told.peer ∙ peer)
+      ((strangers_elsewhere programs p).1 stranger)
+
+  -- the claims on views, and those on ends
+  abbrev SendsThere : ℕ → Endpoint → Mode → EndView → Type 0
+  SendsThere pad p m v = IsSenderAt safety_view (IsAmong (views pad)) p m v
+
+  abbrev SendsAt : Endpoint → Mode → ProgramEnd → Type 0
+  SendsAt p m y = IsSenderAt safety_of (IsEnd programs) p m y
+
+  abbrev CompletesAt : Endpoint → Endpoint → ProgramEnd → Type 0
+  CompletesAt p other y = IsCompleteAt safety_of (IsEnd programs) p other y
+
+  -- the end of a view of the server's
+  is_serving : (v : EndView) (p a : Endpoint) → IsAmong (views 0) v → v.address ≡ p → v.client ≡ false →
+      v.peer ≡ Some a → (y : ProgramEnd) × IsServingAt programs p a y
+  is_serving v p a among at client peer =
+      let e = viewed_end 0 v among in
+      let t = stands 0 e.0 e.1 in
+      let told = says 0 e.0 t in
+      let is = own_view 0 e.0 t v among e.2 in (
+        e.0,
+        record {
+          is_end = e.1;
+          address = sym e.2 ∙ at;
+          server = sym told.client ∙ (ap (λ (w : EndView). w.client) (sym is) ∙ client);
+          peer = sym told.peer ∙ (ap (λ (w : EndView). w.peer) (sym is) ∙ peer);
+        },
+      )
+
+  -- a view of an end that serves
+  view_serving : (m : Machine) (x : Party) (p a : Endpoint) → Shows (views 0) (kept 0).messages m →
+      IsServing a x (m.party p) →
+      (v : EndView) × IsAmong (views 0) v × (v.address ≡ p) × (v.client ≡ false) × (v.peer ≡ Some a)
+  view_serving m x p a shows serves =
+      let there = shows.only p serves.is_open in
+      let matches : Matches there.1 (m.party p) =
+      subst (λ (e : Endpoint). Matches there.1 (m.party e)) there.3 (shows.ends there.0 there.1 there.2) in
+      (there.1, (there.0, there.2), there.3, sym matches.client ∙ serves.client, sym matches.peer ∙ serves.peer)
+
+  -- the peer of a client serves it
+  server_peer : (x : ProgramEnd) (p : Endpoint) → IsEnd programs x → is_client x.state.role.side ≡ true →
+      peer_of x ≡ Some p → (y : ProgramEnd) × IsServingAt programs p x.address y
+  server_peer x p is_end client peer =
+      let s = stands 0 x is_end in
+      let told = says 0 x s in
+      let by = shown_by (joined programs) (views 0) (kept 0).messages (kept 0).shown in
+      let m = by.3.ends s.viewed.index (view 0 x s) s.viewed.viewed in
+      let serves =
+      ((by.1.ends (view 0 x s).address m.is_open).serving (m.client ∙ (told.client ∙ client)) p
+      (m.peer ∙ (told.peer ∙ peer))).1 in
+      let v = view_serving by.0 (by.0.party (view 0 x s).address) p (view 0 x s).address by.3 serves in
+      is_serving v.0 p x.address v.1 v.2 v.3 (v.4 ∙ ap (λ (a : Endpoint). Some a) told.address)
+
+  -- a transfer whose peer is ours is at its port
+  at_its_port : (port : ℕ) (transfer : TransferState F D) (a p : Endpoint) → HasOpened programs port transfer a →
+      peer_of (transfer_end programs transfer a) ≡ Some p → IsOurs programs p → a ≡ endpoint programs.server.ip port
+  at_its_port port transfer a p opened peer ours =
+      let h = (kept 0).transfers port transfer a opened in
+      elim h.seat [
+        | inl here ↦ here
+        | inr s ↦
+            let same : s.peer ≡ p =
+            same_Some s.peer p (sym s.is_peer ∙ (ap (λ (e : EndState). (record_of e).peer) h.state ∙ peer)) in
+            absurd (ours (subst (λ (b : Endpoint). IsStranger stores sources inputs outputs programs b) same s.strange))
+      ]
+
+  -- a sender among the views, and its end
+  record SenderThere (pad : ℕ) (p : Endpoint) (m : Mode) (v : EndView) : Type 0 where
+    y : ProgramEnd
+    sender : SendsAt p m y
+    is : v ≡ open_view (stands pad y sender.is_end).end
+
+  sender_there : (pad : ℕ) (p : Endpoint) (m : Mode) (v : EndView) → SendsThere pad p m v → SenderThere pad p m v
+  sender_there pad p m v at =
+      let e = viewed_end pad v at.is_end in
+      let s = stands pad e.0 e.1 in
+      let is = own_view pad e.0 s v at.is_end e.2 in
+      let told = says pad e.0 s in
+      record {
+        y = e.0;
+        sender = record {
+          is_end = e.1;
+          address = sym e.2 ∙ at.address;
+          sends = sym told.sender ∙ (ap (λ (w : EndView). w.sender) (sym is) ∙ at.sends);
+          mode = sym told.mode ∙ (ap (λ (w : EndView). w.mode) (sym is) ∙ at.mode);
+        };
+        is = is;
+      }
+
+  -- the same end however its text is padded
+  same_there :
+      (pad other : ℕ) (p : Endpoint) (m n : Mode) (v w : EndView) (there : SenderThere pad p m v) →
+      SendsThere other p n w → w ≡ open_view (stands other there.y there.sender.is_end).end
+  same_there pad other p m n v w there at =
+      own_view other there.y (stands other there.y there.sender.is_end) w at.is_end
+      (at.address ∙ sym there.sender.address)
+
+  module _ (x : ProgramEnd) (is_end : IsEnd programs x) (receives : is_sender x.state.role.side ≡ false) where
+    abbrev self : (pad : ℕ) → StandsFor pad x
+    self pad = stands pad x is_end
+
+    abbrev own : ℕ → EndView
+    own pad = view pad x (self pad)
+
+    not_sender : (pad : ℕ) → (own pad).sender ≡ false
+    not_sender pad = receiver_at pad x (self pad) receives
+
+    nothing : peer_of x ≡ None → has_of x ≡ []
+    nothing none =
+        sym (has_text 0 x (self 0) receives)
+        ∙ (safe 0).is_empty (own 0) (among 0 x (self 0)) (not_sender 0) ((says 0 x (self 0)).peer ∙ none)
+
+    -- what it has is a prefix of the text of the view v, which is that of the end y
+    begins : (pad : ℕ) (v : EndView) (y : ProgramEnd) (sender : is_sender y.state.role.side ≡ true)
+        (of : IsEnd programs y) → v ≡ open_view (stands pad y of).end → IsPrefixOf (own pad).text v.text →
+        IsPrefixOf (has_of x) (pad_to pad y.state.role.length y.moved.bytes)
+    begins pad v y sender of is prefix =
+        let text = ap (λ (w : EndView). w.text) is ∙ sent_text pad y (stands pad y of) sender in
+        subst (λ (t : List ℕ). IsPrefixOf t (pad_to pad y.state.role.length y.moved.bytes))
+        (has_text pad x (self pad) receives)
+        (subst (λ (t : List ℕ). IsPrefixOf (own pad).text t) text prefix)
+
+    prefix : (p : Endpoint) → peer_of x ≡ Some p → IsOurs programs p →
+        (y : ProgramEnd) × SendsAt p x.state.role.mode y × IsPrefixOf (has_of x) y.moved.bytes
+    prefix p peer ours =
+        let elsewhere = not_elsewhere p ours in
+        let peer_at : (pad : ℕ) → (own pad).peer ≡ Some p = λ pad. (says pad x (self pad)).peer ∙ peer in
+        let zero = (safe 0).is_prefix (own 0) p (among 0 x (self 0)) (not_sender 0) (peer_at 0) elsewhere in
+        let one = (safe 1).is_prefix (own 1) p (among 1 x (self 1)) (not_sender 1) (peer_at 1) elsewhere in
+        let mode = (says 0 x (self 0)).mode in
+        let there =
+        sender_there 0 p x.state.role.mode zero.0 (subst (λ (m : Mode). SendsThere 0 p m zero.0) mode zero.1) in
+        let same = same_there 0 1 p x.state.role.mode (own 1).mode zero.0 one.0 there one.1 in
+        let y = there.y in
+        let size = y.state.role.length in (
+          y,
+          there.sender,
+          begins_unpadded size size y.moved.bytes (has_of x)
+              (begins 0 zero.0 y there.sender.sends there.sender.is_end there.is zero.2)
+              (begins 1 one.0 y there.sender.sends there.sender.is_end same one.2),
+        )
+
+    -- what a sender gave is all that a complete receiver has
+    all_given : (p : Endpoint) → peer_of x ≡ Some p → IsOurs programs p → (v : EndView) →
+        SendsThere 0 p (own 0).mode v → (own 0).text ≡ v.text →
+        (y : ProgramEnd) × SendsAt p x.state.role.mode y × (has_of x ≡ y.moved.bytes)
+        × (length y.moved.bytes ≡ y.state.role.length)
+    all_given p peer ours v at all_text =
+        let begun = prefix p peer ours in
+        let y = begun.0 in
+        let s = stands 0 y begun.1.is_end in
+        let same : v ≡ open_view s.end = own_view 0 y s v at.is_end (at.address ∙ sym begun.1.address) in
+        let text : has_of x ≡ pad_to 0 y.state.role.length y.moved.bytes =
+        sym (has_text 0 x (self 0) receives)
+        ∙ (all_text ∙ (ap (λ (w : EndView). w.text) same ∙ sent_text 0 y s begun.1.sends)) in
+        let sender = sender_at 0 y s begun.1.sends in
+        let end_text : s.end.text ≡ has_of x =
+        s.text sender ∙ (ap (λ (e : EndState). pad_to 0 e.role.length y.moved.bytes) s.state ∙ sym text) in
+        let gave = subst (λ (t : List ℕ). IsPrefixOf y.moved.bytes t) end_text (s.gave sender).prefix in
+        let all_of_it : has_of x ≡ y.moved.bytes = begin_each_other (has_of x) y.moved.bytes begun.2 gave in
+        let long = ap (λ (t : List ℕ). length t) (sym all_of_it ∙ text) in
+        (y, begun.1, all_of_it, long ∙ pad_length 0 y.state.role.length y.moved.bytes)
+
+    has_committed : is_complete x.state.position.phase ≡ true → x.moved.committed ≡ true
+    has_committed complete =
+        let receiver = receiver_at 0 x (self 0) receives in
+        let is_so = ap (λ (e : EndState). is_complete e.position.phase) (self 0).state ∙ complete in
+        ((self 0).took receiver).committed ((self 0).viewed.kept.committed receiver ∙ is_so)
+
+    whole : is_complete x.state.position.phase ≡ true → (p : Endpoint) × (peer_of x ≡ Some p)
+        × (IsOurs programs p → (y : ProgramEnd) × SendsAt p x.state.role.mode y × (has_of x ≡ y.moved.bytes)
+        × (length y.moved.bytes ≡ y.state.role.length))
+    whole complete =
+        let told = says 0 x (self 0) in
+        let all = (safe 0).is_whole (own 0) (among 0 x (self 0)) (not_sender 0) (told.complete ∙ complete) in
+        let p = all.0 in
+        let peer : peer_of x ≡ Some p = sym told.peer ∙ all.1 in
+        (p, peer, λ ours. let v = all.2 (not_elsewhere p ours) in all_given p peer ours v.0 v.1 v.2)
+
+  its_receiver : (x : ProgramEnd) (s : StandsFor 0 x) (p : Endpoint) (v : EndView) →
+      IsCompleteAt safety_view (IsAmong (views 0)) p (view 0 x s).address v →
+      (y : ProgramEnd) × CompletesAt p x.address y
+  its_receiver x s p v at =
+      let told = says 0 x s in
+      let e = viewed_end 0 v at.is_end in
+      let y = stands 0 e.0 e.1 in
+      let is = own_view 0 e.0 y v at.is_end e.2 in
+      let says_y = says 0 e.0 y in
+      let peer = at.peer ∙ ap (λ (a : Endpoint). Some a) told.address in (
+        e.0,
+        record {
+          is_end = e.1;
+          address = sym e.2 ∙ at.address;
+          peer = sym says_y.peer ∙ (ap (λ (w : EndView). w.peer) (sym is) ∙ peer);
+          complete = sym says_y.complete ∙ (ap (λ (w : EndView). w.complete) (sym is) ∙ at.complete);
+        },
+      )
+
+  last_sender : (x : ProgramEnd) → IsEnd programs x → is_sender x.state.role.side ≡ true →
+      is_complete x.state.position.phase ≡ true →
+      (p : Endpoint) × (peer_of x ≡ Some p) × (IsOurs programs p → (y : ProgramEnd) × CompletesAt p x.address y)
+  last_sender x is_end sends complete =
+      let s = stands 0 x is_end in
+      let told = says 0 x s in
+      let last = (safe 0).sender_last (view 0 x s) (among 0 x s) (sender_at 0 x s sends) (told.complete ∙ complete) in (
+        last.0,
+        sym told.peer ∙ last.1,
+        λ ours. let v = last.2 (not_elsewhere last.0 ours) in its_receiver x s last.0 v.0 v.1,
+      )
+
+  sizes : (x y : ProgramEnd) → IsEnd programs x → IsEnd programs y → peer_of x ≡ Some y.address →
+      peer_of y ≡ Some x.address → (record_of x.state).size ≡ (record_of y.state).size
+  sizes x y is_x is_y px py =
+      let s = stands 0 x is_x in
+      let t = stands 0 y is_y in
+      let told = says 0 x s in
+      let told_y = says 0 y t in
+      let peer = told.peer ∙ (px ∙ ap (λ (a : Endpoint). Some a) (sym told_y.address)) in
+      let peer_y = told_y.peer ∙ (py ∙ ap (λ (a : Endpoint). Some a) (sym told.address)) in
+      let same = (safe 0).same_size (view 0 x s) (view 0 y t) (among 0 x s) (among 0 y t) peer peer_y in
+      sym told.size ∙ (same ∙ told_y.size)
+
+  -- what the server opened at a place
+  opened_so : (transfer : TransferState F D) (a : Endpoint) (x : OpenEnd) → x.address ≡ a → x.state ≡ transfer.end →
+      x.path ≡ transfer.path → IsOpened programs (all_of programs) x → WasOpened programs transfer a
+  opened_so transfer a x at state path h = record {
+    opening = h.opening;
+    opened = ap (λ (e : Endpoint). opened_at programs e programs.server.run) (sym at) ∙ h.opened;
+    path = h.path ∙ path;
+    role = h.role ∙ ap (λ (e : EndState). e.role) state;
+  }
+
+  opened_of : (files : Files F D) (x : OpenEnd) → HasStored programs (By_run 0) (all_of programs) x files →
+      IsOpened programs (all_of programs) x
+  opened_of (Source source) x has = has.opened
+  opened_of (Sink draft) x has = has.opened
+
+  was_opened : (port : ℕ) (transfer : TransferState F D) (a : Endpoint) → HasOpened programs port transfer a →
+      WasOpened programs transfer a
+  was_opened port transfer a opened =
+      let h = (kept 0).transfers port transfer a opened in
+      opened_so transfer a h.end h.address h.state h.path (opened_of transfer.files h.end h.has)
+
+  pub any_kept : KeepAnyFiles programs
+  any_kept = record {
+    safe = record {
+      same_size = sizes;
+      ours = client_peer;
+      is_empty = λ x is_end receives none. nothing x is_end receives none;
+      is_prefix = λ x p is_end receives peer ours. prefix x is_end receives p peer ours;
+      is_committed = λ x is_end receives complete. has_committed x is_end receives complete;
+      is_whole = λ x is_end receives complete. whole x is_end receives complete;
+      sender_last = last_sender;
+    };
+    served = server_peer;
+    at_port = at_its_port;
+    opened = was_opened;
+  }

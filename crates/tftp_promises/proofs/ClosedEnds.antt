@@ -1,0 +1,199 @@
+-- A closed end with any datagram, and at a timeout: it sends an ERROR or its last datagram at most, and its view stays.
+use Rattle.std.proofs.Common.{◌≡◌, ◌≢◌, ℕ, suc, zero, Bool, true, List, [], ◌∷◌, ◌++◌, set, Option, Some, refl, sym, ap}
+use Rattle.std.proofs.Common.{subst, inl, arith}
+use Rattle.std.specs.Prelude.{◌==◌, ◌&&◌, is_none, is_some, slice_get}
+use Rattle.std.proofs.lemmas.Bool.{true≢false}
+use Rattle.std.proofs.lemmas.List.{append-nil}
+use Rattle.std.proofs.lemmas.Option.{same_Some}
+use Rattle.tftp_wire.specs.declared.packet.Packet.{Packet as WirePacket}
+use Rattle.tftp_wire.specs.Reading.{has_error_opcode}
+use Rattle.tftp_ends.specs.declared.action.Action.{Action}
+use Rattle.tftp_ends.specs.declared.action.Action.TheVariants.{Respond}
+use Rattle.tftp_ends.specs.declared.action.Response.{Response}
+use Rattle.tftp_ends.specs.declared.action.Response.TheVariants.{Ignore, WrongPeer, Retransmit, Close}
+use Rattle.tftp_ends.specs.declared.error_reply.ErrorReply.TheVariants.{UnknownTransferId}
+use Rattle.tftp_ends.specs.declared.outcome.Outcome.{Outcome}
+use Rattle.tftp_ends.specs.declared.outcome.Outcome.TheVariants as outcomes
+use Rattle.tftp_ends.specs.declared.phase.Phase.{Phase}
+use Rattle.tftp_ends.specs.declared.phase.Phase.TheVariants.{Waiting, Sending, Receiving, Dallying, Closed}
+use Rattle.tftp_ends.specs.declared.phase.Terms.{Terms}
+use Rattle.tftp_ends.specs.Action.{is_wrong_peer, datagram_action, timeout_response}
+use Rattle.tftp_ends.specs.End.{outcome_of}
+use Rattle.tftp_ends.specs.Step.{response_turn, timeout_turn, after, with_position}
+use Rattle.tftp_rules.specs.EndShown.{Stands, Goes, IsThere}
+use Rattle.tftp_rules.specs.EndKept.{EndKept}
+use Rattle.tftp_rules.specs.Machine.{Endpoint, Error, Message, Network}
+use Rattle.tftp_rules.specs.OpenEnds.{OpenEnd, files_of, in_state, peer_of, with_phase, end_after, open_view}
+use Rattle.tftp_rules.specs.Rules.{Rule, message}
+use Rattle.tftp_rules.specs.Said.{said}
+use Rattle.tftp_rules.specs.Shows.{EndView, IsShownWithin}
+use Rattle.tftp_rules.proofs.Actions.{says_error, repeats}
+use Rattle.tftp_rules.proofs.EndMoves.{error_says, from_response}
+use Rattle.tftp_rules.proofs.PhaseMoves.{if_acts}
+use Rattle.tftp_rules.proofs.Shown.{shown_still, shown_within}
+use Rattle.tftp_promises.proofs.WrongPeers.{wrong_peer}
+
+-- what is there already changes nothing
+pub set_same : {X : Type 0} (xs : List X) (k : ℕ) (x : X) → slice_get xs k ≡ Some x → set xs k x ≡ xs
+set_same {X = X} [] k x e = refl
+set_same {X = X} (y ∷ ys) zero x e = ap (λ (z : X). z ∷ ys) (sym (same_Some y x e))
+set_same {X = X} (y ∷ ys) (suc k) x e = ap (λ (zs : List X). y ∷ zs) (set_same ys k x e)
+
+module _ (network : Network) (first : List Rule) (views : List EndView) (messages : List Message) (k : ℕ) where
+  module _ (x : OpenEnd) (s : Stands network first views messages k (open_view x)) where
+    -- the view of the end stays
+    still_shown : (all : List Message) → IsShownWithin network 3 first views all →
+        IsShownWithin network 3 first (set views k (open_view x)) all
+    still_shown all h =
+        subst (λ (vs : List EndView). IsShownWithin network 3 first vs all)
+        (sym (set_same views k (open_view x) s.viewed)) h
+
+    nothing_said : IsShownWithin network 3 first views (messages ++ [])
+    nothing_said =
+        subst (λ (ms : List Message). IsShownWithin network 3 first views ms) (sym (append-nil messages))
+        (shown_within network 0 3 first views messages (omega arith) (shown_still network first views messages s.shown))
+
+    ignores : EndKept network x → (from : Endpoint) →
+        Goes network first views messages k x (response_turn Ignore from x.state) x
+    ignores kept from = record {
+      said_now = [];
+      shown = still_shown (messages ++ []) nothing_said;
+      replies = refl;
+      kept = kept;
+      side = refl;
+      last_sent = inl (refl, refl);
+      stored = λ _. refl;
+    }
+
+    answers_wrong_peer : EndKept network x → (from : Endpoint) →
+        Goes network first views messages k x (response_turn WrongPeer from x.state) x
+    answers_wrong_peer kept from = record {
+      said_now = message x.address from Error ∷ [];
+      shown =
+          still_shown (messages ++ message x.address from Error ∷ [])
+          (says_error network first views messages s.shown x.address from);
+      replies = error_says UnknownTransferId x.address from;
+      kept = kept;
+      side = refl;
+      last_sent = inl (refl, refl);
+      stored = λ _. refl;
+    }
+
+  -- how a closed end answers a datagram
+  pub record ClosedAnswers (x : OpenEnd) (from : Endpoint) (action : Action) : Type 0 where
+    pub response : Response
+    pub is : action ≡ Respond response
+    pub same : after response from x.state ≡ x.state.position
+    pub goes : Goes network first views messages k x (response_turn response from x.state) x
+
+  module _ (x0 : OpenEnd) (terms : Option Terms) (n : ℕ) (complete : Bool) (outcome : Outcome) where
+    abbrev closed_end : OpenEnd
+    closed_end = with_phase (Closed terms n complete outcome) x0
+
+    module _ (s : Stands network first views messages k (open_view closed_end))
+        (kept : EndKept network closed_end) where
+      answers : (from : Endpoint) (bytes : List ℕ) (decoded : Option WirePacket) →
+          ClosedAnswers closed_end from (datagram_action closed_end.state from bytes decoded)
+      answers from bytes decoded =
+          let P = ClosedAnswers closed_end from in
+          let ignored : P (Respond Ignore) =
+          record { response = Ignore; is = refl; same = refl; goes = ignores closed_end s kept from } in
+          let refused : P (Respond WrongPeer) =
+          record { response = WrongPeer; is = refl; same = refl; goes = answers_wrong_peer closed_end s kept from } in
+          if_acts P (is_wrong_peer terms x0.state.position.last_sent_to from) _ _
+          (λ f. if_acts P (has_error_opcode bytes) (Respond Ignore) (Respond WrongPeer) (λ b. ignored) (λ b. refused))
+          (λ f. if_acts P (has_error_opcode bytes && is_none decoded) (Respond Ignore) (Respond Ignore) (λ b. ignored)
+          (λ b. ignored))
+
+      abbrev Turns_by : Response → Type 0
+      Turns_by response =
+          Goes network first views messages k closed_end (response_turn response closed_end.state.position.last_sent_to
+          closed_end.state)
+          (in_state (with_position (after response closed_end.state.position.last_sent_to closed_end.state)
+          closed_end.state) closed_end)
+
+      -- the end of a transfer that has ended ends again
+      ends_again : (o : Outcome) → Turns_by (Close o)
+      ends_again o = record {
+        said_now = [];
+        shown = still_shown closed_end s (messages ++ []) (nothing_said closed_end s);
+        replies = refl;
+        kept = record { phase = tt; held_back = kept.held_back; committed = kept.committed };
+        side = refl;
+        last_sent = inl (refl, refl);
+        stored = λ _. refl;
+      }
+
+      retransmits : IsThere messages closed_end.address closed_end.state.position.last_sent_to
+          closed_end.state.position.last_sent → Turns_by Retransmit
+      retransmits old =
+          let m = message closed_end.address closed_end.state.position.last_sent_to (said old.0) in
+          record {
+            said_now = m ∷ [];
+            shown =
+                still_shown closed_end s (messages ++ m ∷ []) (repeats network first views messages s.shown m old.2);
+            replies = (old.0, old.1, refl);
+            kept = record { phase = tt; held_back = kept.held_back; committed = kept.committed };
+            side = refl;
+            last_sent = inl (refl, refl);
+            stored = λ _. refl;
+          }
+
+      times_out : IsThere messages closed_end.address closed_end.state.position.last_sent_to
+          closed_end.state.position.last_sent →
+          Turns_by (timeout_response x0.state.position.retries_left (Closed terms n complete outcome))
+      times_out old =
+          if_acts Turns_by (x0.state.position.retries_left == 0) (Close outcomes.TimedOut) Retransmit
+          (λ b. ends_again outcomes.TimedOut) (λ b. retransmits old)
+
+  -- a closed end with any datagram
+  pub closed_datagram_goes : (x : OpenEnd) → Stands network first views messages k (open_view x) → EndKept network x →
+      is_some (outcome_of x.state.position.phase) ≡ true →
+      (from : Endpoint) (bytes : List ℕ) (decoded : Option WirePacket) →
+      ClosedAnswers x from (datagram_action x.state from bytes decoded)
+  closed_datagram_goes x s kept closed from bytes decoded = by_phase x.state.position.phase s kept closed where
+    by_phase : (phase : Phase) → Stands network first views messages k (open_view (with_phase phase x)) →
+        EndKept network (with_phase phase x) → is_some (outcome_of phase) ≡ true →
+        ClosedAnswers (with_phase phase x) from (datagram_action (with_phase phase x).state from bytes decoded)
+    by_phase (Closed terms n complete outcome) t kept c = answers x terms n complete outcome t kept from bytes decoded
+    by_phase (Waiting asked limit) t kept c = absurd (true≢false (sym c))
+    by_phase (Sending terms n) t kept c = absurd (true≢false (sym c))
+    by_phase (Receiving terms n) t kept c = absurd (true≢false (sym c))
+    by_phase (Dallying terms n dally) t kept c = absurd (true≢false (sym c))
+
+  -- an end with a datagram that is not from its peer
+  pub wrong_datagram_goes : (x : OpenEnd) → Stands network first views messages k (open_view x) → EndKept network x →
+      (peer : Endpoint) → peer_of x.state.position.phase ≡ Some peer → (from : Endpoint) → peer ≢ from →
+      (bytes : List ℕ) (decoded : Option WirePacket) → ClosedAnswers x from (datagram_action x.state from bytes decoded)
+  wrong_datagram_goes x s kept peer is from n bytes decoded =
+      let P = ClosedAnswers x from in
+      let ignored : P (Respond Ignore) =
+      record { response = Ignore; is = refl; same = refl; goes = ignores x s kept from } in
+      let refused : P (Respond WrongPeer) =
+      record { response = WrongPeer; is = refl; same = refl; goes = answers_wrong_peer x s kept from } in
+      subst P (sym (wrong_peer x.state from bytes decoded peer is n))
+      (if_acts P (has_error_opcode bytes) (Respond Ignore) (Respond WrongPeer) (λ b. ignored) (λ b. refused))
+
+  -- a closed end at a timeout
+  pub closed_timeout_goes : (x : OpenEnd) → Stands network first views messages k (open_view x) → EndKept network x →
+      is_some (outcome_of x.state.position.phase) ≡ true →
+      IsThere messages x.address x.state.position.last_sent_to x.state.position.last_sent →
+      Goes network first views messages k x (timeout_turn x.state) (end_after x (timeout_turn x.state) (files_of x))
+  closed_timeout_goes x s kept closed old =
+      from_response network first views messages k x
+      (timeout_response x.state.position.retries_left x.state.position.phase) x.state.position.last_sent_to
+      (timeout_turn x.state) (files_of x)
+      (by_phase x.state.position.phase s kept closed) (refl, refl) where
+        by_phase : (phase : Phase) → Stands network first views messages k (open_view (with_phase phase x)) →
+            EndKept network (with_phase phase x) → is_some (outcome_of phase) ≡ true →
+            Goes network first views messages k (with_phase phase x)
+            (response_turn (timeout_response x.state.position.retries_left phase) x.state.position.last_sent_to
+            (with_phase phase x).state)
+            (in_state (with_position (after (timeout_response x.state.position.retries_left phase)
+            x.state.position.last_sent_to (with_phase phase x).state) (with_phase phase x).state)
+            (with_phase phase x))
+        by_phase (Closed terms n complete outcome) t kept c = times_out x terms n complete outcome t kept old
+        by_phase (Waiting asked limit) t kept c = absurd (true≢false (sym c))
+        by_phase (Sending terms n) t kept c = absurd (true≢false (sym c))
+        by_phase (Receiving terms n) t kept c = absurd (true≢false (sym c))
+        by_phase (Dallying terms n dally) t kept c = absurd (true≢false (sym c))

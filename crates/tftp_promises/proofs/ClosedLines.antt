@@ -1,0 +1,74 @@
+-- Each line of a run is that of a transfer that it removed.
+use Rattle.std.proofs.Common.{◌≡◌, ℕ, List, ◌++◌, append_assoc, Option, Some, None, refl, sym, ap, ◌∙◌}
+use Rattle.tftp_file.specs.Source.{SourceMeaning}
+use Rattle.tftp_ends.specs.declared.endpoint.Endpoint.{Endpoint}
+use Rattle.tftp_ends.specs.Step.{Reply, timeout_turn}
+use Rattle.tftp_store.specs.Store.{StoreMeaning}
+use Rattle.tftp_server.specs.State.{ServerState}
+use Rattle.tftp_sockets.specs.Journal.{Event, replied, answered}
+use Rattle.tftp_loop.specs.Run.{Run}
+use Rattle.tftp_loop.specs.Run.Run.{Start, Then}
+use Rattle.tftp_loop.specs.Serves.{PortState, LoopState, AtPort, Does, at_start, answering_port}
+use Rattle.tftp_loop.specs.Serves.AtPort.{A_datagram, A_lost_datagram, Nothing_found, A_failed_receive, A_timeout}
+use Rattle.tftp_loop.specs.Serves.AtPort.{A_missed_timeout, Work}
+use Rattle.tftp_loop.specs.Serves.Does.{Waited, At_port, Request_received, No_request_found, Request_not_received}
+use Rattle.tftp_loop.specs.Serves.Does.{No_port_found, Request_answered, Request_lost, Clock_read, Store_set}
+use Rattle.tftp_loop.specs.Serves.Does.{Transfer_closed}
+use Rattle.tftp_loop.specs.declared.serving.Ending.{Ending}
+use Rattle.tftp_promises.specs.Lines.{lines_of, close_lines, closed_lines}
+
+-- a datagram that was sent is no line
+no_line_answered : (port : ℕ) (reply : Option Reply) (events : List Event) →
+    lines_of (answered port reply events) ≡ lines_of events
+no_line_answered port None events = refl
+no_line_answered port (Some reply) events = refl
+
+no_line_replied : (port : ℕ) (to : Option Endpoint) (bytes : List ℕ) (events : List Event) →
+    lines_of (replied port to bytes events) ≡ lines_of events
+no_line_replied port None bytes events = refl
+no_line_replied port (Some to) bytes events = refl
+
+module _ {S F D : Type 0} {stores : StoreMeaning S D} {sources : SourceMeaning F} where
+  no_line_at : (now : ℕ) (old new : PortState S F D) → AtPort stores sources now old new →
+      lines_of new.events ≡ lines_of old.events
+  no_line_at now old new (A_datagram d) =
+      ap lines_of d.handles.events ∙ no_line_answered old.timer.port d.handles.takes.takes.turn.reply _
+  no_line_at now old new (A_lost_datagram d) = ap lines_of d.events
+  no_line_at now old new (Nothing_found d) = ap lines_of d.events
+  no_line_at now old new (A_failed_receive d) = ap lines_of d.events
+  no_line_at now old new (A_timeout d) =
+      ap lines_of d.times_out.events ∙ no_line_answered old.timer.port
+      (timeout_turn d.times_out.times_out.transfer.end).reply _
+  no_line_at now old new (A_missed_timeout d) = ap lines_of d.events
+  no_line_at now old new (Work d) = ap lines_of d.events
+
+  step_lines : (old new : LoopState S F D) (does : Does stores sources old new) →
+      lines_of new.events ≡ close_lines does ++ lines_of old.events
+  step_lines old new (Waited d) = ap (λ (s : LoopState S F D). lines_of s.events) d.is
+  step_lines old new (At_port d) =
+      ap (λ (s : LoopState S F D). lines_of s.events) d.is
+      ∙ no_line_at old.now (record { server = old.server; timer = d.timer; events = old.events }) d.next d.does
+  step_lines old new (Request_received d) = ap (λ (s : LoopState S F D). lines_of s.events) d.is
+  step_lines old new (No_request_found d) = ap (λ (s : LoopState S F D). lines_of s.events) d.is
+  step_lines old new (Request_not_received d) = ap (λ (s : LoopState S F D). lines_of s.events) d.is
+  step_lines old new (No_port_found d) = ap (λ (s : LoopState S F D). lines_of s.events) d.is
+  step_lines old new (Request_answered d) =
+      ap (λ (s : LoopState S F D). lines_of s.events) d.is
+      ∙ no_line_replied (answering_port old.requests d.left.opened.tid) d.left.opened.to d.left.sent old.events
+  step_lines old new (Request_lost d) = ap (λ (s : LoopState S F D). lines_of s.events) d.is
+  step_lines old new (Clock_read d) = ap (λ (s : LoopState S F D). lines_of s.events) d.is
+  step_lines old new (Store_set d) = ap (λ (s : LoopState S F D). lines_of s.events) d.is
+  step_lines old new (Transfer_closed d) = ap (λ (s : LoopState S F D). lines_of s.events) d.is
+
+  run_lines : {first now : LoopState S F D} (run : Run (Does stores sources) first now) →
+      lines_of now.events ≡ closed_lines run ++ lines_of first.events
+  run_lines Start = refl
+  run_lines {first} {now} (Then {middle} run does) =
+      step_lines middle now does
+      ∙ (ap (λ (ls : List (List ℕ)). close_lines does ++ ls) (run_lines run)
+      ∙ sym (append_assoc (close_lines does) (closed_lines run) (lines_of first.events)))
+
+  pub lines_are_closes : (port : ℕ) (ending : Ending) (first : ServerState S F D) (before : List Event)
+      (now : LoopState S F D) (run : Run (Does stores sources) (at_start port ending first before) now) →
+      lines_of now.events ≡ closed_lines run ++ lines_of before
+  lines_are_closes port ending first before now run = run_lines run

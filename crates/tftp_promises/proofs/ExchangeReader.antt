@@ -1,0 +1,217 @@
+-- The client of the exchange that reads: what it has acknowledged is asked for once more.
+use Rattle.std.proofs.Common.{ℕ, true, false, List, [], ◌∷◌, Some, Ok, refl, sym, arith, inl, inr}
+use Rattle.std.proofs.lemmas.Bool.{true≢false}
+use Rattle.tftp_wire.specs.declared.mode.Mode.TheVariants.{Octet}
+use Rattle.tftp_wire.specs.declared.packet.Packet.TheVariants.{Data, Oack}
+use Rattle.tftp_negotiate.specs.Agreed.{agreed_options}
+use Rattle.tftp_negotiate.specs.Agreement.{taken_option}
+use Rattle.tftp_negotiate.specs.Negotiation.{occurrences_of}
+use Rattle.tftp_negotiate.specs.Options.{name_of}
+use Rattle.tftp_file.specs.Memory.{MemSinkState, new_mem_sink, memory_sink, memory_source}
+use Rattle.tftp_file.specs.declared.files.Files.{Files}
+use Rattle.tftp_file.specs.declared.files.Files.TheVariants.{Sink}
+use Rattle.tftp_ends.specs.declared.action.Response.TheVariants.{Accept, ResendReply}
+use Rattle.tftp_ends.specs.declared.phase.Terms.{Terms}
+use Rattle.tftp_ends.specs.End.{EndState}
+use Rattle.tftp_ends.specs.Opening.{getting, oack_bytes}
+use Rattle.tftp_ends.specs.Step.{DatagramStep, Done, Turn, after_turn, ack_bytes, committed_turn, data_bytes}
+use Rattle.tftp_ends.specs.Step.{response_turn}
+use Rattle.tftp_ends.specs.Waiting.{agreed_terms}
+use Rattle.tftp_lines.specs.ClientOutcome.{end_text}
+use Rattle.tftp_lines.specs.declared.client_outcome.ClientOutcome.TheVariants as ends
+use Rattle.tftp_sockets.specs.Journal.Event.{Received, Sent, Watched, Printed, Quiet}
+use Rattle.tftp_sockets.specs.Journal.QuietEvent.{Slept}
+use Rattle.tftp_client.specs.Converses.{State}
+use Rattle.tftp_client.specs.Converses.HandlesReceived.{Answers}
+use Rattle.tftp_client.specs.Runs.{begun}
+use Rattle.tftp_promises.specs.ClientRuns.{ClientDoes, Starts, Goes_on, Receives_one, Prints_line}
+use Rattle.tftp_promises.specs.Programs.{ClientOpens, ClientProgram, To_read}
+use Rattle.tftp_promises.specs.Witness.{agreed, blocks_of_8, client_ip, other_ip, read_file, read_name, read_port}
+use Rattle.tftp_promises.specs.Witness.{requests}
+use Rattle.tftp_promises.proofs.ExchangeParts.{block_spelled, may_read, oack_spelled, read_8, takes_all}
+
+abbrev at_first : EndState
+at_first = getting requests read_name Octet blocks_of_8 10 1
+
+abbrev terms : Terms
+terms = agreed_terms read_port agreed
+
+abbrev Step : EndState → Files (List ℕ) MemSinkState → List ℕ → Turn → Files (List ℕ) MemSinkState → Type 0
+Step e files bytes turn files' = DatagramStep memory_source memory_sink read_port bytes e files turn files'
+
+abbrev empty : Files (List ℕ) MemSinkState
+empty = Sink (new_mem_sink 10 false)
+
+-- the block, and then its commit
+abbrev with_block : MemSinkState
+with_block =
+    record (new_mem_sink 10 false) { holding = record { bytes = read_file; committed = false; refuses = false } }
+
+abbrev pub stored : MemSinkState
+stored = record (new_mem_sink 10 false) { holding = record { bytes = read_file; committed = true; refuses = false } }
+
+-- ---- the turns
+abbrev accepts : Turn
+accepts = response_turn (Accept terms) read_port at_first
+
+abbrev receiving : EndState
+receiving = after_turn at_first accepts
+
+abbrev done : Done
+done = tt
+
+abbrev stores : Turn
+stores = committed_turn terms 1 read_port receiving (Ok done)
+
+abbrev dallying : EndState
+dallying = after_turn receiving stores
+
+abbrev again : Turn
+again = response_turn ResendReply read_port dallying
+
+accepts_so : Step at_first empty (oack_bytes agreed) accepts empty
+unfolding occurrences_of name_of taken_option
+accepts_so =
+    record {
+      decoded = Some (Oack (agreed_options agreed));
+      says = oack_spelled;
+      acts = rw read_8 (refl, refl);
+      again = rw read_8 tt;
+    }
+
+stores_so : Step receiving empty (data_bytes 1 read_file) stores (Sink stored)
+stores_so = record {
+  decoded = Some (Data 1 read_file);
+  says = block_spelled 65;
+  acts = (
+    read_file,
+    block_spelled 65,
+    record {
+      bytes = read_file;
+      after = [];
+      mid = with_block;
+      answer = Ok done;
+      decoded = (refl, refl);
+      appended = (refl, tt, tt, λ must. takes_all read_file must);
+      memory = λ e. absurd (cc);
+      rest = record {
+        answer = Ok done;
+        commits = refl;
+        refused = tt;
+        leaves = tt;
+        effect = λ must. elim must [
+          | inl refuses ↦ absurd (true≢false (sym refuses))
+          | inr refuses ↦ absurd (true≢false (sym refuses))
+        ];
+        answers = refl;
+      };
+    },
+  );
+  again = tt;
+}
+
+again_so : Step dallying (Sink stored) (data_bytes 1 read_file) again (Sink stored)
+again_so = record { decoded = Some (Data 1 read_file); says = block_spelled 65; acts = (refl, refl); again = refl }
+
+-- ---- the states
+abbrev s0 : State
+s0 = begun 5000 at_first []
+
+abbrev s1 : State
+s1 = record {
+  end = receiving;
+  now = 10;
+  due = 1010;
+  events =
+      Sent 5000 read_port (ack_bytes 0) ∷ Watched 10 ∷ Received 5000 read_port (oack_bytes agreed) ∷ Quiet
+      (Slept 1000) ∷ s0.events;
+}
+
+abbrev s2 : State
+s2 = record {
+  end = dallying;
+  now = 20;
+  due = 1020;
+  events =
+      Sent 5000 read_port (ack_bytes 1) ∷ Watched 20 ∷ Received 5000 read_port (data_bytes 1 read_file) ∷ Quiet
+      (Slept 1000) ∷ s1.events;
+}
+
+abbrev s3 : State
+s3 = record s2 { events = Printed (end_text (ends.Complete 1)) ∷ s2.events }
+
+abbrev s4 : State
+s4 = record {
+  end = dallying;
+  now = 1010;
+  due = 1020;
+  events =
+      Sent 5000 read_port (ack_bytes 1) ∷ Watched 1010 ∷ Received 5000 read_port (data_bytes 1 read_file) ∷ Quiet
+      (Slept 1000) ∷ s3.events;
+}
+
+abbrev Does : State → Files (List ℕ) MemSinkState → State → Files (List ℕ) MemSinkState → Type 0
+Does s files s' files' = ClientDoes memory_source memory_sink 5000 s files s' files'
+
+pub accepts_does : Does s0 empty s1 empty
+accepts_does =
+    Receives_one (record { not_closed = λ o. absurd (true≢false (sym o)); due = λ late. absurd (omega (arith, late)) })
+    (omega arith) (Answers (λ o. absurd (true≢false (sym o))) accepts_so)
+
+pub stores_does : Does s1 empty s2 (Sink stored)
+stores_does =
+    Receives_one (record { not_closed = λ o. absurd (true≢false (sym o)); due = λ late. absurd (omega (arith, late)) })
+    (omega arith) (Answers (λ o. absurd (true≢false (sym o))) stores_so)
+
+pub again_does : Does s3 (Sink stored) s4 (Sink stored)
+again_does =
+    Receives_one (record { not_closed = λ o. absurd (true≢false (sym o)); due = λ late. absurd (omega (arith, late)) })
+    (omega arith) (Answers (λ o. absurd (true≢false (sym o))) again_so)
+
+abbrev its_request : ClientOpens memory_source memory_sink requests at_first empty
+its_request = To_read (record {
+  name = read_name;
+  mode = Octet;
+  asked = blocks_of_8;
+  limit = 10;
+  retries = 1;
+  may = may_read;
+  is = refl;
+  sink = new_mem_sink 10 false;
+  is_file = refl;
+})
+
+-- a client that has asked for the file, and no more
+abbrev pub asking : ClientProgram memory_source memory_sink requests
+asking = record {
+  ip = other_ip;
+  port = 7001;
+  first = at_first;
+  before = [];
+  last = begun 7001 at_first [];
+  files = empty;
+  file = empty;
+  new = refl;
+  runs = Starts;
+  opens = its_request;
+  noted = (begun 7001 at_first []).events;
+  is_noted = refl;
+}
+
+abbrev pub reading : ClientProgram memory_source memory_sink requests
+reading = record {
+  ip = client_ip;
+  port = 5000;
+  first = at_first;
+  before = [];
+  last = s4;
+  files = Sink stored;
+  file = empty;
+  new = refl;
+  runs =
+      Goes_on (Goes_on (Goes_on (Goes_on Starts accepts_does) stores_does) (Prints_line (end_text (ends.Complete 1))))
+      again_does;
+  opens = its_request;
+  noted = s4.events;
+  is_noted = refl;
+}

@@ -1,0 +1,482 @@
+-- From one order of all events to a joint run. The last steps are taken off one by one, from the
+-- end of the order: a step leaves when the oldest of its events after a wait does.
+use Rattle.std.proofs.Common.{◌≡◌, ℕ, List, [], ◌∷◌, ◌++◌, append_assoc, length, map, set, Option, Some, None, refl}
+use Rattle.std.proofs.Common.{sym, ap, ◌∙◌, subst, zero, suc, arith, inl, inr}
+use Rattle.std.specs.Prelude.{◌≢◌, slice_get, option_map}
+use Rattle.std.specs.List.{Contains, AllByRecursion}
+use Rattle.std.proofs.lemmas.Bool.{cases_eq}
+use Rattle.std.proofs.lemmas.List.{append_cancel_right, length-set, length-map}
+use Rattle.std.proofs.lemmas.Option.{same_Some, slice_get-map, none-some}
+use Rattle.tftp_file.specs.Sink.{SinkMeaning}
+use Rattle.tftp_file.specs.Source.{SourceMeaning}
+use Rattle.tftp_file.specs.declared.files.Files.{Files}
+use Rattle.tftp_store.specs.Store.{StoreMeaning}
+use Rattle.tftp_rules.specs.Machine.{Endpoint}
+use Rattle.tftp_rules.proofs.Indices.{slice_get-set_same, slice_get-set_other}
+use Rattle.tftp_sockets.specs.Journal.{Event}
+use Rattle.tftp_sockets.specs.Journal.Event.{Received, Sent}
+use Rattle.tftp_loop.specs.Run.{Run}
+use Rattle.tftp_loop.specs.Run.Run.{Start, Then}
+use Rattle.tftp_loop.specs.Serves.{LoopState, Does}
+use Rattle.tftp_client.specs.Converses.{State}
+use Rattle.tftp_client.specs.Runs.{begun}
+use Rattle.tftp_promises.specs.ClientRuns.{ClientDoes, ClientRun, Starts, Goes_on, client_moves, moved_in}
+use Rattle.tftp_promises.specs.Joint.{Joint, All_begin, Server_does, Client_asks, Client_does, CanTake, WasSentBefore}
+use Rattle.tftp_promises.specs.Joint.{JournalsAreJoint}
+use Rattle.tftp_promises.specs.Moved.{Moved, nothing_moved}
+use Rattle.tftp_promises.specs.Order.{Noted, Programs, events_of, IsAt, IsHonest, IsOrder, CanCome}
+use Rattle.tftp_promises.specs.Programs.{endpoint, requests_at, ClientProgram}
+use Rattle.tftp_promises.specs.Snapshots.{ClientStage, Unasked, Has_asked, noted_by, Snapshot, just_asked, client_did}
+use Rattle.tftp_promises.specs.Snapshots.{all_of}
+use Rattle.tftp_promises.proofs.ClientJournals.{converse}
+use Rattle.tftp_promises.proofs.Orders.{events_own, events_other, noted_in, set_again, set_own, all_are, mapped}
+use Rattle.tftp_promises.proofs.SeenSteps.{Split, split, heads, no_more, step_back, split_in, oldest_in, past}
+use Rattle.tftp_promises.proofs.SeenSteps.{past_waits, before_waits, at_first, ends_with}
+use Rattle.tftp_promises.proofs.ServersRun.{server_noted}
+use Rattle.tftp_promises.proofs.StepEvents.{IsOther, IsQuiet, Silent, Notes, Rests, Acts, server_adds, client_adds}
+
+module _ {S F D G K : Type 0} {stores : StoreMeaning S D} {sources : SourceMeaning F} {inputs : SourceMeaning G}
+    {outputs : SinkMeaning K} (programs : Programs stores sources inputs outputs) where
+  abbrev Client : Type 0
+  Client = ClientProgram inputs outputs (requests_at stores sources programs.server)
+
+  abbrev ServerRun : LoopState S F D → Type 0
+  ServerRun state = Run (Does stores sources) (programs.server.start) state
+
+  abbrev Conversed : Client → State → Files G K → Type 0
+  Conversed client s files =
+      ClientRun inputs outputs client.port (begun client.port client.first client.before) client.file s files
+
+  abbrev snap : {state : LoopState S F D} → ServerRun state → List Event → List (ClientStage G K) → Snapshot programs
+  snap {state} run noted clients = record { state = state; run = run; noted = noted; clients = clients }
+
+  -- ---- one program where its journal is seen so far
+
+  data ServerFits (seen : List Event) : (state : LoopState S F D) → ServerRun state → List Event → Type 0 where
+    Served : {state : LoopState S F D} {run : ServerRun state} {noted : List Event} →
+        state.events ≡ noted ++ programs.server.start.events → noted ≡ seen → ServerFits seen state run noted
+    Serving : {old new : LoopState S F D} {run : ServerRun old} {old_noted noted : List Event} →
+        old.events ≡ old_noted ++ programs.server.start.events → (does : Does stores sources old new) →
+        Split old.events new.events old_noted noted seen → ServerFits seen new (Then run does) noted
+
+  -- what is seen may end with a wait of the next step, or in that step
+  data ClientFits (client : Client) (seen : List Event) : ClientStage G K → Type 0 where
+    Not_yet : seen ≡ [] → ClientFits client seen Unasked
+    Conversed_so : {s : State} {files : Files G K} {noted : List Event} (run : Conversed client s files) →
+        s.events ≡ noted ++ client.before → (waits : List Event) → AllByRecursion IsQuiet waits →
+        waits ++ noted ≡ seen →
+        ClientFits client seen (Has_asked s files noted (moved_in run))
+    Conversing : {s s' : State} {files files' : Files G K} {noted : List Event} (old_noted : List Event)
+        (run : Conversed client s files) → s.events ≡ old_noted ++ client.before → (waits : List Event) →
+        AllByRecursion IsQuiet waits →
+        (does : ClientDoes inputs outputs client.port s files s' files') →
+        Split (waits ++ s.events) s'.events (waits ++ old_noted) noted seen →
+        ClientFits client seen (Has_asked s' files' noted (client_moves does (moved_in run)))
+
+  server_in : {seen : List Event} {state : LoopState S F D} {run : ServerRun state} {noted : List Event} (e : Event) →
+      ServerFits seen state run noted → Contains seen e → Contains noted e
+  server_in e (Served is seen_is) i = subst (λ (es : List Event). Contains es e) (sym seen_is) i
+  server_in e (Serving is does s) i = split_in e s i
+
+  client_in : {client : Client} {seen : List Event} {stage : ClientStage G K} (port : ℕ) (to : Endpoint)
+      (bytes : List ℕ) → ClientFits client seen stage → Contains seen (Sent port to bytes) →
+      Contains (noted_by stage) (Sent port to bytes)
+  client_in port to bytes (Not_yet none) i = subst (λ (es : List Event). Contains es (Sent port to bytes)) none i
+  client_in port to bytes (Conversed_so {noted = noted} run is waits quiet seen_is) i =
+      past_waits waits noted (Sent port to bytes) quiet (λ q. q)
+      (subst (λ (es : List Event). Contains es (Sent port to bytes)) (sym seen_is) i)
+  client_in port to bytes (Conversing old_noted run is waits quiet does s) i = split_in (Sent port to bytes) s i
+
+  -- ---- all programs where their journals are seen so far
+
+  abbrev ClientHas : List (ClientStage G K) → List Noted → ℕ → Client → Type 0
+  ClientHas clients order k client =
+      (stage : ClientStage G K) × (slice_get clients k ≡ Some stage) × ClientFits client (events_of (suc k) order) stage
+
+  record Fits (sn : Snapshot programs) (order : List Noted) : Type 0 where
+    server : ServerFits (events_of 0 order) sn.state sn.run sn.noted
+    count : length sn.clients ≡ length programs.clients
+    clients : (k : ℕ) (client : Client) → slice_get programs.clients k ≡ Some client →
+        ClientHas sn.clients order k client
+
+  -- what was sent of these events was noted
+  sent_before : (sn : Snapshot programs) (order : List Noted) → Fits sn order →
+      (program port : ℕ) (from to : Endpoint) (bytes : List ℕ) →
+      IsAt stores sources inputs outputs programs program port from →
+      Contains order (program, Sent port to bytes) → WasSentBefore programs sn from to bytes
+  sent_before sn order fits zero port from to bytes at i =
+      let same = same_Some programs.server.ip at.0 at.1 in
+      inl (record {
+        port = port;
+        at = at.2 ∙ ap (λ (ip : List ℕ). endpoint ip port) (sym same);
+        sent = server_in (Sent port to bytes) fits.server (noted_in 0 (Sent port to bytes) order i);
+      })
+  sent_before sn order fits (suc k) port from to bytes at i =
+      let m = mapped (λ (c : Client). c.ip) (slice_get programs.clients k) at.0 at.1 in
+      let has = fits.clients k m.0 m.1 in
+      inr (record {
+        k = k;
+        client = m.0;
+        is_client = m.1;
+        stage = has.0;
+        is_stage = has.1;
+        port = port;
+        at = at.2 ∙ ap (λ (ip : List ℕ). endpoint ip port) (sym m.2);
+        sent = client_in port to bytes has.2 (noted_in (suc k) (Sent port to bytes) order i);
+      })
+
+  -- a program can take what comes to it
+  can_take : (sn : Snapshot programs) (order : List Noted) → Fits sn order → (program : ℕ) (ip : List ℕ) →
+      ((port : ℕ) (a : Endpoint) → IsAt stores sources inputs outputs programs program port a → a ≡ endpoint ip port) →
+      (e : Event) → CanCome stores sources inputs outputs programs program e order → (ahead : List Event) (x : Event) →
+      AllByRecursion IsOther ahead → e ≡ x → CanTake programs sn ip (ahead ++ x ∷ [])
+  can_take sn order fits program ip is_ip e comes ahead x others same port from bytes i =
+      let received = same ∙ oldest_in ahead x port from bytes others i in
+      let come : CanCome stores sources inputs outputs programs program (Received port from bytes) order =
+      subst (λ (z : Event). CanCome stores sources inputs outputs programs program z order) received comes in
+      elim come.2 [
+        | inl sent ↦
+            inl (subst (λ (a : Endpoint). WasSentBefore programs sn from a bytes) (is_ip port come.0 come.1)
+            (sent_before sn order fits sent.program sent.port from come.0 bytes sent.is_at sent.sent))
+        | inr stranger ↦ inr stranger
+      ]
+
+  -- ---- the server
+
+  -- a silent step of the server
+  server_rests : {old new : LoopState S F D} {run : ServerRun old} {noted : List Event}
+      {clients : List (ClientStage G K)} → Joint programs (snap run noted clients) →
+      (does : Does stores sources old new) → new.events ≡ old.events →
+      Joint programs (snap (Then run does) noted clients)
+  server_rests joint does same =
+      Server_does joint does [] same (λ port from bytes i. absurd (let l = i.1 in omega arith))
+
+  -- at the prefix of the order the server has made silent steps only
+  server_first : {state : LoopState S F D} (run : ServerRun state) (noted : List Event)
+      (clients : List (ClientStage G K)) → state.events ≡ noted ++ programs.server.start.events → noted ≡ [] →
+      map (λ (client : Client). Unasked) programs.clients ≡ clients → Joint programs (snap run noted clients)
+  server_first Start noted clients is none all =
+      subst (λ (cs : List (ClientStage G K)). Joint programs (snap Start noted cs)) all
+      (subst (λ (es : List Event). Joint programs (snap Start es (map (λ (client : Client). Unasked) programs.clients)))
+      (sym none) All_begin)
+  server_first (Then {middle = old} {last = new} run does) noted clients is none all = elim (server_adds does) [
+    | Silent same ↦ server_rests (server_first run noted clients (sym same ∙ is) none all) does same
+    | Notes x rest own added ↦
+        let before = server_noted run in
+        no_more x (rest ++ before.0) (sym none ∙ past (x ∷ rest) before.0 programs.server.start.events old.events
+        new.events noted added before.1 is)
+  ]
+
+  module _ (e : Event) (earlier : List Noted) (comes : CanCome stores sources inputs outputs programs 0 e earlier)
+      (clients : List (ClientStage G K))
+      (count : length clients ≡ length programs.clients)
+      (fit : (k : ℕ) (client : Client) → slice_get programs.clients k ≡ Some client →
+      ClientHas clients earlier k client)
+      (ih : (sn : Snapshot programs) → Fits sn earlier → Joint programs sn) where
+    -- the last step of the server has noted the event
+    server_steps : {old new : LoopState S F D} {run : ServerRun old} {old_noted noted : List Event} →
+        old.events ≡ old_noted ++ programs.server.start.events → (does : Does stores sources old new) →
+        Split old.events new.events old_noted noted (e ∷ events_of 0 earlier) →
+        Joint programs (snap (Then run does) noted clients)
+    server_steps {old = old} {new = new} {run = run} {old_noted = old_noted} {noted = noted} is does
+        (split ahead x [] others own added noted_is seen_is) =
+        let h = heads e x (events_of 0 earlier) old_noted seen_is in
+        let fits : Fits (snap run old_noted clients) earlier =
+        record { server = Served is (sym h.1); count = count; clients = fit } in
+        let joint = ih (snap run old_noted clients) fits in
+        let ip_is : (port : ℕ) (a : Endpoint) → IsAt stores sources inputs outputs programs 0 port a →
+        a ≡ endpoint programs.server.ip port = λ port a at. at.2 ∙ ap (λ (ip : List ℕ). endpoint ip port)
+        (sym (same_Some programs.server.ip at.0 at.1)) in
+        let takes =
+        can_take (snap run old_noted clients) earlier fits 0 programs.server.ip ip_is e comes ahead x others h.0 in
+        subst (λ (es : List Event). Joint programs (snap (Then run does) es clients)) (sym noted_is)
+        (Server_does joint does (ahead ++ x ∷ []) added takes)
+    server_steps {run = run} {noted = noted} is does (split ahead x (y ∷ rest) others own added noted_is seen_is) =
+        let h = heads e x (events_of 0 earlier) (y ∷ rest ++ _) seen_is in
+        ih (snap (Then run does) noted clients)
+        (record {
+          server = Serving is does (step_back ahead x y rest (events_of 0 earlier) others own added noted_is
+              h.1);
+          count = count;
+          clients = fit;
+        })
+
+    -- the event is the last that the server has noted
+    server_back : {state : LoopState S F D} (run : ServerRun state) (noted : List Event) →
+        state.events ≡ noted ++ programs.server.start.events → noted ≡ e ∷ events_of 0 earlier →
+        Joint programs (snap run noted clients)
+    server_back Start noted is seen_is =
+        no_more e (events_of 0 earlier)
+        (sym (at_first programs.server.start.events programs.server.start.events noted refl is) ∙ seen_is)
+    server_back (Then {middle = old} {last = new} run does) noted is seen_is = elim (server_adds does) [
+      | Silent same ↦ server_rests (server_back run noted (sym same ∙ is) seen_is) does same
+      | Notes x rest own added ↦
+          let before = server_noted run in
+          let noted_is =
+          past (x ∷ rest) before.0 programs.server.start.events old.events new.events noted added before.1 is in
+          server_steps before.1 does (split [] x rest tt own added noted_is (sym seen_is ∙ noted_is))
+    ]
+
+    server_any : {state : LoopState S F D} {run : ServerRun state} {noted : List Event} →
+        ServerFits (e ∷ events_of 0 earlier) state run noted → Joint programs (snap run noted clients)
+    server_any (Served {run = run} {noted = noted} is seen_is) = server_back run noted is seen_is
+    server_any (Serving is does s) = server_steps is does s
+
+  -- ---- a client
+
+  -- the request, and what came after it
+  client_noted : (client : Client) {s : State} {files : Files G K} → Conversed client s files →
+      (more : List Event) × (e : Event) × (s.events ≡ (more ++ e ∷ []) ++ client.before)
+  client_noted client run =
+      let since = converse run in
+      let request = Sent client.port client.first.position.last_sent_to client.first.position.last_sent in
+      (since.0, request, since.1 ∙ sym (append_assoc since.0 (request ∷ []) client.before))
+
+  -- the other programs, where their journals are seen so far
+  record OthersFit (k : ℕ) (sn : Snapshot programs) (order : List Noted) : Type 0 where
+    server : ServerFits (events_of 0 order) sn.state sn.run sn.noted
+    count : length sn.clients ≡ length programs.clients
+    there : (stage : ClientStage G K) × (slice_get sn.clients k ≡ Some stage)
+    clients : (j : ℕ) (client : Client) → j ≢ k → slice_get programs.clients j ≡ Some client →
+        ClientHas sn.clients order j client
+
+  all_fit : (k : ℕ) (client : Client) (sn : Snapshot programs) (order : List Noted) →
+      slice_get programs.clients k ≡ Some client → OthersFit k sn order → (stage : ClientStage G K) →
+      ClientFits client (events_of (suc k) order) stage → Fits (client_did programs sn k stage) order
+  all_fit k client sn order is_client others stage fits = record {
+    server = others.server;
+    count = length-set sn.clients k stage ∙ others.count;
+    clients = λ j c is. elim (cases_eq j k) [
+      | inl same ↦
+          let c_is : client ≡ c =
+          same_Some client c (sym is_client ∙ (ap (λ (i : ℕ). slice_get programs.clients i) (sym same) ∙ is)) in
+          let own : ClientHas (set sn.clients k stage) order k client =
+          (stage, slice_get-set_same sn.clients k stage others.there.0 others.there.1, fits) in
+          subst (λ (i : ℕ). ClientHas (set sn.clients k stage) order i c) (sym same)
+          (subst (λ (z : Client). ClientHas (set sn.clients k stage) order k z) c_is own)
+      | inr n ↦ let has = others.clients j c n is in (has.0, slice_get-set_other sn.clients k j stage n ∙ has.1, has.2)
+    ];
+  }
+
+  module _ (k : ℕ) (client : Client) (is_client : slice_get programs.clients k ≡ Some client) (e : Event)
+      (earlier : List Noted)
+      (comes : CanCome stores sources inputs outputs programs (suc k) e earlier) (sn : Snapshot programs)
+      (others : OthersFit k sn earlier)
+      (ih : (old : Snapshot programs) → Fits old earlier → Joint programs old) where
+    abbrev At : ClientStage G K → Snapshot programs
+    At stage = client_did programs sn k stage
+
+    abbrev With : List (ClientStage G K) → Snapshot programs
+    With stages = record sn { clients = stages }
+
+    stage_is : (stage : ClientStage G K) → slice_get (set sn.clients k stage) k ≡ Some stage
+    stage_is stage = slice_get-set_same sn.clients k stage others.there.0 others.there.1
+
+    at_ip : (port : ℕ) (a : Endpoint) → IsAt stores sources inputs outputs programs (suc k) port a →
+        a ≡ endpoint client.ip port
+    at_ip port a at =
+        let own : option_map (λ (c : Client). c.ip) (slice_get programs.clients k) ≡ Some client.ip =
+        ap (λ (o : Option Client). option_map (λ (c : Client). c.ip) o) is_client in
+        at.2 ∙ ap (λ (ip : List ℕ). endpoint ip port) (sym (same_Some client.ip at.0 (sym own ∙ at.1)))
+
+    -- the client makes a step
+    client_goes : {s s' : State} {files files' : Files G K} (noted : List Event) (moved : Moved) →
+        Joint programs (At (Has_asked s files noted moved)) →
+        (does : ClientDoes inputs outputs client.port s files s' files') → (added : List Event) →
+        s'.events ≡ added ++ s.events → CanTake programs (At (Has_asked s files noted moved)) client.ip added →
+        Joint programs (At (Has_asked s' files' (added ++ noted) (client_moves does moved)))
+    client_goes {s = s} {s' = s'} {files = files} {files' = files'} noted moved joint does added is takes =
+        subst (λ (stages : List (ClientStage G K)). Joint programs (With stages))
+        (set_again sn.clients k (Has_asked s files noted moved)
+        (Has_asked s' files' (added ++ noted) (client_moves does moved)))
+        (Client_does joint k client is_client (stage_is (Has_asked s files noted moved)) does added is takes)
+
+    -- the last step of the client has noted the event
+    client_steps : {s s' : State} {files files' : Files G K} {noted : List Event} (old_noted : List Event)
+        (run : Conversed client s files) → s.events ≡ old_noted ++ client.before → (waits : List Event) →
+        AllByRecursion IsQuiet waits →
+        (does : ClientDoes inputs outputs client.port s files s' files') →
+        Split (waits ++ s.events) s'.events (waits ++ old_noted) noted (e ∷ events_of (suc k) earlier) →
+        Joint programs (At (Has_asked s' files' noted (client_moves does (moved_in run))))
+    client_steps {s = s} {s' = s'} {files = files} {files' = files'} {noted = noted} old_noted run is waits quiet does
+        (split ahead x [] others_are own added noted_is seen_is) =
+        let h = heads e x (events_of (suc k) earlier) (waits ++ old_noted) seen_is in
+        let fits =
+        all_fit k client sn earlier is_client others (Has_asked s files old_noted (moved_in run))
+        (Conversed_so run is waits quiet (sym h.1)) in
+        let takes =
+        can_take (At (Has_asked s files old_noted (moved_in run))) earlier fits (suc k) client.ip at_ip e comes
+        ahead x others_are h.0 in
+        let all : CanTake programs (At (Has_asked s files old_noted (moved_in run))) client.ip
+        ((ahead ++ x ∷ []) ++ waits) =
+        λ port from bytes i. takes port from bytes (before_waits (ahead ++ x ∷ []) waits (Received port from bytes)
+        quiet (λ q. q) i) in
+        subst (λ (es : List Event). Joint programs (At (Has_asked s' files' es (client_moves does (moved_in run)))))
+        (sym (noted_is ∙ sym (append_assoc (ahead ++ x ∷ []) waits old_noted)))
+        (client_goes old_noted (moved_in run) (ih (At (Has_asked s files old_noted (moved_in run))) fits) does
+        ((ahead ++ x ∷ []) ++ waits) (added ∙ sym (append_assoc (ahead ++ x ∷ []) waits s.events)) all)
+    client_steps {s' = s'} {files' = files'} {noted = noted} old_noted run is waits quiet does
+        (split ahead x (y ∷ rest) others_are own added noted_is seen_is) =
+        let h = heads e x (events_of (suc k) earlier) ((y ∷ rest) ++ (waits ++ old_noted)) seen_is in
+        ih (At (Has_asked s' files' noted (client_moves does (moved_in run))))
+        (all_fit k client sn earlier is_client others (Has_asked s' files' noted (client_moves does (moved_in run)))
+        (Conversing old_noted run is waits quiet does
+        (step_back ahead x y rest (events_of (suc k) earlier) others_are own added noted_is h.1)))
+
+    -- the event is the last that the client has noted, by its last step or before
+    client_last : {s s' : State} {files files' : Files G K} (run : Conversed client s files)
+        (does : ClientDoes inputs outputs client.port s files s' files') → (noted : List Event) →
+        s'.events ≡ noted ++ client.before →
+        noted ≡ e ∷ events_of (suc k) earlier → ((older : List Event) → s.events ≡ older ++ client.before →
+        older ≡ e ∷ events_of (suc k) earlier → Joint programs (At (Has_asked s files older (moved_in run)))) →
+        Joint programs (At (Has_asked s' files' noted (client_moves does (moved_in run))))
+    client_last {s = s} {s' = s'} run does noted is seen_is rest_of = elim (client_adds does) [
+      | Rests same ↦
+          client_goes noted (moved_in run) (rest_of noted (sym same ∙ is) seen_is) does [] same
+          (λ port from bytes i. absurd (let l = i.1 in omega arith))
+      | Acts x rest waits own quiet added ↦
+          let before = client_noted client run in
+          let old_noted = before.0 ++ before.1 ∷ [] in
+          let old_is : waits ++ s.events ≡ (waits ++ old_noted) ++ client.before =
+          ap (λ (es : List Event). waits ++ es) before.2 ∙ sym (append_assoc waits old_noted client.before) in
+          let noted_is =
+          past (x ∷ rest) (waits ++ old_noted) client.before (waits ++ s.events) s'.events noted added old_is is in
+          client_steps old_noted run before.2 waits quiet does
+          (split [] x rest tt own added noted_is (sym seen_is ∙ noted_is))
+    ]
+
+    client_back : {s : State} {files : Files G K} (run : Conversed client s files) (noted : List Event) →
+        s.events ≡ noted ++ client.before → noted ≡ e ∷ events_of (suc k) earlier →
+        Joint programs (At (Has_asked s files noted (moved_in run)))
+    client_back Starts noted is seen_is =
+        let request = Sent client.port client.first.position.last_sent_to client.first.position.last_sent in
+        let noted_is : noted ≡ request ∷ [] = append_cancel_right noted (request ∷ []) client.before (sym is) in
+        let none = (heads e request (events_of (suc k) earlier) [] (sym seen_is ∙ noted_is)).1 in
+        let joint = ih (At Unasked) (all_fit k client sn earlier is_client others Unasked (Not_yet none)) in
+        let asks =
+        subst (λ (stages : List (ClientStage G K)). Joint programs (With stages))
+        (set_again sn.clients k Unasked (just_asked client))
+        (Client_asks joint k client is_client (stage_is Unasked)) in
+        subst (λ (es : List Event). Joint programs
+        (At (Has_asked (begun client.port client.first client.before) client.file es nothing_moved))) (sym noted_is)
+        asks
+    client_back (Goes_on run does) noted is seen_is =
+        client_last run does noted is seen_is (λ older i seen. client_back run older i seen)
+
+    client_any : {stage : ClientStage G K} → ClientFits client (e ∷ events_of (suc k) earlier) stage →
+        Joint programs (At stage)
+    client_any (Not_yet none) = no_more e (events_of (suc k) earlier) (sym none)
+    client_any (Conversed_so {noted = noted} run is [] quiet seen_is) = client_back run noted is seen_is
+    client_any (Conversed_so {s = s} {files = files} {noted = noted} run is (w ∷ waits) quiet seen_is) =
+        let h = heads w e (waits ++ noted) (events_of (suc k) earlier) seen_is in
+        ih (At (Has_asked s files noted (moved_in run)))
+        (all_fit k client sn earlier is_client others (Has_asked s files noted (moved_in run))
+        (Conversed_so run is waits quiet.1 h.1))
+    client_any (Conversing old_noted run is waits quiet does s) = client_steps old_noted run is waits quiet does s
+
+  -- ---- all programs
+
+  has_other : (clients : List (ClientStage G K)) (j : ℕ) (client : Client) (q : ℕ) (e : Event) (earlier : List Noted) →
+      suc j ≢ q → ClientHas clients ((q, e) ∷ earlier) j client → ClientHas clients earlier j client
+  has_other clients j client q e earlier n has =
+      (has.0, has.1, subst (λ (es : List Event). ClientFits client es has.0) (events_other (suc j) q e earlier n) has.2)
+
+  server_other : (sn : Snapshot programs) (k : ℕ) (e : Event) (earlier : List Noted) →
+      ServerFits (events_of 0 ((suc k, e) ∷ earlier)) sn.state sn.run sn.noted →
+      ServerFits (events_of 0 earlier) sn.state sn.run sn.noted
+  server_other sn k e earlier fits =
+      subst (λ (es : List Event). ServerFits es sn.state sn.run sn.noted)
+      (events_other 0 (suc k) e earlier (let n : zero ≢ suc k = omega arith in n)) fits
+
+  not_suc : (j k : ℕ) → j ≢ k → suc j ≢ suc k
+  not_suc j k n = omega (arith, n)
+
+  of_client : (k : ℕ) (e : Event) (earlier : List Noted) →
+      CanCome stores sources inputs outputs programs (suc k) e earlier →
+      ((old : Snapshot programs) → Fits old earlier → Joint programs old) →
+      (sn : Snapshot programs) → Fits sn ((suc k, e) ∷ earlier) → (o : Option Client) →
+      slice_get programs.clients k ≡ o → Joint programs sn
+  of_client k e earlier comes ih sn fits None none =
+      let apart : (j : ℕ) (client : Client) → slice_get programs.clients j ≡ Some client → j ≢ k =
+      λ j client is same. none-some client
+      (sym none ∙ (ap (λ (i : ℕ). slice_get programs.clients i) (sym same) ∙ is)) in
+      ih sn (record {
+        server = server_other sn k e earlier fits.server;
+        count = fits.count;
+        clients =
+            λ j client is. has_other sn.clients j client (suc k) e earlier (not_suc j k (apart j client is))
+            (fits.clients j client is);
+      })
+  of_client k e earlier comes ih sn fits (Some client) is_client =
+      let has = fits.clients k client is_client in
+      let others : OthersFit k sn earlier = record {
+        server = server_other sn k e earlier fits.server;
+        count = fits.count;
+        there = (has.0, has.1);
+        clients = λ j c n is. has_other sn.clients j c (suc k) e earlier (not_suc j k n) (fits.clients j c is);
+      } in
+      subst (λ (stages : List (ClientStage G K)). Joint programs (record sn { clients = stages }))
+      (set_own sn.clients k has.0 has.1)
+      (client_any k client is_client e earlier comes sn others ih
+      (subst (λ (es : List Event). ClientFits client es has.0) (events_own (suc k) e earlier) has.2))
+
+  of_program : (p : ℕ) (e : Event) (earlier : List Noted) → CanCome stores sources inputs outputs programs p e earlier →
+      ((old : Snapshot programs) → Fits old earlier → Joint programs old) →
+      (sn : Snapshot programs) → Fits sn ((p, e) ∷ earlier) → Joint programs sn
+  of_program zero e earlier comes ih sn fits =
+      server_any e earlier comes sn.clients fits.count
+      (λ j c is. has_other sn.clients j c 0 e earlier (let n : suc j ≢ zero = omega arith in n)
+      (fits.clients j c is)) ih
+      (subst (λ (es : List Event). ServerFits es sn.state sn.run sn.noted) (events_own 0 e earlier) fits.server)
+  of_program (suc k) e earlier comes ih sn fits =
+      of_client k e earlier comes ih sn fits (slice_get programs.clients k) refl
+
+  -- at the prefix of the order no client has sent its request
+  client_first : (client : Client) {stage : ClientStage G K} → ClientFits client [] stage → stage ≡ Unasked
+  client_first client (Not_yet none) = refl
+  client_first client (Conversed_so run is (w ∷ waits) quiet none) = no_more w (waits ++ _) (sym none)
+  client_first client (Conversed_so {noted = noted} run is [] quiet none) =
+      let before = client_noted client run in
+      ends_with before.0 before.1 (sym none ∙ append_cancel_right noted (before.0 ++ before.1 ∷ []) client.before
+      (sym is ∙ before.2))
+  client_first client (Conversing old_noted run is waits quiet does
+      (split ahead x rest others own added noted_is none)) = no_more x (rest ++ _) none
+
+  all_first : (clients : List (ClientStage G K)) {state : LoopState S F D} {run : ServerRun state}
+      {noted : List Event} → map (λ (client : Client). Unasked) programs.clients ≡ clients →
+      ServerFits [] state run noted →
+      Joint programs (snap run noted clients)
+  all_first clients all (Served {run = run} {noted = noted} is none) = server_first run noted clients is none all
+  all_first clients all (Serving is does (split ahead x rest others own added noted_is none)) =
+      no_more x (rest ++ _) none
+
+  joint_to : (order : List Noted) → IsHonest stores sources inputs outputs programs order → (sn : Snapshot programs) →
+      Fits sn order → Joint programs sn
+  joint_to [] honest sn fits =
+      all_first sn.clients (all_are programs.clients sn.clients Unasked fits.count
+      (λ k client is. let has = fits.clients k client is in has.1 ∙ ap (λ (stage : ClientStage G K). Some stage)
+      (client_first client has.2))) fits.server
+  joint_to (x ∷ earlier) honest sn fits =
+      of_program x.0 x.1 earlier honest.0 (λ old f. joint_to earlier honest.1 old f) sn fits
+
+  pub all_joint : (order : List Noted) → IsOrder stores sources inputs outputs programs order →
+      IsHonest stores sources inputs outputs programs order → Joint programs (all_of programs)
+  all_joint order is_order honest =
+      let stage_of : Client → ClientStage G K =
+      λ client. Has_asked client.last client.files client.noted (moved_in client.runs) in
+      joint_to order honest (all_of programs) (record {
+        server = Served programs.server.is_noted (sym is_order.server);
+        count = length-map programs.clients stage_of;
+        clients = λ k client is. (
+          stage_of client,
+          slice_get-map stage_of programs.clients k
+              ∙ ap (λ (o : Option Client). option_map stage_of o) is,
+          Conversed_so client.runs client.is_noted [] tt
+              (sym (is_order.clients k client is)),
+        );
+      })
+
+pub journals_joint : {S F D G K : Type 0} (stores : StoreMeaning S D) (sources : SourceMeaning F)
+    (inputs : SourceMeaning G) (outputs : SinkMeaning K) → JournalsAreJoint stores sources inputs outputs
+journals_joint stores sources inputs outputs programs order joined =
+    all_joint programs order joined.is_order joined.honest

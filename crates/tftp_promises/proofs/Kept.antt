@@ -1,0 +1,303 @@
+-- The invariant of the programs between two of their steps: rules of the guarded machine lead to the views of all ends
+-- that were opened, and each datagram that was sent is one of its messages. That a message is there (`IsThere`) is said
+-- as for the turns of an end.
+use Rattle.std.specs.Prelude.{ℕ, ◌≡◌, ◌≢◌, ◌⊎◌, ◌<◌, true, false, List, [], ◌∷◌, ◌++◌, slice_get, Option, Some, None}
+use Rattle.std.specs.Prelude.{IsSome}
+use Rattle.std.specs.List.{Contains}
+use Rattle.tftp_file.specs.Block.{IsPrefixOf}
+use Rattle.tftp_file.specs.Netascii.{wire_text}
+use Rattle.tftp_file.specs.Sink.{SinkMeaning}
+use Rattle.tftp_file.specs.Source.{SourceMeaning}
+use Rattle.tftp_file.specs.declared.files.Files.{Files}
+use Rattle.tftp_file.specs.declared.files.Files.TheVariants.{Source, Sink}
+use Rattle.tftp_ends.specs.End.{EndState, is_sender, is_client, is_complete, outcome_of}
+use Rattle.tftp_store.specs.Store.{StoreMeaning}
+use Rattle.tftp_rules.specs.EndKept.{EndKept}
+pub use Rattle.tftp_rules.specs.EndShown.{IsThere, HasArrived}
+use Rattle.tftp_rules.specs.KnownFiles.{HasLeft}
+use Rattle.tftp_rules.specs.Machine.{Endpoint, Message, Network}
+use Rattle.tftp_rules.specs.OpenEnds.{OpenEnd, holding_of, open_view, peer_of}
+use Rattle.tftp_rules.specs.Shows.{EndView, IsShown}
+use Rattle.tftp_rules.specs.ViewSafety.{IsAmong}
+use Rattle.tftp_server.specs.State.{TransferState, at}
+use Rattle.tftp_sockets.specs.Journal.{Event}
+use Rattle.tftp_client.specs.Converses.{State}
+use Rattle.tftp_loop.specs.Serves.{LoopState}
+use Rattle.tftp_promises.specs.ClientRuns.{moved_in}
+use Rattle.tftp_promises.specs.Joint.{WasSentBefore}
+use Rattle.tftp_promises.specs.Modelled.{AreModelled}
+use Rattle.tftp_promises.specs.Moved.{Moved}
+use Rattle.tftp_promises.specs.Openings.{HasClosed, above, moved_at, opened_at, our_ports, place_at}
+use Rattle.tftp_promises.specs.Order.{Programs, IsStranger}
+use Rattle.tftp_promises.specs.Ports.{IsStored, WasStored, AreDistinct}
+use Rattle.tftp_promises.specs.Programs.{endpoint, requests_at, ClientProgram, client_at}
+use Rattle.tftp_promises.specs.Promises.{joined}
+use Rattle.tftp_promises.specs.Snapshots.{Snapshot, ClientStage, Unasked, Has_asked}
+use Rattle.tftp_promises.proofs.RunPlaces.{places}
+use Rattle.tftp_promises.proofs.Texts.{pad_to}
+
+-- no identifier is there twice
+abbrev pub AreKeyedOnce : {T : Type 0} → List (ℕ × T) → Type 0
+AreKeyedOnce [] = Unit {0}
+AreKeyedOnce (e ∷ held) = (at e.0 held ≡ None) × AreKeyedOnce held
+
+-- what holds of an end that was opened: its view is among these, and its last datagram among the messages
+pub record IsViewed (network : Network) (views : List EndView) (messages : List Message) (x : OpenEnd) : Type 0 where
+  pub kept : EndKept network x
+  pub index : ℕ
+  pub viewed : slice_get views index ≡ Some (open_view x)
+  pub last_sent : IsThere messages x.address x.state.position.last_sent_to x.state.position.last_sent
+
+-- what a sender gave begins its text, and as long as the end is open what is left comes after it
+pub record GaveSo (x : OpenEnd) (moved : Moved) : Type 0 where
+  pub prefix : IsPrefixOf moved.bytes x.text
+  pub left : outcome_of x.state.position.phase ≡ None → moved.bytes ++ x.left ≡ x.text
+
+-- what a receiver stored is what its sink was handed
+pub record TookSo (x : OpenEnd) (moved : Moved) : Type 0 where
+  pub stored : x.stored ≡ moved.bytes
+  pub committed : x.committed ≡ true → moved.committed ≡ true
+  pub refuses : x.refuses ≡ false
+
+-- the length of a transfer's file, as it was measured when the transfer opened
+abbrev pub length_of : {F D : Type 0} → Option (TransferState F D) → ℕ
+length_of None = 0
+length_of (Some held) = held.end.role.length
+
+module _ {S F D G K : Type 0} {stores : StoreMeaning S D} {sources : SourceMeaning F} {inputs : SourceMeaning G}
+    {outputs : SinkMeaning K}
+    (programs : Programs stores sources inputs outputs) where
+  -- what is known of the files: their models, or what the finished run moved; a sender's text is then that, padded by
+  -- this byte
+  pub data How : Type 0 where
+    By_models : AreModelled programs → How
+    By_run : ℕ → How
+
+  -- the text of a client that sends, by the run
+  abbrev pub client_text : ℕ → ClientProgram inputs outputs (requests_at stores sources programs.server) → List ℕ
+  client_text pad client = pad_to pad client.first.role.length (moved_in client.runs).bytes
+
+  -- the text of a transfer that sends, at this place
+  abbrev pub place_text : ℕ → Endpoint → List ℕ
+  place_text pad a =
+      pad_to pad (length_of (opened_at programs a programs.server.run)) (moved_at programs a programs.server.run).bytes
+
+  -- a client that sends, by the models and by the run; of a closed one a source may be one that must fail
+  pub record ClientSends (file : List ℕ) (x : OpenEnd) (source : G) : Type 0 where
+    pub sender : is_sender x.state.role.side ≡ true
+    pub file_is : x.file ≡ file
+    pub text : x.text ≡ wire_text x.state.role.mode x.file
+    pub left : outcome_of x.state.position.phase ≡ None → HasLeft inputs source x.left
+
+  pub record ClientGave (pad : ℕ) (client : ClientProgram inputs outputs (requests_at stores sources programs.server))
+      (x : OpenEnd) (moved : Moved) : Type 0 where
+    pub sender : is_sender x.state.role.side ≡ true
+    pub role : x.state.role ≡ client.first.role
+    pub text : x.text ≡ client_text pad client
+    pub gave : GaveSo x moved
+
+  -- one that receives
+  pub record ClientStores (x : OpenEnd) (sink : K) : Type 0 where
+    pub receiver : is_sender x.state.role.side ≡ false
+    pub held : outputs.held sink ≡ Some (holding_of x)
+
+  pub record ClientTook (x : OpenEnd) (moved : Moved) : Type 0 where
+    pub receiver : is_sender x.state.role.side ≡ false
+    pub took : TookSo x moved
+
+  -- what is known of the file of a client's end
+  abbrev pub HasFile : How → ClientProgram inputs outputs (requests_at stores sources programs.server) → OpenEnd →
+      Files G K → Moved → Type 0
+  HasFile (By_models models) client x (Source source) moved = ClientSends (models.file_of client) x source
+  HasFile (By_models models) client x (Sink sink) moved = ClientStores x sink
+  HasFile (By_run pad) client x (Source source) moved = ClientGave pad client x moved
+  HasFile (By_run pad) client x (Sink sink) moved = ClientTook x moved
+
+  -- the end of a client that has asked
+  pub record ClientKept (how : How) (views : List EndView) (messages : List Message)
+      (client : ClientProgram inputs outputs (requests_at stores sources programs.server))
+      (s : State) (files : Files G K) (moved : Moved) : Type 0 where
+    pub end : OpenEnd
+    pub address : end.address ≡ client_at inputs outputs (requests_at stores sources programs.server) client
+    pub state : end.state ≡ s.end
+    pub side : is_client end.state.role.side ≡ true
+    pub viewed : IsViewed (joined programs) views messages end
+    pub has : HasFile how client end files moved
+
+  -- the end of a client, once it has asked
+  abbrev pub StageKept : How → List EndView → List Message →
+      ClientProgram inputs outputs (requests_at stores sources programs.server) → ClientStage G K → Type 0
+  StageKept how views messages client Unasked = Unit {0}
+  StageKept how views messages client (Has_asked s files noted moved) =
+      ClientKept how views messages client s files moved
+
+  -- the server holds the transfer, which is at this place, or has removed it
+  abbrev pub HasTransferBy : Snapshot programs → ℕ → TransferState F D → Endpoint → Type 0
+  HasTransferBy snapshot port transfer a =
+      ((at port snapshot.state.server.held ≡ Some transfer) × (a ≡ place_at programs port snapshot.run))
+      ⊎ HasClosed programs snapshot.run port transfer a
+
+  -- the end of a stranger's transfer: its peer is one, and its last datagram went to one
+  pub record IsStrangers (e : EndState) : Type 0 where
+    pub peer : Endpoint
+    pub is_peer : peer_of e.position.phase ≡ Some peer
+    pub strange : IsStranger stores sources inputs outputs programs peer
+    pub last_sent_to : IsStranger stores sources inputs outputs programs e.position.last_sent_to
+
+  -- what a transfer sends was under its path, and still is unless writes may replace files; an open one has this left,
+  -- or must fail
+  pub record SendsKept (snapshot : Snapshot programs) (x : OpenEnd) (source : F) : Type 0 where
+    pub sender : is_sender x.state.role.side ≡ true
+    pub text : x.text ≡ wire_text x.state.role.mode x.file
+    pub left : outcome_of x.state.position.phase ≡ None → HasLeft sources source x.left
+    pub was : WasStored snapshot.run x.path x.file
+    pub stays : programs.server.start.server.config.overwrite ≡ false → IsStored stores snapshot.state x.path x.file
+
+  -- what a transfer has stored; once it is complete that is under its path, unless writes may replace files
+  pub record StoresKept (snapshot : Snapshot programs) (x : OpenEnd) (draft : D) : Type 0 where
+    pub receiver : is_sender x.state.role.side ≡ false
+    pub drafted : stores.drafted draft ≡ Some (record { bytes = x.stored; committed = x.committed })
+    pub stays : programs.server.start.server.config.overwrite ≡ false → is_complete x.state.position.phase ≡ true →
+        IsStored stores snapshot.state x.path x.stored
+
+  -- the transfer was opened so at its place
+  pub record IsOpened (snapshot : Snapshot programs) (x : OpenEnd) : Type 0 where
+    pub opening : TransferState F D
+    pub opened : opened_at programs x.address snapshot.run ≡ Some opening
+    pub path : opening.path ≡ x.path
+    pub role : opening.end.role ≡ x.state.role
+
+  -- what a transfer sends, and what it stored, by the run
+  pub record SendsMoved (pad : ℕ) (snapshot : Snapshot programs) (x : OpenEnd) : Type 0 where
+    pub sender : is_sender x.state.role.side ≡ true
+    pub opened : IsOpened snapshot x
+    pub text : x.text ≡ place_text pad x.address
+    pub gave : GaveSo x (moved_at programs x.address snapshot.run)
+
+  pub record StoresMoved (snapshot : Snapshot programs) (x : OpenEnd) : Type 0 where
+    pub receiver : is_sender x.state.role.side ≡ false
+    pub opened : IsOpened snapshot x
+    pub took : TookSo x (moved_at programs x.address snapshot.run)
+
+  -- what is known of the file of a transfer
+  abbrev pub HasStored : How → Snapshot programs → OpenEnd → Files F D → Type 0
+  HasStored (By_models models) snapshot x (Source source) = SendsKept snapshot x source
+  HasStored (By_models models) snapshot x (Sink draft) = StoresKept snapshot x draft
+  HasStored (By_run pad) snapshot x (Source source) = SendsMoved pad snapshot x
+  HasStored (By_run pad) snapshot x (Sink draft) = StoresMoved snapshot x
+
+  -- the end of a transfer, held or removed, which is at its port, or a stranger's
+  pub record TransferKept (how : How) (views : List EndView) (messages : List Message) (snapshot : Snapshot programs)
+      (port : ℕ) (transfer : TransferState F D) (a : Endpoint) : Type 0 where
+    pub end : OpenEnd
+    pub address : end.address ≡ a
+    pub seat : (a ≡ endpoint programs.server.ip port) ⊎ IsStrangers end.state
+    pub state : end.state ≡ transfer.end
+    pub path : end.path ≡ transfer.path
+    pub request : end.request ≡ transfer.request
+    pub side : is_client end.state.role.side ≡ false
+    pub viewed : IsViewed (joined programs) views messages end
+    pub has : HasStored how snapshot end transfer.files
+
+  -- a transfer whose end is as it was, and is still viewed with what its file did
+  pub same_transfer : {how : How} {views views' : List EndView} {messages messages' : List Message}
+      {snapshot snapshot' : Snapshot programs} {port : ℕ} {transfer : TransferState F D} {a : Endpoint}
+      (h : TransferKept how views messages snapshot port transfer a) →
+      IsViewed (joined programs) views' messages' h.end → HasStored how snapshot' h.end transfer.files →
+      TransferKept how views' messages' snapshot' port transfer a
+  same_transfer h viewed has = record {
+    end = h.end;
+    address = h.address;
+    seat = h.seat;
+    state = h.state;
+    path = h.path;
+    request = h.request;
+    side = h.side;
+    viewed = viewed;
+    has = has;
+  }
+
+  -- the content of the store is known, by the models
+  abbrev pub IsKnown : How → LoopState S F D → Type 0
+  IsKnown (By_models models) state = IsSome (stores.stored state.server.store)
+  IsKnown (By_run pad) state = Unit {0}
+
+  -- the server
+  pub record ServerKept (how : How) (messages : List Message) (snapshot : Snapshot programs) : Type 0 where
+    pub requests : snapshot.state.requests ≡ programs.server.start.requests
+    pub config : snapshot.state.server.config ≡ programs.server.start.server.config
+    pub known : IsKnown how snapshot.state
+    pub pending : (from : Endpoint) (bytes : List ℕ) → snapshot.state.pending ≡ Some (from, bytes) →
+        HasArrived messages from (requests_at stores sources programs.server) bytes
+    pub once : AreKeyedOnce snapshot.state.server.held
+    -- no two transfers that are held are at one place, and none is where one was removed
+    pub seats : (p q : ℕ) (t u : TransferState F D) → at p snapshot.state.server.held ≡ Some t →
+        at q snapshot.state.server.held ≡ Some u → place_at programs p snapshot.run ≡ place_at programs q snapshot.run →
+        p ≡ q
+    pub gone : (p q : ℕ) (t u : TransferState F D) (a : Endpoint) → HasClosed programs snapshot.run p t a →
+        at q snapshot.state.server.held ≡ Some u → a ≢ place_at programs q snapshot.run
+    pub opened : (port : ℕ) (transfer : TransferState F D) (a : Endpoint) → HasTransferBy snapshot port transfer a →
+        Contains (places programs snapshot.run) a
+
+  -- the endpoint of a client that has asked
+  pub record IsOfClient (snapshot : Snapshot programs) (a : Endpoint) : Type 0 where
+    pub k : ℕ
+    pub client : ClientProgram inputs outputs (requests_at stores sources programs.server)
+    pub found : slice_get programs.clients k ≡ Some client
+    pub s : State
+    pub files : Files G K
+    pub noted : List Event
+    pub moved : Moved
+    pub is_stage : slice_get snapshot.clients k ≡ Some (Has_asked s files noted moved)
+    pub address : a ≡ client_at inputs outputs (requests_at stores sources programs.server) client
+
+  -- the place of a transfer, held or removed
+  pub record IsOfTransfer (snapshot : Snapshot programs) (a : Endpoint) : Type 0 where
+    pub port : ℕ
+    pub transfer : TransferState F D
+    pub is_transfer : HasTransferBy snapshot port transfer a
+
+  -- the invariant
+  pub record IsKept (how : How) (snapshot : Snapshot programs) : Type 0 where
+    pub views : List EndView
+    pub messages : List Message
+    pub shown : IsShown (joined programs) views messages
+    -- what was sent is there, unless it is for a stranger
+    pub sent : (from to : Endpoint) (bytes : List ℕ) → WasSentBefore programs snapshot from to bytes →
+        IsThere messages from to bytes ⊎ IsStranger stores sources inputs outputs programs to
+    pub server : ServerKept how messages snapshot
+    pub clients : (k : ℕ) (client : ClientProgram inputs outputs (requests_at stores sources programs.server))
+        (stage : ClientStage G K) →
+        slice_get programs.clients k ≡ Some client → slice_get snapshot.clients k ≡ Some stage →
+        StageKept how views messages client stage
+    pub transfers : (port : ℕ) (transfer : TransferState F D) (a : Endpoint) → HasTransferBy snapshot port transfer a →
+        TransferKept how views messages snapshot port transfer a
+    -- the view of an end at an endpoint is the only one there, so this determines it
+    pub only : (view : EndView) → IsAmong views view →
+        IsOfClient snapshot view.address ⊎ IsOfTransfer snapshot view.address
+
+  -- what has moved so far at the place of a transfer that was opened begins what moved there in all, at the same
+  -- transfer
+  pub record IsToldAt (snapshot : Snapshot programs) (a : Endpoint) : Type 0 where
+    pub bytes : IsPrefixOf (moved_at programs a snapshot.run).bytes (moved_at programs a programs.server.run).bytes
+    pub opened : opened_at programs a snapshot.run ≡ opened_at programs a programs.server.run
+
+  -- what the steps need: ports of the clients' transfers so far that no two ends have, below the places of others, and
+  -- that what has moved so far begins what moved in all
+  pub record IsFreshBy (snapshot : Snapshot programs) : Type 0 where
+    pub server : AreDistinct (programs.server.start.requests ∷ our_ports programs snapshot.run)
+    pub below : (port : ℕ) → Contains (our_ports programs snapshot.run) port → port < above programs
+    pub clients : (j k : ℕ) (x y : ClientProgram inputs outputs (requests_at stores sources programs.server)) →
+        slice_get programs.clients j ≡ Some x → slice_get programs.clients k ≡ Some y →
+        client_at inputs outputs (requests_at stores sources programs.server) x ≡ client_at inputs outputs
+        (requests_at stores sources programs.server) y → j ≡ k
+    pub apart : (k port : ℕ) (x : ClientProgram inputs outputs (requests_at stores sources programs.server)) →
+        slice_get programs.clients k ≡ Some x →
+        Contains (programs.server.start.requests ∷ our_ports programs snapshot.run) port →
+        client_at inputs outputs (requests_at stores sources programs.server) x ≢ endpoint programs.server.ip port
+    pub told : (a : Endpoint) → Contains (places programs snapshot.run) a → IsToldAt snapshot a
+    pub gave : (k : ℕ) (client : ClientProgram inputs outputs (requests_at stores sources programs.server)) (s : State)
+        (files : Files G K) (noted : List Event) (moved : Moved) →
+        slice_get programs.clients k ≡ Some client →
+        slice_get snapshot.clients k ≡ Some (Has_asked s files noted moved) →
+        IsPrefixOf moved.bytes (moved_in client.runs).bytes

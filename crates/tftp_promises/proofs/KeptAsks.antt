@@ -1,0 +1,327 @@
+-- A client that sends its request keeps the invariant.
+use Rattle.std.proofs.Common.{◌≡◌, ℕ, Bool, true, false, List, [], ◌∷◌, ◌++◌, Some, refl, sym, ap, ◌∙◌, subst, inl, inr}
+use Rattle.std.proofs.Common.{length}
+use Rattle.std.specs.Prelude.{slice_get}
+use Rattle.std.specs.List.{Contains}
+use Rattle.std.proofs.lemmas.Bool.{true≢false}
+use Rattle.std.proofs.lemmas.List.Elements.{Contains-push}
+use Rattle.std.proofs.lemmas.Option.{same_Some}
+use Rattle.tftp_wire.specs.Spelling.{IsValid, Spells, canonical}
+use Rattle.tftp_wire.specs.declared.packet.Request.{Request as WireRequest}
+use Rattle.tftp_file.specs.Netascii.{wire_text}
+use Rattle.tftp_file.specs.Sink.{SinkMeaning}
+use Rattle.tftp_file.specs.Source.{SourceMeaning}
+use Rattle.tftp_file.specs.declared.files.Files.{Files}
+use Rattle.tftp_file.specs.declared.files.Files.TheVariants.{Source, Sink}
+use Rattle.tftp_ends.specs.End.{EndState, is_client}
+use Rattle.tftp_ends.specs.Opening.{getting, putting, request_of}
+use Rattle.tftp_store.specs.Store.{StoreMeaning}
+use Rattle.tftp_sockets.specs.Journal.{Event}
+use Rattle.tftp_sockets.specs.Journal.Event.{Sent}
+use Rattle.tftp_client.specs.Converses.{State}
+use Rattle.tftp_client.specs.Runs.{IsNew, begun}
+use Rattle.tftp_rules.specs.EndKept.{EndKept}
+use Rattle.tftp_rules.specs.Machine.{Endpoint, Message, Packet, Request}
+use Rattle.tftp_rules.specs.OpenEnds.{OpenEnd, open_view}
+use Rattle.tftp_rules.specs.Rules.{message, asking}
+use Rattle.tftp_rules.specs.Said.{said}
+use Rattle.tftp_rules.specs.Shows.{EndView, NoneAt, IsShown, requested, view_of}
+use Rattle.tftp_rules.proofs.Actions.{asks}
+use Rattle.tftp_rules.proofs.EndOpenings.{nothing_held, no_text}
+use Rattle.tftp_rules.proofs.Indices.{slice_get-push_new}
+use Rattle.tftp_rules.proofs.SaidLemmas.{spells_own}
+use Rattle.tftp_promises.specs.ClientRuns.{moved_in}
+use Rattle.tftp_promises.specs.Modelled.{AreModelled, HasWhole}
+use Rattle.tftp_promises.specs.Moved.{Moved, nothing_moved}
+use Rattle.tftp_promises.specs.Order.{Programs}
+use Rattle.tftp_promises.specs.Programs.{requests_at, ClientProgram, client_at, endpoint, ClientOpens, To_read}
+use Rattle.tftp_promises.specs.Programs.{To_write}
+use Rattle.tftp_promises.specs.Programs.{OpensToRead, OpensToWrite}
+use Rattle.tftp_promises.specs.Promises.{joined}
+use Rattle.tftp_promises.specs.Snapshots.{Snapshot, Unasked, Has_asked, just_asked, client_did}
+use Rattle.tftp_promises.proofs.Kept.{How, By_models, By_run, client_text, IsThere, HasFile, IsKept, IsFreshBy}
+use Rattle.tftp_promises.proofs.KeptClients.{ClientTurns, client_keeps, transfer_apart}
+use Rattle.tftp_promises.proofs.KeptEvents.{only_one}
+use Rattle.tftp_promises.proofs.KeptViews.{viewed_before, among_push}
+use Rattle.tftp_promises.proofs.Places.{clients_there}
+use Rattle.tftp_promises.proofs.Texts.{pad_length}
+
+-- a client's end as it opens, with this file and this text
+abbrev opening : Endpoint → EndState → List ℕ → List ℕ → OpenEnd
+opening a first bytes text =
+    record {
+      address = a;
+      state = first;
+      path = [];
+      file = bytes;
+      text = text;
+      left = text;
+      stored = [];
+      committed = false;
+      refuses = false;
+      request = [];
+    }
+
+module _ {S F D G K : Type 0} {stores : StoreMeaning S D} {sources : SourceMeaning F} {inputs : SourceMeaning G}
+    {outputs : SinkMeaning K}
+    (programs : Programs stores sources inputs outputs) (how : How programs) (k : ℕ)
+    (client : ClientProgram inputs outputs (requests_at stores sources programs.server))
+    (found : slice_get programs.clients k ≡ Some client) where
+  abbrev to : Endpoint
+  to = requests_at stores sources programs.server
+
+  abbrev here : Endpoint
+  here = client_at inputs outputs to client
+
+  -- what a client with this end and this file needs to have its own file
+  abbrev Own : EndState → Files G K → List ℕ → List ℕ → Type 0
+  Own first files bytes text = HasFile programs how client (opening here first bytes text) files nothing_moved
+
+  -- it has sent this request
+  pub record Requests (first : EndState) (files : Files G K) : Type 0 where
+    pub write : Bool
+    pub request : WireRequest
+    pub bytes : List ℕ
+    pub text : List ℕ
+    pub asked : List ℕ
+    pub valid : IsValid (requested write request)
+    pub last_sent : first.position.last_sent ≡ canonical (requested write request)
+    pub last_sent_to : first.position.last_sent_to ≡ to
+    pub view : open_view (opening here first bytes text) ≡ view_of here [] (asking write request asked)
+    pub none : write ≡ false → asked ≡ []
+    pub kept : EndKept (joined programs) (opening here first bytes text)
+    pub side : is_client first.role.side ≡ true
+    pub has : Own first files bytes text
+
+  to_read : (first : EndState) (files : Files G K) (h : OpensToRead inputs outputs to first files) →
+      Own (getting to h.name h.mode h.asked h.limit h.retries) (Sink h.sink) [] [] → Requests first files
+  to_read first files h own =
+      let e = getting to h.name h.mode h.asked h.limit h.retries in
+      subst (λ (z : EndState). Requests z files) (sym h.is) (subst (λ (f : Files G K). Requests e f) (sym h.is_file)
+      (record {
+        write = false;
+        request = request_of h.name h.mode h.asked;
+        bytes = [];
+        text = [];
+        asked = wire_text h.mode [] ++ [];
+        valid = h.may.valid;
+        last_sent = refl;
+        last_sent_to = refl;
+        view = refl;
+        none = λ _. no_text h.mode;
+        kept =
+            record {
+              phase = (refl, h.may.options.askable, refl, refl, λ _. refl, λ c. absurd (true≢false (sym c)));
+              held_back = nothing_held h.mode;
+              committed = λ _. refl;
+            };
+        side = refl;
+        has = own;
+      }))
+
+  to_write : (first : EndState) (files : Files G K) (h : OpensToWrite inputs outputs to first files)
+      (bytes text : List ℕ) → h.length ≡ length text →
+      Own (putting to h.name h.mode h.asked h.length h.limit h.retries) (Source h.source) bytes text →
+      Requests first files
+  to_write first files h bytes text measured own =
+      let e = putting to h.name h.mode h.asked h.length h.limit h.retries in
+      subst (λ (z : EndState). Requests z files) (sym h.is) (subst (λ (f : Files G K). Requests e f) (sym h.is_file)
+      (record {
+        write = true;
+        request = request_of h.name h.mode h.asked;
+        bytes = bytes;
+        text = text;
+        asked = text;
+        valid = h.may.valid;
+        last_sent = refl;
+        last_sent_to = refl;
+        view = refl;
+        none = λ c. absurd (true≢false c);
+        kept =
+            record {
+              phase = (refl, h.may.options.askable, refl, refl, λ _. refl, λ _. measured);
+              held_back = nothing_held h.mode;
+              committed = λ c. absurd (true≢false c);
+            };
+        side = refl;
+        has = own;
+      }))
+
+  -- its file, by the models
+  models_ask : (models : AreModelled programs) → how ≡ By_models models →
+      (opens : ClientOpens inputs outputs to client.first client.file) → HasWhole opens (models.file_of client) →
+      Requests client.first client.file
+  models_ask models is (To_read h) whole =
+      let new : outputs.held h.sink ≡ Some (record { bytes = []; committed = false; refuses = false }) =
+      subst (λ (f : Files G K). IsNew inputs outputs f) h.is_file client.new in
+      to_read client.first client.file h
+      (subst (λ (w : How programs). HasFile programs w client
+      (opening here (getting to h.name h.mode h.asked h.limit h.retries) [] []) (Sink h.sink) nothing_moved)
+      (sym is) (record { receiver = refl; held = new }))
+  models_ask models is (To_write h) whole =
+      let text = wire_text h.mode (models.file_of client) in
+      to_write client.first client.file h (models.file_of client) text whole.1
+      (subst (λ (w : How programs). HasFile programs w client
+      (opening here (putting to h.name h.mode h.asked h.length h.limit h.retries) (models.file_of client) text)
+      (Source h.source) nothing_moved) (sym is)
+      (record { sender = refl; file_is = refl; text = refl; left = λ _. inl whole.0 }))
+
+  -- and by the run
+  run_asks : (pad : ℕ) → how ≡ By_run pad → ClientOpens inputs outputs to client.first client.file →
+      Requests client.first client.file
+  run_asks pad is (To_read h) =
+      to_read client.first client.file h
+      (subst (λ (w : How programs). HasFile programs w client
+      (opening here (getting to h.name h.mode h.asked h.limit h.retries) [] []) (Sink h.sink) nothing_moved)
+      (sym is)
+      (record {
+        receiver = refl;
+        took = record {
+          stored = refl;
+          committed = λ c. absurd (true≢false (sym c));
+          refuses = refl;
+        };
+      }))
+  run_asks pad is (To_write h) =
+      let text = client_text programs pad client in
+      let e = putting to h.name h.mode h.asked h.length h.limit h.retries in
+      let measured : h.length ≡ length text =
+      ap (λ (z : EndState). z.role.length) (sym h.is)
+      ∙ sym (pad_length pad client.first.role.length (moved_in client.runs).bytes) in
+      to_write client.first client.file h [] text measured
+      (subst (λ (w : How programs). HasFile programs w client (opening here e [] text) (Source h.source) nothing_moved)
+      (sym is)
+      (record {
+        sender = refl;
+        role = ap (λ (z : EndState). z.role) (sym h.is);
+        text = refl;
+        gave = record { prefix = (text, refl); left = λ _. refl };
+      }))
+
+  by_how : (w : How programs) → how ≡ w → Requests client.first client.file
+  by_how (By_models models) is = models_ask models is client.opens (models.whole k client found)
+  by_how (By_run pad) is = run_asks pad is client.opens
+
+  pub requests : Requests client.first client.file
+  requests = by_how how refl
+
+-- what a request says
+pub says_request : (write : Bool) (request : WireRequest) → said (requested write request) ≡ Request write request
+says_request true request = refl
+says_request false request = refl
+
+module _ {S F D G K : Type 0} {stores : StoreMeaning S D} {sources : SourceMeaning F} {inputs : SourceMeaning G}
+    {outputs : SinkMeaning K}
+    (programs : Programs stores sources inputs outputs) (how : How programs) (old : Snapshot programs)
+    (kept : IsKept programs how old) (fresh : IsFreshBy programs old)
+    (k : ℕ) (client : ClientProgram inputs outputs (requests_at stores sources programs.server))
+    (found : slice_get programs.clients k ≡ Some client)
+    (unasked : slice_get old.clients k ≡ Some Unasked) where
+  abbrev a : Endpoint
+  a = client_at inputs outputs (requests_at stores sources programs.server) client
+
+  -- no end is there
+  pub nobody_there : NoneAt kept.views a
+  nobody_there j view at same = elim (kept.only view (j, at)) [
+    | inl h ↦
+        let k_is = fresh.clients h.k k h.client client h.found found (sym h.address ∙ same) in
+        let f =
+        same_Some (Has_asked h.s h.files h.noted h.moved) Unasked
+        (sym h.is_stage ∙ (ap (slice_get old.clients) k_is ∙ unasked)) in
+        absurd (asked_or_not h.s h.files h.noted h.moved f)
+    | inr h ↦ transfer_apart programs old kept fresh k client found view.address h (sym same)
+  ] where
+    asked_or_not : (s : State) (files : Files G K) (noted : List Event) (moved : Moved) →
+        Has_asked s files noted moved ≡ Unasked → ⊥
+    asked_or_not s files noted moved e = cc
+
+  abbrev Asks_with : Type 0
+  Asks_with = Requests programs how k client found client.first client.file
+
+  module _ (h : Asks_with) where
+    abbrev x : OpenEnd
+    x = opening a client.first h.bytes h.text
+
+    abbrev m : Message
+    m = message a (joined programs).request_port (said (requested h.write h.request))
+
+    spelled : Spells (requested h.write h.request) client.first.position.last_sent
+    spelled =
+        subst (λ (b : List ℕ). Spells (requested h.write h.request) b) (sym h.last_sent)
+        (spells_own (requested h.write h.request) h.valid)
+
+    its_message : IsThere (kept.messages ++ m ∷ []) a client.first.position.last_sent_to client.first.position.last_sent
+    its_message = (
+      requested h.write h.request,
+      spelled,
+      subst (λ (to : Endpoint). Contains (kept.messages ++ m ∷ []) (message a to (said (requested h.write h.request))))
+          (sym h.last_sent_to) (Contains-push kept.messages m),
+    )
+
+    its_view : EndView
+    its_view = view_of a [] (asking h.write h.request h.asked)
+
+    shown_now : IsShown (joined programs) (kept.views ++ open_view x ∷ []) (kept.messages ++ m ∷ [])
+    shown_now =
+        let now =
+        asks (joined programs) kept.shown.0 kept.views kept.messages kept.shown.1 a h.write h.request h.asked
+        (clients_there programs k client found) nobody_there h.none in
+        subst (λ (v : EndView). IsShown (joined programs) (kept.views ++ v ∷ []) (kept.messages ++ m ∷ [])) (sym h.view)
+        (subst (λ (p : Packet). IsShown (joined programs)
+        (kept.views ++ view_of a [] (asking h.write h.request h.asked) ∷ [])
+        (kept.messages ++ message a (joined programs).request_port p ∷ []))
+        (sym (says_request h.write h.request)) (kept.shown.0 ++ now.0, now.2))
+
+    one_event : (port : ℕ) (to : Endpoint) (bytes : List ℕ) →
+        Contains (Sent client.port client.first.position.last_sent_to client.first.position.last_sent ∷ [])
+        (Sent port to bytes) →
+        IsThere (kept.messages ++ m ∷ []) (endpoint client.ip port) to bytes
+    one_event port to bytes i =
+        same_event client.port port client.first.position.last_sent_to to client.first.position.last_sent bytes
+        (only_one (Sent client.port client.first.position.last_sent_to client.first.position.last_sent)
+        (Sent port to bytes) i) its_message where
+          same_event : (p q : ℕ) (t to' : Endpoint) (b bytes' : List ℕ) → Sent p t b ≡ Sent q to' bytes' →
+              IsThere (kept.messages ++ m ∷ []) (endpoint client.ip p) t b →
+              IsThere (kept.messages ++ m ∷ []) (endpoint client.ip q) to' bytes'
+          same_event p q t to' b bytes' e there =
+              let port_is : p ≡ q = cc in
+              let to_is : t ≡ to' = cc in
+              let bytes_are : b ≡ bytes' = cc in
+              subst (λ (n : ℕ). IsThere (kept.messages ++ m ∷ []) (endpoint client.ip n) to' bytes') port_is
+              (subst (λ (d : Endpoint). IsThere (kept.messages ++ m ∷ []) (endpoint client.ip p) d bytes') to_is
+              (subst (λ (c : List ℕ). IsThere (kept.messages ++ m ∷ []) (endpoint client.ip p) t c) bytes_are there))
+
+    turns : ClientTurns programs old kept k client (begun client.port client.first client.before) client.file
+        (Sent client.port client.first.position.last_sent_to client.first.position.last_sent ∷ []) nothing_moved
+    turns = record {
+      views = kept.views ++ open_view x ∷ [];
+      said_now = m ∷ [];
+      shown = shown_now;
+      others = λ z apart v. viewed_before (joined programs) kept.views kept.messages (m ∷ []) (open_view x) z v;
+      own = record {
+        end = x;
+        address = refl;
+        state = refl;
+        side = h.side;
+        viewed =
+            record {
+              kept = h.kept;
+              index = length kept.views;
+              viewed = slice_get-push_new kept.views (open_view x);
+              last_sent = its_message;
+            };
+        has = h.has;
+      };
+      notes = λ port to bytes i. inr (one_event port to bytes i);
+      only = λ view among. elim (among_push kept.views (open_view x) view among) [
+        | inl o ↦ inl o
+        | inr e ↦ inr (ap (λ (v : EndView). v.address) e)
+      ];
+    }
+
+  pub asks_keeps : IsKept programs how (client_did programs old k (just_asked client))
+  asks_keeps =
+      let h : Asks_with = requests programs how k client found in
+      client_keeps programs old kept fresh k client found Unasked unasked (begun client.port client.first client.before)
+      client.file
+      (Sent client.port client.first.position.last_sent_to client.first.position.last_sent ∷ []) nothing_moved (turns h)

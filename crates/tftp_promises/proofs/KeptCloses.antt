@@ -1,0 +1,145 @@
+-- A transfer that the server removes keeps the invariant: its end stays among the views.
+use Rattle.std.proofs.Common.{◌≡◌, ◌≢◌, ℕ, List, [], ◌++◌, Some, refl, sym, ap, ◌∙◌, subst, inl, inr}
+use Rattle.std.proofs.lemmas.Bool.{cases_eq}
+use Rattle.std.proofs.lemmas.List.{append-nil}
+use Rattle.tftp_file.specs.Sink.{SinkMeaning}
+use Rattle.tftp_file.specs.Source.{SourceMeaning}
+use Rattle.tftp_store.specs.Store.{StoreMeaning, files_of}
+use Rattle.tftp_server.specs.State.{TransferState, ServerState, at, without}
+use Rattle.tftp_sockets.specs.Journal.{Event}
+use Rattle.tftp_loop.specs.Serves.{LoopState, Does, Closes, Transfer_closed}
+use Rattle.tftp_rules.specs.Machine.{Endpoint, Message}
+use Rattle.tftp_rules.specs.Shows.{IsShown}
+use Rattle.tftp_promises.specs.Openings.{HasClosed, place_at}
+use Rattle.tftp_promises.specs.Order.{Programs}
+use Rattle.tftp_promises.specs.Programs.{requests_at}
+use Rattle.tftp_promises.specs.Promises.{joined}
+use Rattle.tftp_promises.specs.Snapshots.{Snapshot, server_did}
+use Rattle.tftp_promises.proofs.Identifiers.{at-without_other, at-without_cases, once-without}
+use Rattle.tftp_promises.proofs.Kept.{How, AreKeyedOnce, HasTransferBy, TransferKept, ServerKept, IsKept}
+use Rattle.tftp_promises.proofs.Kept.{same_transfer}
+use Rattle.tftp_promises.proofs.KeptEvents.{IsSilent}
+use Rattle.tftp_promises.proofs.KeptServer.{ServerTurns, server_keeps}
+use Rattle.tftp_promises.proofs.KeptViews.{arrived_still, viewed_still}
+use Rattle.tftp_promises.proofs.MovedSteps.{MovesNone}
+use Rattle.tftp_promises.proofs.ServerStays.{FilesStay, stay_if, known_if, stored_after}
+
+module _ {S F D G K : Type 0} {stores : StoreMeaning S D} {sources : SourceMeaning F} {inputs : SourceMeaning G}
+    {outputs : SinkMeaning K}
+    (programs : Programs stores sources inputs outputs) {how : How programs} (old : Snapshot programs)
+    (kept : IsKept programs how old) {new : LoopState S F D}
+    (closes : Closes stores sources old.state new) (added : List Event) (silent : IsSilent added) where
+  abbrev does : Does stores sources old.state new
+  does = Transfer_closed closes
+
+  abbrev now : Snapshot programs
+  now = server_did programs old does added
+
+  abbrev messages : List Message
+  messages = kept.messages ++ []
+
+  abbrev port : ℕ
+  port = closes.timer.port
+
+  -- the server without it
+  abbrev left : ServerState S F D
+  left = record old.state.server { held = without port old.state.server.held }
+
+  server_is : new.server ≡ left
+  server_is = ap (λ (s : LoopState S F D). s.server) closes.is
+
+  held : new.server.held ≡ without port old.state.server.held
+  held = ap (λ (s : ServerState S F D). s.held) server_is
+
+  files : FilesStay programs how old.state new
+  files =
+      stay_if programs how old.state new
+      (λ o path file h. (h.0, ap (λ (s : ServerState S F D). files_of (stores.stored s.store)) server_is ∙ h.1, h.2))
+
+  -- nothing moves
+  none : (a : Endpoint) → MovesNone programs old.run does a
+  none a = record { opens = refl; moves = λ moved. refl }
+
+  -- a transfer that is held or was removed was held before, or removed
+  still_held : (q : ℕ) (transfer : TransferState F D) → at q new.server.held ≡ Some transfer →
+      (q ≢ port) × (at q old.state.server.held ≡ Some transfer)
+  still_held q transfer e =
+      let h =
+      at-without_cases port q transfer old.state.server.held kept.server.once
+      (ap (at q) (sym held) ∙ e) in (h.0, h.1)
+
+  removed_at : (q : ℕ) (transfer : TransferState F D) → (q ≡ port) × (at q old.state.server.held ≡ Some transfer) →
+      at port old.state.server.held ≡ Some transfer
+  removed_at q transfer r = ap (λ (p : ℕ). at p old.state.server.held) (sym r.0) ∙ r.1
+
+  held_before : (q : ℕ) (transfer : TransferState F D) (a : Endpoint) → HasTransferBy programs now q transfer a →
+      HasTransferBy programs old q transfer a
+  held_before q transfer a (inl e) = inl ((still_held q transfer e.0).1, e.1)
+  held_before q transfer a (inr (inl removes)) = inl (removes.0.1, removes.1)
+  held_before q transfer a (inr (inr closed)) = inr closed
+
+  -- and is so after the step
+  held_after : (q : ℕ) (transfer : TransferState F D) (a : Endpoint) → HasTransferBy programs old q transfer a →
+      HasTransferBy programs now q transfer a
+  held_after q transfer a (inl e) = elim (cases_eq q port) [
+    | inl same ↦ inr (inl ((same, e.0), e.1))
+    | inr n ↦ inl (ap (at q) held ∙ (at-without_other port q old.state.server.held n ∙ e.0), e.1)
+  ]
+  held_after q transfer a (inr closed) = inr (inr closed)
+
+  -- no transfer is left at its place
+  gone : (p q : ℕ) (t u : TransferState F D) (a : Endpoint) → HasClosed programs now.run p t a →
+      at q new.server.held ≡ Some u → a ≢ place_at programs q old.run
+  gone p q t u a (inl removes) e same =
+      let h = still_held q u e in
+      h.0 (kept.server.seats q port u t h.1 (removed_at p t removes.0)
+      (sym same ∙ (removes.1 ∙ ap (λ (r : ℕ). place_at programs r old.run) removes.0.0)))
+  gone p q t u a (inr closed) e same = kept.server.gone p q t u a closed (still_held q u e).1 same
+
+  all_transfers : (q : ℕ) (transfer : TransferState F D) (a : Endpoint) → HasTransferBy programs now q transfer a →
+      TransferKept programs how kept.views messages now q transfer a
+  all_transfers q transfer a is =
+      let h = kept.transfers q transfer a (held_before q transfer a is) in
+      same_transfer programs h (viewed_still (joined programs) kept.views kept.messages [] h.end h.viewed)
+      (stored_after programs how old does added files h.end (none h.end.address) transfer.files h.has)
+
+  server_kept : ServerKept programs how messages now
+  server_kept = record {
+    requests = ap (λ (s : LoopState S F D). s.requests) closes.is ∙ kept.server.requests;
+    config = ap (λ (s : ServerState S F D). s.config) server_is ∙ kept.server.config;
+    known =
+        known_if programs how old.state new (ap (λ (s : ServerState S F D). stores.stored s.store) server_is)
+        kept.server.known;
+    pending = λ from bytes e.
+        arrived_still kept.messages [] from (requests_at stores sources programs.server) bytes
+        (kept.server.pending from bytes (ap (λ (s : LoopState S F D). s.pending) (sym closes.is) ∙ e));
+    once =
+        subst (λ (hs : List (ℕ × TransferState F D)). AreKeyedOnce hs) (sym held)
+        (once-without port old.state.server.held kept.server.once);
+    seats = λ p q t u e f same. kept.server.seats p q t u (still_held p t e).1 (still_held q u f).1 same;
+    gone = gone;
+    opened = λ q transfer a is. kept.server.opened q transfer a (held_before q transfer a is);
+  }
+
+  close_turns : ServerTurns programs old kept now added
+  close_turns = record {
+    views = kept.views;
+    said_now = [];
+    shown =
+        subst (λ (ms : List Message). IsShown (joined programs) kept.views ms) (sym (append-nil kept.messages))
+        kept.shown;
+    sends = λ q to bytes c. absurd (silent q to bytes c);
+    server = server_kept;
+    clients = λ k client found z at_client h. viewed_still (joined programs) kept.views kept.messages [] z h;
+    transfers = all_transfers;
+    only = λ view among. inl among;
+    were =
+        λ a h. record {
+          port = h.port;
+          transfer = h.transfer;
+          is_transfer = held_after h.port h.transfer a h.is_transfer;
+        };
+  }
+
+  pub closing_keeps : IsKept programs how now
+  closing_keeps = server_keeps programs old kept does added close_turns

@@ -1,0 +1,282 @@
+-- Each step of a client keeps the invariant.
+use Rattle.std.proofs.Common.{◌≡◌, ℕ, List, [], ◌∷◌, ◌++◌, Option, Some, None, refl, sym, ap, ◌∙◌, subst}
+use Rattle.std.specs.Prelude.{slice_get, is_some, IsSome}
+use Rattle.std.specs.List.{Contains}
+use Rattle.std.proofs.lemmas.List.Elements.{Contains-append_left, Contains-push}
+use Rattle.tftp_file.specs.Block.{IsPrefixOf}
+use Rattle.tftp_file.specs.Sink.{SinkMeaning}
+use Rattle.tftp_file.specs.Source.{SourceMeaning}
+use Rattle.tftp_file.specs.declared.files.Files.{Files}
+use Rattle.tftp_ends.specs.declared.outcome.Outcome.{Outcome}
+use Rattle.tftp_ends.specs.End.{EndState, outcome_of}
+use Rattle.tftp_ends.specs.Files.{KeepsFiles}
+use Rattle.tftp_ends.specs.Step.{Turn, after_turn, DatagramStep, timeout_turn}
+use Rattle.tftp_store.specs.Store.{StoreMeaning}
+use Rattle.tftp_sockets.specs.Journal.{Event, QuietEvent, answered}
+use Rattle.tftp_sockets.specs.Journal.Event.{Received, Sent, Watched, Elapsed, Printed, Quiet}
+use Rattle.tftp_sockets.specs.Journal.QuietEvent.{Slept}
+use Rattle.tftp_client.specs.Converses.{State, IsOpen, HandlesReceived, MayElapse, WorksOnFile, received, turned}
+use Rattle.tftp_client.specs.Converses.{wait_at, waited, elapsed}
+use Rattle.tftp_client.specs.Converses.HandlesReceived.{Answers, Loses}
+use Rattle.tftp_client.specs.Converses.MayElapse.{Stays, Elapses}
+use Rattle.tftp_rules.specs.EndShown.{Stands}
+use Rattle.tftp_rules.specs.EndKept.{IsFromServer}
+use Rattle.tftp_rules.specs.Machine.{Endpoint}
+use Rattle.tftp_rules.specs.OpenEnds.{OpenEnd, files_of, open_view}
+use Rattle.tftp_rules.proofs.Indices.{slice_get-set_same}
+use Rattle.tftp_rules.proofs.PhaseMoves.{same_ips}
+use Rattle.tftp_rules.proofs.EndTurns.{datagram_goes, timeout_goes}
+use Rattle.tftp_promises.specs.ClientRuns.{ClientDoes, Receives_one, Waits_until, Times_out, File_works, Prints_line}
+use Rattle.tftp_promises.specs.ClientRuns.{client_moves, line_printed, moved_in}
+use Rattle.tftp_promises.specs.Joint.{CanTake}
+use Rattle.tftp_promises.specs.Moved.{Moved, handling_moves, step_moves}
+use Rattle.tftp_promises.specs.Order.{Programs}
+use Rattle.tftp_promises.specs.Programs.{requests_at, ClientProgram, client_at}
+use Rattle.tftp_promises.specs.Promises.{joined}
+use Rattle.tftp_promises.specs.Snapshots.{Snapshot, Has_asked, client_did}
+use Rattle.tftp_promises.proofs.Kept.{How, HasArrived, IsKept, IsFreshBy}
+use Rattle.tftp_promises.proofs.KeptAnswers.{answer_from_server}
+use Rattle.tftp_promises.proofs.KeptEvents.{IsSilent, added_by, added_none, answered_has, answered_sends}
+use Rattle.tftp_promises.proofs.KeptEvents.{elapsed_silent}
+use Rattle.tftp_promises.proofs.KeptEvents.{none_silent, printed_silent, unsent_silent}
+use Rattle.tftp_promises.proofs.KeptFiles.{StepsOver, step_over, file_same, file_kept, file_worked}
+use Rattle.tftp_promises.proofs.KeptTurns.{own, turn_keeps, stays_keeps}
+use Rattle.tftp_promises.proofs.KeptStrays.{arrives}
+use Rattle.tftp_promises.proofs.Places.{clients_there, near_server, stranger_no_client}
+
+-- an open end has no outcome
+no_outcome : (o : Option Outcome) → (IsSome o → ⊥) → o ≡ None
+no_outcome None still = refl
+no_outcome (Some outcome) still = absurd (still refl)
+
+module _ {S F D G K : Type 0} {stores : StoreMeaning S D} {sources : SourceMeaning F} {inputs : SourceMeaning G}
+    {outputs : SinkMeaning K}
+    (programs : Programs stores sources inputs outputs) {how : How programs} (old : Snapshot programs)
+    (kept : IsKept programs how old) (fresh : IsFreshBy programs old)
+    (k : ℕ) (client : ClientProgram inputs outputs (requests_at stores sources programs.server))
+    (found : slice_get programs.clients k ≡ Some client)
+    (s : State) (files : Files G K) (noted : List Event) (moved : Moved)
+    (is_stage : slice_get old.clients k ≡ Some (Has_asked s files noted moved)) where
+  abbrev here : Endpoint
+  here = client_at inputs outputs (requests_at stores sources programs.server) client
+
+  abbrev x : OpenEnd
+  x = (own programs old kept fresh k client found s files noted moved is_stage).end
+
+  -- its end is among all that is shown
+  stands : Stands (joined programs) kept.shown.0 kept.views kept.messages
+      (own programs old kept fresh k client found s files noted moved is_stage).viewed.index (open_view x)
+  stands =
+      record {
+        shown = kept.shown.1;
+        viewed = (own programs old kept fresh k client found s files noted moved
+            is_stage).viewed.viewed;
+      }
+
+  -- an open one has no outcome
+  still_open : IsOpen s.end → outcome_of x.state.position.phase ≡ None
+  still_open still =
+      ap (λ (e : EndState). outcome_of e.position.phase) (own programs old kept fresh k client found s files noted moved
+      is_stage).state ∙ no_outcome (outcome_of s.end.position.phase) still
+
+  -- what the client then has
+  abbrev Then_keeps : State → Files G K → List Event → Moved → Type 0
+  Then_keeps s' files' added moved' =
+      IsKept programs how (client_did programs old k (Has_asked s' files' (added ++ noted) moved'))
+
+  -- what it has moved then begins what it moves in all
+  pub told_now : (s' : State) (files' : Files G K) (noted' : List Event) (moved' : Moved) →
+      IsFreshBy programs (client_did programs old k (Has_asked s' files' noted' moved')) →
+      IsPrefixOf moved'.bytes (moved_in client.runs).bytes
+  told_now s' files' noted' moved' now =
+      now.gave k client s' files' noted' moved' found
+      (slice_get-set_same old.clients k (Has_asked s' files' noted' moved') (Has_asked s files noted moved)
+      is_stage)
+
+  -- ---- a datagram
+  module _ (from : Endpoint) (bytes : List ℕ) (time : ℕ) where
+    -- the events of its receipt
+    abbrev receipt : List Event
+    receipt = Watched time ∷ Received client.port from bytes ∷ Quiet (Slept (wait_at s)) ∷ []
+
+    receipt_silent : IsSilent receipt
+    receipt_silent = unsent_silent receipt (tt, (tt, (tt, tt)))
+
+    -- an answer to an end without a peer comes from the server
+    serves : HasArrived kept.messages from x.address bytes → IsFromServer (joined programs) x from bytes
+    serves there no_peer same p spells answer =
+        answer_from_server (joined programs) kept.views kept.messages kept.shown from x.address
+        (near_server programs from (sym (same_ips (joined programs).request_port from same)))
+        (ap (joined programs).host_of (own programs old kept fresh k client found s files noted moved is_stage).address
+        ∙ clients_there programs k client found)
+        p answer (there p spells)
+
+    -- the end answers it
+    pub answers : HasArrived kept.messages from here bytes → (turn : Turn) (files' : Files G K) (added : List Event) →
+        IsOpen s.end → (step : DatagramStep inputs outputs from bytes s.end files turn files') →
+        IsPrefixOf (step_moves inputs outputs from bytes s.end files turn files' step moved).bytes
+        (moved_in client.runs).bytes →
+        answered client.port turn.reply (receipt ++ s.events) ≡ added ++ s.events →
+        Then_keeps (turned client.port turn (received client.port from bytes time s)) files' added
+        (step_moves inputs outputs from bytes s.end files turn files' step moved)
+    answers arrived turn files' added still step told events =
+        let o = own programs old kept fresh k client found s files noted moved is_stage in
+        let added_is = added_by client.port turn.reply receipt s.events added events in
+        let there : HasArrived kept.messages from x.address bytes =
+        subst (λ (a : Endpoint). HasArrived kept.messages from a bytes) (sym o.address) arrived in
+        let Over : EndState → Type 0 = λ (e : EndState).
+        (step : DatagramStep inputs outputs from bytes e files turn files') →
+        IsPrefixOf (step_moves inputs outputs from bytes e files turn files' step moved).bytes
+        (moved_in client.runs).bytes →
+        StepsOver programs how client x from bytes turn files'
+        (step_moves inputs outputs from bytes e files turn files' step moved)
+        in
+        let over =
+        subst Over o.state (λ step_x told_x. step_over programs client x (joined programs) o.viewed.kept
+        (still_open still) from bytes turn how files files' moved o.has step_x told_x) step told in
+        let goes =
+        datagram_goes (joined programs) kept.shown.0 kept.views kept.messages o.viewed.index x from bytes turn
+        over.content
+        (record {
+          stands = stands;
+          kept = o.viewed.kept;
+          still = ap is_some (still_open still);
+          last_sent = o.viewed.last_sent;
+        })
+        there (serves there) over.steps in
+        turn_keeps programs old kept fresh k client found s files noted moved is_stage turn over.content goes
+        (turned client.port turn (received client.port from bytes time s)) refl files'
+        (step_moves inputs outputs from bytes s.end files turn files' step moved) over.has
+        added (λ port to b c. answered_sends client.port turn.reply receipt receipt_silent port to b
+        (subst (λ (es : List Event). Contains es (Sent port to b)) (sym added_is) c))
+
+    -- it is lost
+    pub loses : (files' : Files G K) (added : List Event) → KeepsFiles inputs outputs files files' →
+        receipt ++ s.events ≡ added ++ s.events →
+        Then_keeps (received client.port from bytes time s) files' added moved
+    loses files' added keeps events =
+        let o = own programs old kept fresh k client found s files noted moved is_stage in
+        let added_is = added_by client.port None receipt s.events added events in
+        stays_keeps programs old kept fresh k client found s files noted moved is_stage
+        (received client.port from bytes time s) refl files' moved
+        (file_kept programs client x how files files' moved o.has keeps)
+        added (subst (λ (es : List Event). IsSilent es) added_is receipt_silent)
+
+  -- ---- a timeout
+  times_out : (added : List Event) → IsOpen s.end →
+      answered client.port (timeout_turn s.end).reply (Elapsed client.port s.now ∷ s.events) ≡ added ++ s.events →
+      Then_keeps (elapsed client.port s) files added moved
+  times_out added still events =
+      let o = own programs old kept fresh k client found s files noted moved is_stage in
+      let turn = timeout_turn x.state in
+      let goes = timeout_goes (joined programs) kept.shown.0 kept.views kept.messages o.viewed.index x
+      (record {
+        stands = stands;
+        kept = o.viewed.kept;
+        still = ap is_some (still_open still);
+        last_sent = o.viewed.last_sent;
+      }) in
+      let added_is =
+      added_by client.port (timeout_turn s.end).reply (Elapsed client.port s.now ∷ []) s.events added events in
+      let same : timeout_turn s.end ≡ turn = ap timeout_turn (sym o.state) in
+      turn_keeps programs old kept fresh k client found s files noted moved is_stage turn (files_of x) goes
+      (elapsed client.port s) (ap (after_turn s.end) same) files moved
+      (file_same programs client x how turn files moved (λ c. still_open still) o.has)
+      added (λ port to b c. subst (λ (t : Turn). (client.port ≡ port)
+      × (t.reply ≡ Some (record { to = to; bytes = b }))) same
+      (answered_sends client.port (timeout_turn s.end).reply (Elapsed client.port s.now ∷ [])
+      (elapsed_silent client.port s.now) port to b (subst (λ (es : List Event). Contains es (Sent port to b))
+      (sym added_is) c)))
+
+  pub elapses : (next : State) (added : List Event) → MayElapse client.port s next → next.events ≡ added ++ s.events →
+      Then_keeps next files added moved
+  elapses next added (Stays why) events =
+      let o = own programs old kept fresh k client found s files noted moved is_stage in
+      stays_keeps programs old kept fresh k client found s files noted moved is_stage s refl files moved o.has added
+      (subst (λ (es : List Event). IsSilent es) (added_none s.events added events) none_silent)
+  elapses next added (Elapses due still) events = times_out added still events
+
+  -- ---- a wait, and the file's work
+  pub waits : (event : QuietEvent) (time : ℕ) (added : List Event) → (waited event time s).events ≡ added ++ s.events →
+      Then_keeps (waited event time s) files added moved
+  waits event time added events =
+      let wait = Watched time ∷ Quiet event ∷ Quiet (Slept (wait_at s)) ∷ [] in
+      let o = own programs old kept fresh k client found s files noted moved is_stage in
+      stays_keeps programs old kept fresh k client found s files noted moved is_stage (waited event time s) refl files
+      moved o.has added
+      (subst (λ (es : List Event). IsSilent es) (added_by client.port None wait s.events added events)
+      (unsent_silent wait (tt, (tt, (tt, tt)))))
+
+  -- ---- a line
+  pub prints : (line : List ℕ) (added : List Event) → Printed line ∷ s.events ≡ added ++ s.events →
+      Then_keeps (line_printed line s) files added moved
+  prints line added events =
+      let o = own programs old kept fresh k client found s files noted moved is_stage in
+      stays_keeps programs old kept fresh k client found s files noted moved is_stage (line_printed line s) refl files
+      moved o.has added
+      (subst (λ (es : List Event). IsSilent es) (added_by client.port None (Printed line ∷ []) s.events added events)
+      (printed_silent line))
+
+  pub works : (files' : Files G K) (added : List Event) → WorksOnFile inputs outputs files files' →
+      s.events ≡ added ++ s.events → Then_keeps s files' added moved
+  works files' added work events =
+      let o = own programs old kept fresh k client found s files noted moved is_stage in
+      stays_keeps programs old kept fresh k client found s files noted moved is_stage s refl files' moved
+      (file_worked programs client x how files files' moved o.has work) added
+      (subst (λ (es : List Event). IsSilent es) (added_none s.events added events) none_silent)
+
+module _ {S F D G K : Type 0} {stores : StoreMeaning S D} {sources : SourceMeaning F} {inputs : SourceMeaning G}
+    {outputs : SinkMeaning K}
+    (programs : Programs stores sources inputs outputs) {how : How programs} (old : Snapshot programs)
+    (kept : IsKept programs how old) (fresh : IsFreshBy programs old)
+    (k : ℕ) (client : ClientProgram inputs outputs (requests_at stores sources programs.server))
+    (found : slice_get programs.clients k ≡ Some client)
+    (s : State) (files : Files G K) (noted : List Event) (moved : Moved)
+    (is_stage : slice_get old.clients k ≡ Some (Has_asked s files noted moved)) where
+  -- a datagram is handled once it is among the messages
+  handles : (from : Endpoint) (bytes : List ℕ) (time : ℕ) (next : State) (files' : Files G K) (added : List Event)
+      (handled : HandlesReceived inputs outputs client.port from bytes (received client.port from bytes time s) files
+      next files') →
+      IsPrefixOf (handling_moves handled moved).bytes (moved_in client.runs).bytes →
+      next.events ≡ added ++ s.events → CanTake programs old client.ip added →
+      IsKept programs how (client_did programs old k
+      (Has_asked next files' (added ++ noted) (handling_moves handled moved)))
+  handles from bytes time next files' added (Answers {turn} still step) told events take =
+      let receipt = Watched time ∷ Received client.port from bytes ∷ Quiet (Slept (wait_at s)) ∷ [] in
+      let receipt_in : Contains receipt (Received client.port from bytes) =
+      Contains-append_left (Watched time ∷ Received client.port from bytes ∷ []) (Quiet (Slept (wait_at s)) ∷ [])
+      (Received client.port from bytes) (Contains-push (Watched time ∷ []) (Received client.port from bytes)) in
+      let added_is = added_by client.port turn.reply receipt s.events added events in
+      let came =
+      take client.port from bytes (subst (λ (es : List Event). Contains es (Received client.port from bytes))
+      added_is (answered_has client.port turn.reply receipt (Received client.port from bytes) receipt_in)) in
+      let a =
+      arrives programs old kept from (client_at inputs outputs (requests_at stores sources programs.server) client)
+      bytes
+      (stranger_no_client programs (client_at inputs outputs (requests_at stores sources programs.server) client) k
+      client found refl) came in
+      answers programs old a.now fresh k client found s files noted moved is_stage from bytes time a.come turn files'
+      added still step told events
+  handles from bytes time next files' added (Loses lost keeps) told events take =
+      loses programs old kept fresh k client found s files noted moved is_stage from bytes time files' added keeps
+      events
+
+  pub does_keeps : (s' : State) (files' : Files G K) (added : List Event)
+      (does : ClientDoes inputs outputs client.port s files s' files') →
+      IsFreshBy programs (client_did programs old k (Has_asked s' files' (added ++ noted) (client_moves does moved))) →
+      s'.events ≡ added ++ s.events →
+      CanTake programs old client.ip added →
+      IsKept programs how (client_did programs old k
+      (Has_asked s' files' (added ++ noted) (client_moves does moved)))
+  does_keeps s' files' added (Receives_one {from = from} {bytes = bytes} {time = time} may later handled) now events
+      take =
+      handles from bytes time s' files' added handled (told_now programs old kept fresh k client found s files noted
+      moved is_stage s' files' (added ++ noted) (handling_moves handled moved) now) events take
+  does_keeps s' files' added (Waits_until {event = event} {time = time} may which later) now events take =
+      waits programs old kept fresh k client found s files noted moved is_stage event time added events
+  does_keeps s' files' added (Times_out may) now events take =
+      elapses programs old kept fresh k client found s files noted moved is_stage s' added may events
+  does_keeps s' files' added (File_works work) now events take =
+      works programs old kept fresh k client found s files noted moved is_stage files' added work events
+  does_keeps s' files' added (Prints_line line) now events take =
+      prints programs old kept fresh k client found s files noted moved is_stage line added events

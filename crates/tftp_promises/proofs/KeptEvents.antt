@@ -1,0 +1,98 @@
+-- The events of one step: what was sent is the answer.
+use Rattle.std.proofs.Common.{◌≡◌, ℕ, List, [], ◌∷◌, ◌++◌, Option, Some, None, inl, inr, arith}
+use Rattle.std.specs.Prelude.{◌⊎◌}
+use Rattle.std.specs.List.{Contains, AllByRecursion}
+use Rattle.std.proofs.lemmas.List.{append_cancel_right}
+use Rattle.std.proofs.lemmas.List.Elements.{Contains-append_cases, Contains-append_right, Contains-push_cases}
+use Rattle.std.proofs.lemmas.List.Elements.{All-from_recursion, All-contains}
+use Rattle.tftp_ends.specs.Step.{Reply}
+use Rattle.tftp_rules.specs.Machine.{Endpoint}
+use Rattle.tftp_sockets.specs.Journal.{Event, answered}
+use Rattle.tftp_sockets.specs.Journal.Event.{Received, Sent, Watched, Elapsed, Printed, Quiet}
+
+pub nothing_in : {X : Type 0} (x : X) → Contains [] x → ⊥
+nothing_in x h = let l = h.1 in omega arith
+
+pub only_one : {X : Type 0} (x y : X) → Contains (x ∷ []) y → x ≡ y
+only_one x y c = elim (Contains-push_cases [] x y c) [
+  | inl n ↦ absurd (nothing_in y n)
+  | inr same ↦ same
+]
+
+-- an event is the first one, or one of the others
+pub first_or_more : {X : Type 0} (x y : X) (xs : List X) → Contains (x ∷ xs) y → (x ≡ y) ⊎ Contains xs y
+first_or_more x y xs c = elim (Contains-append_cases (x ∷ []) xs y c) [
+  | inl one ↦ inl (only_one x y one)
+  | inr more ↦ inr more
+]
+
+-- nothing was sent
+abbrev pub IsSilent : List Event → Type 0
+IsSilent events = (port : ℕ) (to : Endpoint) (bytes : List ℕ) → Contains events (Sent port to bytes) → ⊥
+
+-- only this answer was sent, from this port
+abbrev pub SendsOnly : ℕ → Option Reply → List Event → Type 0
+SendsOnly own reply events =
+    (port : ℕ) (to : Endpoint) (bytes : List ℕ) → Contains events (Sent port to bytes) →
+    (own ≡ port) × (reply ≡ Some (record { to = to; bytes = bytes }))
+
+-- the events that a step adds
+pub added_by : (port : ℕ) (reply : Option Reply) (events rest added : List Event) →
+    answered port reply (events ++ rest) ≡ added ++ rest → answered port reply events ≡ added
+added_by port None events rest added e = append_cancel_right events added rest e
+added_by port (Some reply) events rest added e =
+    append_cancel_right (Sent port reply.to reply.bytes ∷ events) added rest e
+
+-- they have all others
+pub answered_has : (port : ℕ) (reply : Option Reply) (events : List Event) (e : Event) → Contains events e →
+    Contains (answered port reply events) e
+answered_has port None events e c = c
+answered_has port (Some reply) events e c = Contains-append_right (Sent port reply.to reply.bytes ∷ []) events e c
+
+-- and the answer
+same_sent : (own port : ℕ) (reply : Reply) (to : Endpoint) (bytes : List ℕ) →
+    Sent own reply.to reply.bytes ≡ Sent port to bytes →
+    (own ≡ port) × (Some reply ≡ Some (record { to = to; bytes = bytes }))
+same_sent own port reply to bytes e =
+    let to_is : reply.to ≡ to = cc in
+    let bytes_are : reply.bytes ≡ bytes = cc in
+    (cc, λ i. Some (record { to = to_is i; bytes = bytes_are i }))
+
+pub answered_sends : (own : ℕ) (reply : Option Reply) (events : List Event) → IsSilent events →
+    SendsOnly own reply (answered own reply events)
+answered_sends own None events silent port to bytes c = absurd (silent port to bytes c)
+answered_sends own (Some reply) events silent port to bytes c =
+    elim (first_or_more (Sent own reply.to reply.bytes) (Sent port to bytes) events c) [
+      | inl e ↦ same_sent own port reply to bytes e
+      | inr more ↦ absurd (silent port to bytes more)
+    ]
+
+-- no datagram that was sent
+abbrev pub IsUnsent : Event → Type 0
+IsUnsent (Received port from bytes) = Unit {0}
+IsUnsent (Sent port to bytes) = ⊥
+IsUnsent (Watched time) = Unit {0}
+IsUnsent (Elapsed port time) = Unit {0}
+IsUnsent (Printed line) = Unit {0}
+IsUnsent (Quiet event) = Unit {0}
+
+pub unsent_silent : (events : List Event) → AllByRecursion IsUnsent events → IsSilent events
+unsent_silent events unsent port to bytes c =
+    All-contains IsUnsent events (Sent port to bytes) (All-from_recursion IsUnsent events unsent) c
+
+-- a timeout was due
+pub elapsed_silent : (own time : ℕ) → IsSilent (Elapsed own time ∷ [])
+elapsed_silent own time port to bytes c =
+    let f : Elapsed own time ≡ Sent port to bytes = only_one (Elapsed own time) (Sent port to bytes) c in cc
+
+pub none_silent : IsSilent []
+none_silent port to bytes c = nothing_in (Sent port to bytes) c
+
+-- a step that adds no event
+pub added_none : (events added : List Event) → events ≡ added ++ events → [] ≡ added
+added_none events added e = append_cancel_right [] added events e
+
+-- a line was printed
+pub printed_silent : (line : List ℕ) → IsSilent (Printed line ∷ [])
+printed_silent line port to bytes c =
+    let f : Printed line ≡ Sent port to bytes = only_one (Printed line) (Sent port to bytes) c in cc

@@ -1,0 +1,257 @@
+-- A step of the server at the port of a transfer keeps the invariant, if it does of the transfer's own end.
+use Rattle.std.proofs.Common.{◌≡◌, ◌≢◌, ℕ, false, List, ◌++◌, set, Some, refl, sym, ap, ◌∙◌, subst, inl, inr}
+use Rattle.std.specs.Prelude.{◌⊎◌, slice_get}
+use Rattle.std.specs.List.{Contains}
+use Rattle.std.proofs.lemmas.Bool.{cases_eq}
+use Rattle.tftp_file.specs.Sink.{SinkMeaning}
+use Rattle.tftp_file.specs.Source.{SourceMeaning}
+use Rattle.tftp_ends.specs.End.{is_client}
+use Rattle.tftp_store.specs.Store.{StoreMeaning}
+use Rattle.tftp_server.specs.State.{TransferState, at, with_next}
+use Rattle.tftp_sockets.specs.Journal.{Event}
+use Rattle.tftp_sockets.specs.Journal.Event.{Sent}
+use Rattle.tftp_loop.specs.Serves.{LoopState, Does}
+use Rattle.tftp_rules.specs.EndKept.{EndKept}
+use Rattle.tftp_rules.specs.Machine.{Endpoint, Message}
+use Rattle.tftp_rules.specs.OpenEnds.{OpenEnd, open_view}
+use Rattle.tftp_rules.specs.Shows.{EndView, IsShown}
+use Rattle.tftp_rules.specs.ViewSafety.{IsAmong}
+use Rattle.tftp_rules.proofs.Indices.{slice_get-set_same}
+use Rattle.tftp_promises.specs.Openings.{HasClosed, place_at}
+use Rattle.tftp_promises.specs.Order.{Programs, IsStranger}
+use Rattle.tftp_promises.specs.Programs.{endpoint, requests_at}
+use Rattle.tftp_promises.specs.Promises.{joined}
+use Rattle.tftp_promises.specs.Snapshots.{Snapshot, server_did}
+use Rattle.tftp_promises.proofs.RunPlaces.{places}
+use Rattle.tftp_promises.proofs.Identifiers.{at-with_next, at-with_next_other, at-with_next_cases, once-with_next}
+use Rattle.tftp_promises.proofs.Kept.{How, AreKeyedOnce, IsThere, IsViewed, HasStored, HasTransferBy, TransferKept}
+use Rattle.tftp_promises.proofs.Kept.{ServerKept, IsOfTransfer, IsKept, IsFreshBy, IsStrangers, same_transfer}
+use Rattle.tftp_promises.proofs.KeptServer.{ServerTurns, server_keeps}
+use Rattle.tftp_promises.proofs.KeptViews.{arrived_still, viewed_beside, among_set}
+use Rattle.tftp_promises.proofs.MovedSteps.{MovesNone}
+use Rattle.tftp_promises.proofs.NewPlaces.{client_apart}
+use Rattle.tftp_promises.proofs.ServerStays.{ServerStays, stored_after, closed_before, opened_still}
+
+module _ {S F D G K : Type 0} {stores : StoreMeaning S D} {sources : SourceMeaning F} {inputs : SourceMeaning G}
+    {outputs : SinkMeaning K}
+    (programs : Programs stores sources inputs outputs) {how : How programs} where
+  -- what a step at the port did to the transfer there
+  pub record PortTurns (old : Snapshot programs) (kept : IsKept programs how old) {new : LoopState S F D}
+      (does : Does stores sources old.state new) (added : List Event)
+      (port : ℕ) (transfer : TransferState F D) (found : at port old.state.server.held ≡ Some transfer) : Type 0 where
+    pub next : TransferState F D
+    pub held : new.server.held ≡ with_next port next old.state.server.held
+    pub said_now : List Message
+    pub sends : (own : ℕ) (to : Endpoint) (bytes : List ℕ) → Contains added (Sent own to bytes) →
+        IsThere (kept.messages ++ said_now) (endpoint programs.server.ip own) to bytes
+        ⊎ IsStranger stores sources inputs outputs programs to
+    -- its end
+    pub end : OpenEnd
+    pub address : end.address ≡ place_at programs port old.run
+    pub seat : (place_at programs port old.run ≡ endpoint programs.server.ip port) ⊎ IsStrangers programs end.state
+    pub state : end.state ≡ next.end
+    pub path : end.path ≡ next.path
+    pub request : end.request ≡ next.request
+    pub side : is_client end.state.role.side ≡ false
+    pub shown : IsShown (joined programs)
+        (set kept.views (kept.transfers port transfer (place_at programs port old.run) (inl (found, refl))).viewed.index
+        (open_view end)) (kept.messages ++ said_now)
+    pub is_kept : EndKept (joined programs) end
+    pub last_sent : IsThere (kept.messages ++ said_now) end.address end.state.position.last_sent_to
+        end.state.position.last_sent
+    pub has : HasStored programs how (server_did programs old does added) end next.files
+
+  module _ (old : Snapshot programs) (kept : IsKept programs how old) (fresh : IsFreshBy programs old)
+      {new : LoopState S F D} (does : Does stores sources old.state new) (stays : ServerStays programs old kept does)
+      (added : List Event) (port : ℕ) (transfer : TransferState F D)
+      (found : at port old.state.server.held ≡ Some transfer)
+      (turns : PortTurns old kept does added port transfer found) (none : (a : Endpoint) →
+      place_at programs port old.run ≢ a → MovesNone programs old.run does a) where
+    abbrev now : Snapshot programs
+    now = server_did programs old does added
+
+    abbrev messages : List Message
+    messages = kept.messages ++ turns.said_now
+
+    -- its place, and the end before
+    abbrev place : Endpoint
+    place = place_at programs port old.run
+
+    abbrev was : OpenEnd
+    was = (kept.transfers port transfer place (inl (found, refl))).end
+
+    abbrev index : ℕ
+    index = (kept.transfers port transfer place (inl (found, refl))).viewed.index
+
+    abbrev views : List EndView
+    views = set kept.views index (open_view turns.end)
+
+    viewed : slice_get kept.views index ≡ Some (open_view was)
+    viewed = (kept.transfers port transfer place (inl (found, refl))).viewed.viewed
+
+    was_there : was.address ≡ place
+    was_there = (kept.transfers port transfer place (inl (found, refl))).address
+
+    found_now : at port new.server.held ≡ Some turns.next
+    found_now = ap (at port) turns.held ∙ at-with_next port transfer turns.next old.state.server.held found
+
+    -- the place of another transfer, held or removed, is another one
+    other_place : (q : ℕ) (t : TransferState F D) (a : Endpoint) → q ≢ port →
+        (at q old.state.server.held ≡ Some t) × (a ≡ place_at programs q old.run) → place ≢ a
+    other_place q t a n h same = n (kept.server.seats q port t transfer h.0 found (sym (same ∙ h.1)))
+
+    gone_place : (q : ℕ) (t : TransferState F D) (a : Endpoint) → HasClosed programs old.run q t a → place ≢ a
+    gone_place q t a closed same = kept.server.gone q port t transfer a closed found (sym same)
+
+    -- another end
+    beside : (z : OpenEnd) → place ≢ z.address → IsViewed (joined programs) kept.views kept.messages z →
+        IsViewed (joined programs) views messages z
+    beside z apart h =
+        viewed_beside (joined programs) kept.views kept.messages turns.said_now index (open_view was)
+        (open_view turns.end) z viewed (λ same. apart (sym was_there ∙ same)) h
+
+    own : TransferKept programs how views messages now port turns.next place
+    own = record {
+      end = turns.end;
+      address = turns.address;
+      seat = turns.seat;
+      state = turns.state;
+      path = turns.path;
+      request = turns.request;
+      side = turns.side;
+      viewed =
+          record {
+            kept = turns.is_kept;
+            index = index;
+            viewed = slice_get-set_same kept.views index (open_view turns.end) (open_view was) viewed;
+            last_sent = turns.last_sent;
+          };
+      has = turns.has;
+    }
+
+    other : (q : ℕ) (t : TransferState F D) (a : Endpoint) → place ≢ a → HasTransferBy programs old q t a →
+        TransferKept programs how views messages now q t a
+    other q t a n is =
+        let h = kept.transfers q t a is in
+        same_transfer programs h (beside h.end (λ same. n (same ∙ h.address)) h.viewed)
+        (stored_after programs how old does added stays.files h.end
+        (none h.end.address (λ same. n (same ∙ h.address))) t.files h.has)
+
+    -- which transfer it is
+    abbrev IsThis : ℕ → TransferState F D → Endpoint → Type 0
+    IsThis q t a = (q ≡ port) × (t ≡ turns.next) × (a ≡ place)
+
+    found_cases : (q : ℕ) (t : TransferState F D) (a : Endpoint) → HasTransferBy programs now q t a →
+        IsThis q t a ⊎ ((place ≢ a) × HasTransferBy programs old q t a)
+    found_cases q t a (inl e) =
+        let where_it_was : a ≡ place_at programs q old.run = e.1 ∙ stays.seats q in
+        elim (at-with_next_cases port q transfer turns.next t old.state.server.held found
+        (ap (at q) (sym turns.held) ∙ e.0)) [
+          | inl h ↦ inl (h.0, h.1, where_it_was ∙ ap (λ (p : ℕ). place_at programs p old.run) h.0)
+          | inr h ↦ inr (other_place q t a h.0 (h.1, where_it_was), inl (h.1, where_it_was))
+        ]
+    found_cases q t a (inr closed) =
+        let c = closed_before programs old kept does stays added q t a closed in inr (gone_place q t a c, inr c)
+
+    is_own : (q : ℕ) (t : TransferState F D) (a : Endpoint) → IsThis q t a →
+        TransferKept programs how views messages now q t a
+    is_own q t a h =
+        subst (λ (b : Endpoint). TransferKept programs how views messages now q t b) (sym h.2)
+        (subst (λ (p : ℕ). TransferKept programs how views messages now p t place) (sym h.0)
+        (subst (λ (u : TransferState F D). TransferKept programs how views messages now port u place) (sym h.1) own))
+
+    all_transfers : (q : ℕ) (t : TransferState F D) (a : Endpoint) → HasTransferBy programs now q t a →
+        TransferKept programs how views messages now q t a
+    all_transfers q t a is = elim (found_cases q t a is) [
+      | inl h ↦ is_own q t a h
+      | inr h ↦ other q t a h.0 h.1
+    ]
+
+    all_opened : (q : ℕ) (t : TransferState F D) (a : Endpoint) → HasTransferBy programs now q t a →
+        Contains (places programs old.run) a
+    all_opened q t a is = elim (found_cases q t a is) [
+      | inl h ↦
+          subst (λ (b : Endpoint). Contains (places programs old.run) b) (sym h.2)
+          (kept.server.opened port transfer place (inl (found, refl)))
+      | inr h ↦ kept.server.opened q t a h.1
+    ]
+
+    -- a transfer that is held was held there
+    held_before : (q : ℕ) (t : TransferState F D) → at q new.server.held ≡ Some t →
+        (u : TransferState F D) × (at q old.state.server.held ≡ Some u)
+    held_before q t e =
+        elim (at-with_next_cases port q transfer turns.next t old.state.server.held found
+        (ap (at q) (sym turns.held) ∙ e)) [
+          | inl h ↦ (transfer, ap (λ (p : ℕ). at p old.state.server.held) h.0 ∙ found)
+          | inr h ↦ (t, h.1)
+        ]
+
+    server_kept : ServerKept programs how messages now
+    server_kept = record {
+      requests = stays.requests ∙ kept.server.requests;
+      config = stays.config ∙ kept.server.config;
+      known = stays.known;
+      pending =
+          λ from bytes e. arrived_still kept.messages turns.said_now from (requests_at stores sources programs.server)
+          bytes (stays.pending from bytes e);
+      once =
+          subst (λ (held : List (ℕ × TransferState F D)). AreKeyedOnce held) (sym turns.held)
+          (once-with_next port turns.next old.state.server.held kept.server.once);
+      seats = λ p q t u e f same.
+          let h = held_before p t e in
+          let k = held_before q u f in
+          kept.server.seats p q h.0 k.0 h.1 k.1 (sym (stays.seats p) ∙ (same ∙ stays.seats q));
+      gone = λ p q t u a closed e same.
+          let h = held_before q u e in
+          kept.server.gone p q t h.0 a (closed_before programs old kept does stays added p t a closed) h.1
+          (same ∙ stays.seats q);
+      opened = λ q t a is. opened_still programs old kept does stays added a (all_opened q t a is);
+    }
+
+    this_one : (a : Endpoint) → a ≡ place → IsOfTransfer programs now a
+    this_one a here =
+        record { port = port; transfer = turns.next; is_transfer = inl (found_now, here ∙ sym (stays.seats port)) }
+
+    were_by : (a : Endpoint) (q : ℕ) (t : TransferState F D) → HasTransferBy programs old q t a →
+        IsOfTransfer programs now a
+    were_by a q t (inl e) = elim (cases_eq q port) [
+      | inl same ↦ this_one a (e.1 ∙ ap (λ (p : ℕ). place_at programs p old.run) same)
+      | inr n ↦
+          record {
+            port = q;
+            transfer = t;
+            is_transfer = inl (
+              ap (at q) turns.held ∙ (at-with_next_other port q turns.next old.state.server.held n
+                  ∙ e.0),
+              e.1 ∙ sym (stays.seats q),
+            );
+          }
+    ]
+    were_by a q t (inr closed) = record { port = q; transfer = t; is_transfer = inr (inr closed) }
+
+    were : (a : Endpoint) → IsOfTransfer programs old a → IsOfTransfer programs now a
+    were a h = were_by a h.port h.transfer h.is_transfer
+
+    only : (view : EndView) → IsAmong views view → IsAmong kept.views view ⊎ IsOfTransfer programs now view.address
+    only view among = elim (among_set kept.views index (open_view turns.end) view among) [
+      | inl o ↦ inl o
+      | inr e ↦ inr (this_one view.address (ap (λ (v : EndView). v.address) e ∙ turns.address))
+    ]
+
+    port_turns : ServerTurns programs old kept now added
+    port_turns = record {
+      views = views;
+      said_now = turns.said_now;
+      shown = turns.shown;
+      sends = turns.sends;
+      server = server_kept;
+      clients = λ k client there z at_client h.
+          beside z (λ same. client_apart programs old fresh place
+          (kept.server.opened port transfer place (inl (found, refl))) k client there (sym (same ∙ at_client))) h;
+      transfers = all_transfers;
+      only = only;
+      were = were;
+    }
+
+    pub port_keeps : IsKept programs how now
+    port_keeps = server_keeps programs old kept does added port_turns

@@ -1,0 +1,149 @@
+-- A datagram that the request port ignores, or answers by an ERROR, keeps the invariant.
+use Rattle.std.proofs.Common.{◌≡◌, ℕ, List, [], ◌∷◌, ◌++◌, Some, None, sym, ap, ◌∙◌, subst, inl, inr}
+use Rattle.std.specs.Prelude.{◌⊎◌, length, map, option_to_list}
+use Rattle.std.specs.List.{Contains}
+use Rattle.std.proofs.lemmas.List.{append_cancel_right}
+use Rattle.std.proofs.lemmas.List.Elements.{Contains-push}
+use Rattle.std.proofs.lemmas.Option.{same_Some}
+use Rattle.tftp_file.specs.Sink.{SinkMeaning}
+use Rattle.tftp_file.specs.Source.{SourceMeaning}
+use Rattle.tftp_ends.specs.ErrorReply.{error_packet}
+use Rattle.tftp_ends.specs.Step.{Reply, error_bytes}
+use Rattle.tftp_store.specs.Store.{StoreMeaning}
+use Rattle.tftp_server.specs.Request.{Came, Nothing, Error_reply, Left, left_by}
+use Rattle.tftp_server.specs.State.{TransferState, ServerState}
+use Rattle.tftp_sockets.specs.Journal.{Event}
+use Rattle.tftp_sockets.specs.Journal.Event.{Sent}
+use Rattle.tftp_loop.specs.Serves.{AnswersRequest, Does, LoopState, Request_answered, after_request}
+use Rattle.tftp_rules.specs.Machine.{Endpoint, Error, Message}
+use Rattle.tftp_rules.specs.Rules.{message}
+use Rattle.tftp_rules.proofs.Actions.{says_error}
+use Rattle.tftp_rules.proofs.EndMoves.{valid_error}
+use Rattle.tftp_rules.proofs.SaidLemmas.{spells_own}
+use Rattle.tftp_promises.specs.Openings.{HasClosed, place}
+use Rattle.tftp_promises.specs.Order.{Programs, IsStranger}
+use Rattle.tftp_promises.specs.Ports.{opened_ports}
+use Rattle.tftp_promises.specs.Programs.{endpoint, requests_at}
+use Rattle.tftp_promises.specs.Promises.{joined}
+use Rattle.tftp_promises.specs.Snapshots.{Snapshot, server_did}
+use Rattle.tftp_promises.proofs.RunPlaces.{placed_by}
+use Rattle.tftp_promises.proofs.Kept.{How, IsKept, IsThere}
+use Rattle.tftp_promises.proofs.KeptEvents.{IsSilent, added_none, answered_sends, none_silent, nothing_in}
+use Rattle.tftp_promises.proofs.KeptStill.{says_keeps, still_keeps}
+use Rattle.tftp_promises.proofs.PortAnswers.{IsRefused}
+use Rattle.tftp_promises.proofs.MovedSteps.{MovesNone, answer_places_none, none_answered}
+use Rattle.tftp_promises.proofs.ServerStays.{SameStored, ServerStays, content_by, files_same, known_same, same_if}
+use Rattle.tftp_promises.proofs.ServerStays.{same_if_known, same_then}
+
+module _ {S F D G K : Type 0} {stores : StoreMeaning S D} {sources : SourceMeaning F} {inputs : SourceMeaning G}
+    {outputs : SinkMeaning K}
+    (programs : Programs stores sources inputs outputs) {how : How programs} (old : Snapshot programs)
+    (kept : IsKept programs how old) {new : LoopState S F D}
+    (answers : AnswersRequest stores sources old.state new) where
+  abbrev server : ServerState S F D
+  server = old.state.server
+
+  abbrev does : Does stores sources old.state new
+  does = Request_answered answers
+
+  -- what the port leaves after this came
+  pub left_is : (came : Came S F D) → answers.steps.came ≡ came →
+      answers.left ≡ left_by came server answers.from answers.tid
+  left_is came is = answers.steps.left ∙ ap (λ (c : Came S F D). left_by c server answers.from answers.tid) is
+
+  -- and the state of the loop
+  pub new_is : (came : Came S F D) → answers.steps.came ≡ came →
+      new ≡ after_request old.state answers.from (left_by came server answers.from answers.tid)
+  new_is came is = answers.is ∙ ap (λ (l : Left S F D). after_request old.state answers.from l) (left_is came is)
+
+  -- a request removes no transfer
+  pub closed_earlier : (added : List Event) (port : ℕ) (transfer : TransferState F D) (a : Endpoint) →
+      HasClosed programs (server_did programs old does added).run port transfer a →
+      HasClosed programs old.run port transfer a
+  closed_earlier added port transfer a (inl removes) = absurd removes.0
+  closed_earlier added port transfer a (inr closed) = closed
+
+  -- one datagram was sent
+  abbrev pub SentOf : List Message → Endpoint → Endpoint → List ℕ → Type 0
+  SentOf messages from to bytes = IsThere messages from to bytes ⊎ IsStranger stores sources inputs outputs programs to
+
+  pub one_sent : (messages : List Message) (own : ℕ) (reply : Reply) (added : List Event) →
+      Sent own reply.to reply.bytes ∷ [] ≡ added →
+      SentOf messages (endpoint programs.server.ip own) reply.to reply.bytes →
+      (port : ℕ) (to : Endpoint) (bytes : List ℕ) → Contains added (Sent port to bytes) →
+      SentOf messages (endpoint programs.server.ip port) to bytes
+  one_sent messages own reply added is there port to bytes c =
+      let s =
+      answered_sends own (Some reply) [] none_silent port to bytes
+      (subst (λ (es : List Event). Contains es (Sent port to bytes)) (sym is) c) in
+      subst (λ (r : Reply). SentOf messages (endpoint programs.server.ip port) r.to r.bytes)
+      (same_Some reply (record { to = to; bytes = bytes }) s.1)
+      (subst (λ (n : ℕ). SentOf messages (endpoint programs.server.ip n) reply.to reply.bytes) s.0 there)
+
+  -- if no transfer opens and the store's content stays, all else is as it was
+  stays_so : option_to_list answers.left.opened.tid ≡ [] → new.requests ≡ old.state.requests →
+      new.server.config ≡ server.config → SameStored programs how server.store new.server.store → new.pending ≡ None →
+      ServerStays programs old kept does
+  stays_so opens requests config stored pending = record {
+    opens = ap (map (place programs (length (opened_ports old.run)) answers.from)) opens;
+    seats = λ port. answer_places_none programs old.run answers port opens;
+    removes = λ port transfer removes. removes;
+    requests = requests;
+    config = config;
+    known = known_same programs how old.state new stored kept.server.known;
+    pending = λ from bytes e. absurd (let f : None ≡ Some (from, bytes) = sym pending ∙ e in cc);
+    files = files_same programs how old.state new stored;
+  }
+
+  -- nothing moves then
+  moves_none : placed_by programs old.run does ≡ [] → (a : Endpoint) → MovesNone programs old.run does a
+  moves_none opens a =
+      none_answered programs old.run answers a
+      (λ c. nothing_in a (subst (λ (ps : List Endpoint). Contains ps a) opens c))
+
+  -- a datagram that is ignored
+  pub silent_keeps : (added : List Event) → new.events ≡ added ++ old.state.events → answers.steps.came ≡ Nothing →
+      IsKept programs how (server_did programs old does added)
+  silent_keeps added noted is =
+      let e = new_is Nothing is in
+      let none : [] ≡ added =
+      added_none old.state.events added (sym (ap (λ (s : LoopState S F D). s.events) e) ∙ noted) in
+      let stays =
+      stays_so (ap (λ (l : Left S F D). option_to_list l.opened.tid) (left_is Nothing is))
+      (ap (λ (s : LoopState S F D). s.requests) e) (ap (λ (s : LoopState S F D). s.server.config) e)
+      (same_if programs how server.store new.server.store
+      (ap (λ (s : LoopState S F D). stores.stored s.server.store) e)) (ap (λ (s : LoopState S F D). s.pending) e) in
+      still_keeps programs old kept does stays (moves_none stays.opens) (ap (λ (s : LoopState S F D). s.server.held) e)
+      added (subst IsSilent none none_silent)
+
+  -- one that is answered by an ERROR
+  pub refusal_keeps : (added : List Event) → new.events ≡ added ++ old.state.events →
+      IsRefused stores sources server answers.from answers.bytes (content_by programs how old.state)
+      answers.steps.came →
+      IsKept programs how (server_did programs old does added)
+  refusal_keeps added noted r =
+      let e = new_is (Error_reply r.reply r.store) r.is in
+      let own = old.state.requests in
+      let from = answers.from in
+      let bytes = error_bytes r.reply in
+      let a = requests_at stores sources programs.server in
+      let m : Message = message a from Error in
+      let one : Sent own from bytes ∷ [] ≡ added =
+      append_cancel_right (Sent own from bytes ∷ []) added old.state.events
+      (sym (ap (λ (s : LoopState S F D). s.events) e) ∙ noted) in
+      let said : IsThere (kept.messages ++ m ∷ []) (endpoint programs.server.ip programs.server.start.requests) from
+      bytes =
+      (error_packet r.reply, spells_own (error_packet r.reply) (valid_error r.reply), Contains-push kept.messages m) in
+      let there : IsThere (kept.messages ++ m ∷ []) (endpoint programs.server.ip own) from bytes =
+      subst (λ (n : ℕ). IsThere (kept.messages ++ m ∷ []) (endpoint programs.server.ip n) from bytes)
+      (sym kept.server.requests) said in
+      let stays =
+      stays_so (ap (λ (l : Left S F D). option_to_list l.opened.tid) (left_is (Error_reply r.reply r.store) r.is))
+      (ap (λ (s : LoopState S F D). s.requests) e) (ap (λ (s : LoopState S F D). s.server.config) e)
+      (same_then programs how server.store r.store new.server.store (ap (λ (s : LoopState S F D). s.server.store) e)
+      (same_if_known programs how old.state r.store kept.server.known r.same))
+      (ap (λ (s : LoopState S F D). s.pending) e) in
+      let shown = says_error (joined programs) kept.shown.0 kept.views kept.messages kept.shown.1 a from in
+      says_keeps programs old kept does stays (moves_none stays.opens) (ap (λ (s : LoopState S F D). s.server.held) e)
+      added (m ∷ []) (kept.shown.0 ++ shown.0, shown.2)
+      (one_sent (kept.messages ++ m ∷ []) own (record { to = from; bytes = bytes }) added one (inl there))

@@ -1,0 +1,132 @@
+-- A step of the server keeps the invariant, if it does of the transfers and of what was said.
+use Rattle.std.proofs.Common.{◌≡◌, ℕ, List, ◌++◌, Some, sym, subst, inl, inr}
+use Rattle.std.specs.Prelude.{◌⊎◌, slice_get}
+use Rattle.std.specs.List.{Contains}
+use Rattle.std.proofs.lemmas.List.Elements.{Contains-append_cases}
+use Rattle.tftp_file.specs.Sink.{SinkMeaning}
+use Rattle.tftp_file.specs.Source.{SourceMeaning}
+use Rattle.tftp_store.specs.Store.{StoreMeaning}
+use Rattle.tftp_server.specs.State.{TransferState}
+use Rattle.tftp_sockets.specs.Journal.{Event}
+use Rattle.tftp_sockets.specs.Journal.Event.{Sent}
+use Rattle.tftp_loop.specs.Serves.{LoopState, Does}
+use Rattle.tftp_rules.specs.Machine.{Endpoint, Message}
+use Rattle.tftp_rules.specs.OpenEnds.{OpenEnd}
+use Rattle.tftp_rules.specs.Shows.{EndView, IsShown}
+use Rattle.tftp_rules.specs.ViewSafety.{IsAmong}
+use Rattle.tftp_promises.specs.Joint.{WasSentBefore}
+use Rattle.tftp_promises.specs.Order.{Programs, IsStranger}
+use Rattle.tftp_promises.specs.Programs.{endpoint, requests_at, ClientProgram, client_at}
+use Rattle.tftp_promises.specs.Promises.{joined}
+use Rattle.tftp_promises.specs.Snapshots.{Snapshot, ClientStage, Unasked, Has_asked, server_did}
+use Rattle.tftp_promises.proofs.Kept.{How, IsThere, IsViewed, HasTransferBy, StageKept, TransferKept, ServerKept}
+use Rattle.tftp_promises.proofs.Kept.{IsOfClient, IsOfTransfer, IsKept}
+use Rattle.tftp_promises.proofs.KeptViews.{sent_still}
+
+module _ {S F D G K : Type 0} {stores : StoreMeaning S D} {sources : SourceMeaning F} {inputs : SourceMeaning G}
+    {outputs : SinkMeaning K}
+    (programs : Programs stores sources inputs outputs) {how : How programs} where
+  -- what a step of the server did to the ends and the messages
+  pub record ServerTurns (old : Snapshot programs) (kept : IsKept programs how old) (now : Snapshot programs)
+      (added : List Event) : Type 0 where
+    pub views : List EndView
+    pub said_now : List Message
+    pub shown : IsShown (joined programs) views (kept.messages ++ said_now)
+    pub sends : (port : ℕ) (to : Endpoint) (bytes : List ℕ) → Contains added (Sent port to bytes) →
+        IsThere (kept.messages ++ said_now) (endpoint programs.server.ip port) to bytes
+        ⊎ IsStranger stores sources inputs outputs programs to
+    pub server : ServerKept programs how (kept.messages ++ said_now) now
+    -- the end of a client stays viewed
+    pub clients : (k : ℕ) (client : ClientProgram inputs outputs (requests_at stores sources programs.server)) →
+        slice_get programs.clients k ≡ Some client →
+        (z : OpenEnd) → z.address ≡ client_at inputs outputs (requests_at stores sources programs.server) client →
+        IsViewed (joined programs) kept.views kept.messages z →
+        IsViewed (joined programs) views (kept.messages ++ said_now) z
+    pub transfers : (port : ℕ) (transfer : TransferState F D) (a : Endpoint) →
+        HasTransferBy programs now port transfer a →
+        TransferKept programs how views (kept.messages ++ said_now) now port transfer a
+    pub only : (view : EndView) → IsAmong views view → IsAmong kept.views view ⊎ IsOfTransfer programs now view.address
+    pub were : (a : Endpoint) → IsOfTransfer programs old a → IsOfTransfer programs now a
+
+  module _ (old : Snapshot programs) (kept : IsKept programs how old) {new : LoopState S F D}
+      (does : Does stores sources old.state new) (added : List Event)
+      (turns : ServerTurns old kept (server_did programs old does added) added) where
+    abbrev messages : List Message
+    messages = kept.messages ++ turns.said_now
+
+    abbrev now : Snapshot programs
+    now = server_did programs old does added
+
+    abbrev Arrives : Endpoint → Endpoint → List ℕ → Type 0
+    Arrives from to bytes = IsThere messages from to bytes ⊎ IsStranger stores sources inputs outputs programs to
+
+    before : (from to : Endpoint) (bytes : List ℕ) → WasSentBefore programs old from to bytes → Arrives from to bytes
+    before from to bytes h = sent_still programs kept.messages turns.said_now from to bytes (kept.sent from to bytes h)
+
+    all_sent : (from to : Endpoint) (bytes : List ℕ) → WasSentBefore programs now from to bytes → Arrives from to bytes
+    all_sent from to bytes (inl h) = elim (Contains-append_cases added old.noted (Sent h.port to bytes) h.sent) [
+      | inl c ↦ subst (λ (a : Endpoint). Arrives a to bytes) (sym h.at) (turns.sends h.port to bytes c)
+      | inr c ↦ before from to bytes (inl (record { port = h.port; at = h.at; sent = c }))
+    ]
+    all_sent from to bytes (inr h) =
+        before from to bytes (inr
+        (record {
+          k = h.k;
+          client = h.client;
+          is_client = h.is_client;
+          stage = h.stage;
+          is_stage = h.is_stage;
+          port = h.port;
+          at = h.at;
+          sent = h.sent;
+        }))
+
+    all_clients : (k : ℕ) (client : ClientProgram inputs outputs (requests_at stores sources programs.server))
+        (stage : ClientStage G K) →
+        slice_get programs.clients k ≡ Some client → StageKept programs how kept.views kept.messages client stage →
+        StageKept programs how turns.views messages client stage
+    all_clients k client Unasked found h = tt
+    all_clients k client (Has_asked s files noted moved) found h = record {
+      end = h.end;
+      address = h.address;
+      state = h.state;
+      side = h.side;
+      viewed = turns.clients k client found h.end h.address h.viewed;
+      has = h.has;
+    }
+
+    asked_still : (a : Endpoint) → IsOfClient programs old a → IsOfClient programs now a
+    asked_still a h =
+        record {
+          k = h.k;
+          client = h.client;
+          found = h.found;
+          s = h.s;
+          files = h.files;
+          noted = h.noted;
+          moved = h.moved;
+          is_stage = h.is_stage;
+          address = h.address;
+        }
+
+    all_views : (view : EndView) → IsAmong turns.views view →
+        IsOfClient programs now view.address ⊎ IsOfTransfer programs now view.address
+    all_views view among = elim (turns.only view among) [
+      | inl o ↦ elim (kept.only view o) [
+        | inl h ↦ inl (asked_still view.address h)
+        | inr h ↦ inr (turns.were view.address h)
+      ]
+      | inr h ↦ inr h
+    ]
+
+    pub server_keeps : IsKept programs how now
+    server_keeps = record {
+      views = turns.views;
+      messages = messages;
+      shown = turns.shown;
+      sent = all_sent;
+      server = turns.server;
+      clients = λ k client stage found is. all_clients k client stage found (kept.clients k client stage found is);
+      transfers = turns.transfers;
+      only = all_views;
+    }

@@ -1,0 +1,354 @@
+-- Each step of the server keeps the invariant, if an answered request does.
+use Rattle.std.proofs.Common.{◌≡◌, ℕ, true, List, [], ◌∷◌, ◌++◌, Some, None, refl, sym, ap, ◌∙◌, subst, inl, inr}
+use Rattle.std.specs.Prelude.{◌⊎◌}
+use Rattle.std.specs.List.{Contains, AllByRecursion}
+use Rattle.std.proofs.lemmas.Bool.{cases_Bool}
+use Rattle.std.proofs.lemmas.List.Elements.{Contains-push}
+use Rattle.std.proofs.lemmas.Option.{same_Some}
+use Rattle.tftp_file.specs.Sink.{SinkMeaning}
+use Rattle.tftp_file.specs.Source.{SourceMeaning}
+use Rattle.tftp_ends.specs.declared.error_reply.ErrorReply.TheVariants.{UnknownTransferId}
+use Rattle.tftp_ends.specs.End.{EndState}
+use Rattle.tftp_ends.specs.Step.{error_bytes}
+use Rattle.tftp_store.specs.Store.{StoreMeaning, files_of as stored_files}
+use Rattle.tftp_server.specs.State.{TransferState, ServerState}
+use Rattle.tftp_sockets.specs.Journal.{Event}
+use Rattle.tftp_sockets.specs.Journal.Event.{Received, Watched, Elapsed, Printed, Quiet}
+use Rattle.tftp_sockets.specs.Journal.QuietEvent.{Empty, Failed, No_socket, Slept, Woke}
+use Rattle.tftp_loop.specs.Serves.{LoopState, Does, port_state, Waited, At_port, Request_received, No_request_found}
+use Rattle.tftp_loop.specs.Serves.{Request_not_received, No_port_found, Request_answered, Request_lost, Clock_read}
+use Rattle.tftp_loop.specs.Serves.{Store_set, Transfer_closed}
+use Rattle.tftp_loop.specs.Serves.{Waits, ServesPort, ReceivesRequest, FindsNoRequest, FailsToReceiveRequest}
+use Rattle.tftp_loop.specs.Serves.{FindsNoPort, AnswersRequest, LosesRequest, ReadsClock, SetsStore, AtPort, A_datagram}
+use Rattle.tftp_loop.specs.Serves.{A_lost_datagram, Nothing_found, A_failed_receive, A_timeout, A_missed_timeout}
+use Rattle.tftp_loop.specs.Serves.{ReceivesAndHandles, Work}
+use Rattle.tftp_rules.specs.Machine.{Endpoint}
+use Rattle.tftp_promises.specs.Joint.{CanTake, WasSentBefore}
+use Rattle.tftp_promises.specs.Moved.{Moved, port_moves}
+use Rattle.tftp_promises.specs.Openings.{is_ours, place_at}
+use Rattle.tftp_promises.specs.Order.{Programs, IsStranger}
+use Rattle.tftp_promises.specs.Ports.{Removes}
+use Rattle.tftp_promises.specs.Programs.{endpoint, requests_at}
+use Rattle.tftp_promises.specs.Snapshots.{Snapshot, server_did}
+use Rattle.tftp_promises.proofs.RunPlaces.{placed_by}
+use Rattle.tftp_promises.proofs.Kept.{How, HasArrived, IsThere, IsKept, IsFreshBy, IsStrangers}
+use Rattle.tftp_promises.proofs.KeptCloses.{closing_keeps}
+use Rattle.tftp_promises.proofs.KeptEvents.{IsSilent, IsUnsent, printed_silent, added_by, none_silent, unsent_silent}
+use Rattle.tftp_promises.proofs.KeptFresh.{fresh_before_server}
+use Rattle.tftp_promises.proofs.KeptRuns.{ServerStepsKeep}
+use Rattle.tftp_promises.proofs.KeptStill.{still_keeps}
+use Rattle.tftp_promises.proofs.MovedSteps.{MovesNone, none_at_port}
+use Rattle.tftp_promises.proofs.Places.{strange_if, stranger_no_port}
+use Rattle.tftp_promises.proofs.PortDatagrams.{datagram_keeps, wrong_keeps}
+use Rattle.tftp_promises.proofs.KeptStrays.{arrives, errs, strays_in}
+use Rattle.tftp_promises.proofs.PortSteps.{received_there, datagram_silent}
+use Rattle.tftp_promises.proofs.PortTimeouts.{timeout_keeps}
+use Rattle.tftp_promises.proofs.PortWork.{lost_keeps, missed_keeps, work_keeps}
+use Rattle.tftp_promises.proofs.ServerStays.{stay_if, known_if}
+use Rattle.tftp_promises.proofs.StoredFiles.{IsIn, same_stay}
+
+module _ {S F D G K : Type 0} {stores : StoreMeaning S D} {sources : SourceMeaning F} {inputs : SourceMeaning G}
+    {outputs : SinkMeaning K}
+    (programs : Programs stores sources inputs outputs) (how : How programs) where
+  -- a request that the server answers keeps the invariant
+  abbrev pub AnswersKeep : Type 0
+  AnswersKeep =
+      (old : Snapshot programs) (new : LoopState S F D) (answers : AnswersRequest stores sources old.state new)
+      (added : List Event) → IsKept programs how old →
+      IsFreshBy programs (server_did programs old (Request_answered answers) added) →
+      new.events ≡ added ++ old.state.events → CanTake programs old programs.server.ip added →
+      IsKept programs how (server_did programs old (Request_answered answers) added)
+
+  module _ (old : Snapshot programs) (new : LoopState S F D) (kept : IsKept programs how old) (added : List Event)
+      (events : new.events ≡ added ++ old.state.events)
+      (take : CanTake programs old programs.server.ip added) where
+    -- the events of a step
+    added_is : (noted : List Event) → new.events ≡ noted ++ old.state.events → noted ≡ added
+    added_is noted e = added_by 0 None noted old.state.events added (sym e ∙ events)
+
+    silent_by : (noted : List Event) → new.events ≡ noted ++ old.state.events → IsSilent noted → IsSilent added
+    silent_by noted e silent = subst (λ (es : List Event). IsSilent es) (added_is noted e) silent
+
+    -- ---- a request is received
+    request_came : (h : ReceivesRequest stores sources old.state new) →
+        WasSentBefore programs old h.from (requests_at stores sources programs.server) h.bytes
+        ⊎ IsStranger stores sources inputs outputs programs h.from
+    request_came h =
+        subst (λ (port : ℕ). WasSentBefore programs old h.from (endpoint programs.server.ip port) h.bytes
+        ⊎ IsStranger stores sources inputs outputs programs h.from) kept.server.requests
+        (take old.state.requests h.from h.bytes
+        (subst (λ (es : List Event). Contains es (Received old.state.requests h.from h.bytes))
+        (added_is (Received old.state.requests h.from h.bytes ∷ []) (ap (λ (s : LoopState S F D). s.events) h.is))
+        (Contains-push [] (Received old.state.requests h.from h.bytes))))
+
+    module _ (h : ReceivesRequest stores sources old.state new)
+        (come : HasArrived kept.messages h.from (requests_at stores sources programs.server) h.bytes) where
+      pending_sent : (from : Endpoint) (bytes : List ℕ) → new.pending ≡ Some (from, bytes) →
+          HasArrived kept.messages from (requests_at stores sources programs.server) bytes
+      pending_sent from bytes e =
+          let same : (h.from, h.bytes) ≡ (from, bytes) =
+          same_Some (h.from, h.bytes) (from, bytes) (sym (ap (λ (s : LoopState S F D). s.pending) h.is) ∙ e) in
+          subst (λ (p : Endpoint × List ℕ). HasArrived kept.messages p.0 (requests_at stores sources programs.server)
+          p.1) same come
+
+      server_same : new.server ≡ old.state.server
+      server_same = ap (λ (s : LoopState S F D). s.server) h.is
+
+      receiving_keeps : IsKept programs how (server_did programs old (Request_received h) added)
+      receiving_keeps =
+          still_keeps programs old kept (Request_received h) (record {
+            opens = refl;
+            seats = λ port. refl;
+            removes = λ port transfer r. r;
+            requests = ap (λ (s : LoopState S F D). s.requests) h.is;
+            config = ap (λ (s : ServerState S F D). s.config) server_same;
+            known =
+                known_if programs how old.state new (ap (λ (s : ServerState S F D). stores.stored s.store) server_same)
+                kept.server.known;
+            pending = pending_sent;
+            files =
+                stay_if programs how old.state new
+                (λ o path file f. subst (λ (s : ServerState S F D). IsIn (stores.stored s.store) path file)
+                (sym server_same) f);
+          }) (λ a. record { opens = refl; moves = λ moved. refl }) (ap (λ (s : ServerState S F D). s.held) server_same)
+          added
+          (silent_by (Received old.state.requests h.from h.bytes ∷ []) (ap (λ (s : LoopState S F D). s.events) h.is)
+          (datagram_silent old.state.requests h.from h.bytes))
+
+    -- ---- the server is as it was, and no datagram more is pending
+    same_keeps : (does : Does stores sources old.state new) → placed_by programs old.run does ≡ [] →
+        ((port : ℕ) → place_at programs port (server_did programs old does []).run ≡ place_at programs port old.run) →
+        ((port : ℕ) (transfer : TransferState F D) → Removes does port transfer → ⊥) →
+        ((a : Endpoint) → MovesNone programs old.run does a) → {left : LoopState S F D} → new ≡ left →
+        left.requests ≡ old.state.requests → left.server ≡ old.state.server →
+        ((from : Endpoint) (bytes : List ℕ) → left.pending ≡ Some (from, bytes) →
+        old.state.pending ≡ Some (from, bytes)) →
+        (noted : List Event) → left.events ≡ noted ++ old.state.events → AllByRecursion IsUnsent noted →
+        IsKept programs how (server_did programs old does added)
+    same_keeps does opens seats removes none is requests server pending noted e unsent =
+        let server_same : new.server ≡ old.state.server = ap (λ (s : LoopState S F D). s.server) is ∙ server in
+        still_keeps programs old kept does (record {
+          opens = opens;
+          seats = seats;
+          removes = removes;
+          requests = ap (λ (s : LoopState S F D). s.requests) is ∙ requests;
+          config = ap (λ (s : ServerState S F D). s.config) server_same;
+          known =
+              known_if programs how old.state new (ap (λ (s : ServerState S F D). stores.stored s.store) server_same)
+              kept.server.known;
+          pending =
+              λ from bytes e. kept.server.pending from bytes
+              (pending from bytes (ap (λ (s : LoopState S F D). s.pending) (sym is) ∙ e));
+          files =
+              stay_if programs how old.state new
+              (λ o path file f. subst (λ (s : ServerState S F D). IsIn (stores.stored s.store) path file)
+              (sym server_same) f);
+        }) none (ap (λ (s : ServerState S F D). s.held) server_same) added
+        (silent_by noted (ap (λ (s : LoopState S F D). s.events) is ∙ e) (unsent_silent noted unsent))
+
+    -- ---- a wait
+    waiting_keeps : (h : Waits stores sources old.state new) →
+        IsKept programs how (server_did programs old (Waited h) added)
+    waiting_keeps h =
+        same_keeps (Waited h) refl (λ port. refl) (λ port transfer r. r)
+        (λ a. record { opens = refl; moves = λ moved. refl }) h.is refl refl (λ from bytes e. e)
+        (Quiet (Woke h.ports) ∷ Quiet (Slept h.millis) ∷ []) refl (tt, (tt, tt))
+
+    -- ---- a receive at the request port without a datagram
+    finding_keeps : (h : FindsNoRequest stores sources old.state new) →
+        IsKept programs how (server_did programs old (No_request_found h) added)
+    finding_keeps h =
+        same_keeps (No_request_found h) refl (λ port. refl) (λ port transfer r. r)
+        (λ a. record { opens = refl; moves = λ moved. refl }) h.is refl refl (λ from bytes e. e)
+        (Quiet (Empty old.state.requests) ∷ []) refl (tt, tt)
+
+    failing_keeps : (h : FailsToReceiveRequest stores sources old.state new) →
+        IsKept programs how (server_did programs old (Request_not_received h) added)
+    failing_keeps h =
+        same_keeps (Request_not_received h) refl (λ port. refl) (λ port transfer r. r)
+        (λ a. record { opens = refl; moves = λ moved. refl }) h.is refl refl (λ from bytes e. e)
+        (Quiet (Failed old.state.requests) ∷ []) refl (tt, tt)
+
+    -- ---- no port is found
+    untaken_keeps : (h : FindsNoPort stores sources old.state new) →
+        IsKept programs how (server_did programs old (No_port_found h) added)
+    untaken_keeps h =
+        same_keeps (No_port_found h) refl (λ port. refl) (λ port transfer r. r)
+        (λ a. record { opens = refl; moves = λ moved. refl }) h.is refl refl (λ from bytes e. e)
+        (Quiet (No_socket h.port) ∷ []) refl (tt, tt)
+
+    -- ---- a request is lost
+    losing_keeps : (h : LosesRequest stores sources old.state new) →
+        IsKept programs how (server_did programs old (Request_lost h) added)
+    losing_keeps h =
+        same_keeps (Request_lost h) refl (λ port. refl) (λ port transfer r. r)
+        (λ a. record { opens = refl; moves = λ moved. refl }) h.is refl refl
+        (λ from bytes e. absurd (let f : None ≡ Some (from, bytes) = e in cc)) [] refl tt
+
+    -- ---- the clock is read
+    clock_keeps : (h : ReadsClock stores sources old.state new) →
+        IsKept programs how (server_did programs old (Clock_read h) added)
+    clock_keeps h =
+        same_keeps (Clock_read h) refl (λ port. refl) (λ port transfer r. r)
+        (λ a. record { opens = refl; moves = λ moved. refl }) h.is refl refl (λ from bytes e. e)
+        (Watched h.time ∷ []) refl (tt, tt)
+
+    -- ---- the store is set
+    store_keeps : (h : SetsStore stores sources old.state new) →
+        IsKept programs how (server_did programs old (Store_set h) added)
+    store_keeps h =
+        let server_now : new.server ≡ record old.state.server { store = h.store } =
+        ap (λ (s : LoopState S F D). s.server) h.is in
+        let stored_now : stores.stored new.server.store ≡ stores.stored old.state.server.store =
+        ap (λ (s : ServerState S F D). stores.stored s.store) server_now ∙ h.same in
+        still_keeps programs old kept (Store_set h) (record {
+          opens = refl;
+          seats = λ port. refl;
+          removes = λ port transfer r. r;
+          requests = ap (λ (s : LoopState S F D). s.requests) h.is;
+          config = ap (λ (s : ServerState S F D). s.config) server_now;
+          known = known_if programs how old.state new stored_now kept.server.known;
+          pending =
+              λ from bytes e. kept.server.pending from bytes (sym (ap (λ (s : LoopState S F D). s.pending) h.is) ∙ e);
+          files =
+              stay_if programs how old.state new (λ o path file f. same_stay (stores.stored old.state.server.store)
+              (stores.stored new.server.store) (ap stored_files stored_now) path file f);
+        }) (λ a. record { opens = refl; moves = λ moved. refl }) (ap (λ (s : ServerState S F D). s.held) server_now)
+        added (silent_by [] (ap (λ (s : LoopState S F D). s.events) h.is) none_silent)
+
+    -- ---- at the port of a transfer
+    module _ (serves : ServesPort stores sources old.state new)
+        (fresh_now : IsFreshBy programs (server_did programs old (At_port serves) added)) where
+      old_fresh : IsFreshBy programs old
+      old_fresh = fresh_before_server programs old new (At_port serves) added fresh_now
+
+      -- nothing moves at a step that is no datagram
+      quiet : (does : AtPort stores sources old.state.now (port_state old.state serves.timer) serves.next) →
+          serves.does ≡ does → ((moved : Moved) → port_moves does moved ≡ moved) → (a : Endpoint) →
+          MovesNone programs old.run (At_port serves) a
+      quiet does is still =
+          none_at_port programs old.run serves
+          (λ moved. ap (λ (d : AtPort stores sources old.state.now (port_state old.state serves.timer) serves.next).
+          port_moves d moved) is ∙ still moved)
+
+      -- its place
+      abbrev port : ℕ
+      port = serves.timer.port
+
+      abbrev place : Endpoint
+      place = place_at programs port old.run
+
+      -- a datagram for a transfer at its port, or for a stranger's: from a stranger, or from one that is ours
+      abbrev Handles : Type 0
+      Handles = ReceivesAndHandles stores sources old.state.now (port_state old.state serves.timer) serves.next
+
+      abbrev Keeps : Type 0
+      Keeps = IsKept programs how (server_did programs old (At_port serves) added)
+
+      here_keeps : (h : Handles) → serves.does ≡ A_datagram h →
+          WasSentBefore programs old h.from (endpoint programs.server.ip port) h.bytes
+          ⊎ IsStranger stores sources inputs outputs programs h.from →
+          place ≡ endpoint programs.server.ip port → Keeps
+      here_keeps h is came here =
+          let a =
+          arrives programs old kept h.from (endpoint programs.server.ip port) h.bytes
+          (stranger_no_port programs (endpoint programs.server.ip port) port refl) came in
+          datagram_keeps programs old a.now old_fresh serves added events h is fresh_now
+          (subst (λ (e : Endpoint). HasArrived a.now.messages h.from e h.bytes) (sym here) a.come) (inl here)
+
+      strange_keeps : (h : Handles) → serves.does ≡ A_datagram h →
+          IsStranger stores sources inputs outputs programs h.from → Keeps
+      strange_keeps h is strange =
+          let a = strays_in programs old kept h.from place h.bytes strange in
+          datagram_keeps programs old a.now old_fresh serves added events h is fresh_now a.come (inr strange)
+
+      ours_keeps : (h : Handles) → serves.does ≡ A_datagram h →
+          WasSentBefore programs old h.from (endpoint programs.server.ip port) h.bytes
+          ⊎ IsStranger stores sources inputs outputs programs h.from →
+          is_ours programs h.from ≡ true → (now : IsKept programs how old) →
+          IsThere now.messages (endpoint programs.server.ip port) h.from (error_bytes UnknownTransferId) →
+          (place ≡ endpoint programs.server.ip port) ⊎ IsStrangers programs
+          (now.transfers port h.handles.takes.transfer place (inl (h.handles.takes.found, refl))).end.state → Keeps
+      ours_keeps h is came ours now there (inl here) = here_keeps h is came here
+      ours_keeps h is came ours now there (inr s) =
+          wrong_keeps programs old now old_fresh serves added events h is fresh_now s ours there
+
+      ours_answered : (h : Handles) → serves.does ≡ A_datagram h →
+          WasSentBefore programs old h.from (endpoint programs.server.ip port) h.bytes
+          ⊎ IsStranger stores sources inputs outputs programs h.from →
+          is_ours programs h.from ≡ true → Keeps
+      ours_answered h is came ours =
+          let a = errs programs old kept (endpoint programs.server.ip port) h.from UnknownTransferId in
+          ours_keeps h is came ours a.now a.there (a.now.transfers port h.handles.takes.transfer place
+          (inl (h.handles.takes.found, refl))).seat
+
+      by_seat : (h : Handles) → serves.does ≡ A_datagram h →
+          WasSentBefore programs old h.from (endpoint programs.server.ip port) h.bytes
+          ⊎ IsStranger stores sources inputs outputs programs h.from →
+          {e : EndState} → (place ≡ endpoint programs.server.ip port) ⊎ IsStrangers programs e → Keeps
+      by_seat h is came (inl here) = here_keeps h is came here
+      by_seat h is came (inr s) = elim (cases_Bool (is_ours programs h.from)) [
+        | inl ours ↦ ours_answered h is came ours
+        | inr not ↦ strange_keeps h is (strange_if programs h.from not)
+      ]
+
+      by_case : (does : AtPort stores sources old.state.now (port_state old.state serves.timer) serves.next) →
+          serves.does ≡ does → IsKept programs how (server_did programs old (At_port serves) added)
+      by_case (A_datagram h) is =
+          let came =
+          received_there programs old kept serves added events h.handles.takes.takes.turn.reply
+          (Received port h.from h.bytes ∷ []) h.handles.events port h.from h.bytes
+          (Contains-push [] (Received port h.from h.bytes)) take in
+          by_seat h is came (kept.transfers port h.handles.takes.transfer place
+          (inl (h.handles.takes.found, refl))).seat
+      by_case (A_lost_datagram h) is =
+          lost_keeps programs old kept old_fresh serves added events (quiet (A_lost_datagram h) is (λ moved. refl))
+          h.from h.bytes h.loses h.events
+      by_case (A_timeout h) is =
+          timeout_keeps programs old kept old_fresh serves added events (quiet (A_timeout h) is (λ moved. refl)) h.step
+          h.times_out
+      by_case (Nothing_found h) is =
+          missed_keeps programs old kept old_fresh serves added events (quiet (Nothing_found h) is (λ moved. refl))
+          (Quiet (Empty serves.timer.port)) tt h.server h.events
+      by_case (A_failed_receive h) is =
+          missed_keeps programs old kept old_fresh serves added events (quiet (A_failed_receive h) is (λ moved. refl))
+          (Quiet (Failed serves.timer.port)) tt h.server h.events
+      by_case (A_missed_timeout h) is =
+          missed_keeps programs old kept old_fresh serves added events (quiet (A_missed_timeout h) is (λ moved. refl))
+          (Elapsed serves.timer.port old.state.now) tt h.server h.events
+      by_case (Work h) is =
+          work_keeps programs old kept old_fresh serves added events (quiet (Work h) is (λ moved. refl)) h.works
+          h.events
+
+      port_keeps : IsKept programs how (server_did programs old (At_port serves) added)
+      port_keeps = by_case serves.does refl
+
+  -- each step of the server
+  pub serves_keep : AnswersKeep → ServerStepsKeep programs how
+  serves_keep answers_keep old new (Waited h) added kept fresh events take =
+      waiting_keeps old new kept added events take h
+  serves_keep answers_keep old new (At_port serves) added kept fresh events take =
+      port_keeps old new kept added events take serves fresh
+  serves_keep answers_keep old new (Request_received h) added kept fresh events take =
+      let a =
+      arrives programs old kept h.from (requests_at stores sources programs.server) h.bytes
+      (stranger_no_port programs (requests_at stores sources programs.server) programs.server.start.requests refl)
+      (request_came old new kept added events take h) in
+      receiving_keeps old new a.now added events take h a.come
+  serves_keep answers_keep old new (No_request_found h) added kept fresh events take =
+      finding_keeps old new kept added events take h
+  serves_keep answers_keep old new (Request_not_received h) added kept fresh events take =
+      failing_keeps old new kept added events take h
+  serves_keep answers_keep old new (No_port_found h) added kept fresh events take =
+      untaken_keeps old new kept added events take h
+  serves_keep answers_keep old new (Request_answered h) added kept fresh events take =
+      answers_keep old new h added kept fresh events take
+  serves_keep answers_keep old new (Request_lost h) added kept fresh events take =
+      losing_keeps old new kept added events take h
+  serves_keep answers_keep old new (Clock_read h) added kept fresh events take =
+      clock_keeps old new kept added events take h
+  serves_keep answers_keep old new (Store_set h) added kept fresh events take =
+      store_keeps old new kept added events take h
+  serves_keep answers_keep old new (Transfer_closed h) added kept fresh events take =
+      closing_keeps programs old kept h added (silent_by old new kept added events take (Printed _ ∷ [])
+      (ap (λ (s : LoopState S F D). s.events) h.is) (printed_silent _))

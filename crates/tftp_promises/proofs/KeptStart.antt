@@ -1,0 +1,74 @@
+-- The invariant holds before any program has done anything.
+use Rattle.std.proofs.Common.{◌≡◌, ℕ, suc, zero, List, [], ◌∷◌, map, Some, None, refl, sym, ap, ◌∙◌, subst, inl, inr}
+use Rattle.std.specs.Prelude.{◌⊎◌, slice_get}
+use Rattle.std.specs.List.{Contains}
+use Rattle.tftp_file.specs.Sink.{SinkMeaning}
+use Rattle.tftp_file.specs.Source.{SourceMeaning}
+use Rattle.tftp_store.specs.Store.{StoreMeaning}
+use Rattle.tftp_server.specs.State.{TransferState, at}
+use Rattle.tftp_sockets.specs.Journal.Event.{Sent}
+use Rattle.tftp_rules.specs.Machine.{Endpoint}
+use Rattle.tftp_rules.proofs.Shown.{shown_start}
+use Rattle.tftp_promises.specs.Joint.{WasSentBefore}
+use Rattle.tftp_promises.specs.Order.{Programs, IsStranger}
+use Rattle.tftp_promises.specs.Promises.{joined}
+use Rattle.tftp_promises.specs.Snapshots.{ClientStage, Unasked, noted_by, nothing_done}
+use Rattle.tftp_promises.proofs.Kept.{How, By_models, By_run, IsKnown, IsThere, AreKeyedOnce, HasTransferBy, StageKept}
+use Rattle.tftp_promises.proofs.Kept.{IsKept}
+use Rattle.tftp_promises.proofs.KeptEvents.{nothing_in}
+
+-- no client has asked
+unasked_at : {C G K : Type 0} (clients : List C) (k : ℕ) (stage : ClientStage G K) →
+    slice_get (map (λ (client : C). Unasked) clients) k ≡ Some stage → Unasked ≡ stage
+unasked_at [] k stage e = absurd (let f : None ≡ Some stage = e in cc)
+unasked_at (c ∷ clients) zero stage e = let f : Some Unasked ≡ Some stage = e in cc
+unasked_at (c ∷ clients) (suc k) stage e = unasked_at clients k stage e
+
+module _ {S F D G K : Type 0} {stores : StoreMeaning S D} {sources : SourceMeaning F} {inputs : SourceMeaning G}
+    {outputs : SinkMeaning K}
+    (programs : Programs stores sources inputs outputs) where
+  -- nothing was sent
+  nothing_sent : (from to : Endpoint) (bytes : List ℕ) → WasSentBefore programs (nothing_done programs) from to bytes →
+      IsThere [] from to bytes ⊎ IsStranger stores sources inputs outputs programs to
+  nothing_sent from to bytes (inl h) = absurd (nothing_in (Sent h.port to bytes) h.sent)
+  nothing_sent from to bytes (inr h) =
+      absurd (nothing_in (Sent h.port to bytes)
+      (subst (λ (s : ClientStage G K). Contains (noted_by s) (Sent h.port to bytes))
+      (sym (unasked_at programs.clients h.k h.stage h.is_stage)) h.sent))
+
+  -- no transfer is held, and none was removed
+  nothing_held : (port : ℕ) (transfer : TransferState F D) → at port programs.server.start.server.held ≡ Some transfer →
+      ⊥
+  nothing_held port transfer e = let f : None ≡ Some transfer = ap (at port) (sym programs.server.empty) ∙ e in cc
+
+  no_transfer : (port : ℕ) (transfer : TransferState F D) (a : Endpoint) →
+      HasTransferBy programs (nothing_done programs) port transfer a → ⊥
+  no_transfer port transfer a (inl e) = nothing_held port transfer e.0
+  no_transfer port transfer a (inr closed) = closed
+
+  known_at_first : (how : How programs) → IsKnown programs how (nothing_done programs).state
+  known_at_first (By_models models) = models.known
+  known_at_first (By_run pad) = tt
+
+  pub kept_at_first : (how : How programs) → IsKept programs how (nothing_done programs)
+  kept_at_first how = record {
+    views = [];
+    messages = [];
+    shown = shown_start (joined programs);
+    sent = nothing_sent;
+    server = record {
+      requests = refl;
+      config = refl;
+      known = known_at_first how;
+      pending = λ from bytes e. absurd (let f : None ≡ Some (from, bytes) = sym programs.server.idle ∙ e in cc);
+      once = subst (λ (held : List (ℕ × TransferState F D)). AreKeyedOnce held) (sym programs.server.empty) tt;
+      seats = λ p q t u e. absurd (nothing_held p t e);
+      gone = λ p q t u a h. absurd h;
+      opened = λ port transfer a h. absurd (no_transfer port transfer a h);
+    };
+    clients =
+        λ k client stage found e. subst (λ (s : ClientStage G K). StageKept programs how [] [] client s)
+        (unasked_at programs.clients k stage e) tt;
+    transfers = λ port transfer a h. absurd (no_transfer port transfer a h);
+    only = λ view among. absurd (let f : None ≡ Some view = among.1 in cc);
+  }

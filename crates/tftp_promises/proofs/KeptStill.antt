@@ -1,0 +1,108 @@
+-- A step of the server that changes no transfer keeps the invariant, if what it sends is shown.
+use Rattle.std.proofs.Common.{◌≡◌, ℕ, List, [], ◌++◌, sym, ap, ◌∙◌, subst, inl, inr}
+use Rattle.std.specs.Prelude.{◌⊎◌}
+use Rattle.std.specs.List.{Contains}
+use Rattle.std.proofs.lemmas.List.{append-nil}
+use Rattle.tftp_file.specs.Sink.{SinkMeaning}
+use Rattle.tftp_file.specs.Source.{SourceMeaning}
+use Rattle.tftp_store.specs.Store.{StoreMeaning}
+use Rattle.tftp_server.specs.State.{TransferState, at}
+use Rattle.tftp_sockets.specs.Journal.{Event}
+use Rattle.tftp_sockets.specs.Journal.Event.{Sent}
+use Rattle.tftp_loop.specs.Serves.{LoopState, Does}
+use Rattle.tftp_rules.specs.Machine.{Endpoint, Message}
+use Rattle.tftp_rules.specs.Shows.{IsShown}
+use Rattle.tftp_promises.specs.Order.{Programs, IsStranger}
+use Rattle.tftp_promises.specs.Programs.{endpoint, requests_at}
+use Rattle.tftp_promises.specs.Promises.{joined}
+use Rattle.tftp_promises.specs.Snapshots.{Snapshot, server_did}
+use Rattle.tftp_promises.proofs.Kept.{How, AreKeyedOnce, HasTransferBy, IsThere, TransferKept, ServerKept, IsKept}
+use Rattle.tftp_promises.proofs.Kept.{same_transfer}
+use Rattle.tftp_promises.proofs.KeptEvents.{IsSilent}
+use Rattle.tftp_promises.proofs.KeptServer.{ServerTurns, server_keeps}
+use Rattle.tftp_promises.proofs.KeptViews.{arrived_still, viewed_still}
+use Rattle.tftp_promises.proofs.MovedSteps.{MovesNone}
+use Rattle.tftp_promises.proofs.ServerStays.{ServerStays, stored_after, closed_before, opened_still}
+
+module _ {S F D G K : Type 0} {stores : StoreMeaning S D} {sources : SourceMeaning F} {inputs : SourceMeaning G}
+    {outputs : SinkMeaning K}
+    (programs : Programs stores sources inputs outputs) {how : How programs} (old : Snapshot programs)
+    (kept : IsKept programs how old) {new : LoopState S F D} (does : Does stores sources old.state new)
+    (stays : ServerStays programs old kept does) (none : (a : Endpoint) → MovesNone programs old.run does a)
+    (held : new.server.held ≡ old.state.server.held) (added : List Event) where
+  abbrev now : Snapshot programs
+  now = server_did programs old does added
+
+  held_before : (port : ℕ) (transfer : TransferState F D) (a : Endpoint) → HasTransferBy programs now port transfer a →
+      HasTransferBy programs old port transfer a
+  held_before port transfer a (inl e) = inl (ap (at port) (sym held) ∙ e.0, e.1 ∙ stays.seats port)
+  held_before port transfer a (inr closed) =
+      inr (closed_before programs old kept does stays added port transfer a closed)
+
+  held_after : (port : ℕ) (transfer : TransferState F D) (a : Endpoint) → HasTransferBy programs old port transfer a →
+      HasTransferBy programs now port transfer a
+  held_after port transfer a (inl e) = inl (ap (at port) held ∙ e.0, e.1 ∙ sym (stays.seats port))
+  held_after port transfer a (inr closed) = inr (inr closed)
+
+  -- what it sends is shown
+  module _ (said_now : List Message) (shown : IsShown (joined programs) kept.views (kept.messages ++ said_now))
+      (sends : (port : ℕ) (to : Endpoint) (bytes : List ℕ) → Contains added (Sent port to bytes) →
+      IsThere (kept.messages ++ said_now) (endpoint programs.server.ip port) to bytes ⊎ IsStranger stores sources inputs
+      outputs programs to) where
+    abbrev messages : List Message
+    messages = kept.messages ++ said_now
+
+    all_transfers : (port : ℕ) (transfer : TransferState F D) (a : Endpoint) →
+        HasTransferBy programs now port transfer a → TransferKept programs how kept.views messages now port transfer a
+    all_transfers port transfer a is =
+        let h = kept.transfers port transfer a (held_before port transfer a is) in
+        same_transfer programs h (viewed_still (joined programs) kept.views kept.messages said_now h.end h.viewed)
+        (stored_after programs how old does added stays.files h.end (none h.end.address) transfer.files h.has)
+
+    server_kept : ServerKept programs how messages now
+    server_kept = record {
+      requests = stays.requests ∙ kept.server.requests;
+      config = stays.config ∙ kept.server.config;
+      known = stays.known;
+      pending =
+          λ from bytes e. arrived_still kept.messages said_now from (requests_at stores sources programs.server) bytes
+          (stays.pending from bytes e);
+      once = subst (λ (hs : List (ℕ × TransferState F D)). AreKeyedOnce hs) (sym held) kept.server.once;
+      seats =
+          λ p q t u e f same. kept.server.seats p q t u (ap (at p) (sym held) ∙ e) (ap (at q) (sym held) ∙ f)
+          (sym (stays.seats p) ∙ (same ∙ stays.seats q));
+      gone =
+          λ p q t u a closed e same. kept.server.gone p q t u a
+          (closed_before programs old kept does stays added p t a closed) (ap (at q) (sym held) ∙ e)
+          (same ∙ stays.seats q);
+      opened =
+          λ port transfer a is. opened_still programs old kept does stays added a
+          (kept.server.opened port transfer a (held_before port transfer a is));
+    }
+
+    turns : ServerTurns programs old kept now added
+    turns = record {
+      views = kept.views;
+      said_now = said_now;
+      shown = shown;
+      sends = sends;
+      server = server_kept;
+      clients = λ k client found z at_client h. viewed_still (joined programs) kept.views kept.messages said_now z h;
+      transfers = all_transfers;
+      only = λ view among. inl among;
+      were =
+          λ a h. record {
+            port = h.port;
+            transfer = h.transfer;
+            is_transfer = held_after h.port h.transfer a h.is_transfer;
+          };
+    }
+
+    pub says_keeps : IsKept programs how now
+    says_keeps = server_keeps programs old kept does added turns
+
+  -- it sends nothing
+  pub still_keeps : IsSilent added → IsKept programs how now
+  still_keeps silent =
+      says_keeps [] (subst (λ (ms : List Message). IsShown (joined programs) kept.views ms)
+      (sym (append-nil kept.messages)) kept.shown) (λ port to bytes c. absurd (silent port to bytes c))

@@ -1,0 +1,143 @@
+-- What a step receives is among the messages: it was sent before, or it is a stranger's, whose message may be added at
+-- any time.
+use Rattle.std.proofs.Common.{ℕ, List, [], ◌∷◌, ◌++◌, subst, inl, inr}
+use Rattle.std.specs.Prelude.{◌⊎◌}
+use Rattle.std.specs.List.{Contains}
+use Rattle.std.proofs.lemmas.List.Elements.{Contains-push}
+use Rattle.tftp_wire.specs.Parts.{packet_in}
+use Rattle.tftp_wire.specs.declared.packet.Packet.{Packet as WirePacket}
+use Rattle.tftp_wire.proofs.SpellingLemmas.{spelled_is_found}
+use Rattle.tftp_file.specs.Sink.{SinkMeaning}
+use Rattle.tftp_file.specs.Source.{SourceMeaning}
+use Rattle.tftp_ends.specs.ErrorReply.{error_packet}
+use Rattle.tftp_ends.specs.Step.{error_bytes}
+use Rattle.tftp_ends.specs.declared.error_reply.ErrorReply.{ErrorReply}
+use Rattle.tftp_store.specs.Store.{StoreMeaning}
+use Rattle.tftp_server.specs.State.{TransferState}
+use Rattle.tftp_rules.specs.Machine.{Endpoint, Error as Says_an_error, Message}
+use Rattle.tftp_rules.specs.Rules.{message}
+use Rattle.tftp_rules.specs.Said.{said}
+use Rattle.tftp_rules.specs.Shows.{IsShown}
+use Rattle.tftp_rules.proofs.Actions.{says_error, strays}
+use Rattle.tftp_rules.proofs.EndMoves.{valid_error}
+use Rattle.tftp_rules.proofs.SaidLemmas.{spells_own}
+use Rattle.tftp_promises.specs.Joint.{WasSentBefore}
+use Rattle.tftp_promises.specs.Order.{Programs, IsStranger}
+use Rattle.tftp_promises.specs.Programs.{ClientProgram, requests_at}
+use Rattle.tftp_promises.specs.Promises.{joined}
+use Rattle.tftp_promises.specs.Snapshots.{Snapshot, ClientStage, Unasked, Has_asked}
+use Rattle.tftp_promises.proofs.Kept.{How, HasArrived, IsThere, IsKept, StageKept, TransferKept}
+use Rattle.tftp_promises.proofs.Kept.{same_transfer}
+use Rattle.tftp_promises.proofs.KeptViews.{arrived_still, sent_still, there_says, viewed_still}
+use Rattle.tftp_promises.proofs.Places.{strangers_elsewhere}
+
+module _ {S F D G K : Type 0} {stores : StoreMeaning S D} {sources : SourceMeaning F} {inputs : SourceMeaning G}
+    {outputs : SinkMeaning K}
+    (programs : Programs stores sources inputs outputs) {how : How programs} (snapshot : Snapshot programs)
+    (kept : IsKept programs how snapshot) where
+  abbrev Client : Type 0
+  Client = ClientProgram inputs outputs (requests_at stores sources programs.server)
+
+  -- a message more changes no end
+  module _ (more : List Message) where
+    stage_still : (client : Client) (stage : ClientStage G K) →
+        StageKept programs how kept.views kept.messages client stage →
+        StageKept programs how kept.views (kept.messages ++ more) client stage
+    stage_still client Unasked h = tt
+    stage_still client (Has_asked s files noted moved) h = record {
+      end = h.end;
+      address = h.address;
+      state = h.state;
+      side = h.side;
+      viewed = viewed_still (joined programs) kept.views kept.messages more h.end h.viewed;
+      has = h.has;
+    }
+
+    transfer_still : (port : ℕ) (transfer : TransferState F D) (a : Endpoint) →
+        TransferKept programs how kept.views kept.messages snapshot port transfer a →
+        TransferKept programs how kept.views (kept.messages ++ more) snapshot port transfer a
+    transfer_still port transfer a h =
+        same_transfer programs h (viewed_still (joined programs) kept.views kept.messages more h.end h.viewed) h.has
+
+  -- one that may be said at any time
+  said_kept : (m : Message) → IsShown (joined programs) kept.views (kept.messages ++ m ∷ []) →
+      IsKept programs how snapshot
+  said_kept m shown =
+      record {
+        views = kept.views;
+        messages = kept.messages ++ m ∷ [];
+        shown = shown;
+        sent = λ a b bs sent. sent_still programs kept.messages (m ∷ []) a b bs (kept.sent a b bs sent);
+        server = record {
+          requests = kept.server.requests;
+          config = kept.server.config;
+          known = kept.server.known;
+          pending =
+              λ a bs e. arrived_still kept.messages (m ∷ []) a (requests_at stores sources programs.server) bs
+              (kept.server.pending a bs e);
+          once = kept.server.once;
+          seats = kept.server.seats;
+          gone = kept.server.gone;
+          opened = kept.server.opened;
+        };
+        clients = λ k client stage found at. stage_still (m ∷ []) client stage (kept.clients k client stage found at);
+        transfers = λ port transfer a is. transfer_still (m ∷ []) port transfer a (kept.transfers port transfer a is);
+        only = kept.only;
+      }
+
+  -- a stranger's datagram
+  stray_kept : (from to : Endpoint) (bytes : List ℕ) → IsStranger stores sources inputs outputs programs from →
+      IsKept programs how snapshot
+  stray_kept from to bytes stranger =
+      let m : Message = message from to (said (packet_in bytes)) in
+      let now =
+      strays (joined programs) kept.shown.0 kept.views kept.messages kept.shown.1 m
+      ((strangers_elsewhere programs from).1 stranger) in
+      said_kept m (kept.shown.0 ++ now.0, now.2)
+
+  stray_arrived : (from to : Endpoint) (bytes : List ℕ) →
+      HasArrived (kept.messages ++ message from to (said (packet_in bytes)) ∷ []) from to bytes
+  stray_arrived from to bytes p spells =
+      subst (λ (q : WirePacket). Contains (kept.messages ++ message from to (said (packet_in bytes)) ∷ [])
+      (message from to (said q))) (spelled_is_found p bytes spells)
+      (Contains-push kept.messages (message from to (said (packet_in bytes))))
+
+  -- the invariant, with what has arrived
+  pub record Arrived (from to : Endpoint) (bytes : List ℕ) : Type 0 where
+    pub now : IsKept programs how snapshot
+    pub come : HasArrived now.messages from to bytes
+
+  pub strays_in : (from to : Endpoint) (bytes : List ℕ) → IsStranger stores sources inputs outputs programs from →
+      Arrived from to bytes
+  unfolding stray_kept said_kept
+  strays_in from to bytes stranger =
+      record { now = stray_kept from to bytes stranger; come = stray_arrived from to bytes }
+
+  -- what a program receives
+  pub arrives : (from to : Endpoint) (bytes : List ℕ) → (IsStranger stores sources inputs outputs programs to → ⊥) →
+      WasSentBefore programs snapshot from to bytes ⊎ IsStranger stores sources inputs outputs programs from →
+      Arrived from to bytes
+  arrives from to bytes ours (inl sent) = elim (kept.sent from to bytes sent) [
+    | inl there ↦ record { now = kept; come = there_says kept.messages from to bytes there }
+    | inr strange ↦ absurd (ours strange)
+  ]
+  arrives from to bytes ours (inr stranger) = strays_in from to bytes stranger
+
+  -- an ERROR may be said from any endpoint
+  pub record SaysError (from to : Endpoint) (reply : ErrorReply) : Type 0 where
+    pub now : IsKept programs how snapshot
+    pub there : IsThere now.messages from to (error_bytes reply)
+
+  pub errs : (from to : Endpoint) (reply : ErrorReply) → SaysError from to reply
+  unfolding said_kept
+  errs from to reply =
+      let shown = says_error (joined programs) kept.shown.0 kept.views kept.messages kept.shown.1 from to in
+      record {
+        now = said_kept (message from to Says_an_error) (kept.shown.0 ++ shown.0, shown.2);
+        there = (
+          error_packet reply,
+          spells_own (error_packet reply) (valid_error reply),
+          Contains-push kept.messages
+              (message from to Says_an_error),
+        );
+      }

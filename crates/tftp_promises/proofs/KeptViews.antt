@@ -1,0 +1,116 @@
+-- An end stays viewed when another end turns, or when one more opens.
+use Rattle.std.proofs.Common.{◌≡◌, ℕ, List, [], ◌∷◌, ◌++◌, set, Some, sym, ap, ◌∙◌, subst, inl, inr}
+use Rattle.std.specs.Prelude.{◌≢◌, ◌⊎◌, slice_get}
+use Rattle.std.specs.List.{Contains}
+use Rattle.std.proofs.lemmas.List.Elements.{Contains-append_left}
+use Rattle.std.proofs.lemmas.Option.{same_Some}
+use Rattle.tftp_wire.specs.Spelling.{Spells}
+use Rattle.tftp_wire.specs.declared.packet.Packet.{Packet as WirePacket}
+use Rattle.tftp_wire.proofs.SpellingLemmas.{one_meaning}
+use Rattle.tftp_file.specs.Sink.{SinkMeaning}
+use Rattle.tftp_file.specs.Source.{SourceMeaning}
+use Rattle.tftp_store.specs.Store.{StoreMeaning}
+use Rattle.tftp_rules.specs.Machine.{Endpoint, Message, Network}
+use Rattle.tftp_rules.specs.OpenEnds.{OpenEnd, open_view}
+use Rattle.tftp_rules.specs.Rules.{message}
+use Rattle.tftp_rules.specs.Said.{said}
+use Rattle.tftp_rules.specs.Shows.{EndView, AreApart, IsShown}
+use Rattle.tftp_rules.specs.ViewSafety.{IsAmong}
+use Rattle.tftp_rules.proofs.Indices.{slice_get-set_cases, slice_get-set_other, slice_get-push_cases}
+use Rattle.tftp_rules.proofs.Indices.{slice_get-push_old}
+use Rattle.tftp_promises.specs.Order.{Programs, IsStranger}
+use Rattle.tftp_promises.proofs.Kept.{IsThere, HasArrived, IsViewed}
+
+-- what was said is there still
+pub there_still : (messages more : List Message) (from to : Endpoint) (bytes : List ℕ) →
+    IsThere messages from to bytes → IsThere (messages ++ more) from to bytes
+there_still messages more from to bytes h =
+    (h.0, h.1, Contains-append_left messages more (message from to (said h.0)) h.2)
+
+pub arrived_still : (messages more : List Message) (from to : Endpoint) (bytes : List ℕ) →
+    HasArrived messages from to bytes → HasArrived (messages ++ more) from to bytes
+arrived_still messages more from to bytes h p spells =
+    Contains-append_left messages more (message from to (said p)) (h p spells)
+
+-- so is what was sent there, unless it is for a stranger
+module _ {S F D G K : Type 0} {stores : StoreMeaning S D} {sources : SourceMeaning F} {inputs : SourceMeaning G}
+    {outputs : SinkMeaning K}
+    (programs : Programs stores sources inputs outputs) where
+  pub sent_still : (messages more : List Message) (from to : Endpoint) (bytes : List ℕ) →
+      IsThere messages from to bytes ⊎ IsStranger stores sources inputs outputs programs to →
+      IsThere (messages ++ more) from to bytes ⊎ IsStranger stores sources inputs outputs programs to
+  sent_still messages more from to bytes (inl h) = inl (there_still messages more from to bytes h)
+  sent_still messages more from to bytes (inr h) = inr h
+
+-- the message of a datagram says what its bytes spell
+pub there_says : (messages : List Message) (from to : Endpoint) (bytes : List ℕ) → IsThere messages from to bytes →
+    (p : WirePacket) → Spells p bytes → Contains messages (message from to (said p))
+there_says messages from to bytes h p s =
+    subst (λ (q : WirePacket). Contains messages (message from to (said q))) (one_meaning h.0 p bytes h.1 s) h.2
+
+module _ (network : Network) where
+  -- no two ends are at one endpoint
+  pub views_apart : (views : List EndView) (messages : List Message) → IsShown network views messages → AreApart views
+  views_apart views messages s = s.1.1.apart
+
+  -- the view at the endpoint of an end is its own
+  pub view_there : (views : List EndView) (messages : List Message) (x : OpenEnd) (view : EndView) →
+      IsShown network views messages → IsViewed network views messages x →
+      IsAmong views view → view.address ≡ x.address → view ≡ open_view x
+  view_there views messages x view shown h among same =
+      let k = views_apart views messages shown among.0 h.index view (open_view x) among.1 h.viewed same in
+      same_Some view (open_view x) (sym among.1 ∙ (ap (slice_get views) k ∙ h.viewed))
+
+  module _ (views : List EndView) (messages said_now : List Message) where
+    -- another end has turned
+    pub viewed_beside : (k : ℕ) (e f : EndView) (z : OpenEnd) → slice_get views k ≡ Some e → e.address ≢ z.address →
+        IsViewed network views messages z → IsViewed network (set views k f) (messages ++ said_now) z
+    viewed_beside k e f z at apart h = record {
+      kept = h.kept;
+      index = h.index;
+      viewed =
+          slice_get-set_other views k h.index f
+          (λ same. apart (ap (λ (v : EndView). v.address)
+          (same_Some e (open_view z) (sym at ∙ (ap (slice_get views) (sym same) ∙ h.viewed)))))
+          ∙ h.viewed;
+      last_sent =
+          there_still messages said_now z.address z.state.position.last_sent_to z.state.position.last_sent h.last_sent;
+    }
+
+    -- one more has opened
+    pub viewed_before : (f : EndView) (z : OpenEnd) → IsViewed network views messages z →
+        IsViewed network (views ++ f ∷ []) (messages ++ said_now) z
+    viewed_before f z h = record {
+      kept = h.kept;
+      index = h.index;
+      viewed = slice_get-push_old views h.index f (open_view z) h.viewed;
+      last_sent =
+          there_still messages said_now z.address z.state.position.last_sent_to z.state.position.last_sent h.last_sent;
+    }
+
+    -- more was said
+    pub viewed_still : (z : OpenEnd) → IsViewed network views messages z →
+        IsViewed network views (messages ++ said_now) z
+    viewed_still z h = record {
+      kept = h.kept;
+      index = h.index;
+      viewed = h.viewed;
+      last_sent =
+          there_still messages said_now z.address z.state.position.last_sent_to z.state.position.last_sent h.last_sent;
+    }
+
+-- a view after one end has turned is that of the end, or as before
+pub among_set : (views : List EndView) (k : ℕ) (f view : EndView) → IsAmong (set views k f) view →
+    IsAmong views view ⊎ (view ≡ f)
+among_set views k f view among = elim (slice_get-set_cases views k among.0 f view among.1) [
+  | inl h ↦ inr h.1
+  | inr h ↦ inl (among.0, h.1)
+]
+
+-- after one more has opened it is that of the end, or as before
+pub among_push : (views : List EndView) (f view : EndView) → IsAmong (views ++ f ∷ []) view →
+    IsAmong views view ⊎ (view ≡ f)
+among_push views f view among = elim (slice_get-push_cases views among.0 f view among.1) [
+  | inl h ↦ inl (among.0, h)
+  | inr h ↦ inr h.1
+]

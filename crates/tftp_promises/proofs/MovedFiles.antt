@@ -1,0 +1,75 @@
+-- A step of a transfer over any files, by what the finished run moved.
+use Rattle.std.proofs.Common.{◌≡◌, ℕ, Bool, true, false, List, None, subst}
+use Rattle.std.specs.Prelude.{⊤}
+use Rattle.tftp_file.specs.Block.{IsPrefixOf}
+use Rattle.tftp_file.specs.Sink.{Holding}
+use Rattle.tftp_file.specs.Source.{SourceMeaning}
+use Rattle.tftp_file.specs.declared.files.Files.{Files}
+use Rattle.tftp_file.specs.declared.files.Files.TheVariants.{Source, Sink}
+use Rattle.tftp_ends.specs.End.{is_sender, outcome_of}
+use Rattle.tftp_ends.specs.Files.{AreSame}
+use Rattle.tftp_ends.specs.Step.{Turn, DatagramStep}
+use Rattle.tftp_store.specs.Store.{StoreMeaning}
+use Rattle.tftp_server.specs.Draft.{Drafting, files_in, drafting_sink}
+use Rattle.tftp_server.specs.Steps.{StepIn}
+use Rattle.tftp_rules.specs.EndKept.{EndKept}
+use Rattle.tftp_rules.specs.KnownFiles.{known_source, known_sink}
+use Rattle.tftp_rules.specs.Machine.{Endpoint, Network}
+use Rattle.tftp_rules.specs.OpenEnds.{OpenEnd, files_of, end_after}
+use Rattle.tftp_promises.specs.Moved.{Moved, step_moves}
+use Rattle.tftp_promises.proofs.Kept.{GaveSo, TookSo}
+use Rattle.tftp_promises.proofs.KeptFiles.{source_is, sink_is}
+use Rattle.tftp_promises.proofs.MovedSends.{source_moves}
+use Rattle.tftp_promises.proofs.MovedStores.{sink_moves}
+use Rattle.tftp_promises.proofs.Texts.{pad_to}
+
+module _ {S F D : Type 0} (stores : StoreMeaning S D) (sources : SourceMeaning F) where
+  -- what has moved at the end of a transfer with these files
+  abbrev pub GotSo : Files F D → OpenEnd → Moved → Type 0
+  GotSo (Source source) x moved = (is_sender x.state.role.side ≡ true) × GaveSo x moved
+  GotSo (Sink draft) x moved = (is_sender x.state.role.side ≡ false) × TookSo x moved
+
+  -- a step over what moves
+  pub record MovesOver (x : OpenEnd) (from : Endpoint) (bytes : List ℕ) (turn : Turn) (files' : Files F D)
+      (moved : Moved) : Type 0 where
+    pub content : Files (List ℕ) Holding
+    pub steps : DatagramStep known_source known_sink from bytes x.state (files_of x) turn content
+    pub got : GotSo files' (end_after x turn content) moved
+
+  module _ (x : OpenEnd) (network : Network) (kept : EndKept network x)
+      (still : outcome_of x.state.position.phase ≡ None) (from : Endpoint) (bytes : List ℕ) (turn : Turn)
+      (store store' : S) (path path' : List ℕ) (replace : Bool) (pad : ℕ) (all : List ℕ)
+      (text : is_sender x.state.role.side ≡ true → x.text ≡ pad_to pad x.state.role.length all)
+      (moved : Moved) where
+    pub files_move : (files files' : Files F D) → AreSame (λ (a b : F). ⊤) (λ (a b : D). ⊤) files files' →
+        GotSo files x moved →
+        (step : StepIn stores sources from bytes x.state (files_in store path replace files) turn
+        (files_in store' path' replace files')) →
+        IsPrefixOf (step_moves sources (drafting_sink stores) from bytes x.state (files_in store path replace files)
+        turn (files_in store' path' replace files') step moved).bytes all →
+        MovesOver x from bytes turn files' (step_moves sources (drafting_sink stores) from bytes x.state
+        (files_in store path replace files) turn (files_in store' path' replace files') step moved)
+    files_move (Source source) (Source source') kind h step told =
+        let m =
+        source_moves sources (drafting_sink stores) x from source source' turn moved h.1 still pad all
+        (text h.0) network kept h.0 bytes step told in
+        record {
+          content = Source m.left;
+          steps =
+              subst (λ (f : Files (List ℕ) Holding). DatagramStep known_source known_sink from bytes x.state f turn
+              (Source m.left)) (source_is x h.0) m.steps;
+          got = (h.0, m.gave);
+        }
+    files_move (Sink draft) (Sink draft') kind h step told =
+        let d : Drafting S D = record { store = store; draft = draft; path = path; replace = replace } in
+        let d' : Drafting S D = record { store = store'; draft = draft'; path = path'; replace = replace } in
+        let m = sink_moves sources (drafting_sink stores) from turn x moved h.1 d d' bytes step in
+        record {
+          content = Sink m.after;
+          steps =
+              subst (λ (f : Files (List ℕ) Holding). DatagramStep known_source known_sink from bytes x.state f turn
+              (Sink m.after)) (sink_is x h.0) m.steps;
+          got = (h.0, m.took);
+        }
+    files_move (Source source) (Sink draft') kind h step told = absurd kind
+    files_move (Sink draft) (Source source') kind h step told = absurd kind

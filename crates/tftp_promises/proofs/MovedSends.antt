@@ -1,0 +1,300 @@
+-- A step of a sender over any source is one over the text that the finished run tells.
+use Rattle.std.proofs.Common.{◌≡◌, ℕ, ◌+◌, ◌-◌, ◌*◌, ◌/◌, ◌≤◌, Bool, true, false, List, [], ◌++◌, append_assoc}
+use Rattle.std.proofs.Common.{append-nil, length, take, drop, Option, Some, None, Result, Ok, Err, refl, sym, ap, ◌∙◌}
+use Rattle.std.proofs.Common.{subst, arith}
+use Rattle.std.specs.Prelude.{◌≢◌, ◌&&◌, ◌==◌, if◌then◌else◌, is_none, nat_lt}
+use Rattle.std.proofs.lemmas.Bool.{true≢false, eqb-true}
+use Rattle.std.proofs.lemmas.List.{length-append, length-drop, length-take}
+use Rattle.tftp_wire.specs.declared.packet.Packet.{Packet as WirePacket}
+use Rattle.tftp_wire.specs.declared.packet.Packet.TheVariants.{Read, Write, Data, Ack, Error, Oack}
+use Rattle.tftp_wire.specs.Reading.{has_error_opcode}
+use Rattle.tftp_negotiate.specs.Agreement.{agreement}
+use Rattle.tftp_negotiate.specs.declared.asked.Asked.{Asked}
+use Rattle.tftp_negotiate.specs.declared.known.Kind.TheVariants as kinds
+use Rattle.tftp_negotiate.specs.declared.known.Known.{Known}
+use Rattle.tftp_negotiate.specs.declared.refusal.Refusal.{Refusal}
+use Rattle.tftp_negotiate.specs.declared.refusal.Refusal.TheVariants as refusals
+use Rattle.tftp_file.specs.Block.{IsPrefixOf}
+use Rattle.tftp_file.specs.Sink.{SinkMeaning}
+use Rattle.tftp_file.specs.Source.{SourceMeaning, Fills}
+use Rattle.tftp_file.specs.declared.fault.FileFault.{FileFault}
+use Rattle.tftp_file.specs.declared.fault.FileFault.TheVariants as file_faults
+use Rattle.tftp_file.specs.declared.files.Files.TheVariants.{Source}
+use Rattle.tftp_ends.specs.declared.action.Action.{Action}
+use Rattle.tftp_ends.specs.declared.action.Action.TheVariants.{Respond, Send, Store}
+use Rattle.tftp_ends.specs.declared.action.Response.TheVariants.{Ignore, WrongPeer, Refuse, Complete}
+use Rattle.tftp_ends.specs.declared.endpoint.Endpoint.{Endpoint}
+use Rattle.tftp_ends.specs.declared.error_reply.ErrorReply.TheVariants.{FileTooLarge, FileChanged}
+use Rattle.tftp_ends.specs.declared.outcome.Outcome.TheVariants as outcomes
+use Rattle.tftp_ends.specs.declared.phase.Phase.{Phase}
+use Rattle.tftp_ends.specs.declared.phase.Phase.TheVariants.{Waiting, Sending, Receiving, Dallying, Closed}
+use Rattle.tftp_ends.specs.declared.phase.Terms.{Terms}
+use Rattle.tftp_ends.specs.Action.{datagram_action, packet_action, garbled_response, is_wrong_peer}
+use Rattle.tftp_ends.specs.End.{is_sender, is_client, outcome_of, terms_of}
+use Rattle.tftp_ends.specs.Sender.{sender_action, illegal_action}
+use Rattle.tftp_ends.specs.Step.{Turn, Sends, Acts, DatagramStep, block_length, data_bytes, filled_turn, refused_turn}
+use Rattle.tftp_ends.specs.Step.{result_count_is, sent_turn}
+use Rattle.tftp_ends.specs.Waiting.{agreed_terms, begin_action, begin_with_action, default_terms, no_answer}
+use Rattle.tftp_ends.specs.Waiting.{reader_action, writer_action}
+use Rattle.tftp_rules.specs.EndKept.{EndKept, PhaseKept, IsUnderWay}
+use Rattle.tftp_rules.specs.KnownFiles.{known_source, known_sink}
+use Rattle.tftp_rules.specs.Machine.{Network}
+use Rattle.tftp_rules.specs.OpenEnds.{OpenEnd, end_after}
+use Rattle.tftp_rules.proofs.PhaseMoves.{if_acts}
+use Rattle.tftp_promises.specs.Moved.{Moved, acts_move, step_moves, with_more}
+use Rattle.tftp_promises.proofs.Kept.{GaveSo}
+use Rattle.tftp_promises.proofs.Texts.{pad_to, pad_length, begins_padded, begins_after, begins_by_take, then_rest}
+
+-- ---- how much an action reads
+-- an action reads no more than is left
+abbrev pub ReadsWithin : ℕ → List ℕ → Action → Type 0
+ReadsWithin measured left (Respond response) = Unit {0}
+ReadsWithin measured left (Send terms number) = block_length measured terms.size number ≤ length left
+ReadsWithin measured left (Store terms number) = Unit {0}
+
+first_within : (measured size n : ℕ) → measured ≡ n → block_length measured size 1 ≤ n
+first_within measured size n e = let z : (1 - 1) * size ≡ 0 = omega arith in omega (arith, e, z)
+
+next_within : (measured size number n : ℕ) → measured ≡ n → block_length measured size (number + 1) ≤ n - number * size
+next_within measured size number n e =
+    let back : (number + 1) - 1 ≡ number = omega arith in
+    let same : ((number + 1) - 1) * size ≡ number * size = ap (λ (m : ℕ). m * size) back in
+    omega (arith, e, same)
+
+module _ (x : OpenEnd) (sender : is_sender x.state.role.side ≡ true) (from : Endpoint) where
+  abbrev Within : Action → Type 0
+  Within action = ReadsWithin x.state.role.length x.left action
+
+  -- a client that waits
+  module _ (left : x.left ≡ x.text) (measured : x.state.role.length ≡ length x.text) where
+    begins : (terms : Terms) → Within (begin_action x.state.role.length terms)
+    begins terms =
+        if_acts Within (nat_lt x.state.role.length (65535 * terms.size)) (Send terms 1)
+        (Respond (Refuse None FileTooLarge outcomes.TooLarge))
+        (λ b. first_within x.state.role.length terms.size (length x.left) (measured ∙ ap length (sym left))) (λ b. tt)
+
+    agreed : (a : Result (List Known) Refusal) → Within (begin_with_action from x.state.role.length a)
+    agreed (Ok options) = begins (agreed_terms from options)
+    agreed (Err refusals.Repeated) = tt
+    agreed (Err refusals.TooLarge) = tt
+    agreed (Err refusals.NotAsked) = tt
+    agreed (Err refusals.BadValue) = tt
+
+    writes : (asked : Asked) (limit : ℕ) (decoded : Option WirePacket) →
+        Within (writer_action x.state.role.mode asked limit x.state.role.length from decoded)
+    writes asked limit None = tt
+    writes asked limit (Some (Read r)) = tt
+    writes asked limit (Some (Write r)) = tt
+    writes asked limit (Some (Data number bytes)) = tt
+    writes asked limit (Some (Ack number)) =
+        if_acts Within (number == 0) (begin_action x.state.role.length (default_terms from)) no_answer
+        (λ b. begins (default_terms from)) (λ b. tt)
+    writes asked limit (Some (Error code text)) = tt
+    writes asked limit (Some (Oack options)) = agreed (agreement asked kinds.Write x.state.role.mode options limit)
+
+  -- a sender
+  module _ (terms : Terms) (n : ℕ) (u : IsUnderWay x terms n) where
+    more : block_length x.state.role.length terms.size (n + 1) ≤ length x.left
+    more =
+        let within = next_within x.state.role.length terms.size n (length x.text) u.measured in
+        let l = length-drop (n * terms.size) x.text in
+        let e = ap (λ (t : List ℕ). length t) u.left in
+        omega (arith, within, l, e)
+
+    acks : (acked : ℕ) → Within (sender_action (is_client x.state.role.side) x.state.role.length terms n
+        (Some (Ack acked)))
+    acks acked =
+        if_acts Within (acked == n) (if nat_lt n (x.state.role.length / terms.size + 1) then Send terms (n + 1) else
+        Respond Complete) (if nat_lt acked n then Respond Ignore else illegal_action terms)
+        (λ b. if_acts Within (nat_lt n (x.state.role.length / terms.size + 1)) (Send terms (n + 1)) (Respond Complete)
+        (λ c. more) (λ c. tt))
+        (λ b. if_acts Within (nat_lt acked n) (Respond Ignore) (illegal_action terms) (λ c. tt) (λ c. tt))
+
+    sends : (decoded : Option WirePacket) →
+        Within (sender_action (is_client x.state.role.side) x.state.role.length terms n decoded)
+    sends None = tt
+    sends (Some (Read r)) = tt
+    sends (Some (Write r)) = tt
+    sends (Some (Data number bytes)) = tt
+    sends (Some (Ack acked)) = acks acked
+    sends (Some (Error code text)) = tt
+    sends (Some (Oack options)) =
+        if_acts Within (is_client x.state.role.side && terms.by_oack) (Respond Ignore) (illegal_action terms) (λ b. tt)
+        (λ b. tt)
+
+  module _ (network : Network) (decoded : Option WirePacket) where
+    by_phase : (phase : Phase) → PhaseKept network x phase → Within (packet_action x.state from decoded phase)
+    by_phase (Waiting asked limit) h =
+        if_acts Within (is_sender x.state.role.side) (writer_action x.state.role.mode asked limit x.state.role.length
+        from decoded) (reader_action x.state.role.mode asked limit from decoded)
+        (λ s. writes h.3 (h.5 s) asked limit decoded) (λ r. absurd (true≢false (sym sender ∙ r)))
+    by_phase (Sending terms n) u = sends terms n u decoded
+    by_phase (Receiving terms n) h = absurd (true≢false (sym sender ∙ h.0))
+    by_phase (Dallying terms n dally) h = tt
+    by_phase (Closed terms n complete outcome) h = tt
+
+    pub reads_within : (bytes : List ℕ) → EndKept network x → Within (datagram_action x.state from bytes decoded)
+    reads_within bytes kept =
+        if_acts Within (is_wrong_peer (terms_of x.state.position.phase) x.state.position.last_sent_to from)
+        (if has_error_opcode bytes then Respond Ignore else Respond WrongPeer)
+        (if has_error_opcode bytes && is_none decoded then Respond (garbled_response x.state.position.phase) else
+        packet_action x.state from decoded x.state.position.phase)
+        (λ b. if_acts Within (has_error_opcode bytes) (Respond Ignore) (Respond WrongPeer) (λ c. tt) (λ c. tt))
+        (λ b. if_acts Within (has_error_opcode bytes && is_none decoded)
+        (Respond (garbled_response x.state.position.phase))
+        (packet_action x.state from decoded x.state.position.phase)
+        (λ c. tt) (λ c. by_phase x.state.position.phase kept.phase))
+
+-- ---- what was read
+whole_answer : (want : ℕ) (answer : Result ℕ FileFault) → result_count_is want answer ≡ true → answer ≡ Ok want
+whole_answer want (Ok count) e = ap (λ (n : ℕ). Ok n) (eqb-true count want e)
+whole_answer want (Err fault) e = absurd (true≢false (sym e))
+
+pub piece_length : (before after : Option (List ℕ)) (want : ℕ) (piece : List ℕ) →
+    Fills before after want [] piece (Ok want) → length piece ≡ want
+piece_length (Some left) after want piece f =
+    let a = ap (λ (t : List ℕ). length t) f.given in
+    let b = length-take want left in
+    let c = f.count in
+    omega (arith, a, b, c)
+piece_length None after want piece f =
+    let a = ap (λ (t : List ℕ). length t) f.given in
+    let b = f.count in
+    omega (arith, a, b)
+
+no_memory : (n : ℕ) → ◌≢◌ {A = Result ℕ FileFault} (Ok n) (Err file_faults.Memory)
+no_memory n e = cc
+
+no_memory_read : ◌≢◌ {A = Result ℕ FileFault} (Err file_faults.Read) (Err file_faults.Memory)
+no_memory_read e = cc
+
+-- a step of a sender over the text that is left, and what was given with it
+pub record SourceMoves (x : OpenEnd) (turn : Turn) (moved : Moved) (P : List ℕ → Type 0) : Type 0 where
+  pub left : List ℕ
+  pub steps : P left
+  pub gave : GaveSo (end_after x turn (Source left)) moved
+
+module _ {S K : Type 0} (sources : SourceMeaning S) (sinks : SinkMeaning K) (x : OpenEnd) (from : Endpoint) (s s' : S)
+    (turn : Turn) (moved : Moved) (gave : GaveSo x moved)
+    (still : outcome_of x.state.position.phase ≡ None) (pad : ℕ) (all : List ℕ)
+    (text : x.text ≡ pad_to pad x.state.role.length all) where
+  abbrev want : Terms → ℕ → ℕ
+  want terms number = block_length x.state.role.length terms.size number
+
+  -- the whole block was read
+  whole : (terms : Terms) (number : ℕ) (h : Sends sources terms number from x.state s turn s') →
+      want terms number ≤ length x.left → result_count_is (want terms number) h.answer ≡ true →
+      IsPrefixOf (moved.bytes ++ h.piece) all → SourceMoves x turn (with_more h.piece moved.committed moved)
+      (Sends known_source terms number from x.state x.left turn)
+  whole terms number h within count told =
+      let n = want terms number in
+      let is = whole_answer n h.answer count in
+      let fills =
+      subst (λ (r : Result ℕ FileFault). Fills (sources.left s) (sources.left s') n [] h.piece r) is
+      h.reads.fills in
+      let long : length h.piece ≡ n = piece_length (sources.left s) (sources.left s') n h.piece fills in
+      let all_left : moved.bytes ++ x.left ≡ x.text = gave.left still in
+      let measured : length x.text ≡ x.state.role.length =
+      ap (λ (t : List ℕ). length t) text ∙ pad_length pad x.state.role.length all in
+      let a = length-append moved.bytes h.piece in
+      let b = length-append moved.bytes x.left in
+      let c = ap (λ (t : List ℕ). length t) all_left in
+      let short : length (moved.bytes ++ h.piece) ≤ x.state.role.length =
+      omega (arith, a, b, c, long, within, measured) in
+      let begins : IsPrefixOf (moved.bytes ++ h.piece) x.text =
+      subst (λ (t : List ℕ). IsPrefixOf (moved.bytes ++ h.piece) t) (sym text)
+      (begins_padded pad x.state.role.length (moved.bytes ++ h.piece) all told short) in
+      let next : IsPrefixOf h.piece x.left =
+      begins_after moved.bytes h.piece x.left (subst (λ (t : List ℕ). IsPrefixOf (moved.bytes ++ h.piece) t)
+      (sym all_left) begins) in
+      let given : h.piece ≡ take n x.left =
+      sym (begins_by_take h.piece x.left next) ∙ ap (λ (k : ℕ). take k x.left) long in
+      let rest : h.piece ++ drop n x.left ≡ x.left =
+      ap (λ (k : ℕ). h.piece ++ drop k x.left) (sym long) ∙ then_rest h.piece x.left next in
+      record {
+        left = drop n x.left;
+        steps = record {
+          answer = Ok n;
+          piece = h.piece;
+          reads =
+              record {
+                fills = record { count = omega (arith, within); given = given; rest = refl };
+                read = λ q. tt;
+                fails = λ q. absurd q;
+                memory = no_memory n;
+              };
+          answers =
+              subst (λ (r : Result ℕ FileFault). turn ≡ filled_turn terms number from h.piece x.state r) is h.answers;
+        };
+        gave = record {
+          prefix = begins;
+          left =
+              λ o. append_assoc moved.bytes h.piece (drop n x.left)
+              ∙ (ap (λ (t : List ℕ). moved.bytes ++ t) rest ∙ all_left);
+        };
+      }
+
+  -- it was not
+  failed : (terms : Terms) (number : ℕ) (h : Sends sources terms number from x.state s turn s') →
+      result_count_is (want terms number) h.answer ≡ false →
+      SourceMoves x turn (with_more [] moved.committed moved) (Sends known_source terms number from x.state x.left turn)
+  failed terms number h count = record {
+    left = x.left;
+    steps = record {
+      answer = Err file_faults.Read;
+      piece = [];
+      reads = record { fills = refl; read = λ q. tt; fails = λ q. absurd q; memory = no_memory_read };
+      answers =
+          h.answers
+          ∙ ap (λ (b : Bool). if b then sent_turn (Sending terms number) from (data_bytes number h.piece) x.state else
+          refused_turn terms FileChanged outcomes.SourceFault from x.state) count;
+    };
+    gave = record {
+      prefix = subst (λ (t : List ℕ). IsPrefixOf t x.text) (sym (append-nil moved.bytes)) gave.prefix;
+      left = λ o. ap (λ (t : List ℕ). t ++ x.left) (append-nil moved.bytes) ∙ gave.left still;
+    };
+  }
+
+  either : (terms : Terms) (number : ℕ) (h : Sends sources terms number from x.state s turn s') →
+      want terms number ≤ length x.left → (b : Bool) → result_count_is (want terms number) h.answer ≡ b →
+      IsPrefixOf (moved.bytes ++ (if b then h.piece else [])) all →
+      SourceMoves x turn (with_more (if b then h.piece else []) moved.committed moved)
+      (Sends known_source terms number from x.state x.left turn)
+  either terms number h within true count told = whole terms number h within count told
+  either terms number h within false count told = failed terms number h count
+
+  source_acts : (action : Action) → ReadsWithin x.state.role.length x.left action →
+      (bytes : List ℕ) (acts : Acts sources sinks action from bytes x.state (Source s) turn (Source s')) →
+      IsPrefixOf (acts_move sources sinks action from bytes x.state (Source s) turn (Source s') acts moved).bytes
+      all →
+      SourceMoves x turn (acts_move sources sinks action from bytes x.state (Source s) turn (Source s') acts moved)
+      (λ (left : List ℕ). Acts known_source known_sink action from bytes x.state (Source x.left) turn (Source left))
+  source_acts (Respond response) within bytes acts told = record {
+    left = x.left;
+    steps = (acts.0, refl);
+    gave = record { prefix = gave.prefix; left = λ o. gave.left still };
+  }
+  source_acts (Send terms number) within bytes acts told =
+      either terms number acts within (result_count_is (want terms number) acts.answer) refl told
+  source_acts (Store terms number) within bytes acts told = absurd acts.2
+
+  -- a step
+  pub source_moves : (network : Network) → EndKept network x → is_sender x.state.role.side ≡ true →
+      (bytes : List ℕ) (step : DatagramStep sources sinks from bytes x.state (Source s) turn (Source s')) →
+      IsPrefixOf (step_moves sources sinks from bytes x.state (Source s) turn (Source s') step moved).bytes all →
+      SourceMoves x turn (step_moves sources sinks from bytes x.state (Source s) turn (Source s') step moved)
+      (λ (left : List ℕ). DatagramStep known_source known_sink from bytes x.state (Source x.left) turn (Source left))
+  source_moves network kept sender bytes step told =
+      let h =
+      source_acts (datagram_action x.state from bytes step.decoded)
+      (reads_within x sender from network step.decoded bytes kept) bytes step.acts told in
+      record {
+        left = h.left;
+        steps = record {
+          decoded = step.decoded;
+          says = step.says;
+          acts = h.steps;
+          again = step.again;
+        };
+        gave = h.gave;
+      }

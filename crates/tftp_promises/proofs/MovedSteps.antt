@@ -1,0 +1,220 @@
+-- What has moved at the place of a transfer after a step of the server, and after a run; and where a step leaves the
+-- transfers.
+use Rattle.std.proofs.Common.{◌≡◌, ℕ, Bool, true, false, List, [], ◌∷◌, Option, Some, None, refl, sym, ap, ◌∙◌, subst}
+use Rattle.std.proofs.Common.{inl, inr}
+use Rattle.std.specs.Prelude.{◌≢◌, ◌==◌, if◌then◌else◌, length, map, option_map, option_to_list}
+use Rattle.std.specs.List.{Contains}
+use Rattle.std.proofs.lemmas.Bool.{true≢false}
+use Rattle.std.proofs.lemmas.List.Elements.{Contains-push}
+use Rattle.tftp_file.specs.Block.{IsPrefixOf}
+use Rattle.tftp_file.specs.Sink.{SinkMeaning}
+use Rattle.tftp_file.specs.Source.{SourceMeaning}
+use Rattle.tftp_file.specs.declared.files.Files.{Files}
+use Rattle.tftp_ends.specs.declared.action.Action.{Action}
+use Rattle.tftp_ends.specs.declared.action.Action.TheVariants.{Respond, Send, Store}
+use Rattle.tftp_ends.specs.declared.endpoint.Endpoint.{Endpoint}
+use Rattle.tftp_ends.specs.End.{EndState}
+use Rattle.tftp_ends.specs.Step.{Turn, Acts}
+use Rattle.tftp_store.specs.Store.{StoreMeaning}
+use Rattle.tftp_server.specs.Request.{Came, Nothing, Error_reply, A_transfer, left_by}
+use Rattle.tftp_server.specs.State.{TransferState}
+use Rattle.tftp_loop.specs.Serves.{LoopState, Does, Waited, At_port, Request_received, No_request_found}
+use Rattle.tftp_loop.specs.Serves.{Request_not_received, No_port_found, Request_answered, Request_lost, Clock_read}
+use Rattle.tftp_loop.specs.Serves.{Store_set, Transfer_closed}
+use Rattle.tftp_loop.specs.Serves.{ServesPort, AnswersRequest, AtPort, A_datagram, A_lost_datagram, Nothing_found}
+use Rattle.tftp_loop.specs.Serves.{A_failed_receive, A_timeout, A_missed_timeout, Work, PortState}
+use Rattle.tftp_loop.specs.Run.{Run}
+use Rattle.tftp_loop.specs.Run.Run.{Then}
+use Rattle.tftp_client.specs.Converses.{State, HandlesReceived}
+use Rattle.tftp_client.specs.Converses.HandlesReceived.{Answers, Loses}
+use Rattle.tftp_rules.specs.Machine.{is_same}
+use Rattle.tftp_rules.proofs.Endpoints.{cases_same, same_other, same_self}
+use Rattle.tftp_promises.specs.ClientRuns.{ClientDoes, Receives_one, Waits_until, Times_out, File_works, Prints_line}
+use Rattle.tftp_promises.specs.ClientRuns.{client_moves}
+use Rattle.tftp_promises.specs.Moved.{Moved, acts_move, came_if, handling_moves, opening_moves, port_moves}
+use Rattle.tftp_promises.specs.Openings.{does_move, opens_at, or_place, place, place_at}
+use Rattle.tftp_promises.specs.Order.{Programs}
+use Rattle.tftp_promises.specs.Ports.{opened_ports}
+use Rattle.tftp_promises.proofs.RunPlaces.{placed_by}
+use Rattle.tftp_promises.proofs.Texts.{begins_itself, begins_more}
+
+-- ---- what moved before begins what has moved after
+module _ {S K : Type 0} (sources : SourceMeaning S) (sinks : SinkMeaning K) where
+  acts_more : (action : Action) (from : Endpoint) (bytes : List ℕ) (e : EndState) (files : Files S K) (turn : Turn)
+      (files' : Files S K) (acts : Acts sources sinks action from bytes e files turn files') (moved : Moved) →
+      IsPrefixOf moved.bytes (acts_move sources sinks action from bytes e files turn files' acts moved).bytes
+  acts_more (Respond response) from bytes e files turn files' acts moved = begins_itself moved.bytes
+  acts_more (Send terms number) from bytes e files turn files' acts moved = begins_more moved.bytes _
+  acts_more (Store terms number) from bytes e files turn files' acts moved = begins_more moved.bytes _
+
+module _ {G K : Type 0} {inputs : SourceMeaning G} {outputs : SinkMeaning K} {port : ℕ} where
+  handling_more : {from : Endpoint} {bytes : List ℕ} {s next : State} {files files' : Files G K}
+      (handles : HandlesReceived inputs outputs port from bytes s files next files') (moved : Moved) →
+      IsPrefixOf moved.bytes (handling_moves handles moved).bytes
+  handling_more {from = from} {bytes = bytes} {s = s} {files = files}
+      (Answers {turn = turn} {files' = files'} still step) moved =
+      acts_more inputs outputs _ from bytes s.end files turn files' step.acts moved
+  handling_more (Loses lost keeps) moved = begins_itself moved.bytes
+
+  -- of a client
+  pub client_more : {s s' : State} {files files' : Files G K} (does : ClientDoes inputs outputs port s files s' files')
+      (moved : Moved) → IsPrefixOf moved.bytes (client_moves does moved).bytes
+  client_more (Receives_one may later handles) moved = handling_more handles moved
+  client_more (Waits_until may which later) moved = begins_itself moved.bytes
+  client_more (Times_out elapses) moved = begins_itself moved.bytes
+  client_more (File_works works) moved = begins_itself moved.bytes
+  client_more (Prints_line line) moved = begins_itself moved.bytes
+
+either_more : (b : Bool) (moved after : Moved) → IsPrefixOf moved.bytes after.bytes →
+    IsPrefixOf moved.bytes (if b then after else moved).bytes
+either_more true moved after h = h
+either_more false moved after h = begins_itself moved.bytes
+
+same_either : (b : Bool) (moved after : Moved) → after ≡ moved → (if b then after else moved) ≡ moved
+same_either true moved after e = e
+same_either false moved after e = refl
+
+module _ {F D : Type 0} where
+  opening_more : (o : Option (TransferState F D)) (moved : Moved) → o ≡ None →
+      IsPrefixOf moved.bytes (opening_moves o moved).bytes
+  opening_more None moved e = begins_itself moved.bytes
+  opening_more (Some held) moved e = absurd (let f : Some held ≡ None = e in cc)
+
+-- endpoints that are the same are one
+one_endpoint : (a b : Endpoint) → is_same a b ≡ true → a ≡ b
+one_endpoint a b e = elim (cases_same a b) [
+  | inl same ↦ same
+  | inr n ↦ absurd (true≢false (sym e ∙ same_other a b n))
+]
+
+module _ {S F D : Type 0} where
+  -- a transfer that does not come here
+  came_none : (here : Bool) (came : Came S F D) →
+      (here ≡ true → (held : TransferState F D) (store : S) → came ≡ A_transfer held store → ⊥) →
+      came_if here came ≡ None
+  came_none here Nothing n = refl
+  came_none here (Error_reply reply store) n = refl
+  came_none true (A_transfer held store) n = absurd (n refl held store refl)
+  came_none false (A_transfer held store) n = refl
+
+module _ {S F D : Type 0} {stores : StoreMeaning S D} {sources : SourceMeaning F} where
+  port_more : {now : ℕ} {old new : PortState S F D} (does : AtPort stores sources now old new) (moved : Moved) →
+      IsPrefixOf moved.bytes (port_moves does moved).bytes
+  port_more (A_datagram h) moved =
+      acts_more sources _ _ h.from h.bytes h.handles.takes.transfer.end _ h.handles.takes.takes.turn _
+      h.handles.takes.takes.steps.acts moved
+  port_more (A_lost_datagram h) moved = begins_itself moved.bytes
+  port_more (Nothing_found h) moved = begins_itself moved.bytes
+  port_more (A_failed_receive h) moved = begins_itself moved.bytes
+  port_more (A_timeout h) moved = begins_itself moved.bytes
+  port_more (A_missed_timeout h) moved = begins_itself moved.bytes
+  port_more (Work h) moved = begins_itself moved.bytes
+
+module _ {S F D G K : Type 0} {stores : StoreMeaning S D} {sources : SourceMeaning F} {inputs : SourceMeaning G}
+    {outputs : SinkMeaning K}
+    (programs : Programs stores sources inputs outputs) {first old new : LoopState S F D}
+    (run : Run (Does stores sources) first old) where
+  -- of the server, at a place where it opens no transfer
+  pub server_more : (a : Endpoint) (does : Does stores sources old new) (moved : Moved) →
+      opens_at programs a run does ≡ None → IsPrefixOf moved.bytes (does_move programs a run does moved).bytes
+  server_more a (Waited h) moved none = begins_itself moved.bytes
+  server_more a (At_port serves) moved none =
+      either_more (is_same (place_at programs serves.timer.port run) a) moved (port_moves serves.does moved)
+      (port_more serves.does moved)
+  server_more a (Request_received h) moved none = begins_itself moved.bytes
+  server_more a (No_request_found h) moved none = begins_itself moved.bytes
+  server_more a (Request_not_received h) moved none = begins_itself moved.bytes
+  server_more a (No_port_found h) moved none = begins_itself moved.bytes
+  server_more a (Request_answered answers) moved none =
+      opening_more (came_if (is_same (place programs (length (opened_ports run)) answers.from answers.tid) a)
+      answers.steps.came) moved none
+  server_more a (Request_lost h) moved none = begins_itself moved.bytes
+  server_more a (Clock_read h) moved none = begins_itself moved.bytes
+  server_more a (Store_set h) moved none = begins_itself moved.bytes
+  server_more a (Transfer_closed h) moved none = begins_itself moved.bytes
+
+  -- ---- where a step opens transfers
+  -- the port of a transfer that comes
+  came_port : (answers : AnswersRequest stores sources old new) (held : TransferState F D) (store : S) →
+      answers.steps.came ≡ A_transfer held store → option_to_list answers.left.opened.tid ≡ answers.tid ∷ []
+  came_port answers held store came =
+      ap (λ (l : _). option_to_list l.opened.tid)
+      (answers.steps.left ∙ ap (λ (c : Came S F D). left_by c old.server answers.from answers.tid) came)
+
+  answer_opens_none : (answers : AnswersRequest stores sources old new) (a : Endpoint) →
+      (Contains (placed_by programs run (Request_answered answers)) a → ⊥) →
+      opens_at programs a run (Request_answered answers) ≡ None
+  answer_opens_none answers a n =
+      let b = place programs (length (opened_ports run)) answers.from answers.tid in
+      came_none (is_same b a) answers.steps.came (λ same held store came.
+      let placed : placed_by programs run (Request_answered answers) ≡ b ∷ [] =
+      ap (map (place programs (length (opened_ports run)) answers.from)) (came_port answers held store came) in
+      n (subst (λ (ps : List Endpoint). Contains ps a) (sym placed)
+      (subst (λ (e : Endpoint). Contains (b ∷ []) e) (one_endpoint b a same) (Contains-push [] b))))
+
+  -- a place where a step opens none
+  pub opens_none : (does : Does stores sources old new) (a : Endpoint) →
+      (Contains (placed_by programs run does) a → ⊥) → opens_at programs a run does ≡ None
+  opens_none (Waited h) a n = refl
+  opens_none (At_port serves) a n = refl
+  opens_none (Request_received h) a n = refl
+  opens_none (No_request_found h) a n = refl
+  opens_none (Request_not_received h) a n = refl
+  opens_none (No_port_found h) a n = refl
+  opens_none (Request_answered answers) a n = answer_opens_none answers a n
+  opens_none (Request_lost h) a n = refl
+  opens_none (Clock_read h) a n = refl
+  opens_none (Store_set h) a n = refl
+  opens_none (Transfer_closed h) a n = refl
+
+  -- a request that opens no transfer leaves the transfers where they were
+  pub answer_places_none : (answers : AnswersRequest stores sources old new) (port : ℕ) →
+      option_to_list answers.left.opened.tid ≡ [] →
+      place_at programs port (Then run (Request_answered answers)) ≡ place_at programs port run
+  answer_places_none answers port none =
+      let came =
+      came_none (answers.tid == port) answers.steps.came (λ same held store came. let two : answers.tid ∷ []
+      ≡ [] = sym (came_port answers held store came) ∙ none in cc) in
+      ap (λ (o : Option (TransferState F D)). or_place
+      (option_map (λ (held : TransferState F D). place programs (length (opened_ports run)) answers.from port) o)
+      (place_at programs port run)) came
+
+  -- ---- a step at which nothing moves at a place
+  pub record MovesNone (does : Does stores sources old new) (a : Endpoint) : Type 0 where
+    pub opens : opens_at programs a run does ≡ None
+    pub moves : (moved : Moved) → does_move programs a run does moved ≡ moved
+
+  -- a step at the port of a transfer that is no datagram
+  pub none_at_port : (serves : ServesPort stores sources old new) →
+      ((moved : Moved) → port_moves serves.does moved ≡ moved) → (a : Endpoint) → MovesNone (At_port serves) a
+  none_at_port serves quiet a =
+      record {
+        opens = refl;
+        moves = λ moved. same_either (is_same (place_at programs serves.timer.port run)
+            a) moved (port_moves serves.does moved) (quiet moved);
+      }
+
+  -- one at another place
+  pub none_beside : (serves : ServesPort stores sources old new) (a : Endpoint) →
+      place_at programs serves.timer.port run ≢ a → MovesNone (At_port serves) a
+  none_beside serves a n = record {
+    opens = refl;
+    moves =
+        λ moved. ap (λ (b : Bool). if b then port_moves serves.does moved else moved)
+        (same_other (place_at programs serves.timer.port run) a n);
+  }
+
+  -- a datagram at its own place
+  pub moves_here : (serves : ServesPort stores sources old new) (moved : Moved) →
+      does_move programs (place_at programs serves.timer.port run) run (At_port serves) moved ≡ port_moves serves.does
+      moved
+  moves_here serves moved =
+      ap (λ (b : Bool). if b then port_moves serves.does moved else moved)
+      (same_self (place_at programs serves.timer.port run))
+
+  -- a request that opens no transfer there
+  pub none_answered : (answers : AnswersRequest stores sources old new) (a : Endpoint) →
+      (Contains (placed_by programs run (Request_answered answers)) a → ⊥) → MovesNone (Request_answered answers) a
+  none_answered answers a n =
+      let none = answer_opens_none answers a n in
+      record { opens = none; moves = λ moved. ap (λ (o : Option (TransferState F D)). opening_moves o moved) none }

@@ -1,0 +1,233 @@
+-- A step of a receiver over any sink is one over what the sink was handed.
+use Rattle.std.proofs.Common.{◌≡◌, ℕ, Bool, true, false, List, [], ◌∷◌, ◌++◌, append-nil, Some, Result, Ok, Err, refl}
+use Rattle.std.proofs.Common.{sym, ap, ◌∙◌}
+use Rattle.std.specs.Prelude.{◌≢◌, ◌||◌, is_ok, nat_lt, length, IfErr}
+use Rattle.std.proofs.lemmas.Bool.{true≢false}
+use Rattle.tftp_file.specs.Sink.{Holding, SinkMeaning, AppendsFreely, CommitsFreely, KeptPrefix, UnlessArmed}
+use Rattle.tftp_file.specs.Sink.{as_committed, with_piece}
+use Rattle.tftp_file.specs.Source.{SourceMeaning}
+use Rattle.tftp_file.specs.declared.fault.StoreFault.{StoreFault}
+use Rattle.tftp_file.specs.declared.fault.StoreFault.TheVariants as faults
+use Rattle.tftp_file.specs.declared.files.Files.TheVariants.{Sink}
+use Rattle.tftp_ends.specs.declared.action.Action.{Action}
+use Rattle.tftp_ends.specs.declared.action.Action.TheVariants.{Respond, Send, Store}
+use Rattle.tftp_ends.specs.declared.endpoint.Endpoint.{Endpoint}
+use Rattle.tftp_ends.specs.declared.phase.Terms.{Terms}
+use Rattle.tftp_ends.specs.Action.{datagram_action}
+use Rattle.tftp_ends.specs.End.{EndState}
+use Rattle.tftp_ends.specs.Step.{Done, Turn, Appended, Stores, GoesOn, Acts, DatagramStep}
+use Rattle.tftp_rules.specs.KnownFiles.{known_source, known_sink}
+use Rattle.tftp_rules.specs.OpenEnds.{OpenEnd, holding_of, end_after}
+use Rattle.tftp_promises.specs.Moved.{Moved, acts_move, commits_after, step_moves, with_more}
+use Rattle.tftp_promises.proofs.Kept.{TookSo}
+
+-- a fault that anything may return
+any_fault : {A E : Type 0} (answer : Result A E) (P : E → Type 0) → ((fault : E) → P fault) → IfErr answer P
+any_fault (Ok done) P f = tt
+any_fault (Err fault) P f = f fault
+
+-- what a sink holds that was handed these bytes; without bytes it was not called
+abbrev handed : List ℕ → Holding → Holding
+handed [] before = before
+handed (b ∷ bytes) before = with_piece before (b ∷ bytes)
+
+handed_bytes : (bytes : List ℕ) (before : Holding) → (handed bytes before).bytes ≡ before.bytes ++ bytes
+handed_bytes [] before = sym (append-nil before.bytes)
+handed_bytes (b ∷ bytes) before = refl
+
+handed_refuses : (bytes : List ℕ) (before : Holding) → (handed bytes before).refuses ≡ before.refuses
+handed_refuses [] before = refl
+handed_refuses (b ∷ bytes) before = refl
+
+handed_committed : (bytes : List ℕ) (before : Holding) → (handed bytes before).committed ≡ true →
+    before.committed ≡ true
+handed_committed [] before e = e
+handed_committed (b ∷ bytes) before e = absurd (true≢false (sym e))
+
+-- an append that all bytes reached, whatever it answered
+whole : (before : Holding) (piece : List ℕ) → KeptPrefix before (Some (with_piece before piece)) piece
+whole before piece = record {
+  holding = with_piece before piece;
+  leaves = refl;
+  kept = piece;
+  prefix = ([], append-nil piece);
+  bytes = refl;
+  uncommitted = λ e. absurd (true≢false (sym e));
+  refuses = refl;
+}
+
+freely : (before : Holding) (piece : List ℕ) (answer : Result Done StoreFault) → answer ≢ Err faults.Memory →
+    AppendsFreely before (Some (with_piece before piece)) piece answer
+freely before piece (Ok done) m = refl
+freely before piece (Err faults.Memory) m = absurd (m refl)
+freely before piece (Err faults.Missing) m = whole before piece
+freely before piece (Err faults.Exists) m = whole before piece
+freely before piece (Err faults.Full) m = whole before piece
+freely before piece (Err faults.Io) m = whole before piece
+
+unless_armed : {A : Type 0} (armed : Bool) (before : Holding) (after : Holding) (answer : Result A StoreFault)
+    (P : Type 0) → armed ≡ false → P → UnlessArmed armed before (Some after) answer P
+unless_armed true before after answer P e p = absurd (true≢false e)
+unless_armed false before after answer P e p = p
+
+-- what a commit leaves
+abbrev commit_leaves : Result Done StoreFault → Holding → Holding
+commit_leaves (Ok done) before = as_committed before
+commit_leaves (Err fault) before = before
+
+commit_freely : (before : Holding) (answer : Result Done StoreFault) →
+    CommitsFreely before (Some (commit_leaves answer before)) answer
+commit_freely before (Ok done) = refl
+commit_freely before (Err fault) = refl
+
+commit_bytes : (answer : Result Done StoreFault) (before : Holding) → (commit_leaves answer before).bytes ≡ before.bytes
+commit_bytes (Ok done) before = refl
+commit_bytes (Err fault) before = refl
+
+commit_refuses : (answer : Result Done StoreFault) (before : Holding) →
+    (commit_leaves answer before).refuses ≡ before.refuses
+commit_refuses (Ok done) before = refl
+commit_refuses (Err fault) before = refl
+
+or_left : (a b : Bool) → a ≡ true → (a || b) ≡ true
+or_left true b e = refl
+or_left false b e = absurd (true≢false (sym e))
+
+or_right : (a b : Bool) → b ≡ true → (a || b) ≡ true
+or_right true b e = refl
+or_right false b e = e
+
+-- ---- a step
+-- of a receiver over what its sink was handed
+pub record SinkMoves (x : OpenEnd) (turn : Turn) (moved : Moved) (P : Holding → Type 0) : Type 0 where
+  pub after : Holding
+  pub steps : P after
+  pub took : TookSo (end_after x turn (Sink after)) moved
+
+module _ {S K : Type 0} (sources : SourceMeaning S) (sinks : SinkMeaning K) (from : Endpoint) (turn : Turn) where
+  -- after an append
+  record GoesSo (e : EndState) (before mid : Holding) (committed : Bool) (P : Holding → Type 0) : Type 0 where
+    after : Holding
+    steps : P after
+    bytes : after.bytes ≡ mid.bytes
+    refuses : after.refuses ≡ mid.refuses
+    commits : after.committed ≡ true → (mid.committed ≡ true → before.committed ≡ true) →
+        (before.committed || committed) ≡ true
+
+  -- a sink that was not called again
+  stays_so : {e : EndState} {before mid : Holding} {committed : Bool} {P : Holding → Type 0} → P mid →
+      GoesSo e before mid committed P
+  stays_so {before = before} {mid = mid} {committed = committed} steps =
+      record {
+        after = mid;
+        steps = steps;
+        bytes = refl;
+        refuses = refl;
+        commits = λ c was. or_left before.committed committed (was c);
+      }
+
+  goes_so : (terms : Terms) (number : ℕ) (e : EndState) (last : Bool) (text : List ℕ) (k k' : K)
+      (answer : Result Done StoreFault) (before mid : Holding) → mid.refuses ≡ false →
+      (h : GoesOn sinks terms number from e last text k answer turn k') →
+      GoesSo e before mid (commits_after sources sinks terms number from e last text k answer turn k' h)
+      (GoesOn known_sink terms number from e last text mid answer turn)
+  goes_so terms number e true text k k' (Err fault) before mid free h = stays_so (h.0, refl)
+  goes_so terms number e false text k k' (Err fault) before mid free h = stays_so (h.0, refl)
+  goes_so terms number e false text k k' (Ok done) before mid free h = stays_so (h.0, refl)
+  goes_so terms number e true text k k' (Ok done) before mid free h = record {
+    after = commit_leaves h.answer mid;
+    steps = record {
+      answer = h.answer;
+      commits =
+          unless_armed mid.refuses mid (commit_leaves h.answer mid) h.answer
+          (CommitsFreely mid (Some (commit_leaves h.answer mid)) h.answer) free (commit_freely mid h.answer);
+      refused = any_fault h.answer _ (λ fault. tt);
+      effect = tt;
+      leaves = tt;
+      answers = h.answers;
+    };
+    bytes = commit_bytes h.answer mid;
+    refuses = commit_refuses h.answer mid;
+    commits = λ c was. committed h.answer c was;
+  } where
+    committed : (answer : Result Done StoreFault) → (commit_leaves answer mid).committed ≡ true →
+        (mid.committed ≡ true → before.committed ≡ true) → (before.committed || is_ok answer) ≡ true
+    committed (Ok done) c was = or_right before.committed true refl
+    committed (Err fault) c was = or_left before.committed false (was c)
+
+  appends_so : (bytes : List ℕ) (k mid : K) (before : Holding) (answer : Result Done StoreFault) →
+      before.refuses ≡ false → answer ≢ Err faults.Memory →
+      Appended sinks bytes k mid answer → Appended known_sink bytes before (handed bytes before) answer
+  appends_so [] k mid before answer free memory h = (h.0, refl)
+  appends_so (b ∷ bytes) k mid before answer free memory h = (
+    unless_armed before.refuses before (with_piece before (b ∷ bytes)) answer
+        (AppendsFreely before (Some (with_piece before (b ∷ bytes))) (b ∷ bytes) answer) free
+        (freely before (b ∷ bytes) answer memory),
+    any_fault answer _ (λ fault. tt),
+    tt,
+    tt,
+  )
+
+  module _ (x : OpenEnd) (moved : Moved) (took : TookSo x moved) (k k' : K) where
+    stores_so : (terms : Terms) (number : ℕ) (piece : List ℕ)
+        (h : Stores sinks terms number from piece x.state k turn k') →
+        SinkMoves x turn (with_more h.bytes (moved.committed || commits_after sources sinks terms number from x.state
+        (nat_lt (length piece) terms.size) h.after h.mid h.answer turn k' h.rest) moved)
+        (Stores known_sink terms number from piece x.state (holding_of x) turn)
+    stores_so terms number piece h =
+        let before = holding_of x in
+        let mid = handed h.bytes before in
+        let goes =
+        goes_so terms number x.state (nat_lt (length piece) terms.size) h.after h.mid k' h.answer
+        (record before { committed = moved.committed }) mid (handed_refuses h.bytes before ∙ took.refuses) h.rest in
+        record {
+          after = goes.after;
+          steps = record {
+            bytes = h.bytes;
+            after = h.after;
+            mid = mid;
+            answer = h.answer;
+            decoded = h.decoded;
+            appended = appends_so h.bytes k h.mid before h.answer took.refuses h.memory h.appended;
+            memory = h.memory;
+            rest = goes.steps;
+          };
+          took = record {
+            stored = goes.bytes ∙ (handed_bytes h.bytes before ∙ ap (λ (t : List ℕ). t ++ h.bytes) took.stored);
+            committed = λ c. goes.commits c (λ m. took.committed (handed_committed h.bytes before m));
+            refuses = goes.refuses ∙ (handed_refuses h.bytes before ∙ took.refuses);
+          };
+        }
+
+    sink_acts : (action : Action) (bytes : List ℕ) (acts : Acts sources sinks action from bytes x.state (Sink k) turn
+        (Sink k')) →
+        SinkMoves x turn (acts_move sources sinks action from bytes x.state (Sink k) turn (Sink k') acts moved)
+        (λ (after : Holding). Acts known_source known_sink action from bytes x.state (Sink (holding_of x)) turn
+        (Sink after))
+    sink_acts (Respond response) bytes acts = record {
+      after = holding_of x;
+      steps = (acts.0, refl);
+      took = record { stored = took.stored; committed = took.committed; refuses = took.refuses };
+    }
+    sink_acts (Send terms number) bytes acts = absurd acts
+    sink_acts (Store terms number) bytes acts =
+        let h = stores_so terms number acts.0 acts.2 in
+        record { after = h.after; steps = (acts.0, acts.1, h.steps); took = h.took }
+
+    -- a step
+    pub sink_moves : (bytes : List ℕ) (step : DatagramStep sources sinks from bytes x.state (Sink k) turn (Sink k')) →
+        SinkMoves x turn (step_moves sources sinks from bytes x.state (Sink k) turn (Sink k') step moved)
+        (λ (after : Holding). DatagramStep known_source known_sink from bytes x.state (Sink (holding_of x)) turn
+        (Sink after))
+    sink_moves bytes step =
+        let h = sink_acts (datagram_action x.state from bytes step.decoded) bytes step.acts in
+        record {
+          after = h.after;
+          steps = record {
+            decoded = step.decoded;
+            says = step.says;
+            acts = h.steps;
+            again = step.again;
+          };
+          took = h.took;
+        }

@@ -1,0 +1,311 @@
+-- No two transfers of a run are at one place, and none is at a client's endpoint.
+use Rattle.std.proofs.Common.{◌≡◌, ◌≢◌, ℕ, suc, zero, ◌+◌, ◌<◌, ◌≤◌, Bool, true, false, List, [], ◌∷◌, ◌++◌, length}
+use Rattle.std.proofs.Common.{map, Option, Some, None, refl, sym, ap, ◌∙◌, subst, inl, inr, arith}
+use Rattle.std.specs.Prelude.{◌⊎◌, if◌then◌else◌, option_to_list, slice_get}
+use Rattle.std.specs.List.{Contains}
+use Rattle.std.proofs.lemmas.List.{length-append}
+use Rattle.std.proofs.lemmas.List.Elements.{Contains-append_cases, Contains-append_left, Contains-append_right}
+use Rattle.std.proofs.lemmas.List.Elements.{Contains-push}
+use Rattle.std.proofs.lemmas.Option.{same_Some, slice_get_read}
+use Rattle.tftp_file.specs.Sink.{SinkMeaning}
+use Rattle.tftp_file.specs.Source.{SourceMeaning}
+use Rattle.tftp_store.specs.Store.{StoreMeaning}
+use Rattle.tftp_server.specs.Request.{Came, Nothing, Error_reply, A_transfer, Left, left_by}
+use Rattle.tftp_sockets.specs.Journal.{Event}
+use Rattle.tftp_loop.specs.Run.{Run}
+use Rattle.tftp_loop.specs.Run.Run.{Start, Then}
+use Rattle.tftp_loop.specs.Serves.{LoopState, Does, Waited, At_port, Request_received, No_request_found}
+use Rattle.tftp_loop.specs.Serves.{Request_not_received, No_port_found, Request_answered, Request_lost, Clock_read}
+use Rattle.tftp_loop.specs.Serves.{Store_set, Transfer_closed, AnswersRequest}
+use Rattle.tftp_rules.specs.Machine.{At_server, Endpoint}
+use Rattle.tftp_promises.specs.Openings.{above, is_ours, our_ports, ours_by, place, total}
+use Rattle.tftp_promises.specs.Order.{Programs}
+use Rattle.tftp_promises.specs.Ports.{AreDistinct, opened_by, opened_ports}
+use Rattle.tftp_promises.specs.Programs.{endpoint, requests_at, client_at, ClientProgram}
+use Rattle.tftp_promises.specs.Promises.{joined}
+use Rattle.tftp_promises.specs.Snapshots.{Snapshot, server_did}
+use Rattle.tftp_promises.proofs.RunPlaces.{placed_by, places}
+use Rattle.tftp_promises.proofs.Kept.{IsFreshBy}
+use Rattle.tftp_promises.proofs.KeptEvents.{nothing_in, only_one, first_or_more}
+use Rattle.tftp_promises.proofs.Places.{at_port}
+
+-- no number exceeds a sum of it and others
+pub total_most : (ns : List ℕ) (n : ℕ) → Contains ns n → n ≤ total ns
+total_most [] n c = absurd (nothing_in n c)
+total_most (m ∷ ns) n c = elim (first_or_more m n ns c) [
+  | inl same ↦ omega (arith, same)
+  | inr more ↦ let l = total_most ns n more in omega (arith, l)
+]
+
+-- the second of distinct ports differs from those after it
+second_apart : (first second port : ℕ) (ports : List ℕ) → AreDistinct (first ∷ (second ∷ ports)) → Contains ports port →
+    port ≢ second
+second_apart first second port ports distinct c same =
+    let there : slice_get ports c.0 ≡ Some port = slice_get_read ports (length ports) c.0 port refl c.1 (sym c.2) in
+    let one : suc zero ≡ suc (suc c.0) =
+    distinct (suc zero) (suc (suc c.0)) second refl (there ∙ ap (λ (p : ℕ). Some p) same) in
+    omega (arith, one)
+
+-- the port of a client is not above all
+client_most : {G K : Type 0} {inputs : SourceMeaning G} {outputs : SinkMeaning K} {to : Endpoint}
+    (clients : List (ClientProgram inputs outputs to)) (k : ℕ) (client : ClientProgram inputs outputs to) →
+    slice_get clients k ≡ Some client →
+    client.port ≤ total (map (λ (c : ClientProgram inputs outputs to). c.port) clients)
+client_most [] k client e = absurd (let f : None ≡ Some client = e in cc)
+client_most (x ∷ clients) zero client e =
+    let f : Some x ≡ Some client = e in
+    let same : x ≡ client = cc in
+    let port : x.port ≡ client.port = (λ i. (same i).port) in
+    omega (arith, port)
+client_most (x ∷ clients) (suc k) client e = let l = client_most clients k client e in omega (arith, l)
+
+-- the port that a request opens is its own
+module _ {S F D : Type 0} {stores : StoreMeaning S D} {sources : SourceMeaning F} {old new : LoopState S F D}
+    (answers : AnswersRequest stores sources old new) where
+  tid_by : (came : Came S F D) (tid : ℕ) → (left_by came old.server answers.from answers.tid).opened.tid ≡ Some tid →
+      tid ≡ answers.tid
+  tid_by Nothing tid e = absurd (let f : None ≡ Some tid = e in cc)
+  tid_by (Error_reply reply store) tid e = absurd (let f : None ≡ Some tid = e in cc)
+  tid_by (A_transfer held store) tid e = sym (same_Some answers.tid tid e)
+
+  pub own_tid : (tid : ℕ) → answers.left.opened.tid ≡ Some tid → tid ≡ answers.tid
+  own_tid tid is = tid_by answers.steps.came tid (ap (λ (l : Left S F D). l.opened.tid) (sym answers.steps.left) ∙ is)
+
+module _ {S F D G K : Type 0} {stores : StoreMeaning S D} {sources : SourceMeaning F} {inputs : SourceMeaning G}
+    {outputs : SinkMeaning K}
+    (programs : Programs stores sources inputs outputs) where
+  -- a place is at a port of a client's transfer, or above all ports
+  pub record OursAt (ports : List ℕ) (a : Endpoint) : Type 0 where
+    pub port : ℕ
+    pub known : Contains ports port
+    pub is : a ≡ endpoint programs.server.ip port
+
+  pub record AsideAt (count : ℕ) (a : Endpoint) : Type 0 where
+    pub number : ℕ
+    pub earlier : number < count
+    pub is : a ≡ endpoint programs.server.ip (above programs + number)
+
+  -- of a transfer that a step opens
+  abbrev OpensOne : ℕ → List ℕ → List ℕ → Endpoint → Type 0
+  OpensOne count ports opened a =
+      OursAt ports a ⊎ ((a ≡ endpoint programs.server.ip (above programs + count)) × (1 ≤ length opened))
+
+  by_ours : (b : Bool) (count tid : ℕ) (a : Endpoint) →
+      endpoint programs.server.ip (if b then tid else above programs + count) ≡ a →
+      OpensOne count (if b then tid ∷ [] else []) (tid ∷ []) a
+  by_ours true count tid a e = inl (record { port = tid; known = Contains-push [] tid; is = sym e })
+  by_ours false count tid a e = inr (sym e, omega arith)
+
+  answer_place : (from : Endpoint) (count : ℕ) (o : Option ℕ) (a : Endpoint) →
+      Contains (map (place programs count from) (option_to_list o)) a →
+      OpensOne count (if is_ours programs from then option_to_list o else []) (option_to_list o) a
+  answer_place from count None a c = absurd (nothing_in a c)
+  answer_place from count (Some tid) a c =
+      by_ours (is_ours programs from) count tid a (only_one (place programs count from tid) a c)
+
+  placed_cases : {first old new : LoopState S F D} (run : Run (Does stores sources) first old)
+      (does : Does stores sources old new) (a : Endpoint) → Contains (placed_by programs run does) a →
+      OpensOne (length (opened_ports run)) (ours_by programs does) (opened_by does) a
+  placed_cases run (Waited h) a c = absurd (nothing_in a c)
+  placed_cases run (At_port serves) a c = absurd (nothing_in a c)
+  placed_cases run (Request_received h) a c = absurd (nothing_in a c)
+  placed_cases run (No_request_found h) a c = absurd (nothing_in a c)
+  placed_cases run (Request_not_received h) a c = absurd (nothing_in a c)
+  placed_cases run (No_port_found h) a c = absurd (nothing_in a c)
+  placed_cases run (Request_answered answers) a c =
+      answer_place answers.from (length (opened_ports run)) answers.left.opened.tid a c
+  placed_cases run (Request_lost h) a c = absurd (nothing_in a c)
+  placed_cases run (Clock_read h) a c = absurd (nothing_in a c)
+  placed_cases run (Store_set h) a c = absurd (nothing_in a c)
+  placed_cases run (Transfer_closed h) a c = absurd (nothing_in a c)
+
+  -- of all that a run opened
+  pub place_cases : {first last : LoopState S F D} (run : Run (Does stores sources) first last) (a : Endpoint) →
+      Contains (places programs run) a → OursAt (our_ports programs run) a ⊎ AsideAt (length (opened_ports run)) a
+  place_cases Start a c = absurd (nothing_in a c)
+  place_cases (Then run does) a c =
+      let long : length (opened_by does ++ opened_ports run) ≡ length (opened_by does) + length (opened_ports run) =
+      length-append (opened_by does) (opened_ports run) in
+      elim (Contains-append_cases (placed_by programs run does) (places programs run) a c) [
+        | inl now ↦ elim (placed_cases run does a now) [
+          | inl h ↦
+              inl (record {
+                port = h.port;
+                known = Contains-append_left (ours_by programs does) (our_ports programs
+                    run) h.port h.known;
+                is = h.is;
+              })
+          | inr h ↦
+              inr (record {
+                number = length (opened_ports run);
+                earlier = (let l = h.1 in omega (arith, long, l));
+                is = h.0;
+              })
+        ]
+        | inr before ↦ elim (place_cases run a before) [
+          | inl h ↦
+              inl (record {
+                port = h.port;
+                known = Contains-append_right (ours_by programs does) (our_ports programs
+                    run) h.port h.known;
+                is = h.is;
+              })
+          | inr h ↦
+              inr (record { number = h.number; earlier = (let l = h.earlier in omega (arith, long, l)); is = h.is })
+        ]
+      ]
+
+  abbrev Client : Type 0
+  Client = ClientProgram inputs outputs (requests_at stores sources programs.server)
+
+  port_of : (a b : Endpoint) → a ≡ b → a.port ≡ b.port
+  port_of a b e = ap (λ (z : Endpoint). z.port) e
+
+  -- no client is at such a place, which is at the server
+  module _ (snapshot : Snapshot programs) (fresh : IsFreshBy programs snapshot) (a : Endpoint)
+      (known : Contains (places programs snapshot.run) a) where
+    pub client_apart : (k : ℕ) (client : Client) → slice_get programs.clients k ≡ Some client →
+        client_at inputs outputs (requests_at stores sources programs.server) client ≢ a
+    client_apart k client found same = elim (place_cases snapshot.run a known) [
+      | inl h ↦
+          fresh.apart k h.port client found (Contains-append_right (programs.server.start.requests ∷ [])
+          (our_ports programs snapshot.run) h.port h.known) (same ∙ h.is)
+      | inr h ↦
+          let most = client_most programs.clients k client found in
+          let at : client.port ≡ above programs + h.number =
+          port_of (client_at inputs outputs (requests_at stores sources programs.server) client)
+          (endpoint programs.server.ip (above programs + h.number)) (same ∙ h.is) in
+          omega (arith, most, at)
+    ]
+
+    pub at_server : (joined programs).host_of a ≡ At_server
+    at_server = elim (place_cases snapshot.run a known) [
+      | inl h ↦ there h.port h.is
+      | inr h ↦ there (above programs + h.number) h.is
+    ] where
+      there : (port : ℕ) → a ≡ endpoint programs.server.ip port → (joined programs).host_of a ≡ At_server
+      there port is =
+          ap (joined programs).host_of is ∙ at_port programs port (λ k client found same. client_apart k client found
+          (same ∙ sym is))
+
+  -- a transfer opens where none was before
+  module _ (old : Snapshot programs) {new : LoopState S F D} (answers : AnswersRequest stores sources old.state new)
+      (opens : option_to_list answers.left.opened.tid ≡ answers.tid ∷ []) (added : List Event)
+      (fresh : IsFreshBy programs (server_did programs old (Request_answered answers) added)) where
+    abbrev tid : ℕ
+    tid = answers.tid
+
+    abbrev count : ℕ
+    count = length (opened_ports old.run)
+
+    abbrev now : Snapshot programs
+    now = server_did programs old (Request_answered answers) added
+
+    -- one of a client
+    ports_are : is_ours programs answers.from ≡ true → our_ports programs now.run ≡ tid ∷ our_ports programs old.run
+    ports_are ours =
+        ap (λ (b : Bool). (if b then option_to_list answers.left.opened.tid else []) ++ our_ports programs old.run) ours
+        ∙ ap (λ (ports : List ℕ). ports ++ our_ports programs old.run) opens
+
+    place_before : (a : Endpoint) → Contains (places programs old.run) a → (b : Bool) →
+        is_ours programs answers.from ≡ b → a ≢ endpoint programs.server.ip (if b then tid else above programs + count)
+    place_before a c true is same = elim (place_cases old.run a c) [
+      | inl h ↦
+          second_apart programs.server.start.requests tid h.port (our_ports programs old.run)
+          (subst (λ (ports : List ℕ). AreDistinct (programs.server.start.requests ∷ ports)) (ports_are is)
+          fresh.server) h.known
+          (port_of (endpoint programs.server.ip h.port) (endpoint programs.server.ip tid) (sym h.is ∙ same))
+      | inr h ↦
+          let low =
+          fresh.below tid (subst (λ (ports : List ℕ). Contains ports tid) (sym (ports_are is))
+          (Contains-append_left (tid ∷ []) (our_ports programs old.run) tid (Contains-push [] tid))) in
+          let at : above programs + h.number ≡ tid =
+          port_of (endpoint programs.server.ip (above programs + h.number)) (endpoint programs.server.ip tid)
+          (sym h.is ∙ same) in
+          omega (arith, low, at)
+    ]
+    place_before a c false is same = elim (place_cases old.run a c) [
+      | inl h ↦
+          let low =
+          fresh.below h.port (Contains-append_right (ours_by programs (Request_answered answers))
+          (our_ports programs old.run) h.port h.known) in
+          let at : h.port ≡ above programs + count =
+          port_of (endpoint programs.server.ip h.port) (endpoint programs.server.ip (above programs + count))
+          (sym h.is ∙ same) in
+          omega (arith, low, at)
+      | inr h ↦
+          let less = h.earlier in
+          let at : above programs + h.number ≡ above programs + count =
+          port_of (endpoint programs.server.ip (above programs + h.number))
+          (endpoint programs.server.ip (above programs + count)) (sym h.is ∙ same) in
+          omega (arith, less, at)
+    ]
+
+    pub new_place : (a : Endpoint) → Contains (places programs old.run) a → a ≢ place programs count answers.from tid
+    new_place a c = place_before a c (is_ours programs answers.from) refl
+
+  -- ---- ours among all
+  ours_here : (b : Bool) (ports : List ℕ) (port : ℕ) → Contains (if b then ports else []) port → Contains ports port
+  ours_here true ports port c = c
+  ours_here false ports port c = absurd (nothing_in port c)
+
+  ours_opened : {old new : LoopState S F D} (does : Does stores sources old new) (port : ℕ) →
+      Contains (ours_by programs does) port → Contains (opened_by does) port
+  ours_opened (Waited h) port c = c
+  ours_opened (At_port serves) port c = c
+  ours_opened (Request_received h) port c = c
+  ours_opened (No_request_found h) port c = c
+  ours_opened (Request_not_received h) port c = c
+  ours_opened (No_port_found h) port c = c
+  ours_opened (Request_answered answers) port c =
+      ours_here (is_ours programs answers.from) (option_to_list answers.left.opened.tid) port c
+  ours_opened (Request_lost h) port c = c
+  ours_opened (Clock_read h) port c = c
+  ours_opened (Store_set h) port c = c
+  ours_opened (Transfer_closed h) port c = c
+
+  pub ours_among : {first last : LoopState S F D} (run : Run (Does stores sources) first last) (port : ℕ) →
+      Contains (our_ports programs run) port → Contains (opened_ports run) port
+  ours_among Start port c = c
+  ours_among (Then run does) port c =
+      elim (Contains-append_cases (ours_by programs does) (our_ports programs run) port c) [
+        | inl now ↦ Contains-append_left (opened_by does) (opened_ports run) port (ours_opened does port now)
+        | inr before ↦ Contains-append_right (opened_by does) (opened_ports run) port (ours_among run port before)
+      ]
+
+  -- the ports of the whole run are below the places of strangers' transfers
+  pub below_above : (port : ℕ) → Contains (our_ports programs programs.server.run) port → port < above programs
+  below_above port c =
+      let most =
+      total_most (opened_ports programs.server.run) port (ours_among programs.server.run port c) in omega (arith, most)
+
+  -- a place where a transfer was is not taken again
+  module _ (old : Snapshot programs) {new : LoopState S F D} where
+    answered_again : (answers : AnswersRequest stores sources old.state new) (added : List Event) →
+        IsFreshBy programs (server_did programs old (Request_answered answers) added) → (a : Endpoint) →
+        Contains (places programs old.run) a →
+        (o : Option ℕ) → answers.left.opened.tid ≡ o →
+        Contains (map (place programs (length (opened_ports old.run)) answers.from) (option_to_list o)) a → ⊥
+    answered_again answers added fresh a c None is now = nothing_in a now
+    answered_again answers added fresh a c (Some tid) is now =
+        let own : tid ≡ answers.tid = own_tid answers tid is in
+        new_place old answers (ap option_to_list is ∙ ap (λ (t : ℕ). t ∷ []) own) added fresh a c
+        (sym (only_one (place programs (length (opened_ports old.run)) answers.from tid) a now)
+        ∙ ap (place programs (length (opened_ports old.run)) answers.from) own)
+
+    pub not_again : (does : Does stores sources old.state new) (added : List Event) →
+        IsFreshBy programs (server_did programs old does added) → (a : Endpoint) →
+        Contains (places programs old.run) a →
+        Contains (placed_by programs old.run does) a → ⊥
+    not_again (Waited h) added fresh a c now = nothing_in a now
+    not_again (At_port serves) added fresh a c now = nothing_in a now
+    not_again (Request_received h) added fresh a c now = nothing_in a now
+    not_again (No_request_found h) added fresh a c now = nothing_in a now
+    not_again (Request_not_received h) added fresh a c now = nothing_in a now
+    not_again (No_port_found h) added fresh a c now = nothing_in a now
+    not_again (Request_answered answers) added fresh a c now =
+        answered_again answers added fresh a c answers.left.opened.tid refl now
+    not_again (Request_lost h) added fresh a c now = nothing_in a now
+    not_again (Clock_read h) added fresh a c now = nothing_in a now
+    not_again (Store_set h) added fresh a c now = nothing_in a now
+    not_again (Transfer_closed h) added fresh a c now = nothing_in a now

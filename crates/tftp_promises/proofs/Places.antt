@@ -1,0 +1,145 @@
+-- Where the programs are in their network.
+use Rattle.std.proofs.Common.{◌≡◌, ℕ, Bool, true, false, List, [], ◌∷◌, None, Some, refl, sym, ap, ◌∙◌, subst, zero}
+use Rattle.std.proofs.Common.{suc}
+use Rattle.std.specs.Prelude.{◌≢◌, if◌then◌else◌, slice_get}
+use Rattle.std.specs.Cmp.Lexicographic.{same_text}
+use Rattle.std.proofs.lemmas.Bool.{cond-true, cond-false, false_from_ne_true}
+use Rattle.tftp_file.specs.Sink.{SinkMeaning}
+use Rattle.tftp_file.specs.Source.{SourceMeaning}
+use Rattle.tftp_store.specs.Store.{StoreMeaning}
+use Rattle.tftp_rules.specs.Machine.{Endpoint, Host, At_server, At_client, Elsewhere, is_same, is_same_ip}
+use Rattle.tftp_rules.proofs.Endpoints.{same_ip, same_self, same_other}
+use Rattle.tftp_rules.proofs.ViewSafe.{shown_apart, shown_safe}
+use Rattle.tftp_promises.specs.Hosts.{ClientsAreThere, ServerIsThere, StrangersAreElsewhere}
+use Rattle.tftp_promises.specs.Modelled.{AreModelled}
+use Rattle.tftp_promises.specs.Openings.{is_ours}
+use Rattle.tftp_promises.specs.Order.{Programs, IsStranger}
+use Rattle.tftp_promises.specs.Programs.{endpoint, requests_at, ClientProgram, client_at, has_client}
+use Rattle.tftp_promises.specs.Promises.{joined, AreShown, KeepPromises}
+
+abbrev at_of : Bool → Bool → Host
+at_of client server = if client then At_client else if server then At_server else Elsewhere
+
+-- at the server's address nobody is elsewhere, and no client is
+at_address : (client : Bool) → at_of client true ≢ Elsewhere
+at_address true e = cc
+at_address false e = cc
+
+-- who is neither a client nor at the server's address is elsewhere
+elsewhere_by : (client server : Bool) → (if client then true else server) ≡ false → at_of client server ≡ Elsewhere
+elsewhere_by true server e = absurd (let f : true ≡ false = e in cc)
+elsewhere_by false true e = absurd (let f : true ≡ false = e in cc)
+elsewhere_by false false e = refl
+
+neither_by : (client server : Bool) → at_of client server ≡ Elsewhere → (if client then true else server) ≡ false
+neither_by true server e = absurd (let f : At_client ≡ Elsewhere = e in cc)
+neither_by false true e = absurd (let f : At_server ≡ Elsewhere = e in cc)
+neither_by false false e = refl
+
+either_way : (b r : Bool) → r ≡ true → (if b then true else r) ≡ true
+either_way true r e = refl
+either_way false r e = e
+
+module _ {G K : Type 0} {inputs : SourceMeaning G} {outputs : SinkMeaning K} {to : Endpoint} where
+  has_own : (clients : List (ClientProgram inputs outputs to)) (k : ℕ) (client : ClientProgram inputs outputs to) →
+      slice_get clients k ≡ Some client →
+      has_client inputs outputs to clients (client_at inputs outputs to client) ≡ true
+  has_own [] k client e = absurd (let f : None ≡ Some client = e in cc)
+  has_own (x ∷ clients) zero client e =
+      let same : x ≡ client = (let f : Some x ≡ Some client = e in cc) in
+      subst (λ (z : ClientProgram inputs outputs to). has_client inputs outputs to (x ∷ clients)
+      (client_at inputs outputs to z) ≡ true) same
+      (cond-true (is_same (client_at inputs outputs to x) (client_at inputs outputs to x)) true
+      (has_client inputs outputs to clients (client_at inputs outputs to x))
+      (same_self (client_at inputs outputs to x)))
+  has_own (x ∷ clients) (suc k) client e =
+      either_way (is_same (client_at inputs outputs to client) (client_at inputs outputs to x))
+      (has_client inputs outputs to clients (client_at inputs outputs to client)) (has_own clients k client e)
+
+  has_none : (clients : List (ClientProgram inputs outputs to)) (a : Endpoint) →
+      ((k : ℕ) (client : ClientProgram inputs outputs to) → slice_get clients k ≡ Some client →
+      client_at inputs outputs to client ≢ a) → has_client inputs outputs to clients a ≡ false
+  has_none [] a none = refl
+  has_none (x ∷ clients) a none =
+      cond-false (is_same a (client_at inputs outputs to x)) true (has_client inputs outputs to clients a)
+      (same_other a (client_at inputs outputs to x) (λ e. none zero x refl (sym e)))
+      ∙ has_none clients a (λ k client i. none (suc k) client i)
+
+module _ {S F D G K : Type 0} {stores : StoreMeaning S D} {sources : SourceMeaning F} {inputs : SourceMeaning G}
+    {outputs : SinkMeaning K} (programs : Programs stores sources inputs outputs) where
+  abbrev has : Endpoint → Bool
+  has a = has_client inputs outputs (requests_at stores sources programs.server) programs.clients a
+
+  pub clients_there : ClientsAreThere programs
+  clients_there k client i =
+      let a = client_at inputs outputs (requests_at stores sources programs.server) client in
+      ap (λ (b : Bool). at_of b (is_same_ip a.ip programs.server.ip)) (has_own programs.clients k client i)
+
+  -- a port of the server's address that no client has is at the server
+  pub at_port : (port : ℕ) →
+      ((k : ℕ) (client : ClientProgram inputs outputs (requests_at stores sources programs.server)) →
+      slice_get programs.clients k ≡ Some client →
+      client_at inputs outputs (requests_at stores sources programs.server) client ≢ endpoint programs.server.ip port) →
+      (joined programs).host_of (endpoint programs.server.ip port) ≡ At_server
+  at_port port none =
+      ap (λ (b : Bool). at_of b (is_same_ip programs.server.ip programs.server.ip))
+      (has_none programs.clients (endpoint programs.server.ip port) none)
+      ∙ ap (at_of false) (same_ip programs.server.ip)
+
+  pub server_there : ServerIsThere programs
+  server_there fresh port i = at_port port (λ k client at. fresh.apart k port client at i)
+
+  -- at the server's address nobody is elsewhere
+  pub near_server : (a : Endpoint) → a.ip ≡ programs.server.ip → (joined programs).host_of a ≢ Elsewhere
+  near_server a same e =
+      at_address (has a) (ap (at_of (has a))
+      (sym (ap (λ (ip : List ℕ). is_same_ip ip programs.server.ip) same ∙ same_ip programs.server.ip)) ∙ e)
+
+  elsewhere_strange : (a : Endpoint) → (joined programs).host_of a ≡ Elsewhere →
+      IsStranger stores sources inputs outputs programs a
+  elsewhere_strange a e = record {
+    server = λ same. near_server a same e;
+    clients =
+        λ k client found same. client_elsewhere (ap (joined programs).host_of same ∙ e) (clients_there k client found);
+  } where
+    client_elsewhere : {h : Host} → h ≡ Elsewhere → h ≡ At_client → ⊥
+    client_elsewhere e f = cc
+
+  strange_elsewhere : (a : Endpoint) → IsStranger stores sources inputs outputs programs a →
+      (joined programs).host_of a ≡ Elsewhere
+  strange_elsewhere a h =
+      ap (λ (b : Bool). at_of b (is_same_ip a.ip programs.server.ip))
+      (has_none programs.clients a (λ k client found. h.clients k client found))
+      ∙ ap (at_of false) (false_from_ne_true (is_same_ip a.ip programs.server.ip)
+      (λ e. h.server (same_text a.ip programs.server.ip (sym e))))
+
+  pub strangers_elsewhere : StrangersAreElsewhere programs
+  strangers_elsewhere a = (elsewhere_strange a, strange_elsewhere a)
+
+  -- an endpoint that is not ours is a stranger's, and no other is
+  pub strange_if : (a : Endpoint) → is_ours programs a ≡ false → IsStranger stores sources inputs outputs programs a
+  strange_if a e = elsewhere_strange a (elsewhere_by (has a) (is_same_ip a.ip programs.server.ip) e)
+
+  pub not_ours : (a : Endpoint) → IsStranger stores sources inputs outputs programs a → is_ours programs a ≡ false
+  not_ours a h = neither_by (has a) (is_same_ip a.ip programs.server.ip) (strange_elsewhere a h)
+
+  -- no stranger is at a client's endpoint, or at the server's address
+  pub stranger_no_client : (a : Endpoint) (k : ℕ)
+      (client : ClientProgram inputs outputs (requests_at stores sources programs.server)) →
+      slice_get programs.clients k ≡ Some client →
+      a ≡ client_at inputs outputs (requests_at stores sources programs.server) client →
+      IsStranger stores sources inputs outputs programs a → ⊥
+  stranger_no_client a k client found same h = h.clients k client found (sym same)
+
+  pub stranger_no_port : (a : Endpoint) (port : ℕ) → a ≡ endpoint programs.server.ip port →
+      IsStranger stores sources inputs outputs programs a → ⊥
+  stranger_no_port a port same h = h.server (ap (λ (e : Endpoint). e.ip) same)
+
+  -- what is shown is safe
+  pub promises_kept : (models : AreModelled programs) → AreShown programs models → KeepPromises programs models
+  promises_kept models s = record {
+    views = s.views;
+    viewed = s.viewed;
+    apart = shown_apart (joined programs) s.views s.messages s.shown;
+    safe = shown_safe (joined programs) s.views s.messages s.shown;
+  }

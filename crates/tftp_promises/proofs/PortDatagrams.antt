@@ -1,0 +1,567 @@
+-- A datagram that the server handles at the port of a transfer keeps the invariant.
+use Rattle.std.proofs.Common.{◌≡◌, ℕ, Bool, true, false, List, [], ◌∷◌, ◌++◌, Some, None, refl, sym, ap, ◌∙◌, subst}
+use Rattle.std.proofs.Common.{inl, inr}
+use Rattle.std.specs.Prelude.{◌≢◌, ◌⊎◌, Option, is_some, IsSome, ⊤}
+use Rattle.std.proofs.lemmas.Bool.{true≢false, cases_Bool}
+use Rattle.tftp_wire.specs.Reading.{has_error_opcode}
+use Rattle.tftp_wire.specs.declared.packet.Packet.{Packet as WirePacket}
+use Rattle.tftp_file.specs.Block.{IsPrefixOf}
+use Rattle.tftp_file.specs.Sink.{Holding, SinkMeaning}
+use Rattle.tftp_file.specs.Source.{SourceMeaning}
+use Rattle.tftp_file.specs.declared.files.Files.{Files}
+use Rattle.tftp_file.specs.declared.files.Files.TheVariants.{Source, Sink}
+use Rattle.tftp_ends.specs.declared.action.Action.{Action}
+use Rattle.tftp_ends.specs.declared.action.Action.TheVariants.{Respond}
+use Rattle.tftp_ends.specs.declared.action.Response.{Response}
+use Rattle.tftp_ends.specs.declared.error_reply.ErrorReply.TheVariants.{UnknownTransferId}
+use Rattle.tftp_ends.specs.declared.phase.Phase.{Phase}
+use Rattle.tftp_ends.specs.declared.phase.Phase.TheVariants.{Waiting, Sending, Receiving, Dallying, Closed}
+use Rattle.tftp_ends.specs.declared.role.Role.{Role}
+use Rattle.tftp_ends.specs.Action.{datagram_action}
+use Rattle.tftp_ends.specs.End.{EndState, Position, is_client, is_sender, outcome_of}
+use Rattle.tftp_ends.specs.Files.{AreSame}
+use Rattle.tftp_ends.specs.Step.{Reply, Turn, Acts, DatagramStep, after_turn, error_bytes, with_position}
+use Rattle.tftp_store.specs.Store.{StoreMeaning}
+use Rattle.tftp_server.specs.Draft.{Drafting, files_in, drafting_sink, KeepsStore}
+use Rattle.tftp_server.specs.State.{ServerState, with_next}
+use Rattle.tftp_server.specs.Steps.{StepIn, TakesDatagramLent}
+use Rattle.tftp_server.specs.declared.config.Config.{Config}
+use Rattle.tftp_sockets.specs.Journal.{Event}
+use Rattle.tftp_sockets.specs.Journal.Event.{Received}
+use Rattle.tftp_loop.specs.Serves.{LoopState, ServesPort, At_port, AtPort, A_datagram, AnswersDatagram}
+use Rattle.tftp_loop.specs.Serves.{ReceivesAndHandles, port_state}
+use Rattle.tftp_rules.specs.EndShown.{Stands, IsOpenAt, Goes}
+use Rattle.tftp_rules.specs.KnownFiles.{known_source, known_sink}
+use Rattle.tftp_rules.specs.EndKept.{EndKept, PhaseKept}
+use Rattle.tftp_rules.specs.Machine.{Endpoint, Network}
+use Rattle.tftp_rules.specs.OpenEnds.{OpenEnd, files_of, with_files, in_state, end_after, open_view, peer_of}
+use Rattle.tftp_rules.proofs.EndTurns.{datagram_goes}
+use Rattle.tftp_rules.proofs.KnownSteps.{step_known}
+use Rattle.tftp_promises.specs.Modelled.{AreModelled}
+use Rattle.tftp_promises.specs.Moved.{Moved, acts_move, port_moves, step_moves}
+use Rattle.tftp_promises.specs.Openings.{is_ours, moved_at, opened_at, place_at}
+use Rattle.tftp_promises.specs.Order.{Programs, IsStranger}
+use Rattle.tftp_promises.specs.Programs.{endpoint}
+use Rattle.tftp_promises.specs.Promises.{joined}
+use Rattle.tftp_promises.specs.Snapshots.{Snapshot, server_did}
+use Rattle.tftp_promises.proofs.ClosedEnds.{ClosedAnswers, closed_datagram_goes, wrong_datagram_goes}
+use Rattle.tftp_promises.proofs.Kept.{How, By_models, By_run, GaveSo, TookSo, IsKnown, IsOpened, IsToldAt, length_of}
+use Rattle.tftp_promises.proofs.Kept.{place_text, HasArrived, HasStored, IsThere, TransferKept, IsKept, IsFreshBy}
+use Rattle.tftp_promises.proofs.Kept.{IsStrangers}
+use Rattle.tftp_promises.proofs.MovedFiles.{GotSo, MovesOver, files_move}
+use Rattle.tftp_promises.proofs.MovedSteps.{moves_here, none_at_port, none_beside}
+use Rattle.tftp_promises.proofs.Places.{not_ours}
+use Rattle.tftp_promises.proofs.PortSteps.{some_is, no_outcome, datagram_silent, server_is, stays_by, sends_only}
+use Rattle.tftp_promises.proofs.ServerStays.{FilesStay, known_if, stay_if, stored_after}
+use Rattle.tftp_promises.proofs.StoredFiles.{IsIn}
+use Rattle.tftp_promises.proofs.TransferFiles.{armed, content_of, files_left}
+use Rattle.tftp_promises.proofs.WrongPeers.{datagram_stays, stays_strangers, wrong_peer, wrong_replies}
+use Rattle.tftp_promises.proofs.TurnsAtPort.{Becomes, IsSeated, turn_keeps}
+use Rattle.tftp_promises.proofs.Texts.{pad_to}
+
+-- what an end is after a turn does not depend on its files
+pub after_rest : (x : OpenEnd) (held : Files (List ℕ) Holding) →
+    ((with_files x held).address ≡ x.address) × ((with_files x held).state ≡ x.state)
+    × ((with_files x held).path ≡ x.path) × ((with_files x held).request ≡ x.request)
+after_rest x (Source left) = (refl, refl, refl, refl)
+after_rest x (Sink holding) = (refl, refl, refl, refl)
+
+module _ (network : Network) where
+  -- what holds of an end does not depend on whether its sink is set to refuse
+  phase_armed : (phase : Phase) (x : OpenEnd) (refuses : Bool) → PhaseKept network x phase →
+      PhaseKept network (armed refuses x) phase
+  phase_armed (Waiting asked limit) x refuses h = h
+  phase_armed (Sending terms number) x refuses h =
+      record {
+        sender = h.sender;
+        positive = h.positive;
+        size = h.size;
+        fits = h.fits;
+        so_far = h.so_far;
+        left = h.left;
+        last_sent_to = h.last_sent_to;
+        measured = h.measured;
+      }
+  phase_armed (Receiving terms number) x refuses h = h
+  phase_armed (Dallying terms number dally) x refuses h = h
+  phase_armed (Closed terms number complete outcome) x refuses h = tt
+
+  pub end_armed : (x : OpenEnd) (refuses : Bool) → EndKept network x → EndKept network (armed refuses x)
+  end_armed x refuses h =
+      record {
+        phase = phase_armed x.state.position.phase x refuses h.phase;
+        held_back = h.held_back;
+        committed = h.committed;
+      }
+
+  -- an open end of the server has a peer
+  has_peer : (x : OpenEnd) (phase : Phase) → PhaseKept network x phase → is_client x.state.role.side ≡ false →
+      is_some (outcome_of phase) ≡ false → peer_of phase ≡ None → ⊥
+  has_peer x (Waiting asked limit) h side o e = true≢false (sym h.0 ∙ side)
+  has_peer x (Sending terms number) h side o e = let f : Some terms.peer ≡ None = e in cc
+  has_peer x (Receiving terms number) h side o e = let f : Some terms.peer ≡ None = e in cc
+  has_peer x (Dallying terms number dally) h side o e = let f : Some terms.peer ≡ None = e in cc
+  has_peer x (Closed terms number complete outcome) h side o e = true≢false o
+
+-- the same files of a transfer, over the same store
+module _ {S F D : Type 0} where
+  abbrev source_or : F → Files F (Drafting S D) → F
+  source_or other (Source s) = s
+  source_or other (Sink d) = other
+
+  abbrev drafting_or : Drafting S D → Files F (Drafting S D) → Drafting S D
+  drafting_or other (Source s) = other
+  drafting_or other (Sink d) = d
+
+  same_in : (store store' : S) (path path' : List ℕ) (replace : Bool) (files files' : Files F D) →
+      files_in store' path' replace files' ≡ files_in store path replace files →
+      KeepsStore files store store' → AreSame (λ (a b : F). ⊤) (λ (a b : D). ⊤) files files' →
+      (store' ≡ store) × (files' ≡ files)
+  same_in store store' path path' replace (Source s) (Source s') same stays kind =
+      (stays, ap (λ (f : F). Source f) (ap (source_or s) same))
+  same_in store store' path path' replace (Sink d) (Sink d') same stays kind =
+      let one = ap (drafting_or (record { store = store; draft = d; path = path; replace = replace })) same in
+      (ap (λ (z : Drafting S D). z.store) one, ap (λ (z : Drafting S D). Sink z.draft) one)
+  same_in store store' path path' replace (Source s) (Sink d') same stays kind = absurd kind
+  same_in store store' path path' replace (Sink d) (Source s') same stays kind = absurd kind
+
+module _ {S F D G K : Type 0} {stores : StoreMeaning S D} {sources : SourceMeaning F} {inputs : SourceMeaning G}
+    {outputs : SinkMeaning K}
+    (programs : Programs stores sources inputs outputs) {how : How programs} (old : Snapshot programs)
+    (kept : IsKept programs how old) (fresh : IsFreshBy programs old)
+    {new : LoopState S F D} (serves : ServesPort stores sources old.state new) (added : List Event)
+    (events : new.events ≡ added ++ old.state.events)
+    (h : ReceivesAndHandles stores sources old.state.now (port_state old.state serves.timer) serves.next)
+    (is : serves.does ≡ A_datagram h)
+    (fresh_now : IsFreshBy programs (server_did programs old (At_port serves) added)) where
+  abbrev port : ℕ
+  port = serves.timer.port
+
+  -- where its transfer is
+  abbrev place : Endpoint
+  place = place_at programs port old.run
+
+  abbrev now : Snapshot programs
+  now = server_did programs old (At_port serves) added
+
+  abbrev from : Endpoint
+  from = h.from
+
+  abbrev bytes : List ℕ
+  bytes = h.bytes
+
+  abbrev answers : AnswersDatagram stores sources port from bytes old.state.server serves.next.server
+      (Received port from bytes ∷ old.state.events) serves.next.events h.step
+  answers = h.handles
+
+  abbrev taken : TakesDatagramLent stores sources port from bytes old.state.server serves.next.server h.step
+      answers.outgoing
+  taken = answers.takes
+
+  abbrev turn : Turn
+  turn = taken.takes.turn
+
+  abbrev was : TransferKept programs how kept.views kept.messages old port taken.transfer place
+  was = kept.transfers port taken.transfer place (inl (taken.found, refl))
+
+  abbrev x : OpenEnd
+  x = was.end
+
+  abbrev received : List Event
+  received = Received port from bytes ∷ []
+
+  held : new.server.held ≡ with_next port taken.next old.state.server.held
+  held = ap (λ (s : ServerState S F D). s.held) (server_is programs old kept serves added events) ∙ taken.held
+
+  store_is : new.server.store ≡ serves.next.server.store
+  store_is = ap (λ (s : ServerState S F D). s.store) (server_is programs old kept serves added events)
+
+  replace_is : old.state.server.config.overwrite ≡ programs.server.start.server.config.overwrite
+  replace_is = ap (λ (c : Config). c.overwrite) kept.server.config
+
+  -- its end is among all that is shown
+  stands : Stands (joined programs) kept.shown.0 kept.views kept.messages was.viewed.index (open_view x)
+  stands = record { shown = kept.shown.1; viewed = was.viewed.viewed }
+
+  abbrev step_x : EndState → Type 0
+  step_x e =
+      StepIn stores sources from bytes e
+      (files_in old.state.server.store taken.transfer.path old.state.server.config.overwrite taken.transfer.files) turn
+      (files_in serves.next.server.store taken.next.path old.state.server.config.overwrite taken.next.files)
+
+  its_step : step_x x.state
+  its_step = subst step_x (sym was.state) taken.takes.steps
+
+  next_state : after_turn x.state turn ≡ taken.next.end
+  next_state = ap (λ (e : EndState). after_turn e turn) was.state ∙ sym taken.takes.carries.state
+
+  -- it stands at its port, or aside
+  abbrev Seated : OpenEnd → Type 0
+  Seated y = IsSeated programs old kept (At_port serves) added port taken.transfer taken.found turn y
+
+  -- the invariant, if the end turned so, and these files were left
+  then_keeps : (refuses : Bool) (becomes : Becomes programs old kept (At_port serves) added port taken.transfer
+      taken.found (armed refuses x) turn taken.next) → Seated becomes.end →
+      IsKnown programs how new → FilesStay programs how old.state new → IsKept programs how now
+  then_keeps refuses becomes seated known files =
+      turn_keeps programs old kept (At_port serves) added port taken.transfer taken.found fresh
+      (stays_by programs old kept serves added events answers.config known files)
+      (armed refuses x) was.address was.side was.viewed.last_sent turn taken.next held becomes
+      (sends_only programs old kept serves added events turn.reply received answers.events
+      (datagram_silent port from bytes)) seated (λ a n. none_beside programs old.run serves a n)
+
+  -- ---- an end that stays as it is
+  acts_quiet : (e : EndState) (step : step_x e) (response : Response) →
+      datagram_action e from bytes step.decoded ≡ Respond response → (moved : Moved) →
+      step_moves sources (drafting_sink stores) from bytes e
+      (files_in old.state.server.store taken.transfer.path old.state.server.config.overwrite taken.transfer.files)
+      turn
+      (files_in serves.next.server.store taken.next.path old.state.server.config.overwrite taken.next.files) step moved
+      ≡ moved
+  acts_quiet e step response says moved =
+      let Files_before =
+      files_in old.state.server.store taken.transfer.path old.state.server.config.overwrite taken.transfer.files in
+      let Files_after =
+      files_in serves.next.server.store taken.next.path old.state.server.config.overwrite taken.next.files in
+      let Quiet : Action → Type 0 = λ (action : Action).
+      (acts : Acts sources (drafting_sink stores) action from bytes e Files_before turn Files_after) →
+      acts_move sources (drafting_sink stores) action from bytes e Files_before turn Files_after acts moved ≡ moved
+      in
+      subst Quiet (sym says) (λ acts. refl) step.acts
+
+  -- how it answers
+  abbrev Answered : Type 0
+  Answered =
+      (decoded : Option WirePacket) →
+      ClosedAnswers (joined programs) kept.shown.0 kept.views kept.messages was.viewed.index x from
+      (datagram_action x.state from bytes decoded)
+
+  module _ (answered : Answered) (seated : x.state ≡ after_turn x.state turn → Seated x) where
+    -- nothing moves at it
+    quiet : (moved : Moved) → port_moves serves.does moved ≡ moved
+    quiet moved =
+        let answer = answered taken.takes.steps.decoded in
+        let says : datagram_action taken.transfer.end from bytes taken.takes.steps.decoded ≡ Respond answer.response =
+        subst (λ (e : EndState). datagram_action e from bytes taken.takes.steps.decoded ≡ Respond answer.response)
+        was.state answer.is in
+        ap (λ (d : AtPort stores sources old.state.now (port_state old.state serves.timer) serves.next). port_moves d
+        moved) is ∙ acts_quiet taken.transfer.end taken.takes.steps answer.response says moved
+
+    rests_keeps : IsKept programs how now
+    rests_keeps =
+        let answer = answered its_step.decoded in
+        let A : Action → Type 0 = λ (action : Action).
+        Acts sources (drafting_sink stores) action from bytes x.state
+        (files_in old.state.server.store taken.transfer.path old.state.server.config.overwrite taken.transfer.files)
+        turn
+        (files_in serves.next.server.store taken.next.path old.state.server.config.overwrite taken.next.files)
+        in
+        let acts : A (Respond answer.response) = subst A answer.is its_step.acts in
+        let same =
+        same_in old.state.server.store serves.next.server.store taken.transfer.path taken.next.path
+        old.state.server.config.overwrite taken.transfer.files taken.next.files acts.1 taken.takes.stays
+        taken.takes.kind in
+        let store_same : new.server.store ≡ old.state.server.store = store_is ∙ same.0 in
+        let stay : FilesStay programs how old.state new =
+        stay_if programs how old.state new (λ o path file i. subst (λ (s : S). IsIn (stores.stored s) path file)
+        (sym store_same) i) in
+        let position : turn.position ≡ x.state.position = ap (λ (t : Turn). t.position) acts.0 ∙ answer.same in
+        let state : x.state ≡ after_turn x.state turn = ap (λ (p : Position). with_position p x.state) (sym position) in
+        then_keeps x.refuses (record {
+          end = x;
+          goes =
+              subst (λ (t : Turn). Goes (joined programs) kept.shown.0 kept.views kept.messages was.viewed.index x t x)
+              (sym acts.0) answer.goes;
+          address = refl;
+          state = state ∙ next_state;
+          path = was.path ∙ sym taken.takes.path;
+          request = was.request ∙ sym taken.takes.request;
+          has =
+              subst (λ (f : Files F D). HasStored programs how now x f) (sym same.1)
+              (stored_after programs how old (At_port serves) added stay x
+              (none_at_port programs old.run serves quiet x.address) taken.transfer.files was.has);
+        }) (seated state) (known_if programs how old.state new (ap stores.stored store_same) kept.server.known) stay
+
+  -- a stranger's transfer answers one that is ours by an ERROR, which is there already
+  pub wrong_keeps : IsStrangers programs x.state → is_ours programs from ≡ true →
+      IsThere kept.messages (endpoint programs.server.ip port) from (error_bytes UnknownTransferId) →
+      IsKept programs how now
+  wrong_keeps s ours there =
+      let n : s.peer ≢ from =
+      λ same. true≢false (sym ours ∙ (ap (is_ours programs) (sym same) ∙ not_ours programs s.peer s.strange)) in
+      let wrong = wrong_peer x.state from bytes its_step.decoded s.peer s.is_peer n in
+      let acts = subst (λ (action : Action).
+      Acts sources (drafting_sink stores) action from bytes x.state
+      (files_in old.state.server.store taken.transfer.path old.state.server.config.overwrite taken.transfer.files)
+      turn
+      (files_in serves.next.server.store taken.next.path old.state.server.config.overwrite taken.next.files)) wrong
+      its_step.acts in
+      rests_keeps (λ decoded. wrong_datagram_goes (joined programs) kept.shown.0 kept.views kept.messages
+      was.viewed.index x stands was.viewed.kept s.peer s.is_peer from n bytes decoded)
+      (λ state. inr (record {
+        strangers = s;
+        replies = λ reply says.
+            inr (subst (λ (r : Reply). IsThere kept.messages (endpoint programs.server.ip port) r.to r.bytes)
+            (sym (wrong_replies sources (drafting_sink stores) from x.state (has_error_opcode bytes) bytes _ turn _
+            acts reply says)) there);
+      }))
+
+  -- ---- the datagram has arrived at its place, and it is for a transfer at its port, or a stranger's
+  module _ (arrived : HasArrived kept.messages from place bytes) (near : (place ≡ endpoint programs.server.ip port)
+      ⊎ IsStranger stores sources inputs outputs programs from) where
+    come : HasArrived kept.messages from x.address bytes
+    come = subst (λ (a : Endpoint). HasArrived kept.messages from a bytes) (sym was.address) arrived
+
+    -- where it stands then
+    seated_by : (y : OpenEnd) → y.state ≡ after_turn x.state turn →
+        (place ≡ endpoint programs.server.ip port) ⊎ IsStrangers programs x.state →
+        (place ≡ endpoint programs.server.ip port) ⊎ IsStranger stores sources inputs outputs programs from → Seated y
+    seated_by y is_y seat (inl here) = inl here
+    seated_by y is_y (inl here) (inr strange) = inl here
+    seated_by y is_y (inr s) (inr strange) =
+        let stays =
+        datagram_stays sources (drafting_sink stores) from x.state bytes its_step.decoded _ turn _ its_step.acts
+        s.peer s.is_peer in
+        inr (record {
+          strangers =
+              subst (λ (e : EndState). IsStrangers programs e) (sym is_y)
+              (stays_strangers programs from x.state turn strange s stays);
+          replies =
+              λ reply says. inl (subst (λ (a : Endpoint). IsStranger stores sources inputs outputs programs a)
+              (sym (stays.replies reply says)) strange);
+        })
+
+    seated : (y : OpenEnd) → y.state ≡ after_turn x.state turn → Seated y
+    seated y is_y = seated_by y is_y was.seat near
+
+    -- an open end
+    -- the datagram was for the end whatever its file is
+    goes_over : (z : OpenEnd) (content : Files (List ℕ) Holding) → z.address ≡ x.address →
+        IsOpenAt (joined programs) kept.shown.0 kept.views kept.messages was.viewed.index z →
+        peer_of z.state.position.phase ≢ None → DatagramStep known_source known_sink from bytes z.state (files_of z)
+        turn content →
+        Goes (joined programs) kept.shown.0 kept.views kept.messages was.viewed.index z turn (end_after z turn content)
+    goes_over z content same open_at peer steps =
+        let come_z : HasArrived kept.messages from z.address bytes =
+        subst (λ (a : Endpoint). HasArrived kept.messages from a bytes) (sym same) come in
+        datagram_goes (joined programs) kept.shown.0 kept.views kept.messages was.viewed.index z from bytes turn content
+        open_at come_z
+        (λ no_peer near p spells answer. absurd (peer no_peer)) steps
+
+    open_now : is_some (outcome_of x.state.position.phase) ≡ false → (refuses : Bool) →
+        IsOpenAt (joined programs) kept.shown.0 kept.views kept.messages was.viewed.index (armed refuses x)
+    open_now o refuses =
+        record {
+          stands = stands;
+          kept = end_armed (joined programs) x refuses was.viewed.kept;
+          still = o;
+          last_sent = was.viewed.last_sent;
+        }
+
+    peered : is_some (outcome_of x.state.position.phase) ≡ false → peer_of x.state.position.phase ≢ None
+    peered o no_peer = has_peer (joined programs) x x.state.position.phase was.viewed.kept.phase was.side o no_peer
+
+    becomes : (refuses : Bool) (content : Files (List ℕ) Holding) →
+        Goes (joined programs) kept.shown.0 kept.views kept.messages was.viewed.index (armed refuses x) turn
+        (end_after (armed refuses x) turn content) →
+        HasStored programs how now (end_after (armed refuses x) turn content) taken.next.files →
+        Becomes programs old kept (At_port serves) added port taken.transfer taken.found (armed refuses x) turn
+        taken.next
+    becomes refuses content goes has =
+        let rest = after_rest (in_state (after_turn x.state turn) (armed refuses x)) content in
+        record {
+          end = end_after (armed refuses x) turn content;
+          goes = goes;
+          address = rest.0;
+          state = rest.1 ∙ next_state;
+          path = rest.2 ∙ (was.path ∙ sym taken.takes.path);
+          request = rest.3 ∙ (was.request ∙ sym taken.takes.request);
+          has = has;
+        }
+
+    seated_after : (refuses : Bool) (content : Files (List ℕ) Holding) →
+        Seated (end_after (armed refuses x) turn content)
+    seated_after refuses content =
+        seated (end_after (armed refuses x) turn content)
+        (after_rest (in_state (after_turn x.state turn) (armed refuses x)) content).1
+
+    -- by the models
+    models_keep : (models : AreModelled programs) → how ≡ By_models models →
+        is_some (outcome_of x.state.position.phase) ≡ false → IsKept programs how now
+    unfolding becomes
+    models_keep models by o =
+        let known : IsSome (stores.stored old.state.server.store) =
+        subst (λ (w : How programs). IsKnown programs w old.state) by kept.server.known in
+        let has : HasStored programs (By_models models) old x taken.transfer.files =
+        subst (λ (w : How programs). HasStored programs w old x taken.transfer.files) by was.has in
+        let stored = some_is (stores.stored old.state.server.store) known in
+        let z = armed stored.0.refuses x in
+        let content =
+        content_of programs models old x old.state.server.store stored.0 stored.1 taken.transfer.path
+        old.state.server.config.overwrite taken.transfer.files has
+        (no_outcome (outcome_of x.state.position.phase) o) in
+        let over =
+        step_known sources (drafting_sink stores) from bytes x.state
+        (files_in old.state.server.store taken.transfer.path old.state.server.config.overwrite taken.transfer.files)
+        (files_of z) turn
+        (files_in serves.next.server.store taken.next.path old.state.server.config.overwrite taken.next.files) content
+        its_step in
+        let goes = goes_over z over.content refl (open_now o stored.0.refuses) (peered o) over.steps in
+        let left =
+        files_left programs models old (At_port serves) added serves.next.server.store store_is stored.0 stored.1
+        kept.shown.0 kept.views kept.messages was.viewed.index x was.viewed.kept turn
+        taken.transfer.files taken.next.files taken.transfer.path taken.next.path old.state.server.config.overwrite
+        (sym was.path) replace_is has from bytes x.state its_step taken.takes.stays taken.takes.kind
+        over.content over.known goes in
+        then_keeps stored.0.refuses
+        (becomes stored.0.refuses over.content goes
+        (subst (λ (w : How programs). HasStored programs w now (end_after z turn over.content) taken.next.files)
+        (sym by) left.has)) (seated_after stored.0.refuses over.content)
+        (subst (λ (w : How programs). IsKnown programs w new) (sym by) left.known)
+        (subst (λ (w : How programs). FilesStay programs w old.state new) (sym by) left.stay)
+
+    -- by the run
+    abbrev before : Moved
+    before = moved_at programs place old.run
+
+    abbrev after_by : (e : EndState) → step_x e → Moved
+    after_by e step =
+        step_moves sources (drafting_sink stores) from bytes e
+        (files_in old.state.server.store taken.transfer.path old.state.server.config.overwrite taken.transfer.files)
+        turn
+        (files_in serves.next.server.store taken.next.path old.state.server.config.overwrite taken.next.files) step
+        before
+
+    abbrev moved_then : Moved
+    moved_then =
+        step_moves sources (drafting_sink stores) from bytes taken.transfer.end
+        (files_in old.state.server.store taken.transfer.path old.state.server.config.overwrite taken.transfer.files)
+        turn
+        (files_in serves.next.server.store taken.next.path old.state.server.config.overwrite taken.next.files)
+        taken.takes.steps before
+
+    moved_now : moved_at programs place now.run ≡ moved_then
+    moved_now =
+        moves_here programs old.run serves before
+        ∙ ap (λ (d : AtPort stores sources old.state.now (port_state old.state serves.timer) serves.next). port_moves d
+        before) is
+
+    x_place : x.address ≡ place
+    x_place = was.address
+
+    got_before : (pad : ℕ) (files : Files F D) → HasStored programs (By_run pad) old x files →
+        GotSo stores sources files x before
+    got_before pad (Source source) has =
+        (has.sender, subst (λ (a : Endpoint). GaveSo x (moved_at programs a old.run)) x_place has.gave)
+    got_before pad (Sink draft) has =
+        (has.receiver, subst (λ (a : Endpoint). TookSo x (moved_at programs a old.run)) x_place has.took)
+
+    opened_then : (pad : ℕ) (files : Files F D) → HasStored programs (By_run pad) old x files → IsOpened programs old x
+    opened_then pad (Source source) has = has.opened
+    opened_then pad (Sink draft) has = has.opened
+
+    text_is : (pad : ℕ) (files : Files F D) → HasStored programs (By_run pad) old x files →
+        is_sender x.state.role.side ≡ true → x.text ≡ place_text programs pad place
+    text_is pad (Source source) has sender = has.text ∙ ap (place_text programs pad) x_place
+    text_is pad (Sink draft) has sender = absurd (true≢false (sym sender ∙ has.receiver))
+
+    told : IsToldAt programs now place
+    told = fresh_now.told place (kept.server.opened port taken.transfer place (inl (taken.found, refl)))
+
+    long : (pad : ℕ) (files : Files F D) → HasStored programs (By_run pad) old x files →
+        length_of (opened_at programs place programs.server.run) ≡ x.state.role.length
+    long pad files has =
+        let h = opened_then pad files has in
+        ap length_of (sym told.opened ∙ (ap (λ (a : Endpoint). opened_at programs a old.run) (sym x_place) ∙ h.opened))
+        ∙ ap (λ (r : Role). r.length) h.role
+
+    -- the end after the step, whatever its file holds then
+    opened_after : (content : Files (List ℕ) Holding) → IsOpened programs old x →
+        IsOpened programs now (end_after x turn content)
+    opened_after (Source left) was =
+        record { opening = was.opening; opened = was.opened; path = was.path; role = was.role }
+    opened_after (Sink holding) was =
+        record { opening = was.opening; opened = was.opened; path = was.path; role = was.role }
+
+    moved_after : (So : OpenEnd → Moved → Type 0) (content : Files (List ℕ) Holding) →
+        So (end_after x turn content) moved_then → So (end_after x turn content) (moved_at programs x.address now.run)
+    moved_after So content so =
+        subst (λ (a : Endpoint). So (end_after x turn content) (moved_at programs a now.run)) (sym x_place)
+        (subst (So (end_after x turn content)) (sym moved_now) so)
+
+    got_has : (pad : ℕ) (files files' : Files F D) → AreSame (λ (a b : F). ⊤) (λ (a b : D). ⊤) files files' →
+        HasStored programs (By_run pad) old x files → (content : Files (List ℕ) Holding) →
+        GotSo stores sources files' (end_after x turn content) moved_then →
+        HasStored programs (By_run pad) now (end_after x turn content) files'
+    got_has pad (Source source) (Source source') kind has (Source left) got = record {
+      sender = has.sender;
+      opened = opened_after (Source left) has.opened;
+      text = has.text;
+      gave = moved_after GaveSo (Source left) got.1;
+    }
+    got_has pad (Sink draft) (Sink draft') kind has (Sink holding) got = record {
+      receiver = has.receiver;
+      opened = opened_after (Sink holding) has.opened;
+      took = moved_after TookSo (Sink holding) got.1;
+    }
+    got_has pad (Source source) (Source source') kind has (Sink holding) got = record {
+      sender = has.sender;
+      opened = opened_after (Sink holding) has.opened;
+      text = has.text;
+      gave = moved_after GaveSo (Sink holding) got.1;
+    }
+    got_has pad (Sink draft) (Sink draft') kind has (Source left) got = record {
+      receiver = has.receiver;
+      opened = opened_after (Source left) has.opened;
+      took = moved_after TookSo (Source left) got.1;
+    }
+    got_has pad (Source source) (Sink draft') kind has content got = absurd kind
+    got_has pad (Sink draft) (Source source') kind has content got = absurd kind
+
+    run_keeps : (pad : ℕ) → how ≡ By_run pad → is_some (outcome_of x.state.position.phase) ≡ false →
+        IsKept programs how now
+    unfolding becomes
+    run_keeps pad by o =
+        let has : HasStored programs (By_run pad) old x taken.transfer.files =
+        subst (λ (w : How programs). HasStored programs w old x taken.transfer.files) by was.has in
+        let all : List ℕ = (moved_at programs place programs.server.run).bytes in
+        let text : is_sender x.state.role.side ≡ true → x.text ≡ pad_to pad x.state.role.length all =
+        λ sender. text_is pad taken.transfer.files has sender ∙ ap (λ (n : ℕ). pad_to pad n all)
+        (long pad taken.transfer.files has) in
+        let Over : EndState → Type 0 =
+        λ (e : EndState). (step : step_x e) → IsPrefixOf (after_by e step).bytes all →
+        MovesOver stores sources x from bytes turn taken.next.files (after_by e step) in
+        let at_x : Over x.state = λ step begins.
+        files_move stores sources x (joined programs) was.viewed.kept (no_outcome (outcome_of x.state.position.phase) o)
+        from bytes turn old.state.server.store serves.next.server.store taken.transfer.path taken.next.path
+        old.state.server.config.overwrite pad all text before taken.transfer.files taken.next.files taken.takes.kind
+        (got_before pad taken.transfer.files has) step begins
+        in
+        let begins : IsPrefixOf moved_then.bytes all =
+        subst (λ (m : Moved). IsPrefixOf m.bytes all) moved_now told.bytes in
+        let over = subst Over was.state at_x taken.takes.steps begins in
+        let goes = goes_over x over.content refl (open_now o x.refuses) (peered o) over.steps in
+        then_keeps x.refuses
+        (becomes x.refuses over.content goes
+        (subst (λ (w : How programs). HasStored programs w now (end_after x turn over.content) taken.next.files)
+        (sym by) (got_has pad taken.transfer.files taken.next.files taken.takes.kind has over.content over.got)))
+        (seated_after x.refuses over.content)
+        (subst (λ (w : How programs). IsKnown programs w new) (sym by) tt)
+        (subst (λ (w : How programs). FilesStay programs w old.state new) (sym by) tt)
+
+    open_by : (w : How programs) → how ≡ w → is_some (outcome_of x.state.position.phase) ≡ false →
+        IsKept programs how now
+    open_by (By_models models) by o = models_keep models by o
+    open_by (By_run pad) by o = run_keeps pad by o
+
+    -- a closed one
+    closed_keeps : is_some (outcome_of x.state.position.phase) ≡ true → IsKept programs how now
+    closed_keeps c =
+        rests_keeps (λ decoded. closed_datagram_goes (joined programs) kept.shown.0 kept.views kept.messages
+        was.viewed.index x stands was.viewed.kept c from bytes decoded) (λ state. seated x state)
+
+    pub datagram_keeps : IsKept programs how now
+    datagram_keeps = elim (cases_Bool (is_some (outcome_of x.state.position.phase))) [
+      | inl c ↦ closed_keeps c
+      | inr o ↦ open_by how refl o
+    ]

@@ -1,0 +1,91 @@
+-- What a step of the server at the port of a transfer leaves as it was, and what it noted.
+use Rattle.std.proofs.Common.{◌≡◌, ℕ, false, List, [], ◌∷◌, ◌++◌, Option, Some, None, refl, sym, ap, ◌∙◌, subst}
+use Rattle.std.specs.Prelude.{◌⊎◌, is_some, IsSome}
+use Rattle.std.specs.List.{Contains}
+use Rattle.std.proofs.lemmas.Bool.{true≢false}
+use Rattle.tftp_file.specs.Sink.{SinkMeaning}
+use Rattle.tftp_file.specs.Source.{SourceMeaning}
+use Rattle.tftp_ends.specs.Step.{Reply}
+use Rattle.tftp_ends.specs.declared.outcome.Outcome.{Outcome}
+use Rattle.tftp_store.specs.Store.{StoreMeaning}
+use Rattle.tftp_server.specs.State.{ServerState}
+use Rattle.tftp_sockets.specs.Journal.{Event, answered}
+use Rattle.tftp_sockets.specs.Journal.Event.{Received, Sent}
+use Rattle.tftp_loop.specs.Serves.{LoopState, ServesPort, At_port}
+use Rattle.tftp_rules.specs.Machine.{Endpoint}
+use Rattle.tftp_promises.specs.Joint.{CanTake, WasSentBefore}
+use Rattle.tftp_promises.specs.Order.{Programs, IsStranger}
+use Rattle.tftp_promises.specs.Programs.{endpoint}
+use Rattle.tftp_promises.specs.Snapshots.{Snapshot}
+use Rattle.tftp_promises.proofs.Kept.{How, IsKnown, IsKept}
+use Rattle.tftp_promises.proofs.KeptEvents.{IsSilent, SendsOnly, only_one, added_by, answered_has, answered_sends}
+use Rattle.tftp_promises.proofs.ServerStays.{FilesStay, ServerStays}
+
+-- what is known
+pub some_is : {A : Type 0} (o : Option A) → IsSome o → (x : A) × (o ≡ Some x)
+some_is (Some x) h = (x, refl)
+some_is None h = absurd (true≢false (sym h))
+
+-- an open end has no outcome
+pub no_outcome : (o : Option Outcome) → is_some o ≡ false → o ≡ None
+no_outcome None e = refl
+no_outcome (Some outcome) e = absurd (true≢false e)
+
+-- a datagram was received
+pub datagram_silent : (own : ℕ) (from : Endpoint) (bytes : List ℕ) → IsSilent (Received own from bytes ∷ [])
+datagram_silent own from bytes port to b c =
+    let f : Received own from bytes ≡ Sent port to b = only_one (Received own from bytes) (Sent port to b) c in cc
+
+module _ {S F D G K : Type 0} {stores : StoreMeaning S D} {sources : SourceMeaning F} {inputs : SourceMeaning G}
+    {outputs : SinkMeaning K}
+    (programs : Programs stores sources inputs outputs) {how : How programs} (old : Snapshot programs)
+    (kept : IsKept programs how old) {new : LoopState S F D} (serves : ServesPort stores sources old.state new)
+    (added : List Event) (events : new.events ≡ added ++ old.state.events) where
+  -- the server after it
+  pub server_is : new.server ≡ serves.next.server
+  server_is = ap (λ (s : LoopState S F D). s.server) serves.is
+
+  pub stays_by : serves.next.server.config ≡ old.state.server.config → IsKnown programs how new →
+      FilesStay programs how old.state new → ServerStays programs old kept (At_port serves)
+  stays_by config known files = record {
+    opens = refl;
+    seats = λ port. refl;
+    removes = λ port transfer h. h;
+    requests = ap (λ (s : LoopState S F D). s.requests) serves.is;
+    config = ap (λ (s : ServerState S F D). s.config) server_is ∙ config;
+    known = known;
+    pending =
+        λ from bytes e. kept.server.pending from bytes (sym (ap (λ (s : LoopState S F D). s.pending) serves.is) ∙ e);
+    files = files;
+  }
+
+  -- the events of the step
+  events_are : serves.next.events ≡ added ++ old.state.events
+  events_are = sym (ap (λ (s : LoopState S F D). s.events) serves.is) ∙ events
+
+  module _ (reply : Option Reply) (noted : List Event) (answers : serves.next.events ≡ answered serves.timer.port reply
+      (noted ++ old.state.events)) where
+    pub added_is : answered serves.timer.port reply noted ≡ added
+    added_is = added_by serves.timer.port reply noted old.state.events added (sym answers ∙ events_are)
+
+    -- only the answer was sent
+    pub sends_only : IsSilent noted → SendsOnly serves.timer.port reply added
+    sends_only silent =
+        subst (λ (es : List Event). SendsOnly serves.timer.port reply es) added_is
+        (answered_sends serves.timer.port reply noted silent)
+
+    -- what was received was sent there, or is a stranger's
+    pub received_there : (port : ℕ) (from : Endpoint) (bytes : List ℕ) → Contains noted (Received port from bytes) →
+        CanTake programs old programs.server.ip added →
+        WasSentBefore programs old from (endpoint programs.server.ip port) bytes ⊎ IsStranger stores sources inputs
+        outputs programs from
+    received_there port from bytes c take =
+        take port from bytes (subst (λ (es : List Event). Contains es (Received port from bytes)) added_is
+        (answered_has serves.timer.port reply noted (Received port from bytes) c))
+
+  -- nothing was sent
+  pub silent_by : (noted : List Event) → serves.next.events ≡ noted ++ old.state.events → IsSilent noted →
+      IsSilent added
+  silent_by noted e silent =
+      subst (λ (es : List Event). IsSilent es) (added_by serves.timer.port None noted old.state.events added
+      (sym e ∙ events_are)) silent

@@ -1,0 +1,255 @@
+-- A timeout that the server delivers to a transfer keeps the invariant.
+use Rattle.std.proofs.Common.{◌≡◌, ℕ, true, false, List, [], ◌∷◌, ◌++◌, Some, None, refl, sym, ap, ◌∙◌, subst, inl, inr}
+use Rattle.std.specs.Prelude.{◌⊎◌, ◌==◌, is_some}
+use Rattle.std.proofs.lemmas.Bool.{true≢false, cases_Bool}
+use Rattle.tftp_file.specs.Sink.{Holding, SinkMeaning}
+use Rattle.tftp_file.specs.Source.{SourceMeaning}
+use Rattle.tftp_file.specs.declared.files.Files.{Files}
+use Rattle.tftp_file.specs.declared.files.Files.TheVariants.{Source, Sink}
+use Rattle.tftp_ends.specs.declared.phase.Phase.{Phase}
+use Rattle.tftp_ends.specs.declared.phase.Phase.TheVariants.{Waiting, Sending, Receiving, Dallying, Closed}
+use Rattle.tftp_ends.specs.declared.record.Step.{Step}
+use Rattle.tftp_ends.specs.declared.action.Response.{Response}
+use Rattle.tftp_ends.specs.declared.action.Response.TheVariants.{Retransmit, Close}
+use Rattle.tftp_ends.specs.declared.outcome.Outcome.TheVariants as outcomes
+use Rattle.tftp_ends.specs.Action.{timeout_response}
+use Rattle.tftp_ends.specs.End.{EndState, is_sender, is_complete, outcome_of}
+use Rattle.tftp_ends.specs.Step.{Turn, after, after_turn, timeout_turn}
+use Rattle.tftp_store.specs.Store.{StoreMeaning}
+use Rattle.tftp_server.specs.State.{TransferState, ServerState, with_next}
+use Rattle.tftp_server.specs.Steps.{TimesOutLent, with_end}
+use Rattle.tftp_sockets.specs.Journal.{Event}
+use Rattle.tftp_sockets.specs.Journal.Event.{Elapsed}
+use Rattle.tftp_loop.specs.Serves.{LoopState, ServesPort, At_port, AnswersTimeout}
+use Rattle.tftp_rules.specs.EndShown.{Stands, Goes}
+use Rattle.tftp_rules.specs.KnownFiles.{HasLeft}
+use Rattle.tftp_rules.specs.Machine.{Endpoint}
+use Rattle.tftp_rules.specs.OpenEnds.{OpenEnd, files_of, holding_of, in_state, end_after, open_view}
+use Rattle.tftp_rules.proofs.EndTurns.{timeout_goes}
+use Rattle.tftp_rules.proofs.PhaseMoves.{if_acts}
+use Rattle.tftp_promises.specs.Openings.{moved_at, place_at}
+use Rattle.tftp_promises.specs.Order.{Programs, IsStranger}
+use Rattle.tftp_promises.specs.Ports.{IsStored}
+use Rattle.tftp_promises.specs.Programs.{endpoint}
+use Rattle.tftp_promises.specs.Promises.{joined}
+use Rattle.tftp_promises.specs.Snapshots.{Snapshot, server_did}
+use Rattle.tftp_promises.proofs.ClosedEnds.{closed_timeout_goes}
+use Rattle.tftp_promises.proofs.Kept.{How, By_models, By_run, HasStored, IsOpened, TransferKept, IsKept, IsFreshBy}
+use Rattle.tftp_promises.proofs.Kept.{IsStrangers}
+use Rattle.tftp_promises.proofs.KeptEvents.{SendsOnly, elapsed_silent}
+use Rattle.tftp_promises.proofs.KeptFiles.{left_is, now_is, sink_is, sink_no_source, source_is}
+use Rattle.tftp_promises.proofs.MovedSteps.{MovesNone}
+use Rattle.tftp_promises.proofs.PortDatagrams.{after_rest}
+use Rattle.tftp_promises.proofs.PortSteps.{no_outcome, server_is, stays_by, sends_only}
+use Rattle.tftp_promises.proofs.ServerStays.{AllStored, FilesStay, known_if, stay_if, stored_after}
+use Rattle.tftp_promises.proofs.StoredFiles.{IsIn}
+use Rattle.tftp_promises.proofs.WrongPeers.{stays_strangers, timeout_stays}
+use Rattle.tftp_promises.proofs.TurnsAtPort.{Becomes, IsSeated, turn_keeps}
+
+-- an end that is open after a timeout was open before
+abbrev phase_then : Response → EndState → Phase
+phase_then response e = (after response e.position.last_sent_to e).phase
+
+closed_still : (e : EndState) (phase : Phase) → e.position.phase ≡ phase → is_some (outcome_of phase) ≡ true →
+    is_some (outcome_of (phase_then (timeout_response e.position.retries_left phase) e)) ≡ true
+closed_still e (Closed terms n complete outcome) is c =
+    if_acts (λ (r : Response). is_some (outcome_of (phase_then r e)) ≡ true) (e.position.retries_left == 0)
+    (Close outcomes.TimedOut) Retransmit
+    (λ b. refl) (λ b. ap (λ (p : Phase). is_some (outcome_of p)) is)
+closed_still e (Waiting asked limit) is c = absurd (true≢false (sym c))
+closed_still e (Sending terms n) is c = absurd (true≢false (sym c))
+closed_still e (Receiving terms n) is c = absurd (true≢false (sym c))
+closed_still e (Dallying terms n dally) is c = absurd (true≢false (sym c))
+
+open_before : (e : EndState) → outcome_of (timeout_turn e).position.phase ≡ None → outcome_of e.position.phase ≡ None
+open_before e o = elim (cases_Bool (is_some (outcome_of e.position.phase))) [
+  | inl c ↦ absurd (true≢false (sym (closed_still e e.position.phase refl c) ∙ ap is_some o))
+  | inr n ↦ no_outcome (outcome_of e.position.phase) n
+]
+
+module _ {S F D G K : Type 0} {stores : StoreMeaning S D} {sources : SourceMeaning F} {inputs : SourceMeaning G}
+    {outputs : SinkMeaning K}
+    (programs : Programs stores sources inputs outputs) {how : How programs} (old : Snapshot programs)
+    (kept : IsKept programs how old) (fresh : IsFreshBy programs old)
+    {new : LoopState S F D} (serves : ServesPort stores sources old.state new) (added : List Event)
+    (events : new.events ≡ added ++ old.state.events) (none : (a : Endpoint) →
+    MovesNone programs old.run (At_port serves) a) where
+  abbrev port : ℕ
+  port = serves.timer.port
+
+  -- where its transfer is
+  abbrev place : Endpoint
+  place = place_at programs port old.run
+
+  abbrev now : Snapshot programs
+  now = server_did programs old (At_port serves) added
+
+  module _ (step : Step) (answers : AnswersTimeout port old.state.server serves.next.server
+      (Elapsed port old.state.now ∷ old.state.events) serves.next.events step) where
+    abbrev timed : TimesOutLent port old.state.server.held serves.next.server.held step answers.outgoing
+    timed = answers.times_out
+
+    abbrev was : TransferKept programs how kept.views kept.messages old port timed.transfer place
+    was = kept.transfers port timed.transfer place (inl (timed.found, refl))
+
+    abbrev x : OpenEnd
+    x = was.end
+
+    abbrev turn : Turn
+    turn = timeout_turn x.state
+
+    abbrev y : OpenEnd
+    y = end_after x turn (files_of x)
+
+    abbrev next : TransferState F D
+    next = with_end timed.end timed.transfer
+
+    abbrev elapsed : List Event
+    elapsed = Elapsed port old.state.now ∷ []
+
+    held : new.server.held ≡ with_next port next old.state.server.held
+    held = ap (λ (s : ServerState S F D). s.held) (server_is programs old kept serves added events) ∙ timed.held
+
+    -- the store is the same
+    store_is : new.server.store ≡ old.state.server.store
+    store_is = ap (λ (s : ServerState S F D). s.store) (server_is programs old kept serves added events ∙ answers.rest)
+
+    stay_all : AllStored programs old.state new
+    stay_all o path file h = subst (λ (s : S). IsIn (stores.stored s) path file) (sym store_is) h
+
+    stay : FilesStay programs how old.state new
+    stay = stay_if programs how old.state new stay_all
+
+    opened_now : (content : Files (List ℕ) Holding) → IsOpened programs now x →
+        IsOpened programs now (end_after x turn content)
+    opened_now (Source left) was =
+        record { opening = was.opening; opened = was.opened; path = was.path; role = was.role }
+    opened_now (Sink holding) was =
+        record { opening = was.opening; opened = was.opened; path = was.path; role = was.role }
+
+    -- so is the file: what a timeout leaves is what was there
+    has_left : (w : How programs) (files : Files F D) → HasStored programs w now x files →
+        (content : Files (List ℕ) Holding) → content ≡ files_of x →
+        (outcome_of turn.position.phase ≡ None → outcome_of x.state.position.phase ≡ None) →
+        (is_sender x.state.role.side ≡ false → (end_after x turn content).committed ≡ is_complete turn.position.phase) →
+        HasStored programs w now (end_after x turn content) files
+    has_left (By_models models) (Source source) h (Source left) e still done =
+        let l = left_is left x.left (e ∙ sym (source_is x h.sender)) in
+        record {
+          sender = h.sender;
+          text = h.text;
+          left = λ o. subst (λ (t : List ℕ). HasLeft sources source t) (sym l) (h.left (still o));
+          was = h.was;
+          stays = h.stays;
+        }
+    has_left (By_models models) (Sink draft) h (Sink held) e still done =
+        let n = now_is held (holding_of x) (e ∙ sym (sink_is x h.receiver)) in
+        record {
+          receiver = h.receiver;
+          drafted =
+              h.drafted ∙ ap (λ (z : Holding). Some (record { bytes = z.bytes; committed = z.committed })) (sym n);
+          stays = λ o c.
+              subst (λ (bs : List ℕ). IsStored stores new x.path bs) (ap (λ (z : Holding). z.bytes) (sym n))
+              (h.stays o (sym (was.viewed.kept.committed h.receiver)
+              ∙ (ap (λ (z : Holding). z.committed) (sym n) ∙ (done h.receiver ∙ c))));
+        }
+    has_left (By_run pad) (Source source) h (Source left) e still done =
+        let l = left_is left x.left (e ∙ sym (source_is x h.sender)) in
+        record {
+          sender = h.sender;
+          opened = opened_now (Source left) h.opened;
+          text = h.text;
+          gave =
+              record {
+                prefix = h.gave.prefix;
+                left = λ o. ap (λ (t : List ℕ). (moved_at programs x.address now.run).bytes ++ t) l
+                    ∙ h.gave.left (still o);
+              };
+        }
+    has_left (By_run pad) (Sink draft) h (Sink held) e still done =
+        let n = now_is held (holding_of x) (e ∙ sym (sink_is x h.receiver)) in
+        record {
+          receiver = h.receiver;
+          opened = opened_now (Sink held) h.opened;
+          took = record {
+            stored = ap (λ (z : Holding). z.bytes) n ∙ h.took.stored;
+            committed = λ c. h.took.committed (ap (λ (z : Holding). z.committed) (sym n) ∙ c);
+            refuses = ap (λ (z : Holding). z.refuses) n ∙ h.took.refuses;
+          };
+        }
+    has_left (By_models models) (Source source) h (Sink held) e still done =
+        absurd (sink_no_source held x.left (e ∙ sym (source_is x h.sender)))
+    has_left (By_run pad) (Source source) h (Sink held) e still done =
+        absurd (sink_no_source held x.left (e ∙ sym (source_is x h.sender)))
+    has_left (By_models models) (Sink draft) h (Source left) e still done =
+        absurd (sink_no_source (holding_of x) left (sym (e ∙ sym (sink_is x h.receiver))))
+    has_left (By_run pad) (Sink draft) h (Source left) e still done =
+        absurd (sink_no_source (holding_of x) left (sym (e ∙ sym (sink_is x h.receiver))))
+
+    has : Goes (joined programs) kept.shown.0 kept.views kept.messages was.viewed.index x turn y →
+        HasStored programs how now y timed.transfer.files
+    has goes =
+        has_left how timed.transfer.files (stored_after programs how old (At_port serves) added stay x (none x.address)
+        timed.transfer.files was.has) (files_of x) refl (open_before x.state)
+        (λ r. subst (λ (e : EndState). (end_after x turn (files_of x)).committed ≡ is_complete e.position.phase)
+        (after_rest (in_state (after_turn x.state turn) x) (files_of x)).1
+        (goes.kept.committed (ap (λ (e : EndState). is_sender e.role.side)
+        (after_rest (in_state (after_turn x.state turn) x) (files_of x)).1 ∙ r)))
+
+    becomes : Goes (joined programs) kept.shown.0 kept.views kept.messages was.viewed.index x turn y →
+        Becomes programs old kept (At_port serves) added port timed.transfer timed.found x turn next
+    becomes goes =
+        let rest = after_rest (in_state (after_turn x.state turn) x) (files_of x) in
+        record {
+          end = y;
+          goes = goes;
+          address = rest.0;
+          state = rest.1 ∙ (ap (λ (e : EndState). after_turn e (timeout_turn e)) was.state ∙ sym timed.carries.state);
+          path = rest.2 ∙ was.path;
+          request = rest.3 ∙ was.request;
+          has = has goes;
+        }
+
+    stands : Stands (joined programs) kept.shown.0 kept.views kept.messages was.viewed.index (open_view x)
+    stands = record { shown = kept.shown.1; viewed = was.viewed.viewed }
+
+    its_turn : Goes (joined programs) kept.shown.0 kept.views kept.messages was.viewed.index x turn y
+    its_turn = elim (cases_Bool (is_some (outcome_of x.state.position.phase))) [
+      | inl c ↦
+          closed_timeout_goes (joined programs) kept.shown.0 kept.views kept.messages was.viewed.index x stands
+          was.viewed.kept c was.viewed.last_sent
+      | inr o ↦
+          timeout_goes (joined programs) kept.shown.0 kept.views kept.messages was.viewed.index x
+          (record { stands = stands; kept = was.viewed.kept; still = o; last_sent = was.viewed.last_sent })
+    ]
+
+    only_reply : SendsOnly port turn.reply added
+    only_reply =
+        subst (λ (e : EndState). SendsOnly port (timeout_turn e).reply added) (sym was.state)
+        (sends_only programs old kept serves added events (timeout_turn timed.transfer.end).reply elapsed answers.events
+        (elapsed_silent port old.state.now))
+
+    -- where it stands then
+    seated : (place ≡ endpoint programs.server.ip port) ⊎ IsStrangers programs x.state →
+        IsSeated programs old kept (At_port serves) added port timed.transfer timed.found turn y
+    seated (inl here) = inl here
+    seated (inr s) =
+        let stays = timeout_stays x.state in
+        inr (record {
+          strangers =
+              subst (λ (e : EndState). IsStrangers programs e)
+              (sym (after_rest (in_state (after_turn x.state turn) x) (files_of x)).1)
+              (stays_strangers programs x.state.position.last_sent_to x.state turn s.last_sent_to s stays);
+          replies =
+              λ reply says. inl (subst (λ (a : Endpoint). IsStranger stores sources inputs outputs programs a)
+              (sym (stays.replies reply says)) s.last_sent_to);
+        })
+
+    pub timeout_keeps : IsKept programs how now
+    unfolding becomes
+    timeout_keeps =
+        turn_keeps programs old kept (At_port serves) added port timed.transfer timed.found fresh
+        (stays_by programs old kept serves added events (ap (λ (s : ServerState S F D). s.config) answers.rest)
+        (known_if programs how old.state new (ap stores.stored store_is) kept.server.known) stay)
+        x was.address was.side was.viewed.last_sent turn next held (becomes its_turn) only_reply (seated was.seat)
+        (λ a n. none a)

@@ -1,0 +1,105 @@
+-- What the request port's decision implies for the request.
+use Rattle.std.proofs.Common.{◌≡◌, ℕ, Bool, true, false, List, Option, Some, None, Result, Ok, Err, refl, subst}
+use Rattle.std.specs.Prelude.{if◌then◌else◌, nat_le}
+use Rattle.tftp_wire.specs.declared.mode.Mode.{Mode}
+use Rattle.tftp_wire.specs.declared.options.RawOption.{RawOption}
+use Rattle.tftp_wire.specs.declared.packet.Packet.{Packet as WirePacket}
+use Rattle.tftp_wire.specs.declared.packet.Packet.TheVariants.{Read, Write, Data, Ack, Error, Oack}
+use Rattle.tftp_wire.specs.declared.packet.Request.{Request as WireRequest}
+use Rattle.tftp_wire.specs.Reading.{has_error_opcode}
+use Rattle.tftp_negotiate.specs.declared.known.Kind.TheVariants as kinds
+use Rattle.tftp_negotiate.specs.declared.known.Known.{Known}
+use Rattle.tftp_negotiate.specs.declared.limits.Limits.{Limits}
+use Rattle.tftp_negotiate.specs.declared.refusal.Refusal.{Refusal}
+use Rattle.tftp_negotiate.specs.Answer.{answer}
+use Rattle.tftp_file.specs.Path.{path_of_name}
+use Rattle.tftp_file.specs.declared.path.PathFault.{PathFault}
+use Rattle.tftp_rules.specs.Shows.{requested}
+use Rattle.tftp_server.specs.Port.{Ask, Ignores, Refuses, Reads, Writes, asks, by_kind, by_name, by_options, by_packet}
+use Rattle.tftp_server.specs.Port.{by_repeat}
+use Rattle.tftp_ends.specs.declared.error_reply.ErrorReply.TheVariants.{ServerBusy}
+
+-- either way of a test
+pub if_either : {A : Type 0} (P : A → Type 0) (b : Bool) (r s : A) → (b ≡ true → P r) → (b ≡ false → P s) →
+    P (if b then r else s)
+if_either P true r s f g = f refl
+if_either P false r s f g = g refl
+
+-- the packet is a request to write, or to read, in this mode and with these options, and it is not
+-- repeated
+pub record IsAsked (decoded : Option WirePacket) (repeated write : Bool) (mode : Mode) (options : List RawOption) : Type
+    0 where
+  pub request : WireRequest
+  pub packet : decoded ≡ Some (requested write request)
+  pub same_mode : request.mode ≡ mode
+  pub same_options : request.options ≡ options
+  pub new : repeated ≡ false
+
+module _ (limits : Limits) (repeated : Bool) where
+  -- what is known of the request if the port decides so
+  abbrev pub Implies : Option WirePacket → Ask → Type 0
+  Implies decoded Ignores = Unit {0}
+  Implies decoded (Refuses reply) = Unit {0}
+  Implies decoded (Reads path mode options) = IsAsked decoded repeated false mode options
+  Implies decoded (Writes path mode agreed) =
+      (options : List RawOption) × IsAsked decoded repeated true mode options
+      × (answer options kinds.Write mode 0 limits ≡ Ok agreed)
+
+  module _ (cap count : ℕ) where
+    named : (decoded : Option WirePacket) (next : List ℕ → Ask) → ((path : List ℕ) → Implies decoded (next path)) →
+        (path : Result (List ℕ) PathFault) → Implies decoded (by_name cap count next path)
+    named decoded next each (Err fault) = tt
+    named decoded next each (Ok path) =
+        if_either (Implies decoded) (nat_le cap count) (Refuses ServerBusy) (next path) (λ b. tt) (λ b. each path)
+
+    unless_repeated : (decoded : Option WirePacket) (ask : Ask) → (repeated ≡ false → Implies decoded ask) →
+        Implies decoded (by_repeat repeated ask)
+    unless_repeated decoded ask implies = if_either (Implies decoded) repeated Ignores ask (λ b. tt) implies
+
+    asked_to_read : (r : WireRequest) (path : List ℕ) → repeated ≡ false →
+        Implies (Some (Read r)) (by_kind kinds.Read r.mode r.options limits path)
+    asked_to_read r path new = record { request = r; packet = refl; same_mode = refl; same_options = refl; new = new }
+
+    asked_to_write : (r : WireRequest) (path : List ℕ) (a : Result (List Known) Refusal) → repeated ≡ false →
+        answer r.options kinds.Write r.mode 0 limits ≡ a → Implies (Some (Write r)) (by_options path r.mode a)
+    asked_to_write r path (Err refusal) new e = tt
+    asked_to_write r path (Ok agreed) new e =
+        (r.options, record { request = r; packet = refl; same_mode = refl; same_options = refl; new = new }, e)
+
+    implied : (decoded : Option WirePacket) → Implies decoded (by_packet cap count repeated limits decoded)
+    implied None = tt
+    implied (Some (Read r)) =
+        unless_repeated (Some (Read r)) (by_name cap count (by_kind kinds.Read r.mode r.options limits)
+        (path_of_name r.name))
+        (λ new. named (Some (Read r)) (by_kind kinds.Read r.mode r.options limits) (λ path. asked_to_read r path new)
+        (path_of_name r.name))
+    implied (Some (Write r)) =
+        unless_repeated (Some (Write r)) (by_name cap count (by_kind kinds.Write r.mode r.options limits)
+        (path_of_name r.name))
+        (λ new. named (Some (Write r)) (by_kind kinds.Write r.mode r.options limits)
+        (λ path. asked_to_write r path (answer r.options kinds.Write r.mode 0 limits) new refl) (path_of_name r.name))
+    implied (Some (Data number bytes)) = tt
+    implied (Some (Ack number)) = tt
+    implied (Some (Error code text)) = tt
+    implied (Some (Oack options)) = tt
+
+    -- it is known of each decision
+    pub asks_imply : (bytes : List ℕ) (decoded : Option WirePacket) →
+        Implies decoded (asks cap count repeated limits bytes decoded)
+    asks_imply bytes decoded =
+        if_either (Implies decoded) (has_error_opcode bytes) Ignores (by_packet cap count repeated limits decoded)
+        (λ b. tt) (λ b. implied decoded)
+
+    -- the store is asked to read only by a request to read, in this mode and with these options
+    pub reads_by : (bytes : List ℕ) (decoded : Option WirePacket) (path : List ℕ) (mode : Mode)
+        (options : List RawOption) →
+        asks cap count repeated limits bytes decoded ≡ Reads path mode options →
+        IsAsked decoded repeated false mode options
+    reads_by bytes decoded path mode options e = subst (Implies decoded) e (asks_imply bytes decoded)
+
+    -- and to write only by a request to write, whose options the server answers so
+    pub writes_by : (bytes : List ℕ) (decoded : Option WirePacket) (path : List ℕ) (mode : Mode) (agreed : List Known) →
+        asks cap count repeated limits bytes decoded ≡ Writes path mode agreed →
+        (options : List RawOption) × IsAsked decoded repeated true mode options
+        × (answer options kinds.Write mode 0 limits ≡ Ok agreed)
+    writes_by bytes decoded path mode agreed e = subst (Implies decoded) e (asks_imply bytes decoded)

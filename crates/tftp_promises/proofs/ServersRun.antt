@@ -1,0 +1,44 @@
+-- What a server did is one run of it.
+use Rattle.std.proofs.Common.{◌≡◌, List, [], ◌∷◌, ◌++◌, append_assoc, refl, sym, ap, ◌∙◌}
+use Rattle.tftp_file.specs.Source.{SourceMeaning}
+use Rattle.tftp_store.specs.Store.{StoreMeaning}
+use Rattle.tftp_sockets.specs.Journal.{Event}
+use Rattle.tftp_loop.specs.Run.{Run}
+use Rattle.tftp_loop.specs.Run.Run.{Start, Then}
+use Rattle.tftp_loop.specs.Serves.{LoopState, Does}
+use Rattle.tftp_promises.specs.Programs.{ServersAreRuns}
+use Rattle.tftp_promises.proofs.StepEvents.{Silent, Notes, server_adds}
+
+-- what it noted
+pub server_noted : {S F D : Type 0} {stores : StoreMeaning S D} {sources : SourceMeaning F}
+    {start last : LoopState S F D} → Run (Does stores sources) start last →
+    (noted : List Event) × (last.events ≡ noted ++ start.events)
+server_noted Start = ([], refl)
+server_noted {start = start} (Then run does) = elim (server_adds does) [
+  | Silent same ↦ ((server_noted run).0, same ∙ (server_noted run).1)
+  | Notes x rest own is ↦
+      let before = server_noted run in (
+        (x ∷ rest) ++ before.0,
+        is ∙ (ap (λ (es : List Event). (x ∷ rest) ++ es) before.1
+            ∙ sym (append_assoc (x ∷ rest) before.0 start.events)),
+      )
+]
+
+pub servers_run : {S F D : Type 0} (stores : StoreMeaning S D) (sources : SourceMeaning F) →
+    ServersAreRuns stores sources
+servers_run stores sources ip start last run empty idle max_block = record {
+  server = record {
+    ip = ip;
+    start = start;
+    last = last;
+    run = run;
+    noted = (server_noted run).0;
+    is_noted = (server_noted run).1;
+    empty = empty;
+    idle = idle;
+    max_block = max_block;
+  };
+  address = refl;
+  starts = refl;
+  arrives = refl;
+}

@@ -1,0 +1,136 @@
+-- What one step of a program notes: a datagram that it receives is the oldest of its events.
+use Rattle.std.proofs.Common.{◌≡◌, ℕ, List, [], ◌∷◌, ◌++◌, Option, Some, None, refl, ap, ◌∙◌}
+use Rattle.std.specs.List.{AllByRecursion}
+use Rattle.tftp_file.specs.Sink.{SinkMeaning}
+use Rattle.tftp_file.specs.Source.{SourceMeaning}
+use Rattle.tftp_file.specs.declared.files.Files.{Files}
+use Rattle.tftp_ends.specs.Step.{Reply, timeout_turn}
+use Rattle.tftp_rules.specs.Machine.{Endpoint}
+use Rattle.tftp_store.specs.Store.{StoreMeaning}
+use Rattle.tftp_sockets.specs.Journal.{Event, answered, replied}
+use Rattle.tftp_sockets.specs.Journal.Event.{Received, Sent, Watched, Elapsed, Printed, Quiet}
+use Rattle.tftp_sockets.specs.Journal.QuietEvent.{Empty, Failed, No_socket, Slept, Woke}
+use Rattle.tftp_loop.specs.Serves.{LoopState, PortState, Does, AtPort, A_datagram, A_lost_datagram, Nothing_found}
+use Rattle.tftp_loop.specs.Serves.{A_failed_receive, A_timeout, A_missed_timeout, Work, Waited, At_port}
+use Rattle.tftp_loop.specs.Serves.{Request_received, No_request_found, Request_not_received, No_port_found}
+use Rattle.tftp_loop.specs.Serves.{Request_answered, Request_lost, Clock_read, Store_set, Transfer_closed}
+use Rattle.tftp_loop.specs.Serves.{answering_port}
+use Rattle.tftp_client.specs.Converses.{State, HandlesReceived, MayElapse, wait_at}
+use Rattle.tftp_client.specs.Converses.HandlesReceived.{Answers, Loses}
+use Rattle.tftp_client.specs.Converses.MayElapse.{Stays, Elapses}
+use Rattle.tftp_promises.specs.ClientRuns.{ClientDoes, Receives_one, Waits_until, Times_out, File_works, Prints_line}
+use Rattle.tftp_promises.specs.Snapshots.{}
+
+-- no datagram received
+abbrev pub IsOther : Event → Type 0
+IsOther (Received port from bytes) = ⊥
+IsOther (Sent port to bytes) = Unit {0}
+IsOther (Watched time) = Unit {0}
+IsOther (Elapsed port time) = Unit {0}
+IsOther (Printed line) = Unit {0}
+IsOther (Quiet event) = Unit {0}
+
+-- a wait, or a receive without a datagram
+abbrev pub IsQuiet : Event → Type 0
+IsQuiet (Received port from bytes) = ⊥
+IsQuiet (Sent port to bytes) = ⊥
+IsQuiet (Watched time) = ⊥
+IsQuiet (Elapsed port time) = ⊥
+IsQuiet (Printed line) = ⊥
+IsQuiet (Quiet event) = Unit {0}
+
+-- of these events, the newest first, none but the oldest is a datagram received
+abbrev pub OldestOnly : Event → List Event → Type 0
+OldestOnly e [] = Unit {0}
+OldestOnly e (older ∷ events) = IsOther e × OldestOnly older events
+
+-- what a step adds to a journal
+pub data Adds (before after : List Event) : Type 0 where
+  Silent : after ≡ before → Adds before after
+  Notes : (e : Event) (events : List Event) → OldestOnly e events → after ≡ (e ∷ events) ++ before → Adds before after
+
+-- what a step of a client adds: its events, after a wait
+pub data AddsAfter (before after : List Event) : Type 0 where
+  Rests : after ≡ before → AddsAfter before after
+  Acts : (e : Event) (events waits : List Event) → OldestOnly e events → AllByRecursion IsQuiet waits →
+      after ≡ (e ∷ events) ++ (waits ++ before) → AddsAfter before after
+
+after_wait : {before after : List Event} (waits : List Event) → AllByRecursion IsQuiet waits →
+    Adds (waits ++ before) after → AddsAfter before after
+after_wait [] quiet (Silent same) = Rests same
+after_wait (w ∷ waits) quiet (Silent same) = Acts w [] waits tt quiet.1 same
+after_wait waits quiet (Notes e events own is) = Acts e events waits own quiet is
+
+then_is : {before middle after : List Event} → Adds before middle → after ≡ middle → Adds before after
+then_is (Silent same) is = Silent (is ∙ same)
+then_is (Notes e events own same) is = Notes e events own (is ∙ same)
+
+answer_adds : {before after : List Event} (port : ℕ) (reply : Option Reply) (e : Event) (events : List Event) →
+    OldestOnly e events → after ≡ answered port reply ((e ∷ events) ++ before) → Adds before after
+answer_adds port None e events own is = Notes e events own is
+answer_adds port (Some reply) e events own is = Notes (Sent port reply.to reply.bytes) (e ∷ events) (tt, own) is
+
+reply_adds : {before after : List Event} (port : ℕ) (to : Option Endpoint) (bytes : List ℕ) →
+    after ≡ replied port to bytes before → Adds before after
+reply_adds port None bytes is = Silent is
+reply_adds port (Some to) bytes is = Notes (Sent port to bytes) [] tt is
+
+module _ {S F D : Type 0} {stores : StoreMeaning S D} {sources : SourceMeaning F} where
+  port_adds : {now : ℕ} {old new : PortState S F D} → AtPort stores sources now old new → Adds old.events new.events
+  port_adds {old = old} (A_datagram r) =
+      answer_adds old.timer.port r.handles.takes.takes.turn.reply (Received old.timer.port r.from r.bytes) [] tt
+      r.handles.events
+  port_adds {old = old} (A_lost_datagram r) = Notes (Received old.timer.port r.from r.bytes) [] tt r.events
+  port_adds {old = old} (Nothing_found r) = Notes (Quiet (Empty old.timer.port)) [] tt r.events
+  port_adds {old = old} (A_failed_receive r) = Notes (Quiet (Failed old.timer.port)) [] tt r.events
+  port_adds {now = now} {old = old} (A_timeout r) =
+      answer_adds old.timer.port (timeout_turn r.times_out.times_out.transfer.end).reply (Elapsed old.timer.port now) []
+      tt r.times_out.events
+  port_adds {now = now} {old = old} (A_missed_timeout r) = Notes (Elapsed old.timer.port now) [] tt r.events
+  port_adds (Work r) = Silent r.events
+
+  -- a step of the server
+  pub server_adds : {old new : LoopState S F D} → Does stores sources old new → Adds old.events new.events
+  server_adds (Waited r) =
+      Notes (Quiet (Woke r.ports)) (Quiet (Slept r.millis) ∷ []) (tt, tt) (ap (λ (s : LoopState S F D). s.events) r.is)
+  server_adds (At_port r) = then_is (port_adds r.does) (ap (λ (s : LoopState S F D). s.events) r.is)
+  server_adds {old = old} (Request_received r) =
+      Notes (Received old.requests r.from r.bytes) [] tt (ap (λ (s : LoopState S F D). s.events) r.is)
+  server_adds {old = old} (No_request_found r) =
+      Notes (Quiet (Empty old.requests)) [] tt (ap (λ (s : LoopState S F D). s.events) r.is)
+  server_adds {old = old} (Request_not_received r) =
+      Notes (Quiet (Failed old.requests)) [] tt (ap (λ (s : LoopState S F D). s.events) r.is)
+  server_adds (No_port_found r) = Notes (Quiet (No_socket r.port)) [] tt (ap (λ (s : LoopState S F D). s.events) r.is)
+  server_adds {old = old} (Request_answered r) =
+      reply_adds (answering_port old.requests r.left.opened.tid) r.left.opened.to r.left.sent
+      (ap (λ (s : LoopState S F D). s.events) r.is)
+  server_adds (Request_lost r) = Silent (ap (λ (s : LoopState S F D). s.events) r.is)
+  server_adds (Clock_read r) = Notes (Watched r.time) [] tt (ap (λ (s : LoopState S F D). s.events) r.is)
+  server_adds (Store_set r) = Silent (ap (λ (s : LoopState S F D). s.events) r.is)
+  server_adds {old = old} {new = new} (Transfer_closed r) = Notes _ [] tt (ap (λ (s : LoopState S F D). s.events) r.is)
+
+elapse_adds : {port : ℕ} {s next : State} → MayElapse port s next → Adds s.events next.events
+elapse_adds (Stays why) = Silent refl
+elapse_adds {port = port} {s = s} (Elapses due still) =
+    answer_adds port (timeout_turn s.end).reply (Elapsed port s.now) [] tt refl
+
+module _ {G K : Type 0} {inputs : SourceMeaning G} {outputs : SinkMeaning K} where
+  handle_adds : {port : ℕ} {from : Endpoint} {bytes : List ℕ} {s : State} {files : Files G K} {next : State}
+      {files' : Files G K} {before : List Event} →
+      HandlesReceived inputs outputs port from bytes s files next files' → (e : Event) (events : List Event) →
+      OldestOnly e events → s.events ≡ (e ∷ events) ++ before → Adds before next.events
+  handle_adds {port = port} (Answers {turn} still step) e events own is =
+      answer_adds port turn.reply e events own (ap (λ (es : List Event). answered port turn.reply es) is)
+  handle_adds (Loses lost keeps) e events own is = Notes e events own is
+
+  -- a step of a client
+  pub client_adds : {port : ℕ} {s : State} {files : Files G K} {next : State} {files' : Files G K} →
+      ClientDoes inputs outputs port s files next files' → AddsAfter s.events next.events
+  client_adds {port = port} {s = s} (Receives_one {from = from} {bytes = bytes} {time = time} may later handles) =
+      after_wait (Quiet (Slept (wait_at s)) ∷ []) (tt, tt)
+      (handle_adds handles (Watched time) (Received port from bytes ∷ []) (tt, tt) refl)
+  client_adds {s = s} (Waits_until {event = event} {time = time} may which later) =
+      Acts (Watched time) [] (Quiet event ∷ Quiet (Slept (wait_at s)) ∷ []) tt (tt, (tt, tt)) refl
+  client_adds (Times_out elapses) = after_wait [] tt (elapse_adds elapses)
+  client_adds (File_works works) = Rests refl
+  client_adds (Prints_line line) = Acts (Printed line) [] [] tt tt refl

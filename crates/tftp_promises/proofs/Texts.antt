@@ -1,0 +1,99 @@
+-- Prefixes of texts, and a text that is padded to a length.
+use Rattle.std.proofs.Common.{◌≡◌, ℕ, zero, suc, ◌≤◌, List, [], ◌∷◌, ◌++◌, append_assoc, append-nil, length, take, drop}
+use Rattle.std.proofs.Common.{replicate, refl, sym, ap, ◌∙◌, arith}
+use Rattle.std.proofs.lemmas.List.{append_cancel_left, length-append, length-replicate, length-take}
+use Rattle.tftp_file.specs.Block.{IsPrefixOf}
+
+-- the text of this length that begins so, padded by this byte
+abbrev pub pad_to : ℕ → ℕ → List ℕ → List ℕ
+pad_to pad n xs = take n (xs ++ replicate n pad)
+
+pub pad_length : (pad n : ℕ) (xs : List ℕ) → length (pad_to pad n xs) ≡ n
+pad_length pad n xs =
+    let a = length-take n (xs ++ replicate n pad) in
+    let b = length-append xs (replicate n pad) in
+    let c = length-replicate n pad in
+    omega (arith, a, b, c)
+
+begins_take : (xs rest : List ℕ) (n : ℕ) → length xs ≤ n → IsPrefixOf xs (take n (xs ++ rest))
+begins_take [] rest n l = (take n rest, refl)
+begins_take (x ∷ xs) rest zero l = absurd (omega (arith, l))
+begins_take (x ∷ xs) rest (suc n) l =
+    let h = begins_take xs rest n (omega (arith, l)) in (h.0, ap (λ (ys : List ℕ). x ∷ ys) h.1)
+
+-- a prefix that is not longer begins the padded text
+pub begins_padded : (pad n : ℕ) (xs ys : List ℕ) → IsPrefixOf xs ys → length xs ≤ n →
+    IsPrefixOf xs (pad_to pad n ys)
+begins_padded pad n xs ys b l =
+    let h = begins_take xs (b.0 ++ replicate n pad) n l in (
+      h.0,
+      h.1 ∙ ap (λ (zs : List ℕ). take n zs) (sym (append_assoc xs b.0 (replicate n pad))
+          ∙ ap (λ (zs : List ℕ). zs ++ replicate n pad) b.1),
+    )
+
+pub begins_itself : (xs : List ℕ) → IsPrefixOf xs xs
+begins_itself xs = ([], append-nil xs)
+
+pub begins_more : (xs ys : List ℕ) → IsPrefixOf xs (xs ++ ys)
+begins_more xs ys = (ys, refl)
+
+pub begins_on : (xs ys zs : List ℕ) → IsPrefixOf xs ys → IsPrefixOf ys zs → IsPrefixOf xs zs
+begins_on xs ys zs a b = (a.0 ++ b.0, sym (append_assoc xs a.0 b.0) ∙ (ap (λ (ws : List ℕ). ws ++ b.0) a.1 ∙ b.1))
+
+-- what comes after one beginning in both
+pub begins_after : (xs ys zs : List ℕ) → IsPrefixOf (xs ++ ys) (xs ++ zs) → IsPrefixOf ys zs
+begins_after xs ys zs b = (b.0, append_cancel_left xs (ys ++ b.0) zs (sym (append_assoc xs ys b.0) ∙ b.1))
+
+take_first : (xs rest : List ℕ) → take (length xs) (xs ++ rest) ≡ xs
+take_first [] rest = refl
+take_first (x ∷ xs) rest = ap (λ (ys : List ℕ). x ∷ ys) (take_first xs rest)
+
+drop_first : (xs rest : List ℕ) → drop (length xs) (xs ++ rest) ≡ rest
+drop_first [] rest = refl
+drop_first (x ∷ xs) rest = drop_first xs rest
+
+-- a prefix is as much of the text, and what is left comes after it
+pub begins_by_take : (xs ys : List ℕ) → IsPrefixOf xs ys → take (length xs) ys ≡ xs
+begins_by_take xs ys b = ap (take (length xs)) (sym b.1) ∙ take_first xs b.0
+
+pub then_rest : (xs ys : List ℕ) → IsPrefixOf xs ys → xs ++ drop (length xs) ys ≡ ys
+then_rest xs ys b = ap (λ (zs : List ℕ). xs ++ zs) (ap (drop (length xs)) (sym b.1) ∙ drop_first xs b.0) ∙ b.1
+
+nothing_first : (xs ys : List ℕ) → xs ++ ys ≡ [] → xs ≡ []
+nothing_first [] ys e = refl
+nothing_first (x ∷ xs) ys e = absurd (let f : x ∷ (xs ++ ys) ≡ [] = e in cc)
+
+-- two texts that begin each other are one
+pub begin_each_other : (xs ys : List ℕ) → IsPrefixOf xs ys → IsPrefixOf ys xs → xs ≡ ys
+begin_each_other xs ys a b =
+    let none : a.0 ++ b.0 ≡ [] =
+    append_cancel_left xs (a.0 ++ b.0) [] (sym (append_assoc xs a.0 b.0)
+    ∙ (ap (λ (ws : List ℕ). ws ++ b.0) a.1 ∙ (b.1 ∙ sym (append-nil xs)))) in
+    sym (append-nil xs) ∙ (ap (λ (zs : List ℕ). xs ++ zs) (sym (nothing_first a.0 b.0 none)) ∙ a.1)
+
+-- what begins a text however it is padded begins it
+pub begins_unpadded : (n k : ℕ) (xs zs : List ℕ) → IsPrefixOf zs (take n (xs ++ replicate k 0)) →
+    IsPrefixOf zs (take n (xs ++ replicate k 1)) → IsPrefixOf zs xs
+begins_unpadded n k xs [] a b = (xs, refl)
+begins_unpadded zero k xs (z ∷ zs) a b = absurd (let f : z ∷ (zs ++ a.0) ≡ [] = a.1 in cc)
+begins_unpadded (suc n) zero [] (z ∷ zs) a b = absurd (let f : z ∷ (zs ++ a.0) ≡ [] = a.1 in cc)
+begins_unpadded (suc n) (suc k) [] (z ∷ zs) a b =
+    absurd (both z (zs ++ a.0) (zs ++ b.0) (take n (replicate k 0)) (take n (replicate k 1)) a.1 b.1) where
+      both : (z : ℕ) (ps bs cs ds : List ℕ) → z ∷ ps ≡ 0 ∷ cs → z ∷ bs ≡ 1 ∷ ds → ⊥
+      both z ps bs cs ds e f =
+          let x : z ≡ 0 = cc in
+          let y : z ≡ 1 = cc in
+          omega (arith, x, y)
+begins_unpadded (suc n) k (x ∷ xs) (z ∷ zs) a b =
+    let h =
+    begins_unpadded n k xs zs (a.0, tails z x (zs ++ a.0) (take n (xs ++ replicate k 0)) a.1)
+    (b.0, tails z x (zs ++ b.0) (take n (xs ++ replicate k 1)) b.1) in (
+      h.0,
+      ap (λ (w : ℕ). w ∷ (zs ++ h.0)) (heads z x (zs ++ a.0) (take n (xs ++ replicate k 0)) a.1)
+          ∙ ap (λ (ws : List ℕ). x ∷ ws) h.1,
+    ) where
+      tails : (z x : ℕ) (ps bs : List ℕ) → z ∷ ps ≡ x ∷ bs → ps ≡ bs
+      tails z x ps bs e = cc
+
+      heads : (z x : ℕ) (ps bs : List ℕ) → z ∷ ps ≡ x ∷ bs → z ≡ x
+      heads z x ps bs e = cc

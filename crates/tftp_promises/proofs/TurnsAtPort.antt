@@ -1,0 +1,122 @@
+-- A turn of the end of a transfer that the server holds keeps the invariant.
+use Rattle.std.proofs.Common.{◌≡◌, ℕ, false, List, ◌++◌, Some, refl, sym, ap, ◌∙◌, subst, inl, inr}
+use Rattle.std.specs.Prelude.{◌≢◌, ◌⊎◌}
+use Rattle.std.specs.List.{Contains}
+use Rattle.tftp_file.specs.Sink.{SinkMeaning}
+use Rattle.tftp_file.specs.Source.{SourceMeaning}
+use Rattle.tftp_ends.specs.End.{is_client}
+use Rattle.tftp_ends.specs.Step.{Reply, Turn}
+use Rattle.tftp_store.specs.Store.{StoreMeaning}
+use Rattle.tftp_server.specs.State.{TransferState, at, with_next}
+use Rattle.tftp_sockets.specs.Journal.{Event}
+use Rattle.tftp_sockets.specs.Journal.Event.{Sent}
+use Rattle.tftp_loop.specs.Serves.{LoopState, Does}
+use Rattle.tftp_rules.specs.EndShown.{Goes}
+use Rattle.tftp_rules.specs.Machine.{Endpoint}
+use Rattle.tftp_rules.specs.OpenEnds.{OpenEnd}
+use Rattle.tftp_promises.specs.Openings.{place_at}
+use Rattle.tftp_promises.specs.Order.{Programs, IsStranger}
+use Rattle.tftp_promises.specs.Programs.{endpoint}
+use Rattle.tftp_promises.specs.Promises.{joined}
+use Rattle.tftp_promises.specs.Snapshots.{Snapshot, server_did}
+use Rattle.tftp_promises.proofs.Kept.{How, IsThere, HasStored, TransferKept, IsKept, IsFreshBy, IsStrangers}
+use Rattle.tftp_promises.proofs.KeptEvents.{SendsOnly}
+use Rattle.tftp_promises.proofs.KeptPorts.{PortTurns, port_keeps}
+use Rattle.tftp_promises.proofs.KeptTurns.{reply_there, newest_there}
+use Rattle.tftp_promises.proofs.KeptViews.{there_still}
+use Rattle.tftp_promises.proofs.MovedSteps.{MovesNone}
+use Rattle.tftp_promises.proofs.ServerStays.{ServerStays}
+
+module _ {S F D G K : Type 0} {stores : StoreMeaning S D} {sources : SourceMeaning F} {inputs : SourceMeaning G}
+    {outputs : SinkMeaning K}
+    (programs : Programs stores sources inputs outputs) {how : How programs} (old : Snapshot programs)
+    (kept : IsKept programs how old) {new : LoopState S F D} (does : Does stores sources old.state new)
+    (added : List Event)
+    (port : ℕ) (transfer : TransferState F D) (found : at port old.state.server.held ≡ Some transfer) where
+  -- its place, and the end before
+  abbrev place : Endpoint
+  place = place_at programs port old.run
+
+  abbrev was : TransferKept programs how kept.views kept.messages old port transfer place
+  was = kept.transfers port transfer place (inl (found, refl))
+
+  -- the end x and its transfer after a turn
+  pub record Becomes (x : OpenEnd) (turn : Turn) (next : TransferState F D) : Type 0 where
+    pub end : OpenEnd
+    pub goes : Goes (joined programs) kept.shown.0 kept.views kept.messages was.viewed.index x turn end
+    pub address : end.address ≡ x.address
+    pub state : end.state ≡ next.end
+    pub path : end.path ≡ next.path
+    pub request : end.request ≡ next.request
+    pub has : HasStored programs how (server_did programs old does added) end next.files
+
+  -- the turn of a stranger's transfer: it is one still, and what it answers is for a stranger, or is there from its
+  -- port
+  pub record Aside (turn : Turn) (y : OpenEnd) : Type 0 where
+    pub strangers : IsStrangers programs y.state
+    pub replies : (reply : Reply) → turn.reply ≡ Some reply →
+        IsStranger stores sources inputs outputs programs reply.to ⊎ IsThere kept.messages
+        (endpoint programs.server.ip port) reply.to reply.bytes
+
+  -- it stands at its port, or aside
+  abbrev pub IsSeated : Turn → OpenEnd → Type 0
+  IsSeated turn y = (place ≡ endpoint programs.server.ip port) ⊎ Aside turn y
+
+  module _ (fresh : IsFreshBy programs old) (stays : ServerStays programs old kept does) (x : OpenEnd)
+      (address : x.address ≡ place) (side : is_client x.state.role.side ≡ false)
+      (last_sent : IsThere kept.messages x.address x.state.position.last_sent_to x.state.position.last_sent)
+      (turn : Turn) (next : TransferState F D) (held : new.server.held ≡ with_next port next old.state.server.held)
+      (becomes : Becomes x turn next) (sends : SendsOnly port turn.reply added)
+      (seated : IsSeated turn becomes.end) (none : (a : Endpoint) → place ≢ a → MovesNone programs old.run does a) where
+    abbrev SentBy : ℕ → Endpoint → List ℕ → Type 0
+    SentBy own to bytes =
+        IsThere (kept.messages ++ becomes.goes.said_now) (endpoint programs.server.ip own) to bytes
+        ⊎ IsStranger stores sources inputs outputs programs to
+
+    sent_by : (to : Endpoint) (bytes : List ℕ) → turn.reply ≡ Some (record { to = to; bytes = bytes }) →
+        IsSeated turn becomes.end → SentBy port to bytes
+    sent_by to bytes says (inl here) =
+        let there =
+        reply_there kept.messages becomes.goes.said_now x.address turn.reply to bytes becomes.goes.replies says in
+        inl (subst (λ (a : Endpoint). IsThere (kept.messages ++ becomes.goes.said_now) a to bytes) (address ∙ here)
+        there)
+    sent_by to bytes says (inr aside) = elim (aside.replies (record { to = to; bytes = bytes }) says) [
+      | inl strange ↦ inr strange
+      | inr there ↦
+          inl (there_still kept.messages becomes.goes.said_now (endpoint programs.server.ip port) to bytes there)
+    ]
+
+    sent_now : (own : ℕ) (to : Endpoint) (bytes : List ℕ) → Contains added (Sent own to bytes) → SentBy own to bytes
+    sent_now own to bytes c =
+        let h = sends own to bytes c in subst (λ (p : ℕ). SentBy p to bytes) h.0 (sent_by to bytes h.1 seated)
+
+    seat_now : IsSeated turn becomes.end →
+        (place ≡ endpoint programs.server.ip port) ⊎ IsStrangers programs becomes.end.state
+    seat_now (inl here) = inl here
+    seat_now (inr aside) = inr aside.strangers
+
+    turns : PortTurns programs old kept does added port transfer found
+    turns = record {
+      next = next;
+      held = held;
+      said_now = becomes.goes.said_now;
+      sends = sent_now;
+      end = becomes.end;
+      address = becomes.address ∙ address;
+      seat = seat_now seated;
+      state = becomes.state;
+      path = becomes.path;
+      request = becomes.request;
+      side = ap is_client becomes.goes.side ∙ side;
+      shown = (kept.shown.0 ++ becomes.goes.shown.0, becomes.goes.shown.2);
+      is_kept = becomes.goes.kept;
+      last_sent =
+          subst (λ (a : Endpoint). IsThere (kept.messages ++ becomes.goes.said_now) a
+          becomes.end.state.position.last_sent_to becomes.end.state.position.last_sent) (sym becomes.address)
+          (newest_there kept.messages becomes.goes.said_now x becomes.end turn becomes.goes.replies
+          becomes.goes.last_sent last_sent);
+      has = becomes.has;
+    }
+
+    pub turn_keeps : IsKept programs how (server_did programs old does added)
+    turn_keeps = port_keeps programs old kept fresh does stays added port transfer found turns none

@@ -1,0 +1,12 @@
+-- The lemmas that are the law.
+use Rattle.tftp_promises.proofs.EachAlone.{each_joined, each_keeps, each_keeps_any}
+use Rattle.tftp_promises.proofs.laws.each_client_keeps_promises.Goals as goal
+
+pub returns-clause-joined : goal.returns-clause-joined
+returns-clause-joined g c = each_joined _ _ _ _
+
+pub returns-clause-any_files : goal.returns-clause-any_files
+returns-clause-any_files g c = each_keeps_any _ _ _ _
+
+pub returns-clause-promises : goal.returns-clause-promises
+returns-clause-promises g c = each_keeps _ _ _ _

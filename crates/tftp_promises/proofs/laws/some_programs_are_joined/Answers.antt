@@ -1,0 +1,9 @@
+-- The lemmas that are the law.
+use Rattle.tftp_promises.proofs.Exchange.{some_joined, some_served}
+use Rattle.tftp_promises.proofs.laws.some_programs_are_joined.Goals as goal
+
+pub returns-clause-joined : goal.returns-clause-joined
+returns-clause-joined g = some_joined
+
+pub returns-clause-served : goal.returns-clause-served
+returns-clause-served g = some_served

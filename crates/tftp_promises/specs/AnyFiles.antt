@@ -1,0 +1,114 @@
+-- The promises of a transfer in the end state of the journals, over any store and any files: what
+-- moved at an end is read off its run.
+use Rattle.std.specs.Prelude.{ℕ, ◌≡◌, ◌⊎◌, true, false, List, slice_get, Option, Some}
+use Rattle.tftp_file.specs.Sink.{SinkMeaning}
+use Rattle.tftp_file.specs.Source.{SourceMeaning}
+use Rattle.tftp_ends.specs.End.{EndState, is_client, is_complete, is_sender, record_of}
+use Rattle.tftp_store.specs.Store.{StoreMeaning}
+use Rattle.tftp_rules.specs.Machine.{Endpoint}
+use Rattle.tftp_rules.specs.OpenEnds.{received_text}
+use Rattle.tftp_rules.specs.Safety.{AreSafe, SafetyView}
+use Rattle.tftp_server.specs.State.{TransferState}
+use Rattle.tftp_promises.specs.ClientRuns.{moved_in}
+use Rattle.tftp_promises.specs.Moved.{Moved}
+use Rattle.tftp_promises.specs.Openings.{moved_at, opened_at}
+use Rattle.tftp_promises.specs.Order.{Programs, IsStranger}
+use Rattle.tftp_promises.specs.Programs.{endpoint, requests_at, ClientProgram, client_at}
+use Rattle.tftp_promises.specs.Promises.{HasOpened}
+
+-- an end in the end state of the journals: its endpoint, its state, and what moved between its file
+-- and its datagrams
+pub record ProgramEnd : Type 0 where
+  pub address : Endpoint
+  pub state : EndState
+  pub moved : Moved
+
+-- its peer
+abbrev pub peer_of : ProgramEnd → Option Endpoint
+peer_of x = (record_of x.state).peer
+
+-- what a receiver has of its peer's text: what its file was handed, as wire text, and the text held
+-- back
+abbrev pub has_of : ProgramEnd → List ℕ
+has_of x = received_text x.state x.moved.bytes
+
+-- what is claimed of an end: what its file gave, or what it has
+abbrev pub safety_of : ProgramEnd → SafetyView
+safety_of x =
+    record {
+      address = x.address;
+      client = is_client x.state.role.side;
+      sender = is_sender x.state.role.side;
+      mode = x.state.role.mode;
+      peer = peer_of x;
+      size = (record_of x.state).size;
+      complete = is_complete x.state.position.phase;
+      sent = x.moved.bytes;
+      length = x.state.role.length;
+      has = has_of x;
+      committed = x.moved.committed;
+    }
+
+module _ {S F D G K : Type 0} {stores : StoreMeaning S D} {sources : SourceMeaning F}
+    {inputs : SourceMeaning G} {outputs : SinkMeaning K}
+    (programs : Programs stores sources inputs outputs) where
+  -- the end of a client
+  abbrev pub client_end
+      : ClientProgram inputs outputs (requests_at stores sources programs.server) → ProgramEnd
+  client_end client =
+      record {
+        address = client_at inputs outputs (requests_at stores sources programs.server) client;
+        state = client.last.end;
+        moved = moved_in client.runs;
+      }
+
+  -- the end of a transfer of the server, at this place
+  abbrev pub transfer_end : TransferState F D → Endpoint → ProgramEnd
+  transfer_end transfer a =
+      record {
+        address = a;
+        state = transfer.end;
+        moved = moved_at programs a programs.server.run;
+      }
+
+  -- an end of the programs: that of a client, or of a transfer that the server holds or has closed
+  abbrev pub IsEnd : ProgramEnd → Type 0
+  IsEnd x =
+      ((k : ℕ) × (client : ClientProgram inputs outputs
+      (requests_at stores sources programs.server))
+      × (slice_get programs.clients k ≡ Some client) × (x ≡ client_end client))
+      ⊎ ((port : ℕ) × (transfer : TransferState F D) × (a : Endpoint)
+      × HasOpened programs port transfer a × (x ≡ transfer_end transfer a))
+
+  -- the endpoint is no stranger's
+  abbrev pub IsOurs : Endpoint → Type 0
+  IsOurs a = IsStranger stores sources inputs outputs programs a → ⊥
+
+  -- an end there of the server, with this peer
+  pub record IsServingAt (p a : Endpoint) (y : ProgramEnd) : Type 0 where
+    pub is_end : IsEnd y
+    pub address : y.address ≡ p
+    pub server : is_client y.state.role.side ≡ false
+    pub peer : peer_of y ≡ Some a
+
+  -- the server opened the transfer for this path, as its store answered then, and in this role
+  pub record WasOpened (transfer : TransferState F D) (a : Endpoint) : Type 0 where
+    pub opening : TransferState F D
+    pub opened : opened_at programs a programs.server.run ≡ Some opening
+    pub path : opening.path ≡ transfer.path
+    pub role : opening.end.role ≡ transfer.end.role
+
+  -- the promises of a transfer
+  pub record KeepAnyFiles : Type 0 where
+    -- the transfers are safe: what a receiver was handed is what its peer's file gave
+    pub safe : AreSafe safety_of IsEnd IsOurs
+    -- the peer of a client is a transfer of the server, which has the client as its own peer
+    pub served : (x : ProgramEnd) (p : Endpoint) → IsEnd x → is_client x.state.role.side ≡ true →
+        peer_of x ≡ Some p → (y : ProgramEnd) × IsServingAt p x.address y
+    -- a transfer is at its port, unless its peer is a stranger
+    pub at_port : (port : ℕ) (transfer : TransferState F D) (a p : Endpoint) →
+        HasOpened programs port transfer a → peer_of (transfer_end transfer a) ≡ Some p →
+        IsOurs p → a ≡ endpoint programs.server.ip port
+    -- what a transfer sends was opened under its path, and what it stores was begun under its path
+    pub opened : (port : ℕ) (transfer : TransferState F D) (a : Endpoint) →
+        HasOpened programs port transfer a → WasOpened transfer a

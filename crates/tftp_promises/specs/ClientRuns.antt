@@ -1,0 +1,85 @@
+-- The run of a client, step by step: what its end does over its socket, and the lines that it
+-- prints.
+use Rattle.std.specs.Prelude.{ℕ, ◌≡◌, ◌≤◌, ◌⊎◌, List, ◌∷◌}
+use Rattle.tftp_file.specs.Sink.{SinkMeaning}
+use Rattle.tftp_file.specs.Source.{SourceMeaning}
+use Rattle.tftp_file.specs.declared.files.Files.{Files}
+use Rattle.tftp_ends.specs.End.{EndState}
+use Rattle.tftp_rules.specs.Machine.{Endpoint}
+use Rattle.tftp_sockets.specs.Journal.{Event, QuietEvent}
+use Rattle.tftp_sockets.specs.Journal.Event.{Printed}
+use Rattle.tftp_sockets.specs.Journal.QuietEvent.{Empty, Failed}
+use Rattle.tftp_client.specs.Converses.{State, HandlesReceived, MayElapse, MayWait, WorksOnFile}
+use Rattle.tftp_client.specs.Converses.{received, waited}
+use Rattle.tftp_client.specs.Runs.{Runs, StaysOn, begun, printed}
+use Rattle.tftp_promises.specs.Moved.{Moved, nothing_moved, handling_moves}
+
+-- a client that has printed this line
+abbrev pub line_printed : List ℕ → State → State
+line_printed line s = record s { events = Printed line ∷ s.events }
+
+-- one step of a client, apart from the run before it
+pub data ClientDoes {G K : Type 0} (inputs : SourceMeaning G) (outputs : SinkMeaning K) (port : ℕ)
+    (s : State) (files : Files G K) : State → Files G K → Type 0 where
+  -- a datagram was received
+  Receives_one : {next : State} {files' : Files G K} {from : Endpoint} {bytes : List ℕ} {time : ℕ}
+      → MayWait s → s.now ≤ time
+      → HandlesReceived inputs outputs port from bytes (received port from bytes time s) files next
+      files'
+      → ClientDoes inputs outputs port s files next files'
+  -- none was received until this time: the port was empty, or the receive failed
+  Waits_until : {event : QuietEvent} {time : ℕ} → MayWait s
+      → (event ≡ Empty port) ⊎ (event ≡ Failed port) → s.now ≤ time
+      → ClientDoes inputs outputs port s files (waited event time s) files
+  -- a timeout was due
+  Times_out : {next : State} → MayElapse port s next
+      → ClientDoes inputs outputs port s files next files
+  -- the file did its work
+  File_works : {files' : Files G K} → WorksOnFile inputs outputs files files'
+      → ClientDoes inputs outputs port s files s files'
+  -- a line was printed
+  Prints_line : (line : List ℕ) → ClientDoes inputs outputs port s files (line_printed line s) files
+
+-- what has moved after it
+abbrev pub client_moves : {G K : Type 0} {inputs : SourceMeaning G} {outputs : SinkMeaning K}
+    {port : ℕ} {s s' : State} {files files' : Files G K}
+    → ClientDoes inputs outputs port s files s' files' → Moved → Moved
+client_moves (Receives_one may later handles) moved = handling_moves handles moved
+client_moves (Waits_until may event later) moved = moved
+client_moves (Times_out elapses) moved = moved
+client_moves (File_works works) moved = moved
+client_moves (Prints_line line) moved = moved
+
+-- a client reaches this state from its first by such steps
+pub data ClientRun {G K : Type 0} (inputs : SourceMeaning G) (outputs : SinkMeaning K) (port : ℕ)
+    (first : State) (file : Files G K) : State → Files G K → Type 0 where
+  Starts : ClientRun inputs outputs port first file first file
+  Goes_on : {s s' : State} {files files' : Files G K}
+      → ClientRun inputs outputs port first file s files
+      → ClientDoes inputs outputs port s files s' files'
+      → ClientRun inputs outputs port first file s' files'
+
+-- what has moved in the run so far
+abbrev pub moved_in : {G K : Type 0} {inputs : SourceMeaning G} {outputs : SinkMeaning K} {port : ℕ}
+    {first : State} {file : Files G K} {s : State} {files : Files G K}
+    → ClientRun inputs outputs port first file s files → Moved
+moved_in Starts = nothing_moved
+moved_in (Goes_on run does) = client_moves does (moved_in run)
+
+module _ {G K : Type 0} (inputs : SourceMeaning G) (outputs : SinkMeaning K) where
+  -- what a client with this end did is one run of it: that from its request on, and that of one
+  -- that is complete, with its line and what it did after it
+  pub record IsOneRun (port : ℕ) (end : EndState) (before : List Event) (s : State)
+      (files : Files G K) (runs : Runs inputs outputs port end before s files) : Type 0 where
+    pub runs_so : ClientRun inputs outputs port (begun port end before) runs.file s files
+    pub stays_so : (count : ℕ) (after : List Event)
+        → StaysOn inputs outputs port (printed count s) files after
+        → (last : State) × (files' : Files G K)
+        × ClientRun inputs outputs port (begun port end before) runs.file last files'
+        × (last.events ≡ after)
+
+  abbrev pub ClientsAreRuns : Type 0
+  ClientsAreRuns =
+      (port : ℕ) (end : EndState) (before : List Event) (s : State) (files : Files G K)
+      (runs : Runs inputs outputs port end before s files)
+      → IsOneRun port end before s files runs

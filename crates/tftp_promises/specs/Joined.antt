@@ -1,0 +1,38 @@
+-- The ends of programs in an honest network keep the promises of a transfer.
+use Rattle.std.specs.Prelude.{List}
+use Rattle.tftp_file.specs.Sink.{SinkMeaning}
+use Rattle.tftp_file.specs.Source.{SourceMeaning}
+use Rattle.tftp_store.specs.Store.{StoreMeaning}
+use Rattle.tftp_promises.specs.AnyFiles.{KeepAnyFiles}
+use Rattle.tftp_promises.specs.Modelled.{AreModelled}
+use Rattle.tftp_promises.specs.Openings.{ArePortsFresh}
+use Rattle.tftp_promises.specs.Order.{Noted, Programs, IsOrder, IsHonest}
+use Rattle.tftp_promises.specs.Promises.{KeepPromises, AreShown}
+
+module _ {S F D G K : Type 0} (stores : StoreMeaning S D) (sources : SourceMeaning F)
+    (inputs : SourceMeaning G) (outputs : SinkMeaning K) where
+  -- the programs noted the events of this order, over an honest network with fresh ports
+  pub record AreJoined (programs : Programs stores sources inputs outputs) (order : List Noted)
+      : Type 0 where
+    pub is_order : IsOrder stores sources inputs outputs programs order
+    pub honest : IsHonest stores sources inputs outputs programs order
+    pub fresh : ArePortsFresh programs
+
+  -- one server and any number of clients, over files of known content: in the end state of their
+  -- journals the ends keep the promises
+  abbrev pub ProgramsKeepPromises : Type 0
+  ProgramsKeepPromises =
+      (programs : Programs stores sources inputs outputs) (order : List Noted)
+      → AreJoined programs order → (models : AreModelled programs) → KeepPromises programs models
+
+  -- over any files: what a receiver handed to its file is what its peer's file gave
+  abbrev pub ProgramsKeepAnyFiles : Type 0
+  ProgramsKeepAnyFiles =
+      (programs : Programs stores sources inputs outputs) (order : List Noted)
+      → AreJoined programs order → KeepAnyFiles programs
+
+  -- rules of the guarded machine lead to these ends, over files of known content
+  abbrev pub ProgramsAreShown : Type 0
+  ProgramsAreShown =
+      (programs : Programs stores sources inputs outputs) (order : List Noted)
+      → AreJoined programs order → (models : AreModelled programs) → AreShown programs models

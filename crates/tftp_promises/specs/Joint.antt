@@ -1,0 +1,88 @@
+-- The joint run of all programs: whole steps of theirs, one at a time, each of which receives only
+-- what was sent in the steps before it, or what is a stranger's.
+use Rattle.std.specs.Prelude.{ℕ, ◌≡◌, ◌⊎◌, List, ◌++◌, slice_get, Some}
+use Rattle.std.specs.List.{Contains}
+use Rattle.tftp_file.specs.Sink.{SinkMeaning}
+use Rattle.tftp_file.specs.Source.{SourceMeaning}
+use Rattle.tftp_file.specs.declared.files.Files.{Files}
+use Rattle.tftp_store.specs.Store.{StoreMeaning}
+use Rattle.tftp_rules.specs.Machine.{Endpoint}
+use Rattle.tftp_sockets.specs.Journal.{Event}
+use Rattle.tftp_sockets.specs.Journal.Event.{Received, Sent}
+use Rattle.tftp_loop.specs.Serves.{LoopState, Does}
+use Rattle.tftp_client.specs.Converses.{State}
+use Rattle.tftp_promises.specs.Joined.{AreJoined}
+use Rattle.tftp_promises.specs.Moved.{Moved}
+use Rattle.tftp_promises.specs.Order.{Noted, Programs, IsStranger}
+use Rattle.tftp_promises.specs.Programs.{endpoint, requests_at, ClientProgram}
+use Rattle.tftp_promises.specs.ClientRuns.{ClientDoes, client_moves}
+use Rattle.tftp_promises.specs.Snapshots.{ClientStage, Unasked, Has_asked, noted_by}
+use Rattle.tftp_promises.specs.Snapshots.{Snapshot, nothing_done, just_asked, server_did}
+use Rattle.tftp_promises.specs.Snapshots.{client_did, all_of}
+
+module _ {S F D G K : Type 0} {stores : StoreMeaning S D} {sources : SourceMeaning F}
+    {inputs : SourceMeaning G} {outputs : SinkMeaning K}
+    (programs : Programs stores sources inputs outputs) where
+  -- the server has sent these bytes from this endpoint to that one
+  pub record ServerHasSent (snapshot : Snapshot programs) (from to : Endpoint) (bytes : List ℕ)
+      : Type 0 where
+    pub port : ℕ
+    pub at : from ≡ endpoint programs.server.ip port
+    pub sent : Contains snapshot.noted (Sent port to bytes)
+
+  -- a client has
+  pub record ClientHasSent (snapshot : Snapshot programs) (from to : Endpoint) (bytes : List ℕ)
+      : Type 0 where
+    pub k : ℕ
+    pub client : ClientProgram inputs outputs (requests_at stores sources programs.server)
+    pub is_client : slice_get programs.clients k ≡ Some client
+    pub stage : ClientStage G K
+    pub is_stage : slice_get snapshot.clients k ≡ Some stage
+    pub port : ℕ
+    pub at : from ≡ endpoint client.ip port
+    pub sent : Contains (noted_by stage) (Sent port to bytes)
+
+  -- a program has
+  abbrev pub WasSentBefore : Snapshot programs → Endpoint → Endpoint → List ℕ → Type 0
+  WasSentBefore snapshot from to bytes =
+      ServerHasSent snapshot from to bytes ⊎ ClientHasSent snapshot from to bytes
+
+  -- what a program at this address receives in these events was sent there, or is a stranger's
+  abbrev pub CanTake : Snapshot programs → List ℕ → List Event → Type 0
+  CanTake snapshot ip added =
+      (port : ℕ) (from : Endpoint) (bytes : List ℕ) → Contains added (Received port from bytes)
+      → WasSentBefore snapshot from (endpoint ip port) bytes
+      ⊎ IsStranger stores sources inputs outputs programs from
+
+  -- the programs reach this state by whole steps, one at a time
+  pub data Joint : Snapshot programs → Type 0 where
+    All_begin : Joint (nothing_done programs)
+    -- a step of the server
+    Server_does : {old : Snapshot programs} {new : LoopState S F D}
+        → Joint old → (does : Does stores sources old.state new) (added : List Event)
+        → new.events ≡ added ++ old.state.events → CanTake old programs.server.ip added
+        → Joint (server_did programs old does added)
+    -- a client sends its request
+    Client_asks : {old : Snapshot programs} → Joint old → (k : ℕ)
+        (client : ClientProgram inputs outputs (requests_at stores sources programs.server))
+        → slice_get programs.clients k ≡ Some client
+        → slice_get old.clients k ≡ Some Unasked
+        → Joint (client_did programs old k (just_asked client))
+    -- a step of a client after that
+    Client_does : {old : Snapshot programs} {s s' : State} {files files' : Files G K}
+        {noted : List Event} {moved : Moved} → Joint old → (k : ℕ)
+        (client : ClientProgram inputs outputs (requests_at stores sources programs.server))
+        → slice_get programs.clients k ≡ Some client
+        → slice_get old.clients k ≡ Some (Has_asked s files noted moved)
+        → (does : ClientDoes inputs outputs client.port s files s' files') → (added : List Event)
+        → s'.events ≡ added ++ s.events → CanTake old client.ip added
+        → Joint
+        (client_did programs old k (Has_asked s' files' (added ++ noted) (client_moves does moved)))
+
+module _ {S F D G K : Type 0} (stores : StoreMeaning S D) (sources : SourceMeaning F)
+    (inputs : SourceMeaning G) (outputs : SinkMeaning K) where
+  -- a joint run leads to the end state of the programs
+  abbrev pub JournalsAreJoint : Type 0
+  JournalsAreJoint =
+      (programs : Programs stores sources inputs outputs) (order : List Noted)
+      → AreJoined stores sources inputs outputs programs order → Joint programs (all_of programs)

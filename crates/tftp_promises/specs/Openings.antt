@@ -1,0 +1,148 @@
+-- The transfers that the server of a network opens, each at an endpoint that no other end of the
+-- run has, so that a port may be used again; and what moved at each of them.
+use Rattle.std.specs.Prelude.{ℕ, ◌≡◌, ◌≢◌, ◌⊎◌, ◌==◌, ◌+◌, suc, Bool, true, if◌then◌else◌, List, []}
+use Rattle.std.specs.Prelude.{◌∷◌, ◌++◌, length, map, slice_get, option_map, option_to_list}
+use Rattle.std.specs.Prelude.{Option, Some, None}
+use Rattle.std.specs.List.{Contains}
+use Rattle.tftp_file.specs.Sink.{SinkMeaning}
+use Rattle.tftp_file.specs.Source.{SourceMeaning}
+use Rattle.tftp_store.specs.Store.{StoreMeaning}
+use Rattle.tftp_rules.specs.Machine.{Endpoint, is_same, is_same_ip}
+use Rattle.tftp_server.specs.State.{TransferState}
+use Rattle.tftp_loop.specs.Run.{Run}
+use Rattle.tftp_loop.specs.Run.Run.{Start, Then}
+use Rattle.tftp_loop.specs.Serves.{LoopState, Does, At_port, Request_answered}
+use Rattle.tftp_promises.specs.Moved.{Moved, nothing_moved, came_if, opening_moves, or_before}
+use Rattle.tftp_promises.specs.Moved.{port_moves}
+use Rattle.tftp_promises.specs.Order.{Programs}
+use Rattle.tftp_promises.specs.Ports.{AreDistinct, Removes, opened_ports}
+use Rattle.tftp_promises.specs.Programs.{endpoint, requests_at, client_at, has_client}
+use Rattle.tftp_promises.specs.Programs.{ClientProgram}
+
+-- their sum, which none of them exceeds
+abbrev pub total : List ℕ → ℕ
+total [] = 0
+total (n ∷ numbers) = n + total numbers
+
+-- the new place, or else that before
+abbrev pub or_place : Option Endpoint → Endpoint → Endpoint
+or_place (Some now) before = now
+or_place None before = before
+
+module _ {S F D G K : Type 0} {stores : StoreMeaning S D} {sources : SourceMeaning F}
+    {inputs : SourceMeaning G} {outputs : SinkMeaning K}
+    (programs : Programs stores sources inputs outputs) where
+  -- the endpoint of a client of the network, or one at the server's address; all others are
+  -- strangers'
+  abbrev pub is_ours : Endpoint → Bool
+  is_ours a =
+      if has_client inputs outputs (requests_at stores sources programs.server) programs.clients a
+      then true else is_same_ip a.ip programs.server.ip
+
+  -- above all ports of the server and of its clients
+  abbrev pub above : ℕ
+  above =
+      suc (total (programs.server.start.requests ∷ opened_ports programs.server.run)
+      + total (map (λ client. client.port) programs.clients))
+
+  -- where the server opens a transfer for the client at `from`, at this port, after `count` others:
+  -- at the port; but one of a stranger, whose port another transfer may have too, at an endpoint of
+  -- its own
+  abbrev pub place : ℕ → Endpoint → ℕ → Endpoint
+  place count from port =
+      endpoint programs.server.ip (if is_ours from then port else above + count)
+
+  -- where the transfer is that the run opened last at the port
+  abbrev pub placed_at : ℕ → {first old new : LoopState S F D}
+      → Run (Does stores sources) first old → Does stores sources old new → Option Endpoint
+  placed_at port run (Request_answered answers) =
+      option_map (λ held. place (length (opened_ports run)) answers.from port)
+      (came_if (answers.tid == port) answers.steps.came)
+  placed_at port run does = None
+
+  abbrev pub place_at : ℕ → {first last : LoopState S F D} → Run (Does stores sources) first last
+      → Endpoint
+  place_at port Start = endpoint programs.server.ip port
+  place_at port (Then run does) = or_place (placed_at port run does) (place_at port run)
+
+  -- a step of the run removed this transfer, which had closed and was at this place
+  abbrev pub HasClosed : {first last : LoopState S F D} → Run (Does stores sources) first last → ℕ
+      → TransferState F D → Endpoint → Type 0
+  HasClosed Start port transfer a = ⊥
+  HasClosed (Then run does) port transfer a =
+      (Removes does port transfer × (a ≡ place_at port run)) ⊎ HasClosed run port transfer a
+
+  -- ---- the transfer at a place
+  -- the transfer that a step opens there, as it opens
+  abbrev pub opens_at : Endpoint → {first old new : LoopState S F D}
+      → Run (Does stores sources) first old → Does stores sources old new
+      → Option (TransferState F D)
+  opens_at a run (Request_answered answers) =
+      came_if (is_same (place (length (opened_ports run)) answers.from answers.tid) a)
+      answers.steps.came
+  opens_at a run does = None
+
+  -- the transfer that the run opened there
+  abbrev pub opened_at : Endpoint → {first last : LoopState S F D}
+      → Run (Does stores sources) first last → Option (TransferState F D)
+  opened_at a Start = None
+  opened_at a (Then run does) = or_before (opens_at a run does) (opened_at a run)
+
+  -- what has moved at it after a step
+  abbrev pub does_move : Endpoint → {first old new : LoopState S F D}
+      → Run (Does stores sources) first old → Does stores sources old new → Moved → Moved
+  does_move a run (At_port serves) moved =
+      if is_same (place_at serves.timer.port run) a then port_moves serves.does moved else moved
+  does_move a run (Request_answered answers) moved =
+      opening_moves
+      (came_if (is_same (place (length (opened_ports run)) answers.from answers.tid) a)
+      answers.steps.came) moved
+  does_move a run does moved = moved
+
+  -- what has moved at it
+  abbrev pub moved_at : Endpoint → {first last : LoopState S F D}
+      → Run (Does stores sources) first last → Moved
+  moved_at a Start = nothing_moved
+  moved_at a (Then run does) = does_move a run does (moved_at a run)
+
+  -- ---- the premise
+  -- the ports of the transfers that a run opened for clients of the network
+  abbrev pub ours_by : {old new : LoopState S F D} → Does stores sources old new → List ℕ
+  ours_by (Request_answered answers) =
+      if is_ours answers.from then option_to_list answers.left.opened.tid else []
+  ours_by does = []
+
+  abbrev pub our_ports : {first last : LoopState S F D} → Run (Does stores sources) first last
+      → List ℕ
+  our_ports Start = []
+  our_ports (Then run does) = ours_by does ++ our_ports run
+
+  -- the ports of the server that its clients know: that of its requests, and those of their
+  -- transfers
+  abbrev pub server_ports : List ℕ
+  server_ports = programs.server.start.requests ∷ our_ports programs.server.run
+
+  -- no two clients have one endpoint, no two of these ports of the server are one, and no client is
+  -- at one of them
+  pub record AreEndsApart (ports : List ℕ) : Type 0 where
+    pub server : AreDistinct ports
+    pub clients : (j k : ℕ)
+        (x y : ClientProgram inputs outputs (requests_at stores sources programs.server)) →
+        slice_get programs.clients j ≡ Some x → slice_get programs.clients k ≡ Some y →
+        client_at inputs outputs (requests_at stores sources programs.server) x
+        ≡ client_at inputs outputs (requests_at stores sources programs.server) y → j ≡ k
+    pub apart : (k port : ℕ)
+        (x : ClientProgram inputs outputs (requests_at stores sources programs.server)) →
+        slice_get programs.clients k ≡ Some x → Contains ports port →
+        client_at inputs outputs (requests_at stores sources programs.server) x
+        ≢ endpoint programs.server.ip port
+
+  -- the ports are fresh for the clients and their transfers; those of strangers may be any
+  abbrev pub ArePortsFresh : Type 0
+  ArePortsFresh = AreEndsApart server_ports
+
+  -- distinct ports are fresh: if no two ends of the run have one endpoint
+  abbrev pub DistinctPortsAreFresh : Type 0
+  DistinctPortsAreFresh =
+      AreEndsApart (programs.server.start.requests ∷ opened_ports programs.server.run)
+      → ArePortsFresh

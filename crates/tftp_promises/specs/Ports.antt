@@ -1,0 +1,48 @@
+-- The transfers of a run: their ports, the one that a step removes, and the files under their
+-- paths.
+use Rattle.std.specs.Prelude.{ℕ, ◌≡◌, ◌⊎◌, List, [], ◌++◌, slice_get, Some}
+use Rattle.std.specs.Prelude.{option_to_list}
+use Rattle.tftp_file.specs.Source.{SourceMeaning}
+use Rattle.tftp_store.specs.Store.{StoreMeaning, FileList, file_at, files_of}
+use Rattle.tftp_server.specs.State.{TransferState, at}
+use Rattle.tftp_loop.specs.Run.{Run}
+use Rattle.tftp_loop.specs.Run.Run.{Start, Then}
+use Rattle.tftp_loop.specs.Serves.{LoopState, Does, Request_answered, Transfer_closed}
+
+-- the file is under the path in the server's store
+abbrev pub IsStored : {S F D : Type 0} → StoreMeaning S D → LoopState S F D → List ℕ → List ℕ
+    → Type 0
+IsStored stores state path file =
+    (files : FileList) × (files_of (stores.stored state.server.store) ≡ Some files)
+    × (file_at path files ≡ Some file)
+
+module _ {S F D : Type 0} {stores : StoreMeaning S D} {sources : SourceMeaning F} where
+  -- the port of the transfer that a step opens
+  abbrev pub opened_by : {old new : LoopState S F D} → Does stores sources old new → List ℕ
+  opened_by (Request_answered answers) = option_to_list answers.left.opened.tid
+  opened_by does = []
+
+  -- the ports of all transfers that a run opened
+  abbrev pub opened_ports : {first last : LoopState S F D} → Run (Does stores sources) first last
+      → List ℕ
+  opened_ports Start = []
+  opened_ports (Then run does) = opened_by does ++ opened_ports run
+
+  -- the step removes this transfer, which has closed
+  abbrev pub Removes : {old new : LoopState S F D} → Does stores sources old new → ℕ
+      → TransferState F D → Type 0
+  Removes {old} (Transfer_closed closes) port transfer =
+      (port ≡ closes.timer.port) × (at port old.server.held ≡ Some transfer)
+  Removes does port transfer = ⊥
+
+  -- the file was under the path at some time of the run
+  abbrev pub WasStored : {first last : LoopState S F D} → Run (Does stores sources) first last
+      → List ℕ → List ℕ → Type 0
+  WasStored {first} Start path file = IsStored stores first path file
+  WasStored {first} {last} (Then run does) path file =
+      IsStored stores last path file ⊎ WasStored run path file
+
+-- no port is there twice
+abbrev pub AreDistinct : List ℕ → Type 0
+AreDistinct ports = (j k port : ℕ) → slice_get ports j ≡ Some port → slice_get ports k ≡ Some port
+    → j ≡ k

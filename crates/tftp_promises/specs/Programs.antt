@@ -1,0 +1,133 @@
+-- The programs of a network: a server and its clients, each with its address, its run, and what the
+-- run noted in its journal (RFC 1350, section 4).
+use Rattle.std.specs.Prelude.{ℕ, ◌≡◌, Bool, true, false, if◌then◌else◌, List, [], ◌∷◌, ◌++◌, None}
+use Rattle.tftp_wire.specs.declared.mode.Mode.{Mode}
+use Rattle.tftp_negotiate.specs.Ranges.{IsBlockSize}
+use Rattle.tftp_negotiate.specs.declared.asked.Asked.{Asked}
+use Rattle.tftp_file.specs.Sink.{SinkMeaning}
+use Rattle.tftp_file.specs.Source.{SourceMeaning}
+use Rattle.tftp_file.specs.declared.files.Files.{Files}
+use Rattle.tftp_file.specs.declared.files.Files.TheVariants.{Source, Sink}
+use Rattle.tftp_ends.specs.End.{EndState}
+use Rattle.tftp_ends.specs.Opening.{MayGet, MayPut, getting, putting}
+use Rattle.tftp_store.specs.Store.{StoreMeaning}
+use Rattle.tftp_rules.specs.Machine.{Endpoint, is_same, is_same_ip, At_server, At_client}
+use Rattle.tftp_rules.specs.Machine.{Elsewhere, Network}
+use Rattle.tftp_sockets.specs.Journal.{Event}
+use Rattle.tftp_loop.specs.Run.{Run}
+use Rattle.tftp_loop.specs.Serves.{LoopState, Does}
+use Rattle.tftp_client.specs.Converses.{State}
+use Rattle.tftp_client.specs.Runs.{IsNew, begun}
+use Rattle.tftp_promises.specs.ClientRuns.{ClientRun}
+
+-- the endpoint of a port at this address
+abbrev pub endpoint : List ℕ → ℕ → Endpoint
+endpoint ip port = record { ip = ip; port = port }
+
+module _ {S F D : Type 0} (stores : StoreMeaning S D) (sources : SourceMeaning F) where
+  -- a server
+  pub record ServerProgram : Type 0 where
+    pub ip : List ℕ
+    -- it runs from its start, or from a later time, to its end state
+    pub start : LoopState S F D
+    pub last : LoopState S F D
+    pub run : Run (Does stores sources) start last
+    -- the events of the run, the newest first
+    pub noted : List Event
+    pub is_noted : last.events ≡ noted ++ start.events
+    -- it begins without transfers, and no datagram is pending
+    pub empty : start.server.held ≡ []
+    pub idle : start.pending ≡ None
+    pub max_block : IsBlockSize start.server.config.limits.max_block
+
+  -- the end state of the server
+  abbrev pub arrived : ServerProgram → LoopState S F D
+  arrived server = server.last
+
+  -- where its clients send their requests
+  abbrev pub requests_at : ServerProgram → Endpoint
+  requests_at server = endpoint server.ip server.start.requests
+
+  -- what a server did since it held no transfer is the run of a program
+  pub record IsServerRun (ip : List ℕ) (start last : LoopState S F D) : Type 0 where
+    pub server : ServerProgram
+    pub address : server.ip ≡ ip
+    pub starts : server.start ≡ start
+    pub arrives : server.last ≡ last
+
+  abbrev pub ServersAreRuns : Type 0
+  ServersAreRuns =
+      (ip : List ℕ) (start last : LoopState S F D) → Run (Does stores sources) start last
+      → start.server.held ≡ [] → start.pending ≡ None
+      → IsBlockSize start.server.config.limits.max_block → IsServerRun ip start last
+
+module _ {G K : Type 0} (inputs : SourceMeaning G) (outputs : SinkMeaning K) (to : Endpoint) where
+  -- a client's end that reads, with a valid request
+  pub record OpensToRead (first : EndState) (file : Files G K) : Type 0 where
+    pub name : List ℕ
+    pub mode : Mode
+    pub asked : Asked
+    pub limit : ℕ
+    pub retries : ℕ
+    pub may : MayGet name mode asked
+    pub is : first ≡ getting to name mode asked limit retries
+    pub sink : K
+    pub is_file : file ≡ Sink sink
+
+  -- a client's end that writes a file of this length on the wire, with a valid request
+  pub record OpensToWrite (first : EndState) (file : Files G K) : Type 0 where
+    pub name : List ℕ
+    pub mode : Mode
+    pub asked : Asked
+    pub length : ℕ
+    pub limit : ℕ
+    pub retries : ℕ
+    pub may : MayPut name mode asked length
+    pub is : first ≡ putting to name mode asked length limit retries
+    pub source : G
+    pub is_file : file ≡ Source source
+
+  -- a client's end opens, to read or to write
+  pub data ClientOpens (first : EndState) (file : Files G K) : Type 0 where
+    To_read : OpensToRead first file → ClientOpens first file
+    To_write : OpensToWrite first file → ClientOpens first file
+
+  -- a client, from its request on, with the lines that it prints, and what it does after them; a
+  -- program that tries again without options is two of them
+  pub record ClientProgram : Type 0 where
+    pub ip : List ℕ
+    -- the port of its socket
+    pub port : ℕ
+    pub first : EndState
+    pub before : List Event
+    pub last : State
+    pub files : Files G K
+    -- its file before the run; one that is to receive was handed nothing
+    pub file : Files G K
+    pub new : IsNew inputs outputs file
+    pub runs : ClientRun inputs outputs port (begun port first before) file last files
+    pub opens : ClientOpens first file
+    -- the events of the run, the newest first
+    pub noted : List Event
+    pub is_noted : last.events ≡ noted ++ before
+
+  -- its endpoint
+  abbrev pub client_at : ClientProgram → Endpoint
+  client_at client = endpoint client.ip client.port
+
+  -- whether it is the endpoint of a client
+  abbrev pub has_client : List ClientProgram → Endpoint → Bool
+  has_client [] a = false
+  has_client (client ∷ clients) a =
+      if is_same a (client_at client) then true else has_client clients a
+
+  -- the network of these clients and their server: every other endpoint at the server's address is
+  -- at the server, and the rest are elsewhere
+  abbrev pub network_of : List ClientProgram → Network
+  network_of clients =
+      record {
+        host_of = λ a.
+            if has_client clients a then At_client
+            else if is_same_ip a.ip to.ip then At_server else Elsewhere;
+        request_port = to;
+      }

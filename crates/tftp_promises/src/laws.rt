@@ -1,0 +1,108 @@
+//! Laws of programs in an honest network, over the definitions alone. A program's files are of any
+//! types: those of a store, and of the clients' sources and sinks.
+
+ghost use Rattle.tftp_rules.specs.Machine.{Endpoint};
+ghost use Rattle.tftp_promises.specs.Alone.{EachIsJoined, EachKeepsAnyFiles, EachKeepsPromises};
+ghost use Rattle.tftp_promises.specs.ClientRuns.{ClientsAreRuns};
+ghost use Rattle.tftp_promises.specs.Hosts.{ClientsAreThere, ServerIsThere, StrangersAreElsewhere};
+ghost use Rattle.tftp_promises.specs.Joined.{ProgramsAreShown, ProgramsKeepAnyFiles};
+ghost use Rattle.tftp_promises.specs.Joined.{ProgramsKeepPromises};
+ghost use Rattle.tftp_promises.specs.Joint.{JournalsAreJoint};
+ghost use Rattle.tftp_promises.specs.Journals.{AsksFirst};
+ghost use Rattle.tftp_promises.specs.Lines.{EachLineIsAClose};
+ghost use Rattle.tftp_promises.specs.Openings.{DistinctPortsAreFresh};
+ghost use Rattle.tftp_promises.specs.Order.{Programs};
+ghost use Rattle.tftp_promises.specs.Programs.{ClientProgram, ServersAreRuns};
+ghost use Rattle.tftp_promises.specs.Timers.{EachHasOneTimer};
+ghost use Rattle.tftp_promises.specs.Witness.{SomeAreJoined, SomeAreServed};
+
+use tftp_file::{Sink, Source};
+use tftp_store::Store;
+
+/// The ends of a server and its clients in an honest network keep the promises of a transfer. Over
+/// any store and any files, in the end state of their journals: they have one block size; what a
+/// receiver handed to its file is a prefix of what its peer's file gave, and all of it,
+/// committed, once it is complete; a sender is complete only after its receiver. Over files with
+/// models the same holds of what these hold, and rules of the guarded machine lead to these ends
+/// (RFC 1350, sections 2, 4 and 6).
+pub fn programs_keep_promises<T: Store, G: Source, K: Sink>()
+    ensures any_files { ProgramsKeepAnyFiles T.meaning T.Source.meaning G.meaning K.meaning }
+    ensures promises { ProgramsKeepPromises T.meaning T.Source.meaning G.meaning K.meaning }
+    ensures shown { ProgramsAreShown T.meaning T.Source.meaning G.meaning K.meaning }
+{}
+
+/// The server and each of its clients keep the promises, whatever ports the transfers of other
+/// clients have, before and after: for these two programs the others are strangers, if they are at
+/// other addresses than the server's and none has the client's endpoint (RFC 1350, section 4).
+pub fn each_client_keeps_promises<T: Store, G: Source, K: Sink>()
+    ensures joined { EachIsJoined T.meaning T.Source.meaning G.meaning K.meaning }
+    ensures any_files { EachKeepsAnyFiles T.meaning T.Source.meaning G.meaning K.meaning }
+    ensures promises { EachKeepsPromises T.meaning T.Source.meaning G.meaning K.meaning }
+{}
+
+/// If no two ends of the run ever have one endpoint, the ports are fresh as the promises need them:
+/// they ask it of the clients of the network and of their transfers only.
+pub fn ports_that_all_differ_are_fresh<T: Store, G: Source, K: Sink>()
+    ensures { (programs : Programs T.meaning T.Source.meaning G.meaning K.meaning)
+        → DistinctPortsAreFresh programs }
+{}
+
+/// The programs of a network reach the end state of their journals by whole steps, one at a time,
+/// and each step receives only what was sent in the steps before it, or what is a stranger's (RFC
+/// 1350, sections 2 and 4).
+pub fn journals_are_joint<T: Store, G: Source, K: Sink>()
+    ensures { JournalsAreJoint T.meaning T.Source.meaning G.meaning K.meaning }
+{}
+
+/// In the network of the programs each client is at a client's endpoint, each port of the server
+/// that its clients know at the server, and only strangers are elsewhere. The rules that open ends
+/// need the first two, and by the third what is claimed of peers has no other exception.
+pub fn programs_are_in_their_network<T: Store, G: Source, K: Sink>()
+    ensures clients { (programs : Programs T.meaning T.Source.meaning G.meaning K.meaning)
+        → ClientsAreThere programs }
+    ensures server { (programs : Programs T.meaning T.Source.meaning G.meaning K.meaning)
+        → ServerIsThere programs }
+    ensures strangers { (programs : Programs T.meaning T.Source.meaning G.meaning K.meaning)
+        → StrangersAreElsewhere programs }
+{}
+
+/// What `tftp_client` proves of a client is one run, as the laws here need it: from its request on,
+/// and of one that is complete also its line and what it did after it (RFC 1350, section 6).
+pub fn a_client_is_one_run<G: Source, K: Sink>()
+    ensures { ClientsAreRuns G.meaning K.meaning }
+{}
+
+/// What `tftp_loop` proves of a server is the run of a server here, from its start or from any
+/// later time at which it holds no transfer and no datagram is pending.
+pub fn a_server_is_one_run<T: Store>()
+    ensures { ServersAreRuns T.meaning T.Source.meaning }
+{}
+
+/// A client sends its request to the server first (RFC 1350, section 4), and then notes only events
+/// of its own port, its waits, which report no other port, and the lines that it prints.
+pub fn a_client_asks_first<G: Source, K: Sink>()
+    ensures { (to : Endpoint) (client : ClientProgram G.meaning K.meaning to) → AsksFirst client }
+{}
+
+/// The premises of the laws over both ends can be met, by a real exchange: a client reads a file by
+/// an OACK, and its last acknowledgement is lost, so that the block is sent again; another writes a
+/// file, which is committed; a stranger sends a datagram between. At the end another program reads
+/// at the port that the first client's transfer had: a stranger, and for the law over each client
+/// apart a client (RFC 1350, sections 2, 4 and 6).
+pub fn some_programs_are_joined()
+    ensures joined { SomeAreJoined }
+    ensures served { SomeAreServed }
+{}
+
+/// At each time of a run each transfer that the server holds has one timer, at its port, and no
+/// timer is of another. So a datagram or a timeout at a port is for one transfer only (RFC 1350,
+/// section 4).
+pub fn each_transfer_has_one_timer<T: Store>()
+    ensures { EachHasOneTimer T.meaning T.Source.meaning }
+{}
+
+/// At each time of a run the server has printed one line for each transfer that it removed, and no
+/// other.
+pub fn each_line_is_a_close<T: Store>()
+    ensures { EachLineIsAClose T.meaning T.Source.meaning }
+{}

@@ -1,0 +1,26 @@
+-- The datagram of a rule is true of its sender.
+use Rattle.std.proofs.Common.{[], ◌∷◌, sym, subst}
+use Rattle.std.specs.Prelude.{◌≢◌}
+use Rattle.std.specs.List.{Contains}
+use Rattle.tftp_rules.specs.Machine.{Endpoint, Elsewhere, Packet, Message, Party, with_end, Network}
+use Rattle.tftp_rules.specs.Rules.{message}
+use Rattle.tftp_rules.specs.Facts.{Attests}
+use Rattle.tftp_rules.proofs.Grows.{with_at}
+use Rattle.tftp_rules.proofs.Steps.{none_sent, one_sent}
+
+pub attested_at : (ends : Endpoint → Party) (a : Endpoint) (x : Party) (to : Endpoint) (k : Packet) → Attests x to k →
+    Attests (with_end ends a x a) to k
+attested_at ends a x to k t = subst (λ (y : Party). Attests y to k) (sym (with_at ends a x)) t
+
+module _ (network : Network) where
+  -- the datagram that an end at a, which is now x, sends
+  pub attested_one : (ends : Endpoint → Party) (a : Endpoint) (x : Party) (to : Endpoint) (k : Packet) →
+      Attests x to k → (d : Message) → Contains (message a to k ∷ []) d → network.host_of d.from ≢ Elsewhere →
+      Attests (with_end ends a x d.from) d.to d.packet
+  attested_one ends a x to k t =
+      one_sent (λ d. network.host_of d.from ≢ Elsewhere → Attests (with_end ends a x d.from) d.to d.packet)
+      (message a to k) (λ _. attested_at ends a x to k t)
+
+  pub attested_none : (ends : Endpoint → Party) (d : Message) → Contains [] d → network.host_of d.from ≢ Elsewhere →
+      Attests (ends d.from) d.to d.packet
+  attested_none ends = none_sent (λ d. network.host_of d.from ≢ Elsewhere → Attests (ends d.from) d.to d.packet)

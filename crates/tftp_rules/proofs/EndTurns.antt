@@ -1,0 +1,190 @@
+-- An open end with any datagram, and at a timeout.
+use Rattle.std.proofs.Common.{◌≡◌, ℕ, Bool, true, false, List, [], Option, Some, refl, subst, inl, arith}
+use Rattle.std.specs.Prelude.{◌==◌, ◌&&◌, if◌then◌else◌, is_none, is_some}
+use Rattle.std.proofs.lemmas.Bool.{true≢false}
+use Rattle.tftp_wire.specs.declared.packet.Packet.{Packet as WirePacket}
+use Rattle.tftp_wire.specs.Spelling.{Spells}
+use Rattle.tftp_ends.specs.declared.outcome.Outcome.TheVariants as outcomes
+use Rattle.tftp_ends.specs.declared.phase.Dally.{Dally}
+use Rattle.tftp_ends.specs.declared.phase.Dally.TheVariants.{Fresh, Waited}
+use Rattle.tftp_ends.specs.declared.phase.Phase.{Phase}
+use Rattle.tftp_ends.specs.declared.phase.Phase.TheVariants.{Waiting, Sending, Receiving, Dallying, Closed}
+use Rattle.tftp_ends.specs.declared.phase.Terms.{Terms}
+use Rattle.tftp_ends.specs.declared.action.Action.{Action}
+use Rattle.tftp_ends.specs.declared.action.Action.TheVariants.{Respond}
+use Rattle.tftp_ends.specs.declared.action.Response.{Response}
+use Rattle.tftp_ends.specs.declared.action.Response.TheVariants.{Ignore, WrongPeer, Retransmit, Close}
+use Rattle.tftp_ends.specs.End.{is_sender, is_client, terms_of, outcome_of}
+use Rattle.tftp_ends.specs.Action.{same_address, same_endpoint, is_wrong_peer, garbled_response, packet_action}
+use Rattle.tftp_ends.specs.Action.{datagram_action, timeout_response}
+use Rattle.tftp_wire.specs.Reading.{has_error_opcode}
+use Rattle.tftp_ends.specs.Step.{timeout_turn, response_turn, after, with_position}
+use Rattle.tftp_ends.specs.Waiting.{reader_action, writer_action}
+use Rattle.tftp_rules.specs.Machine.{Endpoint, Message, Network}
+use Rattle.tftp_rules.specs.Rules.{Rule}
+use Rattle.tftp_rules.specs.Shows.{EndView}
+use Rattle.tftp_rules.specs.OpenEnds.{OpenEnd, files_of, in_state, with_phase, goes_on, open_view}
+use Rattle.tftp_rules.specs.EndKept.{EndKept, IsFromServer}
+use Rattle.tftp_rules.specs.EndShown.{Stands, Goes, IsThere, DatagramTurnsAreShown, TimeoutTurnsAreShown}
+use Rattle.tftp_rules.proofs.Actions.{goes}
+use Rattle.tftp_rules.proofs.EndMoves.{from_response, gives_up, retries}
+use Rattle.tftp_rules.proofs.SaidLemmas.{says_spelled}
+use Rattle.tftp_rules.proofs.PhaseMoves.{Acting, OfDecoded, if_acts, not_false, same_endpoints, ignore_acts}
+use Rattle.tftp_rules.proofs.PhaseMoves.{wrong_peer_acts, sender_acts, receiver_acts, dally_acts}
+use Rattle.tftp_rules.proofs.WaitingMoves.{OfServer, reader_acts, writer_acts}
+
+module _ (network : Network) where
+  module _ (first : List Rule) (views : List EndView) (messages : List Message) (k : ℕ) (x0 : OpenEnd)
+      (from : Endpoint) (bytes : List ℕ) (decoded : Option WirePacket)
+      (spelled : (p : WirePacket) → decoded ≡ Some p → Spells p bytes) (come : OfDecoded messages from x0 decoded)
+      (old : IsThere messages x0.address x0.state.position.last_sent_to x0.state.position.last_sent) where
+    abbrev There : Phase → Type 0
+    There phase = Stands network first views messages k (open_view (with_phase phase x0))
+
+    abbrev Goes_on : Phase → Action → Type 0
+    Goes_on phase action = Acting network first views messages k (with_phase phase x0) from bytes action
+
+    -- an open end with a packet from its peer, or from the server while it waits
+    by_packet : (phase : Phase) → There phase → EndKept network (with_phase phase x0) →
+        IsFromServer network (with_phase phase x0) from bytes → is_some (outcome_of phase) ≡ false →
+        is_wrong_peer (terms_of phase) x0.state.position.last_sent_to from ≡ false →
+        Goes_on phase (packet_action (with_phase phase x0).state from decoded phase)
+    by_packet (Waiting asked limit) s kept serves o near =
+        let here : same_address network.request_port from ≡ true =
+        subst (λ (p : Endpoint). same_address p from ≡ true) kept.phase.2
+        (not_false (same_address x0.state.position.last_sent_to from) near) in
+        let answers : OfServer network from decoded = λ p e a. serves refl here p (spelled p e) a in
+        if_acts (Goes_on (Waiting asked limit)) (is_sender x0.state.role.side)
+        (writer_action x0.state.role.mode asked limit x0.state.role.length from decoded)
+        (reader_action x0.state.role.mode asked limit from decoded)
+        (λ w. writer_acts network first views messages k x0 asked limit s kept from bytes w decoded answers come)
+        (λ r. reader_acts network first views messages k x0 asked limit s kept from bytes r decoded answers spelled
+        come)
+    by_packet (Sending terms n) s kept serves o near =
+        sender_acts network first views messages k x0 terms n s kept from bytes (is_client x0.state.role.side) decoded
+        (same_endpoints terms.peer from (not_false (same_endpoint terms.peer from) near)) come
+    by_packet (Receiving terms n) s kept serves o near =
+        receiver_acts network first views messages k x0 terms n s kept from bytes
+        (same_endpoints terms.peer from (not_false (same_endpoint terms.peer from) near)) old
+        (is_client x0.state.role.side) decoded spelled come
+    by_packet (Dallying terms n dally) s kept serves o near =
+        dally_acts network first views messages k x0 terms n dally s kept from bytes
+        (same_endpoints terms.peer from (not_false (same_endpoint terms.peer from) near)) old decoded
+    by_packet (Closed terms n complete outcome) s kept serves o near = absurd (true≢false o)
+
+    -- a malformed ERROR
+    by_garbled : (phase : Phase) → There phase → EndKept network (with_phase phase x0) →
+        is_some (outcome_of phase) ≡ false → Goes_on phase (Respond (garbled_response phase))
+    by_garbled (Waiting asked limit) s kept o turn held h =
+        let x =
+        with_phase (Waiting asked limit) x0 in from_response network first views messages k x
+        (Close outcomes.Illegal) from turn held (gives_up network first views messages k x s kept outcomes.Illegal
+        from refl) h
+    by_garbled (Sending terms n) s kept o turn held h =
+        let x =
+        with_phase (Sending terms n) x0 in from_response network first views messages k x (Close outcomes.Illegal)
+        from turn held (gives_up network first views messages k x s kept outcomes.Illegal from refl) h
+    by_garbled (Receiving terms n) s kept o turn held h =
+        let x =
+        with_phase (Receiving terms n) x0 in from_response network first views messages k x (Close outcomes.Illegal)
+        from turn held (gives_up network first views messages k x s kept outcomes.Illegal from refl) h
+    by_garbled (Dallying terms n dally) s kept o turn held h =
+        ignore_acts network first views messages k (with_phase (Dallying terms n dally) x0) s kept from bytes refl turn
+        held h
+    by_garbled (Closed terms n complete outcome) s kept o turn held h = absurd (true≢false o)
+
+    -- an open end with any datagram
+    pub by_datagram : (phase : Phase) → There phase → EndKept network (with_phase phase x0) →
+        IsFromServer network (with_phase phase x0) from bytes → is_some (outcome_of phase) ≡ false →
+        Goes_on phase (datagram_action (with_phase phase x0).state from bytes decoded)
+    by_datagram phase s kept serves o =
+        let P = Goes_on phase in
+        let e = (with_phase phase x0).state in
+        let far = is_wrong_peer (terms_of phase) x0.state.position.last_sent_to from in
+        let near_action =
+        if has_error_opcode bytes && is_none decoded then Respond (garbled_response phase) else packet_action e from
+        decoded phase in
+        if_acts P far (if has_error_opcode bytes then Respond Ignore else Respond WrongPeer) near_action
+        (λ f. if_acts P (has_error_opcode bytes) (Respond Ignore) (Respond WrongPeer)
+        (λ b. ignore_acts network first views messages k (with_phase phase x0) s kept from bytes o)
+        (λ b. wrong_peer_acts network first views messages k (with_phase phase x0) s kept from bytes o))
+        (λ f. if_acts P (has_error_opcode bytes && is_none decoded) (Respond (garbled_response phase))
+        (packet_action e from decoded phase)
+        (λ b. by_garbled phase s kept o)
+        (λ b. by_packet phase s kept serves o f))
+
+  -- an open end at a timeout
+  module _ (first : List Rule) (views : List EndView) (messages : List Message) (k : ℕ) (x0 : OpenEnd)
+      (old : IsThere messages x0.address x0.state.position.last_sent_to x0.state.position.last_sent) where
+    abbrev Turns_at : OpenEnd → Response → Type 0
+    Turns_at x response =
+        Goes network first views messages k x (response_turn response x.state.position.last_sent_to x.state)
+        (in_state (with_position (after response x.state.position.last_sent_to x.state) x.state) x)
+
+    if_turns : (x : OpenEnd) (b : Bool) (r s : Response) → Turns_at x r → Turns_at x s → Turns_at x (if b then r else s)
+    if_turns x true r s f g = f
+    if_turns x false r s f g = g
+
+    waits_or_gives_up : (phase : Phase) → Stands network first views messages k (open_view (with_phase phase x0)) →
+        EndKept network (with_phase phase x0) → is_some (outcome_of phase) ≡ false → goes_on phase ≡ true →
+        Turns_at (with_phase phase x0) (if x0.state.position.retries_left == 0 then Close outcomes.TimedOut else
+        Retransmit)
+    waits_or_gives_up phase s kept o going =
+        let x = with_phase phase x0 in
+        if_turns x (x0.state.position.retries_left == 0) (Close outcomes.TimedOut) Retransmit
+        (gives_up network first views messages k x s kept outcomes.TimedOut x0.state.position.last_sent_to going)
+        (retries network first views messages k x s kept x0.state.position.last_sent_to o old)
+
+    -- a dally continues, or ends
+    dally_turns : (terms : Terms) (n : ℕ) (dally : Dally) →
+        Stands network first views messages k (open_view (with_phase (Dallying terms n dally) x0)) →
+        EndKept network (with_phase (Dallying terms n dally) x0) →
+        Turns_at (with_phase (Dallying terms n dally) x0) (timeout_response x0.state.position.retries_left
+        (Dallying terms n dally))
+    dally_turns terms n Fresh s kept = record {
+      said_now = [];
+      shown =
+          goes network first views messages k (open_view (with_phase (Dallying terms n Fresh) x0)) s [] (omega arith)
+          refl tt;
+      replies = refl;
+      kept = record { phase = kept.phase; held_back = kept.held_back; committed = kept.committed };
+      side = refl;
+      last_sent = inl (refl, refl);
+      stored = λ _. refl;
+    }
+    dally_turns terms n Waited s kept = record {
+      said_now = [];
+      shown =
+          goes network first views messages k (open_view (with_phase (Dallying terms n Waited) x0)) s [] (omega arith)
+          refl tt;
+      replies = refl;
+      kept = record { phase = tt; held_back = kept.held_back; committed = kept.committed };
+      side = refl;
+      last_sent = inl (refl, refl);
+      stored = λ _. refl;
+    }
+
+    pub by_timeout : (phase : Phase) → Stands network first views messages k (open_view (with_phase phase x0)) →
+        EndKept network (with_phase phase x0) → is_some (outcome_of phase) ≡ false →
+        Turns_at (with_phase phase x0) (timeout_response x0.state.position.retries_left phase)
+    by_timeout (Waiting asked limit) s kept o = waits_or_gives_up (Waiting asked limit) s kept o refl
+    by_timeout (Sending terms n) s kept o = waits_or_gives_up (Sending terms n) s kept o refl
+    by_timeout (Receiving terms n) s kept o = waits_or_gives_up (Receiving terms n) s kept o refl
+    by_timeout (Dallying terms n dally) s kept o = dally_turns terms n dally s kept
+    by_timeout (Closed terms n complete outcome) s kept o = absurd (true≢false o)
+
+  -- the step of an open end for a datagram is shown
+  pub datagram_goes : DatagramTurnsAreShown network
+  datagram_goes first views messages k x from bytes turn held open_now come serves h =
+      let spelled = says_spelled bytes h.decoded h.says in
+      by_datagram first views messages k x from bytes h.decoded spelled (λ p e. come p (spelled p e)) open_now.last_sent
+      x.state.position.phase open_now.stands open_now.kept serves open_now.still turn held h.acts
+
+  -- and for a timeout
+  pub timeout_goes : TimeoutTurnsAreShown network
+  timeout_goes first views messages k x open_now =
+      from_response network first views messages k x
+      (timeout_response x.state.position.retries_left x.state.position.phase) x.state.position.last_sent_to
+      (timeout_turn x.state) (files_of x)
+      (by_timeout first views messages k x open_now.last_sent x.state.position.phase open_now.stands open_now.kept
+      open_now.still) (refl, refl)

@@ -1,0 +1,38 @@
+-- Whether two endpoints are the same.
+use Rattle.std.proofs.Common.{◌≡◌, ℕ, true, false, List, sym, refl, ap, ◌∙◌, inl, inr}
+use Rattle.std.specs.Prelude.{◌≢◌, ◌⊎◌, ◌==◌}
+use Rattle.std.specs.Cmp.Lexicographic.{same_text, other_text}
+use Rattle.std.proofs.lemmas.Bool.{cases_Bool, cond-true, cond-false, eq-eqb, ne_eqb, cases_eq}
+use Rattle.tftp_rules.specs.Machine.{Endpoint, is_same_ip, is_same}
+use Rattle.tftp_rules.specs.Texts.{EndpointsAreTheirParts}
+
+pub same_ip : (a : List ℕ) → is_same_ip a a ≡ true
+same_ip a = elim (cases_Bool (is_same_ip a a)) [
+  | inl t ↦ t
+  | inr f ↦ absurd (other_text a a (sym f) refl)
+]
+
+pub endpoint_from : EndpointsAreTheirParts
+endpoint_from a b e f =
+    let at_port : ℕ → Endpoint = λ p. record { ip = a.ip; port = p } in
+    let at_ip : List ℕ → Endpoint = λ i. record { ip = i; port = b.port } in
+    ap at_port f ∙ ap at_ip e
+
+pub cases_same : (a b : Endpoint) → (a ≡ b) ⊎ (a ≢ b)
+cases_same a b = elim (cases_Bool (is_same_ip a.ip b.ip)) [
+  | inl t ↦ elim (cases_eq a.port b.port) [
+    | inl e ↦ inl (endpoint_from a b (same_text a.ip b.ip (sym t)) e)
+    | inr n ↦ inr (λ e. n (ap (λ (c : Endpoint). c.port) e))
+  ]
+  | inr f ↦ inr (λ e. other_text a.ip b.ip (sym f) (ap (λ (c : Endpoint). c.ip) e))
+]
+
+pub same_self : (a : Endpoint) → is_same a a ≡ true
+same_self a = cond-true (is_same_ip a.ip a.ip) (a.port == a.port) false (same_ip a.ip) ∙ eq-eqb a.port a.port refl
+
+pub same_other : (a b : Endpoint) → a ≢ b → is_same a b ≡ false
+same_other a b n = elim (cases_Bool (is_same_ip a.ip b.ip)) [
+  | inl t ↦ cond-true (is_same_ip a.ip b.ip) (a.port == b.port) false t
+      ∙ ne_eqb a.port b.port (λ e. n (endpoint_from a b (same_text a.ip b.ip (sym t)) e))
+  | inr f ↦ cond-false (is_same_ip a.ip b.ip) (a.port == b.port) false f
+]

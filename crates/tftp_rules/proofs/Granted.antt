@@ -1,0 +1,82 @@
+-- The options that a server's end agrees to: its block size, and that its OACK is a packet.
+use Rattle.std.proofs.Common.{◌≡◌, ℕ, suc, ◌^◌, ◌<◌, ◌≤◌, List, [], ◌∷◌, length, Ok, sym, refl, subst, arith}
+use Rattle.std.specs.Prelude.{◌≢◌}
+use Rattle.std.specs.List.{AllByRecursion}
+use Rattle.tftp_wire.specs.declared.limits.TheConstants.{MAX_REQUEST, MAX_BLOCK}
+use Rattle.tftp_wire.specs.declared.mode.Mode.{Mode}
+use Rattle.tftp_wire.specs.declared.options.RawOption.{RawOption}
+use Rattle.tftp_wire.specs.Options.{options_bytes}
+use Rattle.tftp_negotiate.specs.declared.known.Kind.{Kind}
+use Rattle.tftp_negotiate.specs.declared.known.Kind.TheVariants as kinds
+use Rattle.tftp_negotiate.specs.declared.known.Known.{Known}
+use Rattle.tftp_negotiate.specs.declared.known.Known.TheVariants as known
+use Rattle.tftp_negotiate.specs.declared.limits.Limits.{Limits}
+use Rattle.tftp_negotiate.specs.declared.name.Name.{Name}
+use Rattle.tftp_negotiate.specs.declared.name.Name.TheVariants.{Timeout, Tsize}
+use Rattle.tftp_negotiate.specs.Agreed.{agreed_options, size}
+use Rattle.tftp_negotiate.specs.Answer.{answer}
+use Rattle.tftp_negotiate.specs.Laws.{HasWord, IsWithinRequest, Requests}
+use Rattle.tftp_negotiate.specs.Ranges.{IsBlockSize}
+use Rattle.tftp_rules.specs.EndOpens.{AnswersAreGranted}
+use Rattle.tftp_negotiate.proofs.LawsLemmas.{numbers_are_printed, answers_within_request, answers_may_be_agreed}
+use Rattle.tftp_negotiate.proofs.LawsLemmas.{agreements_are_short, agreements_have_block_sizes}
+use Rattle.tftp_negotiate.proofs.SpellingLemmas.{known_are_options}
+
+-- the number of a requested option fits 64 bits
+word_of : (options : List RawOption) (name : Name) (n : ℕ) → Requests options name n → n < 2 ^ 64
+word_of options name n r = ((numbers_are_printed r.0.value n).0 r.3).1
+
+module _ (options : List RawOption) (kind : Kind) (file_length : ℕ) (limits : Limits) (fits : file_length < 2 ^ 64)
+    (max : IsBlockSize limits.max_block) where
+  has_length : (k : Kind) (n : ℕ) → IsWithinRequest options k file_length limits (known.Tsize n) → n < 2 ^ 64
+  has_length kinds.Read n h = subst (λ (m : ℕ). m < 2 ^ 64) (sym h.1) fits
+  has_length kinds.Write n h = word_of options Tsize n h.0
+
+  -- and so does that of its answer
+  has_word : (k : Known) → IsWithinRequest options kind file_length limits k → HasWord k
+  has_word (known.Blksize n) h = let a = h.0 in let b = max.1 in let l : n < 2 ^ 64 = omega (arith, a, b) in l
+  has_word (known.Timeout n) h = word_of options Timeout n h
+  has_word (known.Tsize n) h = has_length kind n h
+
+  have_words : (ks : List Known) → AllByRecursion (IsWithinRequest options kind file_length limits) ks →
+      AllByRecursion HasWord ks
+  have_words [] h = tt
+  have_words (k ∷ ks) h = (has_word k h.0, have_words ks h.1)
+
+some_options : (ks : List Known) → ks ≢ [] → agreed_options ks ≢ []
+some_options [] s e = s refl
+some_options (k ∷ ks) s e = cc
+
+-- a server may agree to what it answers
+pub answer_granted : AnswersAreGranted
+answer_granted options kind mode file_length limits agreed fits max e =
+    let agreement = answers_may_be_agreed options kind mode file_length limits agreed max e in
+    let range = agreements_have_block_sizes agreed agreement in
+    let low = range.0 in
+    let words =
+    have_words options kind file_length limits fits max agreed
+    (answers_within_request options kind mode file_length limits agreed e) in
+    let spelled = known_are_options agreed words in
+    let three = agreements_are_short agreed agreement in
+    let l = spelled.1 in
+    record {
+      values = agreement.values;
+      positive = omega (arith, low);
+      small = range.1;
+      oack = λ some. (
+        some_options agreed some,
+        spelled.0,
+        (
+            let bytes = options_bytes (agreed_options agreed) in
+            let n : suc (suc (length bytes)) ≤ MAX_REQUEST = omega (arith, l, three) in n
+            ),
+      );
+    }
+
+-- its block size does not depend on the length of the file
+pub answer_small :
+    (options : List RawOption) (kind : Kind) (mode : Mode) (file_length : ℕ) (limits : Limits) (agreed : List Known) →
+    IsBlockSize limits.max_block →
+    answer options kind mode file_length limits ≡ Ok agreed → size agreed ≤ MAX_BLOCK
+answer_small options kind mode file_length limits agreed max e =
+    (agreements_have_block_sizes agreed (answers_may_be_agreed options kind mode file_length limits agreed max e)).1

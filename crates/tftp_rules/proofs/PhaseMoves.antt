@@ -1,0 +1,300 @@
+-- An end by its phase: a sender, a receiver, one that dallies.
+use Rattle.std.proofs.Common.{◌≡◌, ℕ, ◌+◌, ◌/◌, ◌<◌, ◌≤◌, Bool, true, false, List, [], ◌∷◌, ◌++◌, length, set, Option}
+use Rattle.std.proofs.Common.{Some, None, sym, refl, ap, ◌∙◌, subst, arith}
+use Rattle.std.specs.Prelude.{◌==◌, ◌&&◌, if◌then◌else◌, not, nat_lt, is_some}
+use Rattle.std.specs.List.{Contains}
+use Rattle.std.specs.Cmp.Lexicographic.{same_text}
+use Rattle.std.proofs.lemmas.Bool.{true≢false, ltb-true, eqb-true, ltb-false}
+use Rattle.tftp_wire.specs.declared.packet.Packet.{Packet as WirePacket}
+use Rattle.tftp_wire.specs.declared.packet.Packet.TheVariants.{Read, Write, Data, Ack, Error, Oack}
+use Rattle.tftp_wire.specs.Spelling.{Spells}
+use Rattle.tftp_file.specs.declared.files.Files.{Files}
+use Rattle.tftp_file.specs.Block.{block_count}
+use Rattle.tftp_file.specs.Sink.{Holding}
+use Rattle.tftp_ends.specs.declared.phase.Dally.{Dally}
+use Rattle.tftp_ends.specs.declared.error_reply.ErrorReply.TheVariants as replies
+use Rattle.tftp_ends.specs.declared.error_reply.ErrorReply.{ErrorReply}
+use Rattle.tftp_ends.specs.declared.outcome.Outcome.{Outcome}
+use Rattle.tftp_ends.specs.declared.outcome.Outcome.TheVariants as outcomes
+use Rattle.tftp_ends.specs.declared.phase.Phase.TheVariants.{Sending, Receiving, Dallying}
+use Rattle.tftp_ends.specs.declared.phase.Terms.{Terms}
+use Rattle.tftp_ends.specs.declared.action.Action.{Action}
+use Rattle.tftp_ends.specs.declared.action.Action.TheVariants.{Respond, Send, Store}
+use Rattle.tftp_ends.specs.declared.action.Response.{Response}
+use Rattle.tftp_ends.specs.declared.action.Response.TheVariants.{Ignore, WrongPeer, ResendReply, Close, Refuse}
+use Rattle.tftp_ends.specs.declared.action.Response.TheVariants.{Complete}
+use Rattle.tftp_ends.specs.End.{outcome_of}
+use Rattle.tftp_ends.specs.Receiver.{receiver_action, data_action, next_action, dally_response}
+use Rattle.tftp_ends.specs.Action.{same_address, same_endpoint}
+use Rattle.tftp_ends.specs.Sender.{sender_action, acked_action, illegal_action}
+use Rattle.tftp_ends.specs.Step.{Turn, Acts, StoresIn}
+use Rattle.tftp_ends.specs.Text.{is_readable}
+use Rattle.tftp_rules.specs.Machine.{Endpoint, Data as Says_data, Ack as Says_ack, Message, Network}
+use Rattle.tftp_rules.specs.Rules.{Rule, message}
+use Rattle.tftp_rules.specs.Said.{said}
+use Rattle.tftp_rules.specs.Shows.{EndView, IsShownWithin}
+use Rattle.tftp_rules.specs.OpenEnds.{OpenEnd, files_of, end_after, text_of as text_of_end, open_view, with_phase}
+use Rattle.tftp_rules.specs.KnownFiles.{known_source, known_sink}
+use Rattle.tftp_rules.specs.EndKept.{EndKept}
+use Rattle.tftp_rules.specs.EndShown.{Stands, Goes, IsThere}
+use Rattle.tftp_rules.proofs.Endpoints.{endpoint_from}
+use Rattle.tftp_rules.proofs.Actions.{stores, refuses_next}
+use Rattle.tftp_rules.proofs.SaidLemmas.{data_of}
+use Rattle.tftp_rules.proofs.EndMoves.{from_response, ignores, answers_wrong_peer, answers_again, gives_up, refuses_now}
+use Rattle.tftp_rules.proofs.SourceMoves.{data_goes, sends_next, ends_whole}
+use Rattle.tftp_rules.proofs.SinkMoves.{Receives, block_goes}
+
+-- either way of a test
+pub if_acts : {A : Type 0} (P : A → Type 0) (b : Bool) (r s : A) → (b ≡ true → P r) → (b ≡ false → P s) →
+    P (if b then r else s)
+if_acts P true r s f g = f refl
+if_acts P false r s f g = g refl
+
+pub both_true : (a b : Bool) → (a && b) ≡ true → (a ≡ true) × (b ≡ true)
+both_true true b e = (refl, e)
+both_true false b e = absurd (true≢false (sym e))
+
+pub not_false : (b : Bool) → not b ≡ false → b ≡ true
+not_false true e = refl
+not_false false e = absurd (true≢false e)
+
+pub same_ips : (a b : Endpoint) → same_address a b ≡ true → a.ip ≡ b.ip
+same_ips a b e = same_text a.ip b.ip (sym e)
+
+pub same_endpoints : (a b : Endpoint) → same_endpoint a b ≡ true → a ≡ b
+same_endpoints a b e =
+    let h = both_true (same_address a b) (a.port == b.port) e in
+    endpoint_from a b (same_ips a b h.0) (eqb-true a.port b.port h.1)
+
+-- the packet that was handled was sent
+abbrev pub OfDecoded : List Message → Endpoint → OpenEnd → Option WirePacket → Type 0
+OfDecoded messages from x decoded =
+    (p : WirePacket) → decoded ≡ Some p → Contains messages (message from x.address (said p))
+
+module _ (network : Network) where
+  -- the result of an action is shown
+  abbrev pub Acting : List Rule → List EndView → List Message → ℕ → OpenEnd → Endpoint → List ℕ → Action → Type 0
+  Acting first views messages k x from bytes action =
+      (turn : Turn) (held : Files (List ℕ) Holding) →
+      Acts known_source known_sink action from bytes x.state (files_of x) turn held →
+      Goes network first views messages k x turn (end_after x turn held)
+
+  module _ (first : List Rule) (views : List EndView) (messages : List Message) (k : ℕ) (x : OpenEnd)
+      (s : Stands network first views messages k (open_view x)) (kept : EndKept network x)
+      (from : Endpoint) (bytes : List ℕ) (open_now : is_some (outcome_of x.state.position.phase) ≡ false) where
+    pub ignore_acts : Acting first views messages k x from bytes (Respond Ignore)
+    ignore_acts turn held h =
+        from_response network first views messages k x Ignore from turn held
+        (ignores network first views messages k x s kept from open_now) h
+
+    pub wrong_peer_acts : Acting first views messages k x from bytes (Respond WrongPeer)
+    wrong_peer_acts turn held h =
+        from_response network first views messages k x WrongPeer from turn held
+        (answers_wrong_peer network first views messages k x s kept from open_now) h
+
+    pub again_acts : from ≡ x.state.position.last_sent_to →
+        IsThere messages x.address x.state.position.last_sent_to x.state.position.last_sent →
+        Acting first views messages k x from bytes (Respond ResendReply)
+    again_acts same old turn held h =
+        from_response network first views messages k x ResendReply from turn held
+        (answers_again network first views messages k x s kept from open_now same old) h
+
+  module _ (first : List Rule) (views : List EndView) (messages : List Message) (k : ℕ) (x0 : OpenEnd) (terms : Terms)
+      (n : ℕ)
+      (s : Stands network first views messages k (open_view (with_phase (Sending terms n) x0)))
+      (kept : EndKept network (with_phase (Sending terms n) x0))
+      (from : Endpoint) (bytes : List ℕ) where
+    abbrev sender : OpenEnd
+    sender = with_phase (Sending terms n) x0
+
+    illegal_sender : Acting first views messages k sender from bytes (illegal_action terms)
+    illegal_sender turn held h =
+        from_response network first views messages k sender
+        (Refuse (Some terms) replies.IllegalOperation outcomes.Illegal) from turn held
+        (refuses_now network first views messages k sender s kept replies.IllegalOperation outcomes.Illegal from
+        refl) h
+
+    -- a sender with an ACK
+    acked_acts : (acked : ℕ) → terms.peer ≡ from → Contains messages (message from x0.address (Says_ack acked)) →
+        Acting first views messages k sender from bytes (acked_action x0.state.role.length terms n acked)
+    acked_acts acked peer come =
+        let P = Acting first views messages k sender from bytes in
+        let u = kept.phase in
+        let text = x0.text in
+        let measured : x0.state.role.length ≡ length text = u.measured in
+        if_acts P (acked == n) (if nat_lt n (x0.state.role.length / terms.size + 1) then Send terms (n + 1) else Respond
+        Complete) (if nat_lt acked n then Respond Ignore else illegal_action terms)
+        (λ e.
+        let here : Contains messages (message from x0.address (Says_ack n)) =
+        subst (λ (m : ℕ). Contains messages (message from x0.address (Says_ack m))) (eqb-true acked n e) come in
+        if_acts P (nat_lt n (x0.state.role.length / terms.size + 1)) (Send terms (n + 1)) (Respond Complete)
+        (λ l. let more : n < block_count text terms.size = subst (λ (m : ℕ). n < m / terms.size + 1) measured
+        (ltb-true n (x0.state.role.length / terms.size + 1) l) in
+        λ turn held h. data_goes network first views messages k sender terms n from turn held u.sender measured u.left
+        (sends_next network first views messages k x0 terms n s kept from peer here more)
+        (refuses_now network first views messages k sender s kept replies.FileChanged outcomes.SourceFault from refl) h)
+        (λ l. let least : block_count text terms.size ≤ n = subst (λ (m : ℕ). m / terms.size + 1 ≤ n) measured
+        (ltb-false n (x0.state.role.length / terms.size + 1) l) in
+        let most = u.so_far in
+        let last : n ≡ block_count text terms.size = omega arith in
+        λ turn held h. from_response network first views messages k sender Complete from turn held
+        (ends_whole network first views messages k x0 terms n s kept from peer here last) h))
+        (λ e. if_acts P (nat_lt acked n) (Respond Ignore) (illegal_action terms)
+        (λ l. ignore_acts first views messages k sender s kept from bytes refl)
+        (λ l. illegal_sender))
+
+    -- a sender with any packet
+    pub sender_acts : (client : Bool) (decoded : Option WirePacket) → terms.peer ≡ from →
+        OfDecoded messages from x0 decoded →
+        Acting first views messages k sender from bytes (sender_action client x0.state.role.length terms n decoded)
+    sender_acts client None peer come = illegal_sender
+    sender_acts client (Some (Read r)) peer come = illegal_sender
+    sender_acts client (Some (Write r)) peer come = illegal_sender
+    sender_acts client (Some (Data number piece)) peer come = illegal_sender
+    sender_acts client (Some (Ack acked)) peer come = acked_acts acked peer (come (Ack acked) refl)
+    sender_acts client (Some (Error code text)) peer come =
+        λ turn held h. from_response network first views messages k sender (Close (outcomes.PeerError code)) from turn
+        held (gives_up network first views messages k sender s kept (outcomes.PeerError code) from refl) h
+    sender_acts client (Some (Oack options)) peer come =
+        if_acts (Acting first views messages k sender from bytes) (client && terms.by_oack) (Respond Ignore)
+        (illegal_action terms)
+        (λ e. ignore_acts first views messages k sender s kept from bytes refl) (λ e. illegal_sender)
+
+  module _ (first : List Rule) (views : List EndView) (messages : List Message) (k : ℕ) (x0 : OpenEnd) (terms : Terms)
+      (n : ℕ)
+      (s : Stands network first views messages k (open_view (with_phase (Receiving terms n) x0)))
+      (kept : EndKept network (with_phase (Receiving terms n) x0))
+      (from : Endpoint) (bytes : List ℕ)
+      (peer : terms.peer ≡ from) (old : IsThere messages x0.address x0.state.position.last_sent_to
+      x0.state.position.last_sent) where
+    abbrev receiver : OpenEnd
+    receiver = with_phase (Receiving terms n) x0
+
+    refuse_receiver : (reply : ErrorReply) (outcome : Outcome) →
+        Acting first views messages k receiver from bytes (Respond (Refuse (Some terms) reply outcome))
+    refuse_receiver reply outcome turn held h =
+        from_response network first views messages k receiver (Refuse (Some terms) reply outcome) from turn held
+        (refuses_now network first views messages k receiver s kept reply outcome from refl) h
+
+    again_receiver : Acting first views messages k receiver from bytes (Respond ResendReply)
+    again_receiver = again_acts first views messages k receiver s kept from bytes refl (sym peer ∙ sym kept.phase.1) old
+
+    ignore_receiver : Acting first views messages k receiver from bytes (Respond Ignore)
+    ignore_receiver = ignore_acts first views messages k receiver s kept from bytes refl
+
+    -- a receiver with its next block
+    next_acts : (number : ℕ) (piece : List ℕ) → number ≡ n + 1 → Spells (Data number piece) bytes →
+        Contains messages (message from x0.address (Says_data number piece)) →
+        Acting first views messages k receiver from bytes
+        (next_action x0.state.role.mode x0.state.position.held_back terms number piece)
+    next_acts number piece is spelled come =
+        let P = Acting first views messages k receiver from bytes in
+        let last = nat_lt (length piece) terms.size in
+        let store =
+        if is_readable x0.state.role.mode x0.state.position.held_back piece last then Store terms number else Respond
+        (Refuse (Some terms) replies.NotNetascii outcomes.NotNetascii) in
+        if_acts P (nat_lt terms.size (length piece)) (illegal_action terms)
+        (if number == 65535 && (length piece == terms.size) then Respond
+        (Refuse (Some terms) replies.FileTooLarge outcomes.TooLarge) else store)
+        (λ e. refuse_receiver replies.IllegalOperation outcomes.Illegal)
+        (λ e.
+        let l : length piece ≤ terms.size = ltb-false terms.size (length piece) e in
+        let here : Contains messages (message from x0.address (Says_data (n + 1) piece)) =
+        subst (λ (m : ℕ). Contains messages (message from x0.address (Says_data m piece))) is come in
+        let got : Receives network first views messages k receiver terms number from piece = record {
+          receiver = kept.phase.0;
+          going = refl;
+          incomplete = refl;
+          peer = sym peer;
+          fits = spelled.valid.1;
+          stored =
+              subst (λ (m : ℕ). IsShownWithin network 3 first
+              (set views k (record (open_view receiver) {
+                number = m;
+                complete = last;
+                text = text_of_end receiver ++ piece;
+              })) (messages ++ message x0.address from (Says_ack m) ∷ [])) (sym is)
+              (stores network first views messages k (open_view receiver) s from piece (refl, refl) kept.phase.0
+              (ap Some peer) here l);
+          refused =
+              λ t b. refuses_next network first views messages k (open_view receiver) s from piece t (refl, refl)
+              kept.phase.0 (ap Some peer) here l b;
+        } in
+        if_acts P (number == 65535 && (length piece == terms.size))
+        (Respond (Refuse (Some terms) replies.FileTooLarge outcomes.TooLarge)) store
+        (λ f. refuse_receiver replies.FileTooLarge outcomes.TooLarge)
+        (λ f. if_acts P (is_readable x0.state.role.mode x0.state.position.held_back piece last) (Store terms number)
+        (Respond (Refuse (Some terms) replies.NotNetascii outcomes.NotNetascii))
+        (λ readable turn held h. block_goes network first views messages k receiver terms number from piece kept got
+        readable turn held
+        (subst (λ (bs : List ℕ). StoresIn known_source known_sink terms number from bs receiver.state
+        (files_of receiver) turn held) (sym (data_of number h.0 bytes h.1) ∙ data_of number piece bytes spelled)
+        h.2))
+        (λ g. refuse_receiver replies.NotNetascii outcomes.NotNetascii)))
+
+    data_acts : (number : ℕ) (piece : List ℕ) → Spells (Data number piece) bytes →
+        Contains messages (message from x0.address (Says_data number piece)) →
+        Acting first views messages k receiver from bytes
+        (data_action x0.state.role.mode x0.state.position.held_back terms n number piece)
+    data_acts number piece spelled come =
+        let P = Acting first views messages k receiver from bytes in
+        let later =
+        if number == n + 1 then next_action x0.state.role.mode x0.state.position.held_back terms number piece else
+        illegal_action terms in
+        if_acts P (number == n) (Respond ResendReply) (if nat_lt number n then Respond Ignore else later)
+        (λ e. again_receiver)
+        (λ e. if_acts P (nat_lt number n) (Respond Ignore) later
+        (λ f. ignore_receiver)
+        (λ f. if_acts P (number == n + 1)
+        (next_action x0.state.role.mode x0.state.position.held_back terms number piece) (illegal_action terms)
+        (λ g. next_acts number piece (eqb-true number (n + 1) g) spelled come)
+        (λ g. refuse_receiver replies.IllegalOperation outcomes.Illegal)))
+
+    -- a receiver with any packet
+    pub receiver_acts : (client : Bool) (decoded : Option WirePacket) →
+        ((p : WirePacket) → decoded ≡ Some p → Spells p bytes) → OfDecoded messages from x0 decoded →
+        Acting first views messages k receiver from bytes
+        (receiver_action client x0.state.role.mode x0.state.position.held_back terms n decoded)
+    receiver_acts client None spelled come = refuse_receiver replies.IllegalOperation outcomes.Illegal
+    receiver_acts client (Some (Read r)) spelled come = refuse_receiver replies.IllegalOperation outcomes.Illegal
+    receiver_acts client (Some (Write r)) spelled come = refuse_receiver replies.IllegalOperation outcomes.Illegal
+    receiver_acts client (Some (Data number piece)) spelled come =
+        data_acts number piece (spelled (Data number piece) refl) (come (Data number piece) refl)
+    receiver_acts client (Some (Ack acked)) spelled come = refuse_receiver replies.IllegalOperation outcomes.Illegal
+    receiver_acts client (Some (Error code text)) spelled come =
+        λ turn held h. from_response network first views messages k receiver (Close (outcomes.PeerError code)) from turn
+        held (gives_up network first views messages k receiver s kept (outcomes.PeerError code) from refl) h
+    receiver_acts client (Some (Oack options)) spelled come =
+        let P = Acting first views messages k receiver from bytes in
+        if_acts P (client && terms.by_oack) (if n == 0 then Respond ResendReply else Respond Ignore)
+        (illegal_action terms)
+        (λ e. if_acts P (n == 0) (Respond ResendReply) (Respond Ignore) (λ f. again_receiver) (λ f. ignore_receiver))
+        (λ e. refuse_receiver replies.IllegalOperation outcomes.Illegal)
+
+  module _ (first : List Rule) (views : List EndView) (messages : List Message) (k : ℕ) (x0 : OpenEnd) (terms : Terms)
+      (n : ℕ) (dally : Dally)
+      (s : Stands network first views messages k (open_view (with_phase (Dallying terms n dally) x0)))
+      (kept : EndKept network (with_phase (Dallying terms n dally) x0))
+      (from : Endpoint) (bytes : List ℕ)
+      (peer : terms.peer ≡ from) (old : IsThere messages x0.address x0.state.position.last_sent_to
+      x0.state.position.last_sent) where
+    abbrev dallier : OpenEnd
+    dallier = with_phase (Dallying terms n dally) x0
+
+    ignore_dallier : Acting first views messages k dallier from bytes (Respond Ignore)
+    ignore_dallier = ignore_acts first views messages k dallier s kept from bytes refl
+
+    -- a receiver that dallies, with any packet
+    pub dally_acts : (decoded : Option WirePacket) →
+        Acting first views messages k dallier from bytes (Respond (dally_response n decoded))
+    dally_acts None = ignore_dallier
+    dally_acts (Some (Read r)) = ignore_dallier
+    dally_acts (Some (Write r)) = ignore_dallier
+    dally_acts (Some (Data number piece)) =
+        if_acts (λ (r : Response). Acting first views messages k dallier from bytes (Respond r)) (number == n)
+        ResendReply Ignore
+        (λ e. again_acts first views messages k dallier s kept from bytes refl (sym peer ∙ sym kept.phase.1) old)
+        (λ e. ignore_dallier)
+    dally_acts (Some (Ack acked)) = ignore_dallier
+    dally_acts (Some (Error code text)) = ignore_dallier
+    dally_acts (Some (Oack options)) = ignore_dallier

@@ -1,0 +1,453 @@
+-- A receiver whose sink stores a block or commits.
+use Rattle.std.proofs.Common.{◌≡◌, ℕ, ◌^◌, ◌<◌, Bool, true, false, List, [], ◌∷◌, ◌++◌, length, set, Some, Result, Ok}
+use Rattle.std.proofs.Common.{Err, sym, refl, ap, ◌∙◌, subst, inl, inr, append_assoc}
+use Rattle.std.specs.Prelude.{◌&&◌, if◌then◌else◌, not, nat_lt}
+use Rattle.std.proofs.lemmas.Bool.{true≢false, cases_Bool}
+use Rattle.std.proofs.lemmas.List.{append-nil}
+use Rattle.std.proofs.lemmas.Option.{same_Some}
+use Rattle.tftp_wire.specs.declared.mode.Mode.{Mode}
+use Rattle.tftp_wire.specs.declared.mode.Mode.TheVariants.{Octet, Netascii}
+use Rattle.tftp_wire.specs.declared.packet.Packet.TheVariants.{Ack}
+use Rattle.tftp_file.specs.declared.fault.StoreFault.{StoreFault}
+use Rattle.tftp_file.specs.declared.fault.StoreFault.TheVariants as faults
+use Rattle.tftp_file.specs.declared.files.Files.{Files}
+use Rattle.tftp_file.specs.declared.files.Files.TheVariants.{Source, Sink}
+use Rattle.tftp_file.specs.Block.{IsPrefixOf}
+use Rattle.tftp_file.specs.Netascii.{wire_text, netascii_text}
+use Rattle.tftp_file.specs.Sink.{Holding, SinkMeaning, UnlessArmed, Appends, AppendsFreely, CommitsFreely}
+use Rattle.tftp_file.specs.Sink.{KeptPrefix, with_piece, disarmed}
+use Rattle.tftp_file.specs.Source.{SourceMeaning}
+use Rattle.tftp_ends.specs.declared.error_reply.ErrorReply.{ErrorReply}
+use Rattle.tftp_ends.specs.declared.error_reply.ErrorReply.TheVariants as replies
+use Rattle.tftp_ends.specs.declared.outcome.Outcome.{Outcome}
+use Rattle.tftp_ends.specs.declared.outcome.Outcome.TheVariants as outcomes
+use Rattle.tftp_ends.specs.declared.phase.Dally.TheVariants.{Fresh}
+use Rattle.tftp_ends.specs.declared.phase.Phase.TheVariants.{Receiving, Dallying}
+use Rattle.tftp_ends.specs.declared.phase.Terms.{Terms}
+use Rattle.tftp_ends.specs.End.{EndState, is_sender, is_complete, number_of}
+use Rattle.tftp_ends.specs.Step.{Done, Turn, Appended, Committed, GoesOn, Stores, StoresIn, sent_turn, refused_turn}
+use Rattle.tftp_ends.specs.Step.{committed_turn, commit_reply, holding, ack_bytes}
+use Rattle.tftp_ends.specs.Text.{Decoded, is_readable, begins_netascii, ends_in_cr}
+use Rattle.tftp_rules.specs.Machine.{Endpoint, Ack as Says_ack, Error, Message, Network}
+use Rattle.tftp_rules.specs.Rules.{Rule, message}
+use Rattle.tftp_rules.specs.Shows.{EndView, IsShownWithin}
+use Rattle.tftp_rules.specs.OpenEnds.{OpenEnd, files_of, holding_of, end_after, goes_on, text_of as text_of_end}
+use Rattle.tftp_rules.specs.OpenEnds.{has_failed, open_view}
+use Rattle.tftp_rules.specs.KnownFiles.{known_source, known_sink}
+use Rattle.tftp_rules.specs.EndKept.{EndKept, HeldBackFits}
+use Rattle.tftp_rules.specs.EndShown.{Goes}
+use Rattle.tftp_rules.proofs.StoredTexts.{stored_more, stored_some}
+use Rattle.tftp_rules.proofs.SaidLemmas.{spells_own}
+use Rattle.tftp_rules.proofs.EndMoves.{error_says, going_live}
+
+-- the effect of a block's bytes on a sink: all of them were stored, or a prefix
+pub data Took (before after : Holding) (bytes : List ℕ) (answer : Result Done StoreFault) : Type 0 where
+  All_of_it : (answer ≡ Ok tt) → (after.bytes ≡ before.bytes ++ bytes) →
+      (before.committed ≡ false → after.committed ≡ false) → Took before after bytes answer
+  Some_of_it : (fault : StoreFault) (kept : List ℕ) → (answer ≡ Err fault) → IsPrefixOf kept bytes →
+      (after.bytes ≡ before.bytes ++ kept) → (before.committed ≡ false → after.committed ≡ false) →
+      Took before after bytes answer
+
+-- a sink that was left as it was, except for its setting
+took_none : (before after now : Holding) (bytes : List ℕ) (fault : StoreFault) → after ≡ now →
+    now.bytes ≡ before.bytes → now.committed ≡ before.committed → Took before after bytes (Err fault)
+took_none before after now bytes fault e same still =
+    Some_of_it fault [] refl (bytes, refl) (ap (λ (z : Holding). z.bytes) e ∙ (same ∙ sym (append-nil before.bytes)))
+    (λ c. ap (λ (z : Holding). z.committed) e ∙ (still ∙ c))
+
+took_prefix : (before after : Holding) (bytes : List ℕ) (fault : StoreFault) →
+    KeptPrefix before (Some after) bytes → Took before after bytes (Err fault)
+took_prefix before after bytes fault h =
+    let e : after ≡ h.holding = same_Some after h.holding h.leaves in
+    Some_of_it fault h.kept refl h.prefix (ap (λ (z : Holding). z.bytes) e ∙ h.bytes)
+    (λ c. elim (cases_Bool after.committed) [
+      | inl t ↦
+          absurd (true≢false (sym t
+          ∙ (ap (λ (z : Holding). z.committed) (e ∙ h.uncommitted (ap (λ (z : Holding). z.committed) (sym e) ∙ t))
+          ∙ c)))
+      | inr f ↦ f
+    ])
+
+took_armed : (armed : Bool) (before after : Holding) (bytes : List ℕ) (answer : Result Done StoreFault) →
+    UnlessArmed armed before (Some after) answer (AppendsFreely before (Some after) bytes answer) →
+    Took before after bytes answer
+took_armed true before after bytes answer h =
+    subst (λ (a : Result Done StoreFault). Took before after bytes a) (sym h.answer)
+    (took_none before after (disarmed before) bytes faults.Full (same_Some after (disarmed before) h.leaves) refl refl)
+took_armed false before after bytes (Ok done) h =
+    let e = same_Some after (with_piece before bytes) h in
+    All_of_it refl (ap (λ (z : Holding). z.bytes) e) (λ _. ap (λ (z : Holding). z.committed) e)
+took_armed false before after bytes (Err faults.Missing) h = took_prefix before after bytes faults.Missing h
+took_armed false before after bytes (Err faults.Exists) h = took_prefix before after bytes faults.Exists h
+took_armed false before after bytes (Err faults.Full) h = took_prefix before after bytes faults.Full h
+took_armed false before after bytes (Err faults.Io) h = took_prefix before after bytes faults.Io h
+took_armed false before after bytes (Err faults.Memory) h =
+    took_none before after before bytes faults.Memory (same_Some after before h) refl refl
+
+-- a sink of known content
+pub took : (sinks : SinkMeaning Holding) → ((holding : Holding) → sinks.held holding ≡ Some holding) →
+    (before after : Holding) (bytes : List ℕ) (answer : Result Done StoreFault) →
+    Appended sinks bytes before after answer → Took before after bytes answer
+took sinks known before after [] answer h =
+    All_of_it h.0 (ap (λ (z : Holding). z.bytes) h.1 ∙ sym (append-nil before.bytes))
+    (λ c. ap (λ (z : Holding). z.committed) h.1 ∙ c)
+took sinks known before after (b ∷ bytes) answer h =
+    took_armed before.refuses before after (b ∷ bytes) answer
+    (let f : Appends (Some before) (Some after) (b ∷ bytes) answer = rw (known before, known after) at h.0 in f)
+
+-- the effect of a commit on a sink: it keeps its bytes
+pub data Kept_all (before after : Holding) (answer : Result Done StoreFault) : Type 0 where
+  For_good : (answer ≡ Ok tt) → (after.bytes ≡ before.bytes) → (after.committed ≡ true) → Kept_all before after answer
+  Not_yet : (fault : StoreFault) → (answer ≡ Err fault) → (after.bytes ≡ before.bytes) →
+      (after.committed ≡ before.committed) → Kept_all before after answer
+
+pub kept_by : (armed : Bool) (before after : Holding) (answer : Result Done StoreFault) →
+    UnlessArmed armed before (Some after) answer (CommitsFreely before (Some after) answer) →
+    Kept_all before after answer
+kept_by true before after answer h =
+    let e = same_Some after (record before { refuses = false }) h.leaves in
+    Not_yet faults.Full h.answer (ap (λ (z : Holding). z.bytes) e) (ap (λ (z : Holding). z.committed) e)
+kept_by false before after (Ok done) h =
+    let e = same_Some after (record before { committed = true }) h in
+    For_good refl (ap (λ (z : Holding). z.bytes) e) (ap (λ (z : Holding). z.committed) e)
+kept_by false before after (Err fault) h =
+    let e = same_Some after before h in
+    Not_yet fault refl (ap (λ (z : Holding). z.bytes) e) (ap (λ (z : Holding). z.committed) e)
+
+-- the text with a CR after it ends in a CR
+ends_cr : (bs : List ℕ) → ends_in_cr (bs ++ 13 ∷ []) ≡ true
+ends_cr [] = refl
+ends_cr (b ∷ []) = refl
+ends_cr (b ∷ c ∷ bs) = ends_cr (c ∷ bs)
+
+-- after the last block nothing is held back
+none_held_in : (a c : Bool) → (a && not (true && c)) ≡ true → c ≡ false
+none_held_in true true e = absurd (true≢false (sym e))
+none_held_in false true e = absurd (true≢false (sym e))
+none_held_in true false e = refl
+none_held_in false false e = refl
+
+none_held : (mode : Mode) (held piece more after : List ℕ) → HeldBackFits mode held →
+    Decoded mode held piece more after →
+    is_readable mode held piece true ≡ true → after ≡ []
+none_held Octet held piece more after h d e = d.1 ∙ h
+none_held Netascii held piece more after h d e = elim d.0 [
+  | inl n ↦ n
+  | inr c ↦
+      let f : ends_in_cr (held ++ piece) ≡ false =
+      none_held_in (begins_netascii (held ++ piece)) (ends_in_cr (held ++ piece)) e in
+      let t : ends_in_cr (held ++ piece) ≡ true =
+      ap ends_in_cr (d.1 ∙ ap (λ (z : List ℕ). netascii_text more ++ z) c) ∙ ends_cr (netascii_text more) in
+      absurd (true≢false (sym t ∙ f))
+]
+
+-- a block continues with what is stored of it and held back then
+pub goes_on_with : (mode : Mode) (held piece more after : List ℕ) → HeldBackFits mode held →
+    Decoded mode held piece more after → held ++ piece ≡ wire_text mode more ++ after
+goes_on_with Octet held piece more after h d =
+    ap (λ (z : List ℕ). z ++ piece) h
+    ∙ (sym d.0 ∙ (sym (append-nil more) ∙ ap (λ (z : List ℕ). more ++ z) (sym (d.1 ∙ h))))
+goes_on_with Netascii held piece more after h d = d.1
+
+pub held_fits : (mode : Mode) (held piece more after : List ℕ) → HeldBackFits mode held →
+    Decoded mode held piece more after → HeldBackFits mode after
+held_fits Octet held piece more after h d = d.1 ∙ h
+held_fits Netascii held piece more after h d = tt
+
+pub text_else : (b : Bool) (f r : List ℕ) → b ≡ false → (if b then f else r) ≡ r
+text_else true f r e = absurd (true≢false e)
+text_else false f r e = refl
+
+-- a receiver works on a sink
+pub stores_in : (b : Bool) → b ≡ false →
+    (sources : SourceMeaning (List ℕ)) (sinks : SinkMeaning Holding) (terms : Terms) (number : ℕ) (from : Endpoint)
+    (piece : List ℕ) (e : EndState) (left : List ℕ) (sink : Holding) (turn : Turn) (held : Files (List ℕ) Holding) →
+    StoresIn sources sinks terms number from piece e (if b then Source left else Sink sink) turn held →
+    (sink' : Holding) × (held ≡ Sink sink') × Stores sinks terms number from piece e sink turn sink'
+stores_in true f sources sinks terms number from piece e left sink turn held h = absurd (true≢false f)
+stores_in false f sources sinks terms number from piece e left sink turn (Sink sink') h = (sink', refl, h)
+stores_in false f sources sinks terms number from piece e left sink turn (Source l) h = absurd h
+
+-- the block goes on with netascii, or is octet
+abbrev pub Readable : OpenEnd → Terms → List ℕ → Type 0
+Readable x terms piece =
+    is_readable x.state.role.mode x.state.position.held_back piece (nat_lt (length piece) terms.size) ≡ true
+
+module _ (network : Network) where
+  -- what the machine has for a receiver that was sent this block
+  pub record Receives (first : List Rule) (views : List EndView) (messages : List Message) (k : ℕ) (x : OpenEnd)
+      (terms : Terms) (number : ℕ) (from : Endpoint) (piece : List ℕ) : Type 0 where
+    pub receiver : is_sender x.state.role.side ≡ false
+    pub going : goes_on x.state.position.phase ≡ true
+    pub incomplete : is_complete x.state.position.phase ≡ false
+    pub peer : from ≡ terms.peer
+    pub fits : number < 2 ^ 16
+    pub stored : IsShownWithin network 3 first
+        (set views k (record (open_view x) {
+          peer = Some terms.peer;
+          size = terms.size;
+          number = number;
+          complete = nat_lt (length piece) terms.size;
+          text = text_of_end x ++ piece;
+        }))
+        (messages ++ message x.address from (Says_ack number) ∷ [])
+    pub refused : (t : List ℕ) → IsPrefixOf t (text_of_end x ++ piece) →
+        IsShownWithin network 3 first
+        (set views k (record (open_view x) {
+          peer = Some terms.peer;
+          size = terms.size;
+          number = number_of x.state.position.phase;
+          failed = true;
+          text = t;
+        }))
+        (messages ++ message x.address from Error ∷ [])
+
+  module _ (first : List Rule) (views : List EndView) (messages : List Message) (k : ℕ) (x : OpenEnd) (terms : Terms)
+      (number : ℕ) (from : Endpoint) (piece : List ℕ)
+      (kept : EndKept network x) (r : Receives first views messages k x terms number from piece) where
+    -- what it has of its peer's text
+    pub wire_text_is : text_of_end x ≡ wire_text x.state.role.mode x.stored ++ x.state.position.held_back
+    wire_text_is =
+        let w = wire_text x.state.role.mode x.stored in
+        text_else (is_sender x.state.role.side) x.text (if goes_on x.state.position.phase then w
+        ++ x.state.position.held_back else w) r.receiver
+        ∙ ap (λ (b : Bool). if b then w ++ x.state.position.held_back else w) r.going
+
+    uncommitted : x.committed ≡ false
+    uncommitted = kept.committed r.receiver ∙ r.incomplete
+
+    -- the text, with the block
+    more_text : (more after : List ℕ) → Decoded x.state.role.mode x.state.position.held_back piece more after →
+        text_of_end x ++ piece ≡ wire_text x.state.role.mode (x.stored ++ more) ++ after
+    more_text more after d =
+        ap (λ (t : List ℕ). t ++ piece) wire_text_is
+        ∙ stored_more x.state.role.mode x.stored x.state.position.held_back piece more after
+        (goes_on_with x.state.role.mode x.state.position.held_back piece more after kept.held_back d)
+
+    -- the store refused it
+    pub refused_goes : (held : List ℕ) (sink : Holding) (reply : ErrorReply) (outcome : Outcome) →
+        HeldBackFits x.state.role.mode held → sink.committed ≡ false →
+        IsPrefixOf (wire_text x.state.role.mode sink.bytes) (text_of_end x ++ piece) →
+        let turn = refused_turn terms reply outcome from (holding held x.state) in
+        Goes network first views messages k x turn (end_after x turn (Sink sink))
+    refused_goes held sink reply outcome fits un begins =
+        let turn = refused_turn terms reply outcome from (holding held x.state) in
+        let y = end_after x turn (Sink sink) in
+        let t = text_else (is_sender x.state.role.side) x.text (wire_text x.state.role.mode sink.bytes) r.receiver in
+        let shown_now =
+        r.refused (text_of_end y) (subst (λ (z : List ℕ). IsPrefixOf z (text_of_end x ++ piece))
+        (sym t) begins) in
+        record {
+          said_now = message x.address from Error ∷ [];
+          shown =
+              subst (λ (b : Bool). IsShownWithin network 3 first (set views k (record (open_view y) { failed = not b }))
+              (messages ++ message x.address from Error ∷ []))
+              (sym r.incomplete) shown_now;
+          replies = error_says reply x.address from;
+          kept = record { phase = tt; held_back = fits; committed = λ _. un ∙ sym r.incomplete };
+          side = refl;
+          last_sent = inl (refl, refl);
+          stored = λ c. absurd (true≢false (sym c ∙ r.incomplete));
+        }
+
+    -- the block is acknowledged: stored, or stored and committed
+    acknowledged : (sink : Holding) (more after : List ℕ) → sink.bytes ≡ x.stored ++ more →
+        Decoded x.state.role.mode x.state.position.held_back piece more after →
+        (t : List ℕ) → wire_text x.state.role.mode (x.stored ++ more) ++ after ≡ t → (done : Bool) →
+        nat_lt (length piece) terms.size ≡ done →
+        IsShownWithin network 3 first
+        (set views k (record (open_view x) {
+          peer = Some terms.peer;
+          size = terms.size;
+          number = number;
+          complete = done;
+          text = t;
+        })) (messages ++ message x.address from (Says_ack number) ∷ [])
+    acknowledged sink more after bytes d t text done last =
+        subst (λ (z : List ℕ). IsShownWithin network 3 first
+        (set views k (record (open_view x) {
+          peer = Some terms.peer;
+          size = terms.size;
+          number = number;
+          complete = done;
+          text = z;
+        })) (messages ++ message x.address from (Says_ack number) ∷ []))
+        (more_text more after d ∙ text)
+        (subst (λ (b : Bool). IsShownWithin network 3 first
+        (set views k (record (open_view x) {
+          peer = Some terms.peer;
+          size = terms.size;
+          number = number;
+          complete = b;
+          text = text_of_end x ++ piece;
+        })) (messages ++ message x.address from (Says_ack number) ∷ []))
+        last r.stored)
+
+    failed_not : has_failed x.state.position.phase ≡ false
+    failed_not = (going_live x.state.position.phase r.going).1
+
+    -- it is no failure
+    sound_view : (t : List ℕ) (done : Bool) (ms : List Message) →
+        IsShownWithin network 3 first
+        (set views k (record (open_view x) {
+          peer = Some terms.peer;
+          size = terms.size;
+          number = number;
+          complete = done;
+          text = t;
+        })) ms →
+        IsShownWithin network 3 first
+        (set views k (record (open_view x) {
+          peer = Some terms.peer;
+          size = terms.size;
+          number = number;
+          complete = done;
+          failed = false;
+          text = t;
+        })) ms
+    sound_view t done ms h =
+        subst (λ (b : Bool). IsShownWithin network 3 first
+        (set views k (record (open_view x) {
+          peer = Some terms.peer;
+          size = terms.size;
+          number = number;
+          complete = done;
+          failed = b;
+          text = t;
+        })) ms) failed_not h
+
+    next_goes : (sink : Holding) (more after : List ℕ) → sink.bytes ≡ x.stored ++ more → sink.committed ≡ false →
+        Decoded x.state.role.mode x.state.position.held_back piece more after →
+        nat_lt (length piece) terms.size ≡ false →
+        let turn = sent_turn (Receiving terms number) from (ack_bytes number) (holding after x.state) in
+        Goes network first views messages k x turn (end_after x turn (Sink sink))
+    next_goes sink more after bytes un d last =
+        let turn = sent_turn (Receiving terms number) from (ack_bytes number) (holding after x.state) in
+        let y = end_after x turn (Sink sink) in
+        let text : wire_text x.state.role.mode (x.stored ++ more) ++ after ≡ text_of_end y =
+        ap (λ (z : List ℕ). wire_text x.state.role.mode z ++ after) (sym bytes)
+        ∙ sym (text_else (is_sender x.state.role.side) x.text (wire_text x.state.role.mode sink.bytes ++ after)
+        r.receiver) in
+        record {
+          said_now = message x.address from (Says_ack number) ∷ [];
+          shown =
+              sound_view (text_of_end y) false (messages ++ message x.address from (Says_ack number) ∷ [])
+              (acknowledged sink more after bytes d (text_of_end y) text false last);
+          replies = (Ack number, spells_own (Ack number) r.fits, refl);
+          kept =
+              record {
+                phase = (r.receiver, r.peer);
+                held_back = held_fits x.state.role.mode x.state.position.held_back piece more after kept.held_back d;
+                committed = λ _. un;
+              };
+          side = refl;
+          last_sent = inr refl;
+          stored = λ c. absurd (true≢false (sym c ∙ r.incomplete));
+        }
+
+    whole_goes : Readable x terms piece → (sink : Holding) (more after : List ℕ) → sink.bytes ≡ x.stored ++ more →
+        sink.committed ≡ true → Decoded x.state.role.mode x.state.position.held_back piece more after →
+        nat_lt (length piece) terms.size ≡ true →
+        let turn = sent_turn (Dallying terms number Fresh) from (ack_bytes number) (holding after x.state) in
+        Goes network first views messages k x turn (end_after x turn (Sink sink))
+    whole_goes readable sink more after bytes done d last =
+        let turn = sent_turn (Dallying terms number Fresh) from (ack_bytes number) (holding after x.state) in
+        let y = end_after x turn (Sink sink) in
+        let none : after ≡ [] = none_held x.state.role.mode x.state.position.held_back piece more after kept.held_back d
+        (subst (λ (b : Bool). is_readable x.state.role.mode x.state.position.held_back piece b ≡ true) last readable) in
+        let text : wire_text x.state.role.mode (x.stored ++ more) ++ after ≡ text_of_end y =
+        ap (λ (z : List ℕ). wire_text x.state.role.mode (x.stored ++ more) ++ z) none
+        ∙ (append-nil (wire_text x.state.role.mode (x.stored ++ more))
+        ∙ (ap (wire_text x.state.role.mode) (sym bytes)
+        ∙ sym (text_else (is_sender x.state.role.side) x.text (wire_text x.state.role.mode sink.bytes) r.receiver))) in
+        record {
+          said_now = message x.address from (Says_ack number) ∷ [];
+          shown =
+              sound_view (text_of_end y) true (messages ++ message x.address from (Says_ack number) ∷ [])
+              (acknowledged sink more after bytes d (text_of_end y) text true last);
+          replies = (Ack number, spells_own (Ack number) r.fits, refl);
+          kept =
+              record {
+                phase = (r.receiver, r.peer);
+                held_back = held_fits x.state.role.mode x.state.position.held_back piece more after kept.held_back d;
+                committed = λ _. done;
+              };
+          side = refl;
+          last_sent = inr refl;
+          stored = λ c. absurd (true≢false (sym c ∙ r.incomplete));
+        }
+
+    -- after a commit
+    commit_goes : Readable x terms piece → (mid sink : Holding) (more after : List ℕ) (turn : Turn) →
+        mid.bytes ≡ x.stored ++ more → mid.committed ≡ false →
+        Decoded x.state.role.mode x.state.position.held_back piece more after →
+        nat_lt (length piece) terms.size ≡ true →
+        Committed known_sink terms number from (holding after x.state) mid turn sink →
+        Goes network first views messages k x turn (end_after x turn (Sink sink))
+    commit_goes readable mid sink more after turn bytes un d last c =
+        by_commit c.answer c.answers (kept_by mid.refuses mid sink c.answer c.commits) where
+          by_commit : (answer : Result Done StoreFault) →
+              turn ≡ committed_turn terms number from (holding after x.state) answer → Kept_all mid sink answer →
+              Goes network first views messages k x turn (end_after x turn (Sink sink))
+          by_commit answer t (For_good ok same done) =
+              let turn_is : turn ≡ sent_turn (Dallying terms number Fresh) from (ack_bytes number)
+              (holding after x.state) = t ∙ ap (committed_turn terms number from (holding after x.state)) ok in
+              subst (λ (z : Turn). Goes network first views messages k x z (end_after x z (Sink sink))) (sym turn_is)
+              (whole_goes readable sink more after (same ∙ bytes) done d last)
+          by_commit answer t (Not_yet fault err same still) =
+              let turn_is : turn ≡ refused_turn terms (commit_reply fault) outcomes.StoreFault from
+              (holding after x.state) = t ∙ ap (committed_turn terms number from (holding after x.state)) err in
+              let begins : IsPrefixOf (wire_text x.state.role.mode sink.bytes) (text_of_end x ++ piece) = (
+                after,
+                ap (λ (z : List ℕ). wire_text x.state.role.mode z ++ after) (same ∙ bytes)
+                    ∙ sym (more_text more after d),
+              ) in
+              subst (λ (z : Turn). Goes network first views messages k x z (end_after x z (Sink sink))) (sym turn_is)
+              (refused_goes after sink (commit_reply fault) outcomes.StoreFault
+              (held_fits x.state.role.mode x.state.position.held_back piece more after kept.held_back d)
+              (still ∙ un) begins)
+
+    -- after an append
+    append_goes : Readable x terms piece →
+        (mid sink : Holding) (more after : List ℕ) (turn : Turn) (answer : Result Done StoreFault) (last : Bool) →
+        nat_lt (length piece) terms.size ≡ last →
+        Decoded x.state.role.mode x.state.position.held_back piece more after → Took (holding_of x) mid more answer →
+        GoesOn known_sink terms number from x.state last after mid answer turn sink →
+        Goes network first views messages k x turn (end_after x turn (Sink sink))
+    append_goes readable mid sink more after turn (Err f) last is d (All_of_it ok same un) h =
+        absurd (let e : Err f ≡ Ok tt = ok in cc)
+    append_goes readable mid sink more after turn (Ok u) last is d (Some_of_it fault kept_bytes err prefix same un)
+        h = absurd (let e : Ok u ≡ Err fault = err in cc)
+    append_goes readable mid sink more after turn (Err f) last is d (Some_of_it fault kept_bytes err prefix same un)
+        h =
+        let begun = stored_some x.state.role.mode x.stored kept_bytes more prefix in
+        let begins : IsPrefixOf (wire_text x.state.role.mode mid.bytes) (text_of_end x ++ piece) = (
+          begun.0 ++ after,
+          ap (λ (z : List ℕ). wire_text x.state.role.mode z ++ (begun.0 ++ after)) same
+              ∙ (sym (append_assoc (wire_text x.state.role.mode (x.stored ++ kept_bytes)) begun.0 after)
+              ∙ (ap (λ (z : List ℕ). z ++ after) begun.1 ∙ sym (more_text more after d))),
+        ) in
+        subst (λ (z : Holding). Goes network first views messages k x turn (end_after x turn (Sink z))) (sym h.1)
+        (subst (λ (t : Turn). Goes network first views messages k x t (end_after x t (Sink mid))) (sym h.0)
+        (refused_goes x.state.position.held_back mid replies.DiskFull outcomes.StoreFault kept.held_back
+        (un uncommitted) begins))
+    append_goes readable mid sink more after turn (Ok u) true is d (All_of_it ok same un) h =
+        commit_goes readable mid sink more after turn same (un uncommitted) d is h
+    append_goes readable mid sink more after turn (Ok u) false is d (All_of_it ok same un) h =
+        subst (λ (z : Holding). Goes network first views messages k x turn (end_after x turn (Sink z))) (sym h.1)
+        (subst (λ (t : Turn). Goes network first views messages k x t (end_after x t (Sink mid))) (sym h.0)
+        (next_goes mid more after same (un uncommitted) d is))
+
+    -- an action that stores has gone on
+    pub block_goes : Readable x terms piece → (turn : Turn) (held : Files (List ℕ) Holding) →
+        StoresIn known_source known_sink terms number from piece x.state (files_of x) turn held →
+        Goes network first views messages k x turn (end_after x turn held)
+    block_goes readable turn held h =
+        let f =
+        stores_in (is_sender x.state.role.side) r.receiver known_source known_sink terms number from piece x.state
+        x.left (holding_of x) turn held h in
+        let b = f.2 in
+        subst (λ (fs : Files (List ℕ) Holding). Goes network first views messages k x turn (end_after x turn fs))
+        (sym f.1)
+        (append_goes readable b.mid f.0 b.bytes b.after turn b.answer (nat_lt (length piece) terms.size) refl b.decoded
+        (took known_sink (λ holding. refl) (holding_of x) b.mid b.bytes b.answer b.appended) b.rest)

@@ -1,0 +1,308 @@
+-- A sender whose source gives the next block.
+use Rattle.std.proofs.Common.{◌≡◌, ℕ, ◌+◌, ◌*◌, ◌-◌, ◌/◌, ◌^◌, ◌<◌, ◌≤◌, Bool, true, false, List, [], ◌∷◌, ◌++◌, length}
+use Rattle.std.proofs.Common.{set, take, drop, min, Some, Result, Ok, Err, sym, refl, ap, ◌∙◌, subst, arith, inl, inr}
+use Rattle.std.specs.Prelude.{◌≢◌, ◌⊎◌, if◌then◌else◌}
+use Rattle.std.specs.List.{Contains}
+use Rattle.std.proofs.Math.Nat.{div-lt_iff_lt-mul}
+use Rattle.std.proofs.lemmas.Bool.{true≢false, eq-eqb}
+use Rattle.std.proofs.lemmas.List.{append-nil, length-drop, length-take, take_min, drop_min, drop-drop}
+use Rattle.std.proofs.lemmas.Option.{same_Some}
+use Rattle.tftp_wire.specs.declared.limits.TheConstants.{MAX_BLOCK}
+use Rattle.tftp_wire.specs.declared.packet.Packet.TheVariants.{Data}
+use Rattle.tftp_wire.specs.Spelling.{IsValid}
+use Rattle.tftp_file.specs.declared.fault.FileFault.{FileFault}
+use Rattle.tftp_file.specs.Source.{SourceMeaning, Fills}
+use Rattle.tftp_file.specs.declared.fault.FileFault.TheVariants as file_faults
+use Rattle.tftp_file.specs.declared.files.Files.{Files}
+use Rattle.tftp_file.specs.declared.files.Files.TheVariants.{Source, Sink}
+use Rattle.tftp_file.specs.Block.{block, block_count, Fits}
+use Rattle.tftp_file.specs.Sink.{Holding, SinkMeaning}
+use Rattle.tftp_ends.specs.declared.error_reply.ErrorReply.TheVariants as replies
+use Rattle.tftp_ends.specs.declared.outcome.Outcome.TheVariants as outcomes
+use Rattle.tftp_ends.specs.declared.phase.Phase.TheVariants.{Sending}
+use Rattle.tftp_ends.specs.declared.phase.Terms.{Terms}
+use Rattle.tftp_ends.specs.declared.action.Response.TheVariants.{Complete}
+use Rattle.tftp_ends.specs.End.{EndState, is_sender}
+use Rattle.tftp_ends.specs.Step.{Turn, response_turn, after, Sends, SendsFrom, sent_turn, refused_turn, data_bytes}
+use Rattle.tftp_ends.specs.Step.{block_length, filled_turn, result_count_is, after_turn, with_position}
+use Rattle.tftp_rules.specs.Machine.{Endpoint, Data as Says_data, Ack as Says_ack, Message, Network}
+use Rattle.tftp_rules.specs.Rules.{Rule, message}
+use Rattle.tftp_rules.specs.Said.{said}
+use Rattle.tftp_rules.specs.Shows.{EndView, IsShownWithin}
+use Rattle.tftp_rules.specs.OpenEnds.{OpenEnd, files_of, holding_of, in_state, end_after, text_of as text_of_end}
+use Rattle.tftp_rules.specs.OpenEnds.{received_text, open_view, with_phase}
+use Rattle.tftp_rules.specs.KnownFiles.{known_source, known_sink}
+use Rattle.tftp_rules.specs.EndKept.{EndKept}
+use Rattle.tftp_rules.specs.EndShown.{Stands, Goes}
+use Rattle.tftp_rules.proofs.Actions.{sends, completes}
+use Rattle.tftp_rules.proofs.SaidLemmas.{spells_own}
+
+-- a source of known text was asked for block n + 1, after the n blocks that it gave
+pub record BlockSent (terms : Terms) (n : ℕ) (from : Endpoint) (e : EndState) (text : List ℕ) (turn : Turn)
+    (left : List ℕ) : Type 0 where
+  pub turn_is : turn ≡ sent_turn (Sending terms (n + 1)) from (data_bytes (n + 1) (block text terms.size (n + 1))) e
+  pub left_is : left ≡ drop ((n + 1) * terms.size) text
+
+back : (n : ℕ) → n + 1 - 1 ≡ n
+back n = omega arith
+
+-- the source is asked for as much of a block as it can give
+requested_end : (terms : Terms) (n : ℕ) (e : EndState) (text left : List ℕ) → e.role.length ≡ length text →
+    left ≡ drop (n * terms.size) text →
+    block_length e.role.length terms.size (n + 1) ≡ min terms.size (length left)
+requested_end terms n e text left measured remaining_is =
+    let rest : length left ≡ length text - n * terms.size =
+    ap length remaining_is ∙ length-drop (n * terms.size) text in
+    let first : block_length e.role.length terms.size (n + 1) ≡ min terms.size (e.role.length - n * terms.size) =
+    ap (λ (m : ℕ). min terms.size (e.role.length - m * terms.size)) (back n) in
+    first ∙ ap (min terms.size) (ap (λ (l : ℕ). l - n * terms.size) measured ∙ sym rest)
+
+whole_count : (size l : ℕ) → min (min size l) l ≡ min size l
+whole_count size l = omega arith
+
+block_next : (text left : List ℕ) (size n : ℕ) → left ≡ drop (n * size) text → take size left ≡ block text size (n + 1)
+block_next text left size n remaining_is =
+    ap (take size) remaining_is ∙ ap (λ (m : ℕ). take size (drop (m * size) text)) (sym (back n))
+
+left_next : (text left : List ℕ) (size n : ℕ) → left ≡ drop (n * size) text →
+    drop size left ≡ drop ((n + 1) * size) text
+left_next text left size n remaining_is =
+    let e : n * size + size ≡ (n + 1) * size = omega arith in
+    ap (drop size) remaining_is ∙ (drop-drop size (n * size) text ∙ ap (λ (m : ℕ). drop m text) e)
+
+counted : (want : ℕ) (k : ℕ) → k ≡ want → result_count_is want (Ok k) ≡ true
+counted want k e = eq-eqb k want e
+
+filled : (terms : Terms) (number : ℕ) (from : Endpoint) (piece : List ℕ) (e : EndState) (answer : Result ℕ FileFault) →
+    result_count_is (block_length e.role.length terms.size number) answer ≡ true →
+    filled_turn terms number from piece e answer ≡ sent_turn (Sending terms number) from (data_bytes number piece) e
+filled terms number from piece e answer h =
+    ap (λ (b : Bool). if b then sent_turn (Sending terms number) from (data_bytes number piece) e else refused_turn
+    terms replies.FileChanged outcomes.SourceFault from e) h
+
+-- the source failed, and the sender gave up
+pub record FillFailed (sources : SourceMeaning (List ℕ)) (terms : Terms) (from : Endpoint) (e : EndState)
+    (left : List ℕ) (turn : Turn) : Type 0 where
+  pub want : ℕ
+  pub may : sources.may_fail left want
+  pub turn_is : turn ≡ refused_turn terms replies.FileChanged outcomes.SourceFault from e
+
+-- a source of known text gives the next block, or fails
+pub block_sent : (sources : SourceMeaning (List ℕ)) → ((text : List ℕ) → sources.left text ≡ Some text) →
+    (terms : Terms) (n : ℕ) (from : Endpoint) (e : EndState) (text left : List ℕ) (turn : Turn) (left' : List ℕ) →
+    e.role.length ≡ length text → left ≡ drop (n * terms.size) text →
+    Sends sources terms (n + 1) from e left turn left' → BlockSent terms n from e text turn left'
+    ⊎ FillFailed sources terms from e left turn
+block_sent sources known terms n from e text left turn left' measured remaining_is h =
+    by_answer h.answer (let f : Fills (Some left) (Some left') (block_length e.role.length terms.size (n + 1)) []
+    h.piece h.answer = rw (known left, known left') at h.reads.fills in f)
+    h.reads.read h.reads.memory h.answers where
+      by_answer : (answer : Result ℕ FileFault) →
+          Fills (Some left) (Some left') (block_length e.role.length terms.size (n + 1)) [] h.piece answer →
+          (answer ≡ Err file_faults.Read → sources.may_fail left (block_length e.role.length terms.size (n + 1))) →
+          answer ≢ Err file_faults.Memory → turn ≡ filled_turn terms (n + 1) from h.piece e answer →
+          BlockSent terms n from e text turn left' ⊎ FillFailed sources terms from e left turn
+      by_answer (Err file_faults.Read) f r m a =
+          inr (record { want = block_length e.role.length terms.size (n + 1); may = r refl; turn_is = a })
+      by_answer (Err file_faults.Memory) f r m a = absurd (m refl)
+      by_answer (Ok k) f r m a =
+          let want = requested_end terms n e text left measured remaining_is in
+          let count : k ≡ min terms.size (length left) =
+          f.count ∙ (ap (λ (w : ℕ). min w (length left)) want ∙ whole_count terms.size (length left)) in
+          let turns =
+          filled terms (n + 1) from h.piece e (Ok k) (counted (block_length e.role.length terms.size (n + 1)) k
+          (count ∙ sym want)) in
+          let piece : h.piece ≡ block text terms.size (n + 1) =
+          f.given ∙ (ap (λ (j : ℕ). take j left) count
+          ∙ (take_min terms.size left ∙ block_next text left terms.size n remaining_is)) in
+          let rest : left' ≡ drop k left = same_Some left' (drop k left) f.rest in
+          inl (record {
+            turn_is =
+                a ∙ (turns ∙ ap (λ (p : List ℕ). sent_turn (Sending terms (n + 1)) from (data_bytes (n + 1) p) e)
+                piece);
+            left_is =
+                rest ∙ (ap (λ (j : ℕ). drop j left) count
+                ∙ (drop_min terms.size left ∙ left_next text left terms.size n remaining_is));
+          })
+
+-- what an action that sends did
+pub sends_from : (b : Bool) → b ≡ true →
+    (sources : SourceMeaning (List ℕ)) (sinks : SinkMeaning Holding) (terms : Terms) (number : ℕ) (from : Endpoint)
+    (e : EndState) (left : List ℕ) (holding : Holding) (turn : Turn) (held : Files (List ℕ) Holding) →
+    SendsFrom sources sinks terms number from e (if b then Source left else Sink holding) turn held →
+    (left' : List ℕ) × (held ≡ Source left') × Sends sources terms number from e left turn left'
+sends_from true t sources sinks terms number from e left holding turn (Source left') h = (left', refl, h)
+sends_from true t sources sinks terms number from e left holding turn (Sink k) h = absurd h
+sends_from false t sources sinks terms number from e left holding turn held h = absurd (true≢false (sym t))
+
+-- the number of a block fits two bytes
+pub number_fits : (text : List ℕ) (size n : ℕ) → 0 < size → Fits text size → n ≤ block_count text size → n < 2 ^ 16
+number_fits text size n p f l =
+    let d : length text / size < 65535 = (div-lt_iff_lt-mul {k = size} {x = length text} {y = 65535} p).1 f in
+    omega arith
+
+pub valid_data : (text : List ℕ) (size n : ℕ) → 0 < size → size ≤ MAX_BLOCK → Fits text size →
+    n + 1 ≤ block_count text size → IsValid (Data (n + 1) (block text size (n + 1)))
+valid_data text size n p small f l =
+    let e = length-take size (drop ((n + 1 - 1) * size) text) in
+    ((let z : n + 1 ≢ 0 = omega arith in z), number_fits text size (n + 1) p f l, omega (arith, e))
+
+-- the turn in which block n + 1 is sent
+abbrev pub data_turn : OpenEnd → Terms → ℕ → Endpoint → Turn
+data_turn x terms n from =
+    sent_turn (Sending terms (n + 1)) from (data_bytes (n + 1) (block x.text terms.size (n + 1))) x.state
+
+-- the end after it
+abbrev pub data_end : OpenEnd → Terms → ℕ → Endpoint → OpenEnd
+data_end x terms n from =
+    record (in_state (after_turn x.state (data_turn x terms n from)) x) { left = drop ((n + 1) * terms.size) x.text }
+
+-- a sender's text is shown
+pub text_if : (b : Bool) (f r : List ℕ) → b ≡ true → (if b then f else r) ≡ f
+text_if true f r e = refl
+text_if false f r e = absurd (true≢false (sym e))
+
+-- a sender whose source failed has given up
+abbrev pub failed_turn : Terms → Endpoint → OpenEnd → Turn
+failed_turn terms from x = refused_turn terms replies.FileChanged outcomes.SourceFault from x.state
+
+module _ (network : Network) where
+  -- what its source has left then does not matter
+  failed_goes : (first : List Rule) (views : List EndView) (messages : List Message) (k : ℕ) (x : OpenEnd)
+      (terms : Terms) (from : Endpoint) (left : List ℕ) →
+      Goes network first views messages k x (failed_turn terms from x)
+      (in_state (after_turn x.state (failed_turn terms from x)) x) →
+      Goes network first views messages k x (failed_turn terms from x)
+      (end_after x (failed_turn terms from x) (Source left))
+  failed_goes first views messages k x terms from left g = record {
+    said_now = g.said_now;
+    shown = g.shown;
+    replies = g.replies;
+    kept = record { phase = tt; held_back = g.kept.held_back; committed = g.kept.committed };
+    side = g.side;
+    last_sent = g.last_sent;
+    stored = g.stored;
+  }
+
+  -- an action that sends has sent the next block, or the source failed
+  pub data_goes : (first : List Rule) (views : List EndView) (messages : List Message) (k : ℕ) (x : OpenEnd)
+      (terms : Terms) (n : ℕ) (from : Endpoint) (turn : Turn) (held : Files (List ℕ) Holding) →
+      is_sender x.state.role.side ≡ true → x.state.role.length ≡ length x.text → x.left ≡ drop (n * terms.size) x.text →
+      Goes network first views messages k x (data_turn x terms n from) (data_end x terms n from) →
+      Goes network first views messages k x (failed_turn terms from x)
+      (in_state (after_turn x.state (failed_turn terms from x)) x) →
+      SendsFrom known_source known_sink terms (n + 1) from x.state (files_of x) turn held →
+      Goes network first views messages k x turn (end_after x turn held)
+  data_goes first views messages k x terms n from turn held sender measured remaining_is g failed h =
+      let f =
+      sends_from (is_sender x.state.role.side) sender known_source known_sink terms (n + 1) from x.state x.left
+      (holding_of x) turn held h in
+      subst (λ (fs : Files (List ℕ) Holding). Goes network first views messages k x turn (end_after x turn fs))
+      (sym f.1)
+      (elim (block_sent known_source (λ text. refl) terms n from x.state x.text x.left turn f.0 measured remaining_is
+      f.2) [
+        | inl b ↦
+            subst (λ (t : Turn). Goes network first views messages k x t (end_after x t (Source f.0))) (sym b.turn_is)
+            (subst (λ (l : List ℕ). Goes network first views messages k x (data_turn x terms n from)
+            (end_after x (data_turn x terms n from) (Source l))) (sym b.left_is) g)
+        | inr b ↦
+            subst (λ (t : Turn). Goes network first views messages k x t (end_after x t (Source f.0))) (sym b.turn_is)
+            (failed_goes first views messages k x terms from f.0 failed)
+      ])
+
+  -- the sender's state after a block is kept
+  pub data_kept : (x : OpenEnd) (terms : Terms) (n : ℕ) (from : Endpoint) → EndKept network x →
+      x.state.role.length ≡ length x.text → is_sender x.state.role.side ≡ true → 0 < terms.size →
+      terms.size ≤ MAX_BLOCK →
+      Fits x.text terms.size → n + 1 ≤ block_count x.text terms.size → from ≡ terms.peer →
+      EndKept network (data_end x terms n from)
+  data_kept x terms n from kept measured sender positive small fits l peer = record {
+    phase =
+        record {
+          sender = sender;
+          positive = positive;
+          size = small;
+          fits = fits;
+          so_far = l;
+          left = refl;
+          last_sent_to = peer;
+          measured = measured;
+        };
+    held_back = kept.held_back;
+    committed = λ r. absurd (true≢false (sym sender ∙ r));
+  }
+
+  module _ (first : List Rule) (views : List EndView) (messages : List Message) (k : ℕ) (x0 : OpenEnd) (terms : Terms)
+      (n : ℕ)
+      (s : Stands network first views messages k (open_view (with_phase (Sending terms n) x0)))
+      (kept : EndKept network (with_phase (Sending terms n) x0)) where
+    -- the next block is sent
+    pub sends_next : (from : Endpoint) → terms.peer ≡ from → Contains messages (message from x0.address (Says_ack n)) →
+        n < block_count x0.text terms.size →
+        Goes network first views messages k (with_phase (Sending terms n) x0)
+        (data_turn (with_phase (Sending terms n) x0) terms n from)
+        (data_end (with_phase (Sending terms n) x0) terms n from)
+    sends_next from peer acked more =
+        let x = with_phase (Sending terms n) x0 in
+        let u = kept.phase in
+        let text = x.text in
+        let text_is : text_of_end x ≡ text =
+        text_if (is_sender x.state.role.side) text (received_text x.state x.stored) u.sender in
+        let l : n + 1 ≤ block_count text terms.size = omega arith in
+        let packet = Data (n + 1) (block text terms.size (n + 1)) in
+        let room : n < block_count (text_of_end x) terms.size =
+        subst (λ (t : List ℕ). n < block_count t terms.size) (sym text_is) more in
+        let shown_now =
+        sends network first views messages k (open_view x) s from (refl, refl) u.sender (ap Some peer) acked room in
+        record {
+          said_now = message x.address from (said packet) ∷ [];
+          shown =
+              subst (λ (t : List ℕ). IsShownWithin network 3 first (set views k (open_view (data_end x terms n from)))
+              (messages ++ message x.address from (Says_data (n + 1) (block t terms.size (n + 1))) ∷ [])) text_is
+              shown_now;
+          replies = (packet, spells_own packet (valid_data text terms.size n u.positive u.size u.fits l), refl);
+          kept = data_kept x terms n from kept u.measured u.sender u.positive u.size u.fits l (sym peer);
+          side = refl;
+          last_sent = inr refl;
+          stored = λ _. refl;
+        }
+
+    -- the last block is acknowledged
+    pub ends_whole : (from : Endpoint) → terms.peer ≡ from → Contains messages (message from x0.address (Says_ack n)) →
+        n ≡ block_count x0.text terms.size →
+        Goes network first views messages k (with_phase (Sending terms n) x0)
+        (response_turn Complete from (with_phase (Sending terms n) x0).state)
+        (in_state (with_position (after Complete from (with_phase (Sending terms n) x0).state)
+        (with_phase (Sending terms n) x0).state) (with_phase (Sending terms n) x0))
+    ends_whole from peer acked last =
+        let x = with_phase (Sending terms n) x0 in
+        let u = kept.phase in
+        let text = x.text in
+        let text_is : text_of_end x ≡ text =
+        text_if (is_sender x.state.role.side) text (received_text x.state x.stored) u.sender in
+        let whole : n ≡ block_count (text_of_end x) terms.size =
+        subst (λ (t : List ℕ). n ≡ block_count t terms.size) (sym text_is) last in
+        let shown_now =
+        completes network first views messages k (open_view x) s from (refl, refl) u.sender (ap Some peer) acked
+        whole in
+        let y = in_state (with_position (after Complete from x.state) x.state) x in
+        let still : text_of_end x ≡ text_of_end y =
+        text_is ∙ sym (text_if (is_sender x.state.role.side) text (received_text y.state y.stored) u.sender) in
+        record {
+          said_now = [];
+          shown =
+              subst (λ (ms : List Message). IsShownWithin network 3 first (set views k (open_view y)) ms)
+              (sym (append-nil messages))
+              (subst (λ (t : List ℕ). IsShownWithin network 3 first
+              (set views k (record (open_view x) { complete = true; text = t })) messages) still shown_now);
+          replies = refl;
+          kept =
+              record {
+                phase = tt;
+                held_back = kept.held_back;
+                committed = λ r. absurd (true≢false (sym u.sender ∙ r));
+              };
+          side = refl;
+          last_sent = inl (refl, refl);
+          stored = λ _. refl;
+        }

@@ -1,0 +1,132 @@
+-- Small facts on rules: whose datagram one is, and the hosts.
+use Rattle.std.proofs.Common.{◌≡◌, ℕ, ◌+◌, ◌*◌, ◌<◌, ◌≤◌, Bool, true, false, not, List, [], ◌∷◌, length, take, Some}
+use Rattle.std.proofs.Common.{None, sym, refl, ap, ◌∙◌, subst, arith, inl, inr}
+use Rattle.std.specs.Prelude.{◌≢◌}
+use Rattle.std.specs.List.{Contains}
+use Rattle.std.proofs.lemmas.Bool.{true≢false, cases_Bool}
+use Rattle.tftp_file.specs.Block.{block}
+use Rattle.tftp_rules.specs.Machine.{Endpoint, At_server, At_client, Elsewhere, Data, Message, Party, Machine}
+use Rattle.tftp_rules.specs.Machine.{Network}
+use Rattle.tftp_rules.specs.Rules.{message, IsNext}
+use Rattle.tftp_rules.specs.Facts.{home, HasReceived, IsSoundParty, Holds}
+use Rattle.tftp_rules.specs.MachineSafety.{Established}
+use Rattle.tftp_rules.proofs.Grows.{peer_of}
+
+pub not-not : (b : Bool) → not (not b) ≡ b
+not-not true = refl
+not-not false = refl
+
+pub flip : (b c : Bool) → b ≡ not c → c ≡ not b
+flip b c e = rw e (sym (not-not c))
+
+pub none_sent : (P : Message → Type 0) (d : Message) → Contains [] d → P d
+none_sent P d c = absurd (let h : c.0 < 0 = c.1 in omega arith)
+
+pub one_sent : (P : Message → Type 0) (a : Message) → P a → (d : Message) → Contains (a ∷ []) d → P d
+one_sent P a p d c =
+    let z : c.0 ≡ 0 = let h : c.0 < 1 = c.1 in omega arith in
+    let e : a ≡ d = rw z at c.2 in
+    subst P e p
+
+-- x became y, which differs only in the number, the text and how it ended
+pub record Moves (x y : Party) : Type 0 where
+  pub is_open : y.is_open ≡ x.is_open
+  pub client : y.client ≡ x.client
+  pub sender : y.sender ≡ x.sender
+  pub plain : y.plain ≡ x.plain
+  pub mode : y.mode ≡ x.mode
+  pub peer : y.peer ≡ x.peer
+  pub size : y.size ≡ x.size
+
+pub received_nothing : (x y : Party) → x.text ≡ [] → x.number ≡ 0 → x.complete ≡ false → HasReceived x y
+received_nothing x y t n d = record {
+  prefix = (y.text, rw t refl);
+  whole = λ e. absurd (true≢false (sym e ∙ d));
+  so_far = λ e f. let z : x.number * x.size ≡ 0 = rw n (omega arith) in t ∙ sym (ap (λ (k : ℕ). take k y.text) z);
+  room = λ e. rw n (omega arith);
+}
+
+-- the next block of a receiver x
+pub record GoesOn (x y : Party) (piece : List ℕ) : Type 0 where
+  pub so_far : x.text ≡ take (x.number * x.size) y.text
+  pub room : x.number * x.size ≤ length y.text
+  pub bytes : piece ≡ block y.text x.size (x.number + 1)
+  pub positive : 0 < x.size
+
+module _ (network : Network) where
+  pub own_client : (a : Endpoint) → network.host_of a ≡ At_client → network.host_of a ≢ Elsewhere
+  own_client a h e = let k : At_client ≡ Elsewhere = sym h ∙ e in cc
+
+  pub own_server : (a : Endpoint) → network.host_of a ≡ At_server → network.host_of a ≢ Elsewhere
+  own_server a h e = let k : At_server ≡ Elsewhere = sym h ∙ e in cc
+
+  home_own : (a : Endpoint) (c : Bool) → network.host_of a ≡ home c → network.host_of a ≢ Elsewhere
+  home_own a true h = own_client a h
+  home_own a false h = own_server a h
+
+  home_client : (a : Endpoint) (c : Bool) → network.host_of a ≡ home c → network.host_of a ≡ At_server → c ≡ false
+  home_client a true h s = let k : At_client ≡ At_server = sym h ∙ s in cc
+  home_client a false h s = refl
+
+  pub own_of : (m : Machine) → Holds network m → (a : Endpoint) → (m.party a).is_open ≡ true →
+      network.host_of a ≢ Elsewhere
+  own_of m h a o = home_own a (m.party a).client (h.ends a o).at_home
+
+  -- an open end at the server's address is a server's end
+  pub server_end : (m : Machine) → Holds network m → (a : Endpoint) → (m.party a).is_open ≡ true →
+      network.host_of a ≡ At_server → (m.party a).client ≡ false
+  server_end m h a o s = home_client a (m.party a).client (h.ends a o).at_home s
+
+  -- two ends that have each other as peers have one size
+  pub same_size : (m : Machine) → Holds network m → (x y : Endpoint) → Established m.party x y →
+      (m.party x).size ≡ (m.party y).size
+  same_size m h x y e = elim (cases_Bool (m.party x).client) [
+    | inl c ↦ sym (((h.ends x e.0).serving c y e.2).1.size)
+    | inr c ↦ let p = peer_of network m.party x (m.party x) (h.ends x e.0) y e.2 (own_of m h y e.1) in
+        let d : (m.party y).client ≡ true = rw c at p.client in
+        (((h.ends y e.1).serving d x e.3).1.size)
+  ]
+
+  pub IsSound-moves : (ends : Endpoint → Party) (a : Endpoint) (x y : Party) → Moves x y →
+      IsSoundParty network ends a x →
+      (y.peer ≡ None → (y.number ≡ 0) × (y.complete ≡ false) × (y.sender ≡ false → y.text ≡ [])) →
+      (y.client ≡ false → y.sender ≡ true → y.plain ≡ false → 1 ≤ y.number → (p : Endpoint) → y.peer ≡ Some p →
+      network.host_of p ≢ Elsewhere → (ends p).peer ≡ Some a) →
+      (y.sender ≡ false → (p : Endpoint) → y.peer ≡ Some p → network.host_of p ≢ Elsewhere → HasReceived y (ends p)) →
+      (y.sender ≡ true → y.complete ≡ true → (p : Endpoint) → y.peer ≡ Some p → network.host_of p ≢ Elsewhere →
+      ((ends p).peer ≡ Some a) × ((ends p).complete ≡ true)) →
+      IsSoundParty network ends a y
+  IsSound-moves ends a x y v h n b r d = record {
+    at_home = rw v.client h.at_home;
+    positive = rw v.size h.positive;
+    no_peer = n;
+    serving = λ c p e. let s = h.serving (sym v.client ∙ c) p (sym v.peer ∙ e) in (
+      s.0,
+      record {
+        is_open = s.1.is_open;
+        client = s.1.client;
+        peer = s.1.peer;
+        size = s.1.size ∙ sym v.size;
+        mode = s.1.mode ∙ sym v.mode;
+        sender = rw v.sender s.1.sender;
+      },
+    );
+    has_peer = λ c. let s = h.has_peer (sym v.client ∙ c) in (s.0, v.peer ∙ s.1);
+    asked = λ c p e o. let s = h.asked (sym v.client ∙ c) p (sym v.peer ∙ e) o in
+        record { is_open = s.is_open; client = s.client; mode = s.mode ∙ sym v.mode; sender = rw v.sender s.sender };
+    plain = λ c p. v.size ∙ h.plain (sym v.client ∙ c) (sym v.plain ∙ p);
+    begun = b;
+    received = r;
+    ended = d;
+  }
+
+  pub next_block : (m : Machine) → Holds network m → (at peer : Endpoint) (bytes : List ℕ) →
+      IsNext m.sent (m.party at) at peer bytes → network.host_of peer ≢ Elsewhere →
+      GoesOn (m.party at) (m.party peer) bytes
+  next_block m h at peer bytes g o =
+      let x = m.party at in
+      let t = h.attested (message peer at (Data (x.number + 1) bytes)) g.3 o in
+      let s = h.ends at g.0.0 in
+      let r = s.received g.1 peer g.2 o in
+      let e = same_size m h at peer (g.0.0, t.is_open, g.2, t.peer) in
+      record { so_far = r.so_far g.0.1 g.0.2; room = r.room g.0.1; bytes = rw e t.bytes; positive = s.positive }

@@ -1,0 +1,29 @@
+-- The wire text of what a receiver has stored, after more was stored.
+use Rattle.std.proofs.Common.{◌≡◌, ℕ, List, ◌++◌, sym, refl, ap, ◌∙◌, append_assoc}
+use Rattle.std.proofs.lemmas.List.Concat.{flat_map-append}
+use Rattle.tftp_wire.specs.declared.mode.Mode.{Mode}
+use Rattle.tftp_wire.specs.declared.mode.Mode.TheVariants.{Octet, Netascii}
+use Rattle.tftp_file.specs.Block.{IsPrefixOf}
+use Rattle.tftp_file.specs.Netascii.{wire_byte, wire_text}
+
+pub wire_text-append : (mode : Mode) (xs ys : List ℕ) →
+    wire_text mode (xs ++ ys) ≡ wire_text mode xs ++ wire_text mode ys
+wire_text-append Octet xs ys = refl
+wire_text-append Netascii xs ys = flat_map-append wire_byte xs ys
+
+-- a block continues with what is stored of it and the text that is held back then
+pub stored_more : (mode : Mode) (stored held bytes more after : List ℕ) → held ++ bytes ≡ wire_text mode more ++ after →
+    (wire_text mode stored ++ held) ++ bytes ≡ wire_text mode (stored ++ more) ++ after
+stored_more mode stored held bytes more after e =
+    append_assoc (wire_text mode stored) held bytes ∙ (ap (λ (zs : List ℕ). wire_text mode stored ++ zs) e
+    ∙ (sym (append_assoc (wire_text mode stored) (wire_text mode more) after) ∙ ap (λ (zs : List ℕ). zs ++ after)
+    (sym (wire_text-append mode stored more))))
+
+-- a prefix of what was to be stored is a prefix on the wire
+pub stored_some : (mode : Mode) (stored kept more : List ℕ) → IsPrefixOf kept more →
+    IsPrefixOf (wire_text mode (stored ++ kept)) (wire_text mode (stored ++ more))
+stored_some mode stored kept more b = (
+  wire_text mode b.0,
+  sym (wire_text-append mode (stored ++ kept) b.0)
+      ∙ ap (wire_text mode) (append_assoc stored kept b.0 ∙ ap (λ (zs : List ℕ). stored ++ zs) b.1),
+)

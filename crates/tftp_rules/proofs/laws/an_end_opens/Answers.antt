@@ -1,0 +1,6 @@
+-- The lemma that is the law.
+use Rattle.tftp_rules.proofs.Shown.{shown_opens}
+use Rattle.tftp_rules.proofs.laws.an_end_opens.Goals as goal
+
+pub returns : goal.returns
+returns g = shown_opens

@@ -1,0 +1,81 @@
+-- A read with a block size, by the rules.
+use Rattle.std.proofs.Common.{◌≡◌, Bool, true, false, sym, List, [], ◌∷◌, refl, arith}
+use Rattle.tftp_wire.specs.declared.mode.Mode.TheVariants.{Octet}
+use Rattle.std.specs.Prelude.{if◌then◌else◌}
+use Rattle.std.proofs.lemmas.Bool.{true≢false}
+use Rattle.tftp_wire.specs.declared.packet.Request.{Request as WireRequest}
+use Rattle.tftp_rules.specs.Hosts.{client_ip, server_ip, host_of, two_hosts}
+use Rattle.tftp_rules.specs.Machine.{Endpoint, is_same, nobody, At_server, At_client, start}
+use Rattle.tftp_rules.specs.Rules.{Rule, Asks, Opens_with, Takes_oack, Sends_next, Appends, Completes, IsLegal}
+use Rattle.tftp_rules.specs.Rules.{IsOpenedBy, AreOver, asking, after}
+use Rattle.tftp_rules.proofs.laws.some_run_completes.Goals as goal
+
+-- the client's end
+abbrev c : Endpoint
+c = record { ip = client_ip; port = 1024 }
+
+-- the server's end
+abbrev s : Endpoint
+s = record { ip = server_ip; port = 1025 }
+
+at_client : host_of c ≡ At_client
+unfolding host_of
+at_client = refl
+
+at_server : host_of s ≡ At_server
+unfolding host_of
+at_server = refl
+
+abbrev request : WireRequest
+request = record { name = 97 ∷ []; mode = Octet; options = [] }
+
+abbrev rules_of : List Rule
+rules_of =
+    Asks c false request [] ∷ Opens_with s c false request (65 ∷ []) 8 ∷ Takes_oack c s 8 ∷ Sends_next s c ∷ Appends c s
+    (65 ∷ []) ∷ Completes s c ∷ []
+
+-- the request opened no end before
+no_end : (b : Bool) → IsOpenedBy (if b then asking false request [] else nobody) c false request → ⊥
+no_end true h = true≢false h.server
+no_end false h = true≢false (sym h.is_open)
+
+no_duplicate : AreOver (after two_hosts (Asks c false request []) start) c false request
+no_duplicate a h = absurd (no_end (is_same a c) h)
+
+legal : IsLegal two_hosts rules_of start
+legal = (
+  (refl, at_client, λ _. refl),
+  tt,
+  (
+    (refl, at_server, (0, omega arith, refl), omega arith, omega arith),
+    no_duplicate,
+    (
+      (((refl, refl, refl), refl, refl, at_server), (1, omega arith, refl), λ e. cc),
+      tt,
+      (
+        (((refl, refl, refl), refl, refl, (2, omega arith, refl)), omega arith),
+        tt,
+        (
+          ((refl, refl, refl), refl, refl, (3, omega arith, refl), omega arith),
+          tt,
+          ((((refl, refl, refl), refl, refl, (4, omega arith, refl)), refl), tt, tt),
+        ),
+      ),
+    ),
+  ),
+)
+
+pub returns : goal.returns
+returns g = (
+  rules_of,
+  s,
+  c,
+  legal,
+  record {
+    established = (refl, refl, refl, refl);
+    sent = refl;
+    received = refl;
+    same = refl;
+    some = λ e. cc;
+  },
+)
