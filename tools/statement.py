@@ -46,7 +46,7 @@ HEADLINES = [
       "terms_of": "the terms of an end, once its peer is known", "begun": "a client whose request was sent",
       "IsNew": "a received file has taken nothing", "ServerState": "a server", "Does": "a step of the server's loop",
       "EndState": "an end, by its role and its position", "LoopState": "a server at its ports",
-      "HeldTransfer": "a transfer that a server holds", "State": "a client with its journal",
+      "TransferState": "a transfer that a server holds", "State": "a client with its journal",
       "moved_in": "what moved in a client's run",
       "place_at": "where the transfer is that a server's run opened last at a port: at the port; that of a stranger is at "
                   "an endpoint that no other end of the run has",
