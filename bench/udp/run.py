@@ -47,6 +47,8 @@ TINY = Case("get", 512, 1, 100)
 TINY_FILES = 1_000
 # rounds of a case of several clients for one of a single client: they scatter more
 MANY = 3
+# The seconds after which the last transfer counts as active no more: tftpd polls while several are active
+STILL = 0.8
 # A client waits here until the others are there, too
 GATE = 'read _ <&"$0"; exec "$@"'
 
@@ -81,7 +83,8 @@ def launch(client, port, case, room, at, before, gate):
 def transfer(client, port, case, room, before=()):
     """Runs the clients of a case, which begin together: the seconds until the files are there, the clients' processor
     seconds, and the peak memory of the first; None where one fails."""
-    early = client.names_at_end and case.verb == "get"
+    # what watches a client ends with it
+    early = client.names_at_end and case.verb == "get" and not before
     spent = children_seconds()
     gate, end = os.pipe()
     jobs = [launch(client, port, case, room, at, before, gate) for at in range(case.count)]
@@ -233,6 +236,7 @@ TRACERS = {
 def trace_server(client, running, case, log, room):
     traced = {}
     for tool, (words, read) in installed_tracers():
+        time.sleep(STILL)
         with watched(words, log, running.process):
             transfer(client, running.port, case, room)
         traced[tool] = read(log)
