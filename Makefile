@@ -81,6 +81,8 @@ bench: $(PROGRAMS)
 
 bench-udp: bin/tftpd bin/tftp
 	python3 bench/udp/run.py bin/tftpd bin/tftp
+	python3 bench/udp/allocations.py bin/tftpd bin/tftp
+	python3 bench/udp/beside.py bin/tftpd
 
 clean:
 	rm -rf bin out crates/*/out
