@@ -1,0 +1,42 @@
+#!/usr/bin/env python3
+"""Prints what each crate weighs in the gate: weights.py [--write]
+
+Its rows are of what the last gate, or `make`, left of each crate in out/incremental: routines (functions, and what is
+generated for types), megabytes of generated proof, of which each costs some two seconds of a processor, and must-fail
+edits. A crate of which nothing is left is left out. With --write the table stands in docs/PROVING.md.
+"""
+import re
+import sys
+from pathlib import Path
+
+TOP = Path(__file__).resolve().parent.parent
+DOCUMENT = TOP / "docs" / "PROVING.md"
+HEAD = "| Crate | routines | MB of generated proof | edits |\n|---|---|---|---|\n"
+
+
+def crates():
+    """The crates of crates.txt, in its order."""
+    lines = (TOP / "crates.txt").read_text().splitlines()
+    return [line.split(":")[0] for line in lines if re.match(r"\w+:", line)]
+
+
+def row(crate):
+    folder = TOP / "crates" / crate
+    sizes = [file.stat().st_size for file in folder.glob("out/incremental/**/*.Lts.oantt")]
+    edits = len(list(folder.glob("must-fail/*.edit")))
+    return f"| `{crate}` | {len(sizes)} | {sum(sizes) / 1e6:.0f} | {edits or 'none'} |\n" if sizes else ""
+
+
+def main():
+    rows = "".join(map(row, crates()))
+    table = HEAD + rows
+    if sys.argv[1:] != ["--write"]:
+        print(table, end="")
+        return
+    text = DOCUMENT.read_text()
+    before, rest = text.split("| Crate | ", 1)
+    _, after = rest.split("\n\n", 1)
+    DOCUMENT.write_text(before + table + "\n" + after)
+
+
+main()
