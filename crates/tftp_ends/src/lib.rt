@@ -26,6 +26,7 @@ mod reply;
 mod request;
 mod role;
 mod sender;
+mod service;
 mod side;
 mod waiting;
 
@@ -41,4 +42,5 @@ pub use outgoing::Outgoing;
 pub use phase::{Dally, Phase, Terms};
 pub use record::{DEFAULT_INTERVAL, Held, Record, Step};
 pub use reply::MAX_ERROR;
+pub use service::ReadService;
 pub use side::Side;

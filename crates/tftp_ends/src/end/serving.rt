@@ -4,7 +4,7 @@ ghost use Rattle.std.specs.Prelude.{ℕ, ◌≡◌, ◌++◌, ◌*◌, ◌≤◌
 ghost use Rattle.std.specs.Prelude.{Ok, IfOk, IfErr, OnOk, OnErr, IsErrOf, vec_capacity};
 ghost use Rattle.tftp_ends.specs.End.{is_sender};
 ghost use Rattle.tftp_ends.specs.Files.{AreFilesOf, KeepsFiles, KeepsSource, AreSame};
-ghost use Rattle.tftp_ends.specs.Opening.{ServesFiles, FilesFailToStart, FailsToStart};
+ghost use Rattle.tftp_ends.specs.Opening.{ServesFiles, ServesRead, FilesFailToStart, FailsToStart};
 ghost use Rattle.tftp_ends.specs.Opening.{serving_write, opened, opening_step, oack_bytes, role_of};
 ghost use Rattle.tftp_ends.specs.Step.{AsksFor, ack_bytes, block_length, data_bytes};
 ghost use Rattle.tftp_ends.specs.Waiting.{default_terms, agreed_terms};
@@ -19,6 +19,7 @@ use crate::options::append_options;
 use crate::phase::{Phase, Terms};
 use crate::record::Step;
 use crate::role::Role;
+use crate::service::ReadService;
 use crate::side::Side;
 use crate::waiting::{agreed_terms, can_be_numbered, default_terms};
 use std::alloc::{AllocError, Global};
@@ -88,6 +89,51 @@ impl End {
         ensures same { AreSame S.is_same K.is_same files.old files.new }
         ensures files { IfOk result (λ opened. AreFilesOf opened.0.role.side files.new) }
     {
+        let read = ReadService {
+            peer,
+            mode,
+            length,
+            retries,
+        };
+        match files {
+            Files::Source(source) => End::serve_source(alloc, source, read, agreed, out),
+            Files::Sink(_) => unreachable!(),
+        }
+    }
+
+    /// As [`End::serve_read`], over the source alone.
+    pub fn serve_source<S: Source>(
+        alloc: Global,
+        source: &mut S,
+        read: ReadService,
+        agreed: &Agreed,
+        out: &mut Vec<u8>,
+    ) -> Result<(End, Step), OpenFault>
+        ensures serves { IfOk result (λ opened. ServesRead S.meaning agreed.now read.peer read.mode
+            read.length read.retries source.old source.new opened.0
+            × (out.new.items ≡ out.old.items ++ opened.0.position.last_sent)) }
+        ensures step { IfOk result (λ opened. opened.1 ≡ opening_step read.peer) }
+        ensures ok { OnOk result (read.length < 65535 * size agreed.now) }
+        ensures bad_request { IsErrOf result OpenFault.BadRequest → ⊥ }
+        ensures too_large { IsErrOf result OpenFault.TooLarge
+            → (65535 * size agreed.now ≤ read.length) × (source.new ≡ source.old) }
+        ensures source { IsErrOf result OpenFault.SourceFault
+            → (read.length < 65535 * size agreed.now)
+            × FailsToStart S.meaning read.length source.old source.new }
+        ensures plain { IsErrOf result OpenFault.SourceFault → agreed.now ≡ [] }
+        ensures memory { IsErrOf result OpenFault.Memory → (read.length < 65535 * size agreed.now)
+            × KeepsSource S.meaning source.old source.new }
+        ensures capacity { vec_capacity out.old ≤ vec_capacity out.new }
+        ensures err { OnErr result (out.new.items ≡ out.old.items) }
+        ensures same { S.is_same source.old source.new }
+        ensures side { IfOk result (λ opened. is_sender opened.0.role.side ≡ true) }
+    {
+        let ReadService {
+            peer,
+            mode,
+            length,
+            retries,
+        } = read;
         if !can_be_numbered(length, agreed.block_size()) {
             return Err(OpenFault::TooLarge);
         }
@@ -98,9 +144,6 @@ impl End {
             retries,
         };
         if agreed.is_empty() {
-            let Files::Source(source) = files else {
-                unreachable!()
-            };
             return End::send_first(alloc, source, peer, role, out);
         }
         Ok(End::send_oack(alloc, peer, agreed, role, out)?)
