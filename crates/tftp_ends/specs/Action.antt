@@ -77,6 +77,11 @@ datagram_action e from bytes decoded =
     then Respond (garbled_response e.position.phase)
     else packet_action e from decoded e.position.phase
 
+-- an open end handles a datagram by an action of which this holds
+abbrev pub HandledBy : (Action → Type 0) → Endpoint → List ℕ → EndState → Type 0
+HandledBy holds from bytes e =
+    (decoded : Option Packet) × Decodes bytes decoded × holds (datagram_action e from bytes decoded)
+
 -- how an open end handles a timeout (RFC 1350, sections 2 and 6)
 abbrev pub timeout_response : ℕ → Phase → Response
 timeout_response retries_left (Dallying terms number Fresh) = Wait

@@ -1,7 +1,7 @@
 -- How each kind of end opens (RFC 1350, section 4; RFC 2347, "Negotiation Protocol"): its state,
 -- when it is allowed, and what it sends.
-use Rattle.std.specs.Prelude.{ℕ, ◌≡◌, ◌*◌, ◌<◌, false, List, [], ◌∷◌, Option, Some, None, Result}
-use Rattle.std.specs.Prelude.{Ok}
+use Rattle.std.specs.Prelude.{ℕ, ◌≡◌, ◌*◌, ◌<◌, ◌≤◌, ◌++◌, false, List, [], ◌∷◌, Option, Some, None}
+use Rattle.std.specs.Prelude.{Result, Ok, IsErrOf}
 use Rattle.tftp_wire.specs.Spelling.{IsValid, canonical}
 use Rattle.tftp_wire.specs.declared.mode.Mode.{Mode}
 use Rattle.tftp_wire.specs.declared.packet.Packet.TheVariants.{Read, Write, Oack}
@@ -17,6 +17,8 @@ use Rattle.tftp_file.specs.declared.fault.FileFault.{FileFault}
 use Rattle.tftp_file.specs.declared.files.Files.{Files}
 use Rattle.tftp_file.specs.declared.files.Files.TheVariants.{Source}
 use Rattle.tftp_ends.specs.declared.endpoint.Endpoint.{Endpoint}
+use Rattle.tftp_ends.specs.declared.fault.OpenFault.{OpenFault}
+use Rattle.tftp_ends.specs.declared.fault.OpenFault.TheVariants as open_faults
 use Rattle.tftp_ends.specs.declared.phase.Phase.{Phase}
 use Rattle.tftp_ends.specs.declared.phase.Phase.TheVariants.{Waiting, Sending, Receiving}
 use Rattle.tftp_ends.specs.declared.record.Step.{Step}
@@ -43,6 +45,10 @@ opened role phase to sent =
             phase = phase;
           };
     }
+
+-- the first datagram of an end at its opening was appended
+abbrev pub HasSent : EndState → List ℕ → List ℕ → Type 0
+HasSent e old new = new ≡ old ++ e.position.last_sent
 
 -- a role
 abbrev pub role_of : Side → Mode → ℕ → ℕ → Role
@@ -91,12 +97,12 @@ serving_write (known ∷ others) peer mode retries =
 abbrev pub opening_step : Endpoint → Step
 opening_step to = record { to = Some to; progress = false; closed = None }
 
--- ---- when an opening is allowed
 -- the requested block size, or the default one
 abbrev pub asked_size : Option ℕ → ℕ
 asked_size None = DEFAULT_BLOCK
 asked_size (Some size) = size
 
+-- ---- when an opening is allowed
 -- this read request is allowed: it is a valid packet, and its options are for a read
 pub record MayGet (name : List ℕ) (mode : Mode) (asked : Asked) : Type 0 where
   pub valid : IsValid (Read (request_of name mode asked))
@@ -112,6 +118,16 @@ pub record MayPut (name : List ℕ) (mode : Mode) (asked : Asked) (length : ℕ)
   pub valid : IsValid (Write (request_of name mode asked))
   pub options : IsFor asked kinds.Write mode length
   pub fits : length < 65535 * asked_size asked.blksize
+
+-- this write request is allowed, but the file's blocks cannot be numbered at that block size
+abbrev pub PutsTooLarge : List ℕ → Mode → Asked → ℕ → Type 0
+PutsTooLarge name mode asked length =
+    MayAskPut name mode asked length × (65535 * asked_size asked.blksize ≤ length)
+
+-- a read is refused as too large only if its blocks cannot be numbered; its file is unchanged
+abbrev pub RefusesLength : {T F : Type 0} → Result T OpenFault → List Known → ℕ → F → F → Type 0
+RefusesLength result agreed length before after =
+    IsErrOf result open_faults.TooLarge → (65535 * size agreed ≤ length) × (after ≡ before)
 
 module _ {S : Type 0} (sources : SourceMeaning S) where
   -- a read is served: without options the source gave the first block; with options it is not read
@@ -147,3 +163,11 @@ module _ {S : Type 0} (sources : SourceMeaning S) where
   abbrev pub FilesFailToStart : {K : Type 0} → ℕ → Files S K → Files S K → Type 0
   FilesFailToStart length (Source source) (Source source') = FailsToStart length source source'
   FilesFailToStart length _ _ = ⊥
+
+  -- a read is refused for its source only if its blocks can be numbered, and the source does not
+  -- give the first
+  abbrev pub RefusesSource : {T K : Type 0} → Result T OpenFault → List Known → ℕ → Files S K
+      → Files S K → Type 0
+  RefusesSource result agreed length before after =
+      IsErrOf result open_faults.SourceFault
+      → (length < 65535 * size agreed) × FilesFailToStart length before after

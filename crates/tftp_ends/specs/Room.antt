@@ -29,6 +29,10 @@ room_of e (Respond response) = response_room e response
 room_of e (Send terms number) = MAX_ERROR + block_length e.role.length terms.size number
 room_of e (Store terms number) = MAX_ERROR
 
+-- a datagram is at most as long as the capacity to reserve for an action
+abbrev pub FitsRoom : EndState → List ℕ → Action → Type 0
+FitsRoom e datagram action = length datagram ≤ room_of e action
+
 -- a buffer holds DATA with a whole block, or is empty
 abbrev pub HoldsData : ℕ → ℕ → List ℕ → List ℕ → Bool → Type 0
 HoldsData number want piece buffer true =

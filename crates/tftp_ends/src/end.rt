@@ -81,11 +81,11 @@ impl Model for End {
 
 impl End {
     ghost use Rattle.tftp_ends.specs.End.{record_of, held_by, outcome_of, terms_of, interval_of};
-    ghost use Rattle.tftp_ends.specs.Action.{Decodes, datagram_action, packet_action};
+    ghost use Rattle.tftp_ends.specs.Action.{Decodes, HandledBy, datagram_action, packet_action};
     ghost use Rattle.tftp_ends.specs.Action.{garbled_response, is_wrong_peer, timeout_response};
     ghost use Rattle.tftp_ends.specs.Action.{timeout_action};
     ghost use Rattle.tftp_ends.specs.Fits.{ActionFits, BytesFit, ReplyFits, ResponseFits};
-    ghost use Rattle.tftp_ends.specs.Room.{response_room, room_of};
+    ghost use Rattle.tftp_ends.specs.Room.{FitsRoom, response_room};
     ghost use Rattle.tftp_ends.specs.Shortage.{AppendsNothing, HasNoRoom, LacksMemory};
     ghost use Rattle.tftp_ends.specs.Sound.{IsSound, ResendsAck, longest_sent};
     ghost use Rattle.tftp_ends.specs.Files.{AreFilesOf, KeepsFiles, AreSame};
@@ -285,14 +285,12 @@ impl End {
         ensures closed { IsErrOf result EndFault.Closed
             ↔ IsSome (outcome_of self.old.position.phase) }
         ensures unmoved { IsErrOf result EndFault.Closed → files.new ≡ files.old }
-        ensures memory { IsErrOf result EndFault.Memory → (decoded : Option Packet)
-            × Decodes bytes.now decoded
-            × UsesFile (datagram_action self.old from bytes.now decoded) }
+        ensures memory { IsErrOf result EndFault.Memory
+            → HandledBy UsesFile from bytes.now self.old }
         ensures why { IsErrOf result EndFault.Memory → LacksMemory S.meaning K.meaning
             AppendsNothing from bytes.now self.old files.old files.new }
-        ensures room { IfOk result (λ answer. (decoded : Option Packet) × Decodes bytes.now decoded
-            × (length (lent answer.1 self.new)
-            ≤ room_of self.old (datagram_action self.old from bytes.now decoded))) }
+        ensures room { IfOk result (λ answer. HandledBy
+            (FitsRoom self.old (lent answer.1 self.new)) from bytes.now self.old) }
         ensures err { OnErr result ((self.new ≡ self.old)
             × KeepsFiles S.meaning K.meaning files.old files.new) }
         ensures same { AreSame S.is_same K.is_same files.old files.new }
@@ -354,9 +352,8 @@ impl End {
         ensures closed { IsErrOf result EndFault.Closed
             ↔ IsSome (outcome_of self.old.position.phase) }
         ensures unmoved { IsErrOf result EndFault.Closed → files.new ≡ files.old }
-        ensures memory { IsErrOf result EndFault.Memory → (decoded : Option Packet)
-            × Decodes bytes.now decoded
-            × IsAnswered (datagram_action self.old from bytes.now decoded) }
+        ensures memory { IsErrOf result EndFault.Memory
+            → HandledBy IsAnswered from bytes.now self.old }
         ensures why { IsErrOf result EndFault.Memory → LacksMemory S.meaning K.meaning
             (HasNoRoom (vec_capacity out.old) (vec_len out.old)) from bytes.now self.old
             files.old files.new }

@@ -1,11 +1,11 @@
 //! The openings of a client's end: by its request.
 
-ghost use Rattle.std.specs.Prelude.{ℕ, ◌≡◌, ◌↔◌, ◌++◌, ◌*◌, ◌≤◌, ◌⊎◌, IsTrue, IfOk, IfErr, OnOk};
+ghost use Rattle.std.specs.Prelude.{ℕ, ◌≡◌, ◌↔◌, ◌++◌, ◌≤◌, ◌⊎◌, IsTrue, IfOk, IfErr, OnOk};
 ghost use Rattle.std.specs.Prelude.{OnErr, IsErrOf, [], true, length, vec_capacity};
 ghost use Rattle.tftp_wire.specs.Spelling.{canonical};
 ghost use Rattle.tftp_wire.specs.declared.packet.Packet.TheVariants.{Read, Write};
-ghost use Rattle.tftp_ends.specs.Opening.{MayGet, MayPut, MayAskPut, getting, putting, opened};
-ghost use Rattle.tftp_ends.specs.Opening.{opening_step, request_of, asked_size};
+ghost use Rattle.tftp_ends.specs.Opening.{MayGet, MayPut, MayAskPut, PutsTooLarge, getting};
+ghost use Rattle.tftp_ends.specs.Opening.{putting, opened, opening_step, request_of};
 ghost use Rattle.tftp_ends.specs.End.{is_sender, terms_of};
 ghost use Rattle.tftp_ends.specs.Sound.{PhaseFits, ResendsAck};
 ghost use Rattle.tftp_ends.specs.Fits.{SentFits};
@@ -139,9 +139,8 @@ impl End {
         ensures ok { OnOk result (MayPut name.now mode asked.now length) }
         ensures bad_request { IsErrOf result OpenFault.BadRequest
             → MayAskPut name.now mode asked.now length → ⊥ }
-        ensures too_large { IsErrOf result OpenFault.TooLarge →
-            MayAskPut name.now mode asked.now length
-            × (65535 * asked_size asked.now.blksize ≤ length) }
+        ensures too_large { IsErrOf result OpenFault.TooLarge
+            → PutsTooLarge name.now mode asked.now length }
         ensures memory { IsErrOf result OpenFault.Memory → MayPut name.now mode asked.now length }
         ensures never { IsErrOf result OpenFault.SourceFault → ⊥ }
         ensures err { OnErr result (out.new.items ≡ out.old.items) }

@@ -4,7 +4,8 @@ ghost use Rattle.std.specs.Prelude.{ℕ, ◌≡◌, ◌++◌, ◌*◌, ◌≤◌
 ghost use Rattle.std.specs.Prelude.{Ok, IfOk, IfErr, OnOk, OnErr, IsErrOf, vec_capacity};
 ghost use Rattle.tftp_ends.specs.End.{is_sender};
 ghost use Rattle.tftp_ends.specs.Files.{AreFilesOf, KeepsFiles, KeepsSource, AreSame};
-ghost use Rattle.tftp_ends.specs.Opening.{ServesFiles, ServesRead, FilesFailToStart, FailsToStart};
+ghost use Rattle.tftp_ends.specs.Opening.{ServesFiles, ServesRead, HasSent, RefusesLength};
+ghost use Rattle.tftp_ends.specs.Opening.{RefusesSource, FailsToStart};
 ghost use Rattle.tftp_ends.specs.Opening.{serving_write, opened, opening_step, oack_bytes, role_of};
 ghost use Rattle.tftp_ends.specs.Step.{AsksFor, ack_bytes, block_length, data_bytes};
 ghost use Rattle.tftp_ends.specs.Waiting.{default_terms, agreed_terms};
@@ -71,16 +72,13 @@ impl End {
         out: &mut Vec<u8>,
     ) -> Result<(End, Step), OpenFault>
         requires { AreFilesOf Side.ServerRead files.old }
-        ensures serves { IfOk result (λ opened.
-            ServesFiles S.meaning agreed.now peer mode length retries files.old files.new opened.0
-            × (out.new.items ≡ out.old.items ++ opened.0.position.last_sent)) }
+        ensures serves { IfOk result (λ opened. ServesFiles S.meaning agreed.now peer mode length
+            retries files.old files.new opened.0 × HasSent opened.0 out.old.items out.new.items) }
         ensures step { IfOk result (λ opened. opened.1 ≡ opening_step peer) }
         ensures ok { OnOk result (length < 65535 * size agreed.now) }
         ensures bad_request { IsErrOf result OpenFault.BadRequest → ⊥ }
-        ensures too_large { IsErrOf result OpenFault.TooLarge
-            → (65535 * size agreed.now ≤ length) × (files.new ≡ files.old) }
-        ensures source { IsErrOf result OpenFault.SourceFault → (length < 65535 * size agreed.now)
-            × FilesFailToStart S.meaning length files.old files.new }
+        ensures too_large { RefusesLength result agreed.now length files.old files.new }
+        ensures source { RefusesSource S.meaning result agreed.now length files.old files.new }
         ensures plain { IsErrOf result OpenFault.SourceFault → agreed.now ≡ [] }
         ensures memory { IsErrOf result OpenFault.Memory → (length < 65535 * size agreed.now)
             × KeepsFiles S.meaning K.meaning files.old files.new }
@@ -111,12 +109,11 @@ impl End {
     ) -> Result<(End, Step), OpenFault>
         ensures serves { IfOk result (λ opened. ServesRead S.meaning agreed.now read.peer read.mode
             read.length read.retries source.old source.new opened.0
-            × (out.new.items ≡ out.old.items ++ opened.0.position.last_sent)) }
+            × HasSent opened.0 out.old.items out.new.items) }
         ensures step { IfOk result (λ opened. opened.1 ≡ opening_step read.peer) }
         ensures ok { OnOk result (read.length < 65535 * size agreed.now) }
         ensures bad_request { IsErrOf result OpenFault.BadRequest → ⊥ }
-        ensures too_large { IsErrOf result OpenFault.TooLarge
-            → (65535 * size agreed.now ≤ read.length) × (source.new ≡ source.old) }
+        ensures too_large { RefusesLength result agreed.now read.length source.old source.new }
         ensures source { IsErrOf result OpenFault.SourceFault
             → (read.length < 65535 * size agreed.now)
             × FailsToStart S.meaning read.length source.old source.new }
@@ -163,7 +160,7 @@ impl End {
             × AsksFor S.meaning (block_length role.length DEFAULT_BLOCK 1) source.old
             (S.meaning.left source.new) piece (Ok (block_length role.length DEFAULT_BLOCK 1))
             × (o.0 ≡ opened role (Phase.Sending (default_terms peer) 1) peer (data_bytes 1 piece))
-            × (out.new.items ≡ out.old.items ++ o.0.position.last_sent)) }
+            × HasSent o.0 out.old.items out.new.items) }
         ensures step { IfOk result (λ o. o.1 ≡ opening_step peer) }
         ensures source { IsErrOf result OpenFault.SourceFault
             → FailsToStart S.meaning role.length source.old source.new }
@@ -237,7 +234,7 @@ impl End {
         out: &mut Vec<u8>,
     ) -> Result<(End, Step), OpenFault>
         ensures end { IfOk result (λ opened. (opened.0 ≡ serving_write agreed.now peer mode retries)
-            × (out.new.items ≡ out.old.items ++ opened.0.position.last_sent)) }
+            × HasSent opened.0 out.old.items out.new.items) }
         ensures step { IfOk result (λ opened. opened.1 ≡ opening_step peer) }
         ensures err { IfErr result (λ fault. (fault ≡ OpenFault.Memory)
             × (out.new.items ≡ out.old.items)) }

@@ -1,15 +1,14 @@
 //! How an end handles a datagram over its one file: a sender over its source, a receiver over its
 //! sink.
 
-ghost use Rattle.std.specs.Prelude.{◌≡◌, ◌↔◌, ◌≤◌, true, false, length, Option, IfOk, OnErr};
+ghost use Rattle.std.specs.Prelude.{◌≡◌, ◌↔◌, true, false, IfOk, OnErr};
 ghost use Rattle.std.specs.Prelude.{IsErrOf, IsSome, vec_len, vec_capacity};
-ghost use Rattle.tftp_wire.specs.declared.packet.Packet.{Packet};
-ghost use Rattle.tftp_ends.specs.Action.{Decodes, datagram_action};
+ghost use Rattle.tftp_ends.specs.Action.{HandledBy};
 ghost use Rattle.tftp_ends.specs.End.{is_sender, outcome_of};
 ghost use Rattle.tftp_ends.specs.Files.{KeepsSource, KeepsSink};
 ghost use Rattle.tftp_ends.specs.OneFile.{SenderStep, SenderLacksMemory};
 ghost use Rattle.tftp_ends.specs.OneFile.{ReceiverStep, ReceiverLacksMemory};
-ghost use Rattle.tftp_ends.specs.Room.{room_of};
+ghost use Rattle.tftp_ends.specs.Room.{FitsRoom};
 ghost use Rattle.tftp_ends.specs.Shortage.{AppendsNothing, HasNoRoom};
 ghost use Rattle.tftp_ends.specs.Step.{Turn, Carries, Lends, IsAnswered, UsesFile, reported, lent};
 
@@ -36,14 +35,12 @@ impl End {
         ensures closed { IsErrOf result EndFault.Closed
             ↔ IsSome (outcome_of self.old.position.phase) }
         ensures unmoved { IsErrOf result EndFault.Closed → source.new ≡ source.old }
-        ensures memory { IsErrOf result EndFault.Memory → (decoded : Option Packet)
-            × Decodes bytes.now decoded
-            × UsesFile (datagram_action self.old from bytes.now decoded) }
+        ensures memory { IsErrOf result EndFault.Memory
+            → HandledBy UsesFile from bytes.now self.old }
         ensures why { IsErrOf result EndFault.Memory → SenderLacksMemory S.meaning
             AppendsNothing from bytes.now self.old source.old source.new }
-        ensures room { IfOk result (λ answer. (decoded : Option Packet) × Decodes bytes.now decoded
-            × (length (lent answer.1 self.new)
-            ≤ room_of self.old (datagram_action self.old from bytes.now decoded))) }
+        ensures room { IfOk result (λ answer. HandledBy
+            (FitsRoom self.old (lent answer.1 self.new)) from bytes.now self.old) }
         ensures err { OnErr result ((self.new ≡ self.old)
             × KeepsSource S.meaning source.old source.new) }
         ensures same { S.is_same source.old source.new }
@@ -73,14 +70,12 @@ impl End {
         ensures closed { IsErrOf result EndFault.Closed
             ↔ IsSome (outcome_of self.old.position.phase) }
         ensures unmoved { IsErrOf result EndFault.Closed → sink.new ≡ sink.old }
-        ensures memory { IsErrOf result EndFault.Memory → (decoded : Option Packet)
-            × Decodes bytes.now decoded
-            × UsesFile (datagram_action self.old from bytes.now decoded) }
+        ensures memory { IsErrOf result EndFault.Memory
+            → HandledBy UsesFile from bytes.now self.old }
         ensures why { IsErrOf result EndFault.Memory → ReceiverLacksMemory K.meaning
             AppendsNothing from bytes.now self.old sink.old sink.new }
-        ensures room { IfOk result (λ answer. (decoded : Option Packet) × Decodes bytes.now decoded
-            × (length (lent answer.1 self.new)
-            ≤ room_of self.old (datagram_action self.old from bytes.now decoded))) }
+        ensures room { IfOk result (λ answer. HandledBy
+            (FitsRoom self.old (lent answer.1 self.new)) from bytes.now self.old) }
         ensures err { OnErr result ((self.new ≡ self.old)
             × KeepsSink K.meaning sink.old sink.new) }
         ensures same { K.is_same sink.old sink.new }
@@ -111,9 +106,8 @@ impl End {
         ensures closed { IsErrOf result EndFault.Closed
             ↔ IsSome (outcome_of self.old.position.phase) }
         ensures unmoved { IsErrOf result EndFault.Closed → source.new ≡ source.old }
-        ensures memory { IsErrOf result EndFault.Memory → (decoded : Option Packet)
-            × Decodes bytes.now decoded
-            × IsAnswered (datagram_action self.old from bytes.now decoded) }
+        ensures memory { IsErrOf result EndFault.Memory
+            → HandledBy IsAnswered from bytes.now self.old }
         ensures why { IsErrOf result EndFault.Memory → SenderLacksMemory S.meaning
             (HasNoRoom (vec_capacity out.old) (vec_len out.old)) from bytes.now self.old
             source.old source.new }
@@ -149,9 +143,8 @@ impl End {
         ensures closed { IsErrOf result EndFault.Closed
             ↔ IsSome (outcome_of self.old.position.phase) }
         ensures unmoved { IsErrOf result EndFault.Closed → sink.new ≡ sink.old }
-        ensures memory { IsErrOf result EndFault.Memory → (decoded : Option Packet)
-            × Decodes bytes.now decoded
-            × IsAnswered (datagram_action self.old from bytes.now decoded) }
+        ensures memory { IsErrOf result EndFault.Memory
+            → HandledBy IsAnswered from bytes.now self.old }
         ensures why { IsErrOf result EndFault.Memory → ReceiverLacksMemory K.meaning
             (HasNoRoom (vec_capacity out.old) (vec_len out.old)) from bytes.now self.old
             sink.old sink.new }
