@@ -5,7 +5,7 @@ ghost use Rattle.tftp_store.specs.FaultStore.{IsInjected};
 
 use crate::expect::{expect, expect_equal};
 use crate::served::Served;
-use crate::stores::{Existing, has_file, lacks_file, path, store_of, write};
+use crate::stores::{OldFile, has_file, lacks_file, path, store_of, write};
 use std::alloc::Global;
 use std::process::Abort;
 use tftp_ends::{Endpoint, Outcome};
@@ -83,7 +83,7 @@ fn writes(
     what: &str,
     expected: Result<(), StoreFault>,
 ) {
-    let found = write(store, alloc, &path(rt, alloc, b"n"), b"XY", Existing::Stays);
+    let found = write(store, alloc, &path(rt, alloc, b"n"), b"XY", OldFile::Stays);
     expect_equal(rt, &found, &expected, what);
 }
 

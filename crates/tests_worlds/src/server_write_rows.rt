@@ -5,7 +5,7 @@ ghost use Rattle.tftp_store.specs.FaultStore.{IsInjected};
 
 use crate::expect::{expect, expect_bytes, expect_equal};
 use crate::served::Served;
-use crate::stores::{Existing, has_file, lacks_file, path, store_of, write};
+use crate::stores::{OldFile, has_file, lacks_file, path, store_of, write};
 use std::alloc::Global;
 use std::process::Abort;
 use tftp_ends::{Endpoint, Outcome};
@@ -166,7 +166,7 @@ fn the_last_commit_stands(rt: HostRuntime) {
 /// Sets the file `a` to 600 letters.
 fn lengthen(rt: &impl Abort, alloc: Global, store: &mut MemStore) {
     let path = path(rt, alloc, b"a");
-    write(store, alloc, &path, &[b'a'; 600], Existing::IsReplaced).expect(rt, "it is written");
+    write(store, alloc, &path, &[b'a'; 600], OldFile::IsReplaced).expect(rt, "it is written");
 }
 
 /// DATA of this number: this byte, that many times.

@@ -1,7 +1,7 @@
 //! A store in memory, and a server without transfers.
 
 use crate::expect::{expect, expect_equal};
-use crate::stores::{Existing, has_file, path, write};
+use crate::stores::{OldFile, has_file, path, write};
 use std::alloc::Global;
 use std::process::Abort;
 use tftp_file::StoreFault;
@@ -25,18 +25,18 @@ fn writes(
     alloc: Global,
     store: &mut MemStore,
     bytes: &[u8],
-    existing: Existing,
+    old_file: OldFile,
     expected: Result<(), StoreFault>,
 ) {
     let path = path(rt, alloc, b"/a/b");
-    let found = (bytes, write(store, alloc, &path, bytes, existing));
+    let found = (bytes, write(store, alloc, &path, bytes, old_file));
     expect_equal(rt, &found, &(bytes, expected), "the write");
 }
 
 /// A store with one file, `AB` and a line feed.
 fn written(rt: &impl Abort, alloc: Global) -> MemStore {
     let mut store = empty(rt, alloc);
-    writes(rt, alloc, &mut store, b"AB\n", Existing::Stays, Ok(()));
+    writes(rt, alloc, &mut store, b"AB\n", OldFile::Stays, Ok(()));
     store
 }
 
@@ -63,7 +63,7 @@ fn a_file_has_its_length_on_the_wire(rt: HostRuntime) {
 fn a_name_is_given_once(rt: HostRuntime) {
     let mut store = written(&rt, rt.alloc());
     let exists = Err(StoreFault::Exists);
-    writes(&rt, rt.alloc(), &mut store, b"C", Existing::Stays, exists);
+    writes(&rt, rt.alloc(), &mut store, b"C", OldFile::Stays, exists);
 }
 
 /// A store that is set to replace accepts a second file of the name, and holds the newer.
@@ -75,7 +75,7 @@ fn a_file_is_replaced(rt: HostRuntime) {
         rt.alloc(),
         &mut store,
         b"C",
-        Existing::IsReplaced,
+        OldFile::IsReplaced,
         Ok(()),
     );
     has_file(&rt, rt.alloc(), &store, b"/a/b", b"C");
@@ -87,9 +87,9 @@ fn a_call_of_a_store_is_refused_once_as_armed(rt: HostRuntime) {
     store.refuse_next(true);
     expect(&rt, store.refuses(), "it is armed");
     let full = Err(StoreFault::Full);
-    writes(&rt, rt.alloc(), &mut store, b"A", Existing::Stays, full);
+    writes(&rt, rt.alloc(), &mut store, b"A", OldFile::Stays, full);
     expect(&rt, !store.refuses(), "it is disarmed");
-    writes(&rt, rt.alloc(), &mut store, b"A", Existing::Stays, Ok(()));
+    writes(&rt, rt.alloc(), &mut store, b"A", OldFile::Stays, Ok(()));
 }
 
 fn new_server(rt: &impl Abort, alloc: Global) -> Server<MemStore> {

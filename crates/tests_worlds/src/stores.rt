@@ -6,9 +6,9 @@ use std::process::Abort;
 use tftp_file::{Path, StoreFault, path_of};
 use tftp_server::{MemStore, Store};
 
-/// What a write does to a file that exists under its name.
+/// What a write does to the file that already has its name.
 #[derive(Clone, Copy)]
-pub(crate) enum Existing {
+pub(crate) enum OldFile {
     Stays,
     IsReplaced,
 }
@@ -31,11 +31,11 @@ pub(crate) fn write<S: Store>(
     alloc: Global,
     path: &Path,
     bytes: &[u8],
-    existing: Existing,
+    old_file: OldFile,
 ) -> Result<(), StoreFault> {
-    let replace = match existing {
-        Existing::Stays => false,
-        Existing::IsReplaced => true,
+    let replace = match old_file {
+        OldFile::Stays => false,
+        OldFile::IsReplaced => true,
     };
     let mut draft = store.begin(alloc, path, replace)?;
     store.append(&mut draft, bytes)?;
