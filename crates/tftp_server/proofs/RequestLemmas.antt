@@ -1,5 +1,5 @@
 -- What the request port decides, from the calls that it makes.
-use Rattle.std.proofs.Common.{◌≡◌, ◌≢◌, ℕ, Bool, true, false, List, [], ◌++◌, Option, Some, None, Result, Ok, Err, IfOk}
+use Rattle.std.proofs.Common.{◌≡◌, ◌≢◌, ℕ, Bool, true, false, List, ◌++◌, Option, Some, None, Result, Ok, Err, IfOk}
 use Rattle.std.proofs.Common.{IsErrOf, OnOk, OnErr, length, take, refl, sym, ap, subst, ◌∙◌}
 use Rattle.std.specs.Prelude.{if◌then◌else◌, nat_le, IsOk}
 use Rattle.tftp_wire.specs.declared.mode.Mode.{Mode}
@@ -37,8 +37,8 @@ use Rattle.tftp_server.specs.declared.server.request.Decision.{Decision}
 use Rattle.tftp_server.specs.declared.server.request.Decision.TheVariants.{Refuse, Open}
 use Rattle.tftp_server.specs.Port.{Ask, Ignores, Refuses, asks, by_packet, by_repeat, by_name, by_options, by_kind}
 use Rattle.tftp_server.specs.Port.{begin_reply}
-use Rattle.tftp_server.specs.Request.{Acts, Admits, CarriesOut, Came, Nothing, Error_reply, A_transfer, IsRequest}
-use Rattle.tftp_server.specs.Request.{AsksToWrite, Goes, RequestStep, Left, ask_of, came_to, decided_bytes, left_by}
+use Rattle.tftp_server.specs.Request.{Acts, Admits, CarriesOut, Came, Error_reply, A_transfer, IsRequest, AsksToWrite}
+use Rattle.tftp_server.specs.Request.{ask_of, came_to, decided_bytes, left_by}
 use Rattle.tftp_server.specs.Shortage.{NamesAPath}
 use Rattle.tftp_server.specs.State.{TransferState, ServerState, IsRepeated, with_new}
 use Rattle.tftp_store.specs.Store.{StoreMeaning, Begins}
@@ -240,23 +240,6 @@ module _ {S F D : Type 0} (meaning : StoreMeaning S D) (sources : SourceMeaning 
   nothing_begun store fault was cut (Err e) same why back =
       (ap (λ (s : S). record old { store = s }) (same (ap Err why)), back)
 
-  -- what was decided is done, with this result
-  carries : (tid : ℕ) (ask done : Ask) (came : Came S F D) (result : Left S F D) → ask ≡ done →
-      Goes meaning sources old from bytes done came → result ≡ left_by came old from tid →
-      CarriesOut meaning sources old from bytes ask tid result
-  carries tid ask done came result is goes left =
-      record {
-        came = came;
-        goes = subst (λ (a : Ask). Goes meaning sources old from bytes a came) (sym is) goes;
-        left = left;
-      }
-
-  -- the datagram is ignored
-  pub stays_silent : (tid : ℕ) (ask : Ask) (out : List ℕ) → ask ≡ Ignores →
-      (sent : List ℕ) × (out ≡ out ++ sent) × CarriesOut meaning sources old from bytes ask tid
-      (record { new = old; opened = record { tid = None; to = None }; sent = sent })
-  stays_silent tid ask out is = ([], sym (append-nil out), carries tid ask Ignores Nothing _ is refl refl)
-
   -- an ERROR is sent
   pub refuses : (tid : ℕ) (ask : Ask) (reply : ErrorReply) (before after : List ℕ) (r : Result Opened ServerFault) →
       ask ≡ Refuses reply →
@@ -266,42 +249,13 @@ module _ {S F D : Type 0} (meaning : StoreMeaning S D) (sources : SourceMeaning 
   refuses tid ask reply before after (Ok opened) is opened_is ok = (
     error_bytes reply,
     ok,
-    carries tid ask (Refuses reply) (Error_reply reply old.store) _ is refl
-        (ap (λ (o : Opened). record { new = old; opened = o; sent = error_bytes reply }) opened_is),
-  )
-  refuses tid ask reply before after (Err fault) is opened_is ok = tt
-
-  -- the store was asked for a file or a draft
-  pub goes_on : (tid : ℕ) (ask done : Ask) (before after : List ℕ) (new : ServerState S F D)
-      (r : Result Opened ServerFault) → ask ≡ done →
-      IfOk r (λ opened. (came : Came S F D) × (sent : List ℕ) × Goes meaning sources old from bytes done came
-      × (after ≡ before ++ sent) × (record { new = new; opened = opened; sent = sent } ≡ left_by came old from tid)) →
-      IfOk r (λ opened. (sent : List ℕ) × (after ≡ before ++ sent) × CarriesOut meaning sources old from bytes ask tid
-      (record { new = new; opened = opened; sent = sent }))
-  goes_on tid ask done before after new (Ok opened) is h = (h.1, h.3, carries tid ask done h.0 _ is h.2 h.4)
-  goes_on tid ask done before after new (Err fault) is h = tt
-
-  -- the decision of the port and its execution are its step
-  pub requested : (tid : ℕ) (ask : Ask) (before after : List ℕ) (new : ServerState S F D)
-      (r : Result Opened ServerFault) → Admits old from bytes ask →
-      IfOk r (λ opened. (sent : List ℕ) × (after ≡ before ++ sent) × CarriesOut meaning sources old from bytes ask tid
-      (record { new = new; opened = opened; sent = sent })) →
-      IfOk r (λ opened. (sent : List ℕ) × (after ≡ before ++ sent) × RequestStep meaning sources old from bytes tid
-      (record { new = new; opened = opened; sent = sent }))
-  requested tid ask before after new (Ok opened) admits h = (
-    h.0,
-    h.1,
     record {
-      decoded = admits.decoded;
-      says = admits.says;
-      repeated = admits.repeated;
-      repeats = admits.repeats;
-      came = h.2.came;
-      goes = subst (λ (a : Ask). Goes meaning sources old from bytes a h.2.came) admits.asks_for h.2.goes;
-      left = h.2.left;
+      came = Error_reply reply old.store;
+      goes = rw is refl;
+      left = ap (λ (o : Opened). record { new = old; opened = o; sent = error_bytes reply }) opened_is;
     },
   )
-  requested tid ask before after new (Err fault) admits h = tt
+  refuses tid ask reply before after (Err fault) is opened_is ok = tt
 
 -- ---- a write, for which the table reserved capacity first
 module _ {S F D : Type 0} (meaning : StoreMeaning S D) (sources : SourceMeaning F) (config : Config) (store : S)

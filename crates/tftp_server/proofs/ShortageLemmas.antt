@@ -1,14 +1,12 @@
--- A transfer lacks memory as its end does.
-use Rattle.std.proofs.Common.{◌≡◌, ℕ, Bool, List, [], ◌∷◌, Some, Result, Ok, Err, OnErr, inl, inr, refl, sym}
-use Rattle.std.proofs.Common.{ap, subst, ◌∙◌}
-use Rattle.std.specs.Prelude.{IsErrOf, ◌⊎◌}
+-- The end of a transfer lacks memory over a draft of the store, which is then unchanged.
+use Rattle.std.proofs.Common.{◌≡◌, ℕ, Bool, List, [], ◌∷◌, Result, Ok, Err, OnErr, inl, inr, refl, sym, ap, ◌∙◌}
+use Rattle.std.specs.Prelude.{IsErrOf}
 use Rattle.tftp_wire.specs.declared.mode.Mode.{Mode}
 use Rattle.tftp_wire.specs.declared.mode.Mode.TheVariants.{Octet, Netascii}
 use Rattle.tftp_file.specs.Source.{SourceMeaning}
 use Rattle.tftp_file.specs.Sink.{SinkMeaning, sink_through}
 use Rattle.tftp_file.specs.declared.fault.StoreFault.TheVariants.{Memory}
-use Rattle.tftp_file.specs.declared.files.Files.{Files}
-use Rattle.tftp_file.specs.declared.files.Files.TheVariants.{Source, Sink}
+use Rattle.tftp_file.specs.declared.files.Files.TheVariants.{Sink}
 use Rattle.tftp_ends.specs.declared.action.Action.{Action}
 use Rattle.tftp_ends.specs.declared.action.Action.TheVariants.{Respond, Send, Store}
 use Rattle.tftp_ends.specs.declared.endpoint.Endpoint.{Endpoint}
@@ -17,20 +15,14 @@ use Rattle.tftp_ends.specs.declared.fault.EndFault.TheVariants as ends
 use Rattle.tftp_ends.specs.Action.{datagram_action}
 use Rattle.tftp_ends.specs.End.{EndState}
 use Rattle.tftp_ends.specs.Files.{KeepsSink}
-use Rattle.tftp_ends.specs.OneFile.{SenderLacksMemory, ReceiverActLacksMemory, ReceiverLacksMemory}
-use Rattle.tftp_ends.specs.OneFile.{sender_lacks, receiver_lacks}
-use Rattle.tftp_ends.specs.Shortage.{AppendLacksMemory, StoreLacksMemory}
+use Rattle.tftp_ends.specs.OneFile.{ReceiverActLacksMemory, ReceiverLacksMemory, receiver_lacks}
+use Rattle.tftp_ends.specs.Shortage.{AppendLacksMemory, StoreLacksMemory, LacksMemory}
 use Rattle.tftp_ends.specs.Step.{Appended}
 use Rattle.tftp_server.specs.declared.draft_sink.DraftSink.{DraftSink}
-use Rattle.tftp_server.specs.declared.fault.ServerFault.{ServerFault}
-use Rattle.tftp_server.specs.declared.fault.ServerFault.TheVariants as faults
 use Rattle.tftp_server.specs.Draft.{Drafting, drafting_sink}
-use Rattle.tftp_server.specs.Fault.{of_end}
-use Rattle.tftp_server.specs.Shortage.{TransferLacksMemory, LacksMemoryAt, TimeoutLacksMemory}
-use Rattle.tftp_server.specs.State.{TransferState, ServerState, at, with_next}
 use Rattle.tftp_server.specs.Steps.{StaysAs}
 use Rattle.tftp_store.specs.Store.{StoreMeaning}
-use Rattle.tftp_server.proofs.StepsLemmas.{drafting_of, found_now}
+use Rattle.tftp_server.proofs.StepsLemmas.{drafting_of}
 
 -- ---- a receiver over a sink that stands for another
 module _ {K L : Type 0} (sinks : SinkMeaning L) (g : K → L) where
@@ -76,49 +68,12 @@ module _ {K L : Type 0} (sinks : SinkMeaning L) (g : K → L) where
         ];
       }
 
--- ---- the end of a transfer
-module _ {S F D : Type 0} (meaning : StoreMeaning S D) (sources : SourceMeaning F) (too_full : ℕ → Type 0) where
-  -- a transfer over a source, or over a draft
-  pub source_lacked : (replace : Bool) (from : Endpoint) (bytes : List ℕ) (store : S) (e e' : EndState)
-      (files : Files F D) (s s' : F) (path request : List ℕ) → files ≡ Source s →
-      SenderLacksMemory sources too_full from bytes e s s' →
-      TransferLacksMemory meaning sources too_full replace from bytes store store
-      (record { end = e; files = files; path = path; request = request })
-      (record { end = e'; files = Source s'; path = path; request = request })
-  source_lacked replace from bytes store e e' files s s' path request is h =
-      subst (λ (f : Files F D). TransferLacksMemory meaning sources too_full replace from bytes store store
-      (record { end = e; files = f; path = path; request = request })
-      (record { end = e'; files = Source s'; path = path; request = request })) (sym is)
-      (sender_lacks sources (drafting_sink meaning) too_full from bytes e s s' h)
-
-  pub draft_lacked : (replace : Bool) (from : Endpoint) (bytes : List ℕ) (store store' : S) (e e' : EndState)
-      (files : Files F D) (k k' : DraftSink S F D) (draft draft' : D) (path request : List ℕ) → files ≡ Sink draft →
-      drafting_of k ≡ record { store = store; draft = draft; path = path; replace = replace } →
-      drafting_of k' ≡ record { store = store'; draft = draft'; path = path; replace = replace } →
-      ReceiverLacksMemory (sink_through (drafting_sink meaning) drafting_of) too_full from bytes e k k' →
-      TransferLacksMemory meaning sources too_full replace from bytes store store'
-      (record { end = e; files = files; path = path; request = request })
-      (record { end = e'; files = Sink draft'; path = path; request = request })
-  draft_lacked replace from bytes store store' e e' files k k' draft draft' path request is was now h =
-      let first : Drafting S D = record { store = store; draft = draft; path = path; replace = replace } in
-      let last : Drafting S D = record { store = store'; draft = draft'; path = path; replace = replace } in
-      let lacks = lacks_as (drafting_sink meaning) drafting_of too_full from bytes e k k' h in
-      let at_last =
-      subst (λ (d : Drafting S D). ReceiverLacksMemory (drafting_sink meaning) too_full from bytes e (drafting_of k) d)
-      now lacks in
-      let both =
-      subst (λ (d : Drafting S D). ReceiverLacksMemory (drafting_sink meaning) too_full from bytes e d last) was
-      at_last in
-      subst (λ (f : Files F D). TransferLacksMemory meaning sources too_full replace from bytes store store'
-      (record { end = e; files = f; path = path; request = request })
-      (record { end = e'; files = Sink draft'; path = path; request = request })) (sym is)
-      (receiver_lacks sources (drafting_sink meaning) too_full from bytes e first last both)
-
--- ---- a draft stays
+-- ---- over a draft
 -- the drafts of a store, as sinks
 abbrev draft_sinks : {S F D : Type 0} → StoreMeaning S D → SinkMeaning (DraftSink S F D)
 draft_sinks meaning = sink_through (drafting_sink meaning) drafting_of
 
+-- out of memory the store and the draft are unchanged
 module _ {S D : Type 0} (meaning : StoreMeaning S D) where
   append_stays : (bytes : List ℕ) (d d' : Drafting S D) → Appended (drafting_sink meaning) bytes d d' (Err Memory) →
       d' ≡ d
@@ -145,78 +100,50 @@ module _ {S D : Type 0} (meaning : StoreMeaning S D) where
         | inr act ↦ act_stays (datagram_action e from bytes h.decoded) bytes e d d' act
       ]
 
-module _ {S F D : Type 0} (meaning : StoreMeaning S D) (sources : SourceMeaning F) where
+module _ {S F D : Type 0} (meaning : StoreMeaning S D) (sources : SourceMeaning F) (too_full : ℕ → Type 0)
+    {from : Endpoint} {bytes : List ℕ} {e : EndState} (k k' : DraftSink S F D) {replace : Bool} {store store' : S}
+    {draft draft' : D} {path : List ℕ}
+    (was : drafting_of k ≡ record { store = store; draft = draft; path = path; replace = replace })
+    (now : drafting_of k' ≡ record { store = store'; draft = draft'; path = path; replace = replace }) where
+  -- an end lacks memory over the store and its draft
+  pub draft_lacked : ReceiverLacksMemory (draft_sinks meaning) too_full from bytes e k k' →
+      LacksMemory sources (drafting_sink meaning) too_full from bytes e
+      (Sink (record { store = store; draft = draft; path = path; replace = replace }))
+      (Sink (record { store = store'; draft = draft'; path = path; replace = replace }))
+  draft_lacked h =
+      rw (← was, ← now)
+      (receiver_lacks sources (drafting_sink meaning) too_full from bytes e (drafting_of k) (drafting_of k')
+      (lacks_as (drafting_sink meaning) drafting_of too_full from bytes e k k' h))
+
   -- a fault of an end over a draft changes neither the draft nor the store
-  fault_stays : {R : Type 0} (too_full : ℕ → Type 0) (from : Endpoint) (bytes : List ℕ) (e : EndState)
-      (k k' : DraftSink S F D) (fault : EndFault) →
-      (IsErrOf {T = R} (Err fault) ends.Closed → k' ≡ k) →
+  fault_stays : {R : Type 0} (fault : EndFault) → (IsErrOf {T = R} (Err fault) ends.Closed → k' ≡ k) →
       (IsErrOf {T = R} (Err fault) ends.Memory →
       ReceiverLacksMemory (draft_sinks meaning) too_full from bytes e k k') → drafting_of k' ≡ drafting_of k
-  fault_stays too_full from bytes e k k' ends.Closed unmoved why = ap drafting_of (unmoved refl)
-  fault_stays too_full from bytes e k k' ends.Memory unmoved why =
+  fault_stays ends.Closed unmoved why = ap drafting_of (unmoved refl)
+  fault_stays ends.Memory unmoved why =
       lacks_stays meaning too_full from bytes e (drafting_of k) (drafting_of k')
       (lacks_as (drafting_sink meaning) drafting_of too_full from bytes e k k' (why refl))
 
-  -- after a fault a transfer over a draft, the draft and the store stay
-  pub draft_stays : {R : Type 0} (too_full : ℕ → Type 0) (A B : Type 0) (replace : Bool) (from : Endpoint)
-      (bytes : List ℕ) (store store' : S) (e e' : EndState) (files : Files F D) (k k' : DraftSink S F D)
-      (draft draft' : D) (path request : List ℕ) (result : Result R EndFault) → files ≡ Sink draft →
-      drafting_of k ≡ record { store = store; draft = draft; path = path; replace = replace } →
-      drafting_of k' ≡ record { store = store'; draft = draft'; path = path; replace = replace } →
+  -- so the transfer, the draft and the store stay
+  pub draft_stays : {R A B : Type 0} {e' : EndState} {request : List ℕ} (result : Result R EndFault) →
       (IsErrOf result ends.Closed → k' ≡ k) →
       (IsErrOf result ends.Memory → ReceiverLacksMemory (draft_sinks meaning) too_full from bytes e k k') →
       (A → (e' ≡ e) × KeepsSink (draft_sinks meaning) k k') →
       (A → StaysAs meaning sources replace store store'
-      (record { end = e; files = files; path = path; request = request })
+      (record { end = e; files = Sink draft; path = path; request = request })
       (record { end = e'; files = Sink draft'; path = path; request = request }) → B) → OnErr result A →
       OnErr result B
-  draft_stays too_full A B replace from bytes store store' e e' files k k' draft draft' path request (Ok r) is was now
-      unmoved why keeps then h = tt
-  draft_stays {R = R} too_full A B replace from bytes store store' e e' files k k' draft draft' path request (Err fault)
-      is was now unmoved why keeps then h =
+  draft_stays (Ok r) unmoved why keeps then h = tt
+  draft_stays {R = R} (Err fault) unmoved why keeps then h =
       let first : Drafting S D = record { store = store; draft = draft; path = path; replace = replace } in
       let last : Drafting S D = record { store = store'; draft = draft'; path = path; replace = replace } in
-      let back : last ≡ first = sym now ∙ (fault_stays {R = R} too_full from bytes e k k' fault unmoved why ∙ was) in
-      let kept : KeepsSink (drafting_sink meaning) (drafting_of k) (drafting_of k') =
-      record { holding = (keeps h).1.holding; leaves = (keeps h).1.leaves } in
-      let both =
-      subst (λ (d : Drafting S D). KeepsSink (drafting_sink meaning) d last) was
-      (subst (λ (d : Drafting S D). KeepsSink (drafting_sink meaning) (drafting_of k) d) now kept) in
+      let back : last ≡ first = sym now ∙ (fault_stays {R = R} fault unmoved why ∙ was) in
       then h
-      (subst (λ (f : Files F D). StaysAs meaning sources replace store store'
-      (record { end = e; files = f; path = path; request = request })
-      (record { end = e'; files = Sink draft'; path = path; request = request })) (sym is)
       (record {
         end = (keeps h).0;
         path = refl;
         request = refl;
         stays = tt;
         draft = (ap (λ (d : Drafting S D). d.store) back, ap (λ (d : Drafting S D). Sink d.draft) back);
-        files = both;
-      }))
-
--- ---- the transfer at an identifier
-of_memory : (fault : EndFault) → of_end fault ≡ faults.Memory → fault ≡ ends.Memory
-of_memory ends.Memory e = refl
-of_memory ends.Closed e = absurd (cc)
-
-pub memory_of_end : {R Q : Type 0} (fault : EndFault) (server : ServerFault) → server ≡ of_end fault →
-    IsErrOf {T = Q} (Err server) faults.Memory → IsErrOf {T = R} (Err fault) ends.Memory
-memory_of_end fault server same is =
-    let memory : server ≡ faults.Memory = cc in
-    ap Err (of_memory fault (sym same ∙ memory))
-
-pub lacks_at : {S F D : Type 0} (meaning : StoreMeaning S D) (sources : SourceMeaning F) (too_full : ℕ → Type 0)
-    (tid : ℕ) (from : Endpoint) (bytes : List ℕ) (old new : ServerState S F D) (table : List (ℕ × TransferState F D))
-    (transfer next : TransferState F D) → table ≡ old.held → Some transfer ≡ at tid table →
-    new.held ≡ with_next tid next table →
-    TransferLacksMemory meaning sources too_full old.config.overwrite from bytes old.store new.store transfer next →
-    LacksMemoryAt meaning sources too_full tid from bytes old new
-lacks_at meaning sources too_full tid from bytes old new table transfer next same found written h =
-    record {
-      transfer = transfer;
-      next = next;
-      found = found_now tid table old.held transfer same found;
-      lacks = h;
-      held = written ∙ ap (with_next tid next) same;
-    }
+        files = rw (← was, ← now) (record { holding = (keeps h).1.holding; leaves = (keeps h).1.leaves });
+      })

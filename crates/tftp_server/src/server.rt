@@ -5,7 +5,7 @@ mod port;
 mod reply;
 mod request;
 
-ghost use Rattle.std.specs.Prelude.{◌≡◌, ◌↔◌, ◌++◌, vec_capacity, vec_len, List, ℕ, [], length};
+ghost use Rattle.std.specs.Prelude.{◌≡◌, ◌↔◌, ◌++◌, vec_capacity, vec_len, [], length};
 ghost use Rattle.std.specs.Prelude.{option_copied, option_map, is_some, if◌then◌else◌, false};
 ghost use Rattle.std.specs.Prelude.{IfOk, IfErr, IsErrOf, OnOk, OnErr};
 ghost use Rattle.std.specs.Map.{keys_of};
@@ -112,10 +112,7 @@ impl<S: Store> Server<S> {
         let Some(transfer) = self.table.get_mut(tid) else {
             return Err(ServerFault::NoSuchTid);
         };
-        match transfer.on_timeout(out) {
-            Ok(step) => Ok(step),
-            Err(fault) => Err(ServerFault::from(fault)),
-        }
+        Ok(transfer.on_timeout(out)?)
     }
 
     /// The transfer at the identifier handles a datagram from `from`. At most one datagram is
@@ -146,11 +143,7 @@ impl<S: Store> Server<S> {
         let Some(transfer) = self.table.get_mut(tid) else {
             return Err(ServerFault::NoSuchTid);
         };
-        let replace = self.config.overwrite;
-        match transfer.on_datagram(&mut self.store, replace, from, bytes, out) {
-            Ok(step) => Ok(step),
-            Err(fault) => Err(ServerFault::from(fault)),
-        }
+        Ok(transfer.on_datagram(&mut self.store, &self.config, from, bytes, out)?)
     }
 
     /// The transfer at the identifier handles a timeout. Returns the datagram to send without a
@@ -170,10 +163,7 @@ impl<S: Store> Server<S> {
         let Some(transfer) = self.table.get_mut(tid) else {
             return Err(ServerFault::NoSuchTid);
         };
-        match transfer.handle_timeout() {
-            Ok(answer) => Ok(answer),
-            Err(_) => Err(ServerFault::NoSuchTid),
-        }
+        Ok(transfer.handle_timeout()?)
     }
 
     /// The transfer at the identifier handles a datagram from `from`. Returns the datagram to send
@@ -202,11 +192,7 @@ impl<S: Store> Server<S> {
         let Some(transfer) = self.table.get_mut(tid) else {
             return Err(ServerFault::NoSuchTid);
         };
-        let replace = self.config.overwrite;
-        match transfer.handle_datagram(&mut self.store, replace, from, bytes) {
-            Ok(answer) => Ok(answer),
-            Err(fault) => Err(ServerFault::from(fault)),
-        }
+        Ok(transfer.handle_datagram(&mut self.store, &self.config, from, bytes)?)
     }
 
     /// The bytes of the datagram to send for the transfer at the identifier, if one is held. They

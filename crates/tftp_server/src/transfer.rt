@@ -17,6 +17,7 @@ ghost use Rattle.tftp_ends.specs.Step.{reported};
 ghost use Rattle.tftp_server.specs.Work.{Works};
 ghost use Rattle.tftp_wire.specs.declared.packet.Packet.{Packet};
 
+use crate::config::Config;
 use crate::draft_sink::DraftSink;
 use std::marker::Model;
 use tftp_ends::{End, EndFault, Endpoint, Outgoing, Record, Step};
@@ -151,13 +152,13 @@ impl<F: Source, D> Transfer<F, D> {
     pub(crate) fn on_datagram<S: Store<Source = F, Draft = D>>(
         &mut self,
         store: &mut S,
-        replace: bool,
+        config: &Config,
         from: Endpoint,
         bytes: &[u8],
         out: &mut Vec<u8>,
     ) -> Result<Step, EndFault>
         ensures takes { IfOk result (λ step. TakesIn S.meaning F.meaning
-            replace from bytes.now store.old store.new self.old
+            config.now.overwrite from bytes.now store.old store.new self.old
             self.new step out.old.items out.new.items) }
         ensures closed { IsErrOf result EndFault.Closed ↔ (is_closed self.old ≡ true) }
         ensures unmoved { IsErrOf result EndFault.Closed
@@ -167,9 +168,9 @@ impl<F: Source, D> Transfer<F, D> {
             decoded) }
         ensures why { IsErrOf result EndFault.Memory → TransferLacksMemory S.meaning F.meaning
             (HasNoRoom (vec_capacity out.old) (vec_len out.old))
-            replace from bytes.now store.old store.new self.old self.new }
+            config.now.overwrite from bytes.now store.old store.new self.old self.new }
         ensures err { OnErr result (StaysAs S.meaning F.meaning
-            replace store.old store.new self.old self.new
+            config.now.overwrite store.old store.new self.old self.new
             × (out.new.items ≡ out.old.items)) }
     {
         match &mut self.files {
@@ -180,7 +181,7 @@ impl<F: Source, D> Transfer<F, D> {
                     store,
                     draft,
                     path,
-                    replace,
+                    replace: config.overwrite,
                 };
                 self.end
                     .on_datagram_as_receiver(&mut sink, from, bytes, out)
@@ -192,13 +193,13 @@ impl<F: Source, D> Transfer<F, D> {
     pub(crate) fn handle_datagram<S: Store<Source = F, Draft = D>>(
         &mut self,
         store: &mut S,
-        replace: bool,
+        config: &Config,
         from: Endpoint,
         bytes: &[u8],
     ) -> Result<(Step, Outgoing), EndFault>
         ensures takes { IfOk result (λ answer. TakesBy S.meaning F.meaning
-            (lends answer.1) replace from bytes.now store.old store.new self.old self.new
-            answer.0) }
+            (lends answer.1) config.now.overwrite from bytes.now store.old store.new self.old
+            self.new answer.0) }
         ensures closed { IsErrOf result EndFault.Closed ↔ (is_closed self.old ≡ true) }
         ensures unmoved { IsErrOf result EndFault.Closed
             → (self.new ≡ self.old) × (store.new ≡ store.old) }
@@ -207,9 +208,9 @@ impl<F: Source, D> Transfer<F, D> {
             decoded) }
         ensures why { IsErrOf result EndFault.Memory → TransferLacksMemory S.meaning F.meaning
             AppendsNothing
-            replace from bytes.now store.old store.new self.old self.new }
+            config.now.overwrite from bytes.now store.old store.new self.old self.new }
         ensures err { OnErr result (StaysAs S.meaning F.meaning
-            replace store.old store.new self.old self.new) }
+            config.now.overwrite store.old store.new self.old self.new) }
     {
         match &mut self.files {
             Files::Source(source) => self.end.handle_datagram_as_sender(source, from, bytes),
@@ -219,7 +220,7 @@ impl<F: Source, D> Transfer<F, D> {
                     store,
                     draft,
                     path,
-                    replace,
+                    replace: config.overwrite,
                 };
                 self.end.handle_datagram_as_receiver(&mut sink, from, bytes)
             }

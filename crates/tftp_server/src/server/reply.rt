@@ -1,6 +1,6 @@
 //! The ERRORs of the request port, and their sending.
 
-ghost use Rattle.std.specs.Prelude.{◌≡◌, ◌≢◌, ◌*◌, ◌+◌, ◌++◌, ◌≤◌, IfOk, IfErr, OnOk, OnErr, None};
+ghost use Rattle.std.specs.Prelude.{◌≡◌, ◌≢◌, ◌+◌, ◌++◌, ◌≤◌, IfOk, IfErr, OnOk, OnErr, None};
 ghost use Rattle.std.specs.Prelude.{Some, length, vec_capacity, vec_len};
 ghost use Rattle.tftp_ends.specs.Shortage.{HasNoRoom};
 ghost use Rattle.tftp_ends.specs.Step.{error_bytes};
