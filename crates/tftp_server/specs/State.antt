@@ -37,11 +37,6 @@ module _ {F D : Type 0} where
   is_open None = false
   is_open (Some held) = not (is_closed held)
 
-  -- the source of a transfer that sends
-  abbrev pub source_of : Files F D → Option F
-  source_of (Source source) = Some source
-  source_of (Sink draft) = None
-
   -- the draft of a transfer that stores, from its files and from the transfer
   abbrev pub draft_of : Files F D → Option D
   draft_of (Source source) = None

@@ -1,14 +1,12 @@
 //! A datagram to the request port, from its admission to the transfer that opens.
 
-ghost use Rattle.std.specs.Prelude.{◌≡◌, ◌≢◌, ◌↔◌, ◌⊎◌, ◌*◌, ◌++◌, ◌+◌, ◌<◌, ◌≤◌, vec_capacity};
-ghost use Rattle.std.specs.Prelude.{vec_len, length, [], Bool, List, ℕ, None, Ok, Option, true};
+ghost use Rattle.std.specs.Prelude.{◌≡◌, ◌≢◌, ◌↔◌, ◌⊎◌, ◌++◌, ◌+◌, ◌≤◌, vec_capacity, vec_len};
+ghost use Rattle.std.specs.Prelude.{length, Bool, List, ℕ, None, Ok, Option};
 ghost use Rattle.std.specs.Prelude.{IfOk, IfErr, IsErrOf, IsSome, OnOk, OnErr};
 ghost use Rattle.tftp_wire.specs.declared.packet.Packet.{Packet};
-ghost use Rattle.tftp_negotiate.specs.Agreed.{size};
 ghost use Rattle.tftp_ends.specs.Action.{Decodes};
-ghost use Rattle.tftp_ends.specs.End.{is_sender};
-ghost use Rattle.tftp_ends.specs.Opening.{ServesRead, CannotStart, serving_write};
-ghost use Rattle.tftp_server.specs.State.{IsRepeated, at, source_of};
+ghost use Rattle.tftp_ends.specs.Opening.{serving_write};
+ghost use Rattle.tftp_server.specs.State.{IsRepeated, at};
 ghost use Rattle.tftp_server.specs.Port.{Ignores, asks, asks_store, by_file, by_length};
 ghost use Rattle.tftp_server.specs.Port.{granted_size};
 ghost use Rattle.tftp_server.specs.Request.{Acts, Admits, AsksToRead, AsksToWrite, Came};
@@ -29,11 +27,11 @@ use crate::table::Table;
 use crate::transfer::Transfer;
 use std::alloc::{AllocError, Global};
 use std::mem;
-use tftp_ends::{End, Endpoint, ErrorReply, MAX_ERROR, OpenFault, decode_packet};
-use tftp_file::{Files, MemSink, Source};
+use tftp_ends::{End, Endpoint, ErrorReply, MAX_ERROR, ReadService, decode_packet};
+use tftp_file::Files;
 use tftp_negotiate::Agreed;
 use tftp_store::{Opening, Store};
-use tftp_wire::{Mode, has_error_opcode};
+use tftp_wire::has_error_opcode;
 
 /// The decision for a request.
 #[derive(Drop)]
@@ -313,8 +311,15 @@ impl<S: Store> Server<S> {
         ensures err { OnErr result (out.new.items ≡ out.old.items) }
     {
         let start = out.len();
-        match self.serve_source(incoming.from, read.mode, agreed, file, out) {
-            Ok((end, source)) => {
+        let Opening { mut source, length } = file;
+        let service = ReadService {
+            peer: incoming.from,
+            mode: read.mode,
+            length,
+            retries: self.config.retries,
+        };
+        match End::serve_source(self.alloc, &mut source, service, agreed, out) {
+            Ok((end, _)) => {
                 let Ok(request) = Vec::from_slice(self.alloc, incoming.bytes) else {
                     out.truncate(start);
                     return Err(ServerFault::Memory);
@@ -323,48 +328,6 @@ impl<S: Store> Server<S> {
                 Ok(Decision::Open(transfer))
             }
             Err(fault) => serve_refused(fault),
-        }
-    }
-
-    /// Opens the end of a read over its source, and returns both.
-    fn serve_source(
-        &self,
-        peer: Endpoint,
-        mode: Mode,
-        agreed: &Agreed,
-        file: Opening<S::Source>,
-        out: &mut Vec<u8>,
-    ) -> Result<(End, S::Source), OpenFault>
-        ensures serves { IfOk result (λ opened. ServesRead S.Source.meaning agreed.now peer mode
-            file.length self.now.config.retries file.source opened.1 opened.0
-            × (out.new.items ≡ out.old.items ++ opened.0.position.last_sent)) }
-        ensures sends { IfOk result (λ opened. is_sender opened.0.role.side ≡ true) }
-        ensures ok { OnOk result (file.length < 65535 * size agreed.now) }
-        ensures bad_request { IsErrOf result OpenFault.BadRequest → ⊥ }
-        ensures too_large { IsErrOf result OpenFault.TooLarge
-            → 65535 * size agreed.now ≤ file.length }
-        ensures source { IsErrOf result OpenFault.SourceFault → (file.length < 65535
-            * size agreed.now) × CannotStart S.Source.meaning file.length file.source }
-        ensures plain { IsErrOf result OpenFault.SourceFault → agreed.now ≡ [] }
-        ensures memory { IsErrOf result OpenFault.Memory → file.length < 65535
-            * size agreed.now }
-        ensures capacity { vec_capacity out.old ≤ vec_capacity out.new }
-        ensures err { OnErr result (out.new.items ≡ out.old.items) }
-    {
-        let alloc = self.alloc;
-        let retries = self.config.retries;
-        let length = file.length;
-        let mut files = Files::Source(file.source);
-        match End::serve_read::<S::Source, MemSink>(
-            alloc, &mut files, peer, mode, agreed, length, retries, out,
-        ) {
-            Ok((end, _)) => {
-                let Some(source) = source_in(files) else {
-                    unreachable!()
-                };
-                Ok((end, source))
-            }
-            Err(fault) => Err(fault),
         }
     }
 
@@ -451,16 +414,6 @@ impl<S: Store> Server<S> {
                 begin_refused(fault)
             }
         }
-    }
-}
-
-/// The source, if the files are one.
-fn source_in<F, K: Drop>(files: Files<F, K>) -> Option<F>
-    ensures { result ≡ source_of files }
-{
-    match files {
-        Files::Source(source) => Some(source),
-        Files::Sink(_) => None,
     }
 }
 
