@@ -1,5 +1,4 @@
 pub mod HostBytes
-pub mod StandardFacts
 pub mod Standing
 pub mod KnownSteps
 pub mod Measured

@@ -168,19 +168,27 @@ module _ (network : Network) where
   phase_retries : (phase : Phase) (x : OpenEnd) (r : ℕ) → PhaseKept network x phase →
       PhaseKept network (in_state (with_position (record x.state.position { retries_left = r }) x.state) x) phase
   phase_retries (Waiting asked limit) x r h = h
-  phase_retries (Sending terms number) x r h = record {
-    sender = h.sender;
-    positive = h.positive;
-    size = h.size;
-    fits = h.fits;
-    so_far = h.so_far;
-    left = h.left;
-    last_sent_to = h.last_sent_to;
-    measured = h.measured;
-  }
+  phase_retries (Sending terms number) x r h = search
   phase_retries (Receiving terms number) x r h = h
   phase_retries (Dallying terms number dally) x r h = h
   phase_retries (Closed terms number complete outcome) x r h = tt
+
+  -- nor does it matter whether its sink is set to refuse
+  phase_armed : (phase : Phase) (x : OpenEnd) (refuses : Bool) → PhaseKept network x phase →
+      PhaseKept network (record x { refuses = refuses }) phase
+  phase_armed (Waiting asked limit) x refuses h = h
+  phase_armed (Sending terms number) x refuses h = search
+  phase_armed (Receiving terms number) x refuses h = h
+  phase_armed (Dallying terms number dally) x refuses h = h
+  phase_armed (Closed terms number complete outcome) x refuses h = tt
+
+  pub end_armed : (x : OpenEnd) (refuses : Bool) → EndKept network x → EndKept network (record x { refuses = refuses })
+  end_armed x refuses h =
+      record {
+        phase = phase_armed x.state.position.phase x refuses h.phase;
+        held_back = h.held_back;
+        committed = h.committed;
+      }
 
   module _ (first : List Rule) (views : List EndView) (messages : List Message) (k : ℕ) (x : OpenEnd)
       (s : Stands network first views messages k (open_view x)) (kept : EndKept network x) where

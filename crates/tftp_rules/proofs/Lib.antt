@@ -9,6 +9,7 @@ pub mod Keeps
 pub mod Runs
 pub mod RecordedKept
 pub mod Indices
+pub mod Entries
 pub mod Acting
 pub mod Shown
 pub mod ViewSafe
@@ -26,3 +27,4 @@ pub mod Granted
 pub mod FirstSent
 pub mod EndOpenings
 pub mod KnownSteps
+mod StandardFacts

@@ -1,6 +1,6 @@
 -- A receiver that stores a block, a sender that sends the next one, an end that fails.
 use Rattle.std.proofs.Common.{◌≡◌, ℕ, ◌+◌, ◌*◌, ◌<◌, ◌≤◌, true, false, List, [], ◌∷◌, ◌++◌, length, take, Some, None}
-use Rattle.std.proofs.Common.{sym, refl, ◌∙◌, subst, arith, inl, inr}
+use Rattle.std.proofs.Common.{sym, refl, ◌∙◌, subst, arith, inl, inr, rules}
 use Rattle.std.specs.Prelude.{◌≢◌, nat_lt}
 use Rattle.std.specs.List.{Contains}
 use Rattle.std.proofs.lemmas.Bool.{true≢false, cases_Bool, ltb-true, ltb-false}
@@ -142,16 +142,7 @@ module _ (network : Network) where
   fails m h at g =
       let old = m.party at in
       let x = record old { failed = true } in
-      let v : Moves old x =
-      record {
-        is_open = refl;
-        client = refl;
-        sender = refl;
-        plain = refl;
-        mode = refl;
-        peer = refl;
-        size = refl;
-      } in
+      let v : Moves old x = search rules in
       let grows : old.is_open ≡ true → Grows old x = moves_grow old x v (omega arith) (λ d. d) (λ _. refl) in
       let all = AllGrow-with m.party at x grows in
       let new = with_end m.party at x in

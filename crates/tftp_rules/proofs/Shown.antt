@@ -50,21 +50,7 @@ same_text e x m f = elim (cases_Bool e.complete) [
 
 -- a match does not depend on `plain` or on the request
 match_unshown : (f : EndView) (b : Unshown) (x : Party) → Matches f x → Matches f (with_unshown b x)
-match_unshown f b x m = record {
-  is_open = m.is_open;
-  client = m.client;
-  sender = m.sender;
-  mode = m.mode;
-  peer = m.peer;
-  size = m.size;
-  number = m.number;
-  complete = m.complete;
-  failed = m.failed;
-  prefix = m.prefix;
-  whole = m.whole;
-  live = m.live;
-  sent = m.sent;
-}
+match_unshown f b x m = search
 
 -- ends at the same endpoints, index by index, are apart too
 apart_as : (xs ys : List EndView) →
@@ -292,21 +278,8 @@ module _ (network : Network) where
       let s = shown.2.1 in
       let here = slice_get-set_same views k e d at in
       let old = s.ends k e here in
-      let matches : Matches (record e { request = f.request }) (m.party e.address) = record {
-        is_open = old.is_open;
-        client = old.client;
-        sender = old.sender;
-        mode = old.mode;
-        peer = old.peer;
-        size = old.size;
-        number = old.number;
-        complete = old.complete;
-        failed = old.failed;
-        prefix = old.prefix;
-        whole = old.whole;
-        live = old.live;
-        sent = old.sent;
-      } in
+      let matches : Matches (record e { request = f.request }) (m.party e.address) =
+      search in
       let now : Matches f (m.party f.address) =
       subst (λ (z : EndView). Matches z (m.party z.address)) (sym same) matches in
       let address : f.address ≡ e.address = ap (λ (z : EndView). z.address) same in

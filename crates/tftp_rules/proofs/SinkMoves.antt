@@ -22,6 +22,7 @@ use Rattle.tftp_ends.specs.declared.error_reply.ErrorReply.TheVariants as replie
 use Rattle.tftp_ends.specs.declared.outcome.Outcome.{Outcome}
 use Rattle.tftp_ends.specs.declared.outcome.Outcome.TheVariants as outcomes
 use Rattle.tftp_ends.specs.declared.phase.Dally.TheVariants.{Fresh}
+use Rattle.tftp_ends.specs.declared.phase.Phase.{Phase}
 use Rattle.tftp_ends.specs.declared.phase.Phase.TheVariants.{Receiving, Dallying}
 use Rattle.tftp_ends.specs.declared.phase.Terms.{Terms}
 use Rattle.tftp_ends.specs.End.{EndState, is_sender, is_complete, number_of}
@@ -34,7 +35,7 @@ use Rattle.tftp_rules.specs.Shows.{EndView, IsShownWithin}
 use Rattle.tftp_rules.specs.OpenEnds.{OpenEnd, files_of, holding_of, end_after, goes_on, text_of as text_of_end}
 use Rattle.tftp_rules.specs.OpenEnds.{has_failed, open_view}
 use Rattle.tftp_rules.specs.KnownFiles.{known_source, known_sink}
-use Rattle.tftp_rules.specs.EndKept.{EndKept, HeldBackFits}
+use Rattle.tftp_rules.specs.EndKept.{EndKept, HeldBackFits, PhaseKept}
 use Rattle.tftp_rules.specs.EndShown.{Goes}
 use Rattle.tftp_rules.proofs.StoredTexts.{stored_more, stored_some}
 use Rattle.tftp_rules.proofs.SaidLemmas.{spells_own}
@@ -68,7 +69,7 @@ took_prefix before after bytes fault h =
       | inr f ↦ f
     ])
 
-took_armed : (armed : Bool) (before after : Holding) (bytes : List ℕ) (answer : Result Done StoreFault) →
+pub took_armed : (armed : Bool) (before after : Holding) (bytes : List ℕ) (answer : Result Done StoreFault) →
     UnlessArmed armed before (Some after) answer (AppendsFreely before (Some after) bytes answer) →
     Took before after bytes answer
 took_armed true before after bytes answer h =
@@ -83,6 +84,12 @@ took_armed false before after bytes (Err faults.Full) h = took_prefix before aft
 took_armed false before after bytes (Err faults.Io) h = took_prefix before after bytes faults.Io h
 took_armed false before after bytes (Err faults.Memory) h =
     took_none before after before bytes faults.Memory (same_Some after before h) refl refl
+
+-- no append commits
+pub none_committed : {before after : Holding} {bytes : List ℕ} {answer : Result Done StoreFault} →
+    Took before after bytes answer → before.committed ≡ false → after.committed ≡ false
+none_committed (All_of_it ok same un) = un
+none_committed (Some_of_it fault kept err prefix same un) = un
 
 -- a sink of known content
 pub took : (sinks : SinkMeaning Holding) → ((holding : Holding) → sinks.held holding ≡ Some holding) →
@@ -113,6 +120,21 @@ kept_by false before after (Ok done) h =
 kept_by false before after (Err fault) h =
     let e = same_Some after before h in
     Not_yet fault refl (ap (λ (z : Holding). z.bytes) e) (ap (λ (z : Holding). z.committed) e)
+
+-- it commits if it succeeds alone
+pub same_bytes : {before after : Holding} {answer : Result Done StoreFault} → Kept_all before after answer →
+    after.bytes ≡ before.bytes
+same_bytes (For_good ok same done) = same
+same_bytes (Not_yet fault err same still) = same
+
+pub now_committed : {before after : Holding} (done : Done) → Kept_all before after (Ok done) → after.committed ≡ true
+now_committed done (For_good ok same committed) = committed
+now_committed done (Not_yet fault err same still) = absurd (let e : Ok done ≡ Err fault = err in cc)
+
+pub still_committed : {before after : Holding} (fault : StoreFault) → Kept_all before after (Err fault) →
+    after.committed ≡ before.committed
+still_committed fault (For_good ok same committed) = absurd (let e : Err fault ≡ Ok tt = ok in cc)
+still_committed fault (Not_yet other err same still) = still
 
 -- the text with a CR after it ends in a CR
 ends_cr : (bs : List ℕ) → ends_in_cr (bs ++ 13 ∷ []) ≡ true
@@ -250,71 +272,53 @@ module _ (network : Network) where
           stored = λ c. absurd (true≢false (sym c ∙ r.incomplete));
         }
 
-    -- the block is acknowledged: stored, or stored and committed
-    acknowledged : (sink : Holding) (more after : List ℕ) → sink.bytes ≡ x.stored ++ more →
-        Decoded x.state.role.mode x.state.position.held_back piece more after →
-        (t : List ℕ) → wire_text x.state.role.mode (x.stored ++ more) ++ after ≡ t → (done : Bool) →
-        nat_lt (length piece) terms.size ≡ done →
-        IsShownWithin network 3 first
-        (set views k (record (open_view x) {
-          peer = Some terms.peer;
-          size = terms.size;
-          number = number;
-          complete = done;
-          text = t;
-        })) (messages ++ message x.address from (Says_ack number) ∷ [])
-    acknowledged sink more after bytes d t text done last =
-        subst (λ (z : List ℕ). IsShownWithin network 3 first
-        (set views k (record (open_view x) {
-          peer = Some terms.peer;
-          size = terms.size;
-          number = number;
-          complete = done;
-          text = z;
-        })) (messages ++ message x.address from (Says_ack number) ∷ []))
-        (more_text more after d ∙ text)
-        (subst (λ (b : Bool). IsShownWithin network 3 first
-        (set views k (record (open_view x) {
-          peer = Some terms.peer;
-          size = terms.size;
-          number = number;
-          complete = b;
-          text = text_of_end x ++ piece;
-        })) (messages ++ message x.address from (Says_ack number) ∷ []))
-        last r.stored)
-
     failed_not : has_failed x.state.position.phase ≡ false
     failed_not = (going_live x.state.position.phase r.going).1
 
-    -- it is no failure
-    sound_view : (t : List ℕ) (done : Bool) (ms : List Message) →
+    -- the block is acknowledged: stored, or stored and committed
+    abbrev Acknowledged : Bool → Bool → List ℕ → Type 0
+    Acknowledged done failed t =
         IsShownWithin network 3 first
         (set views k (record (open_view x) {
           peer = Some terms.peer;
           size = terms.size;
           number = number;
           complete = done;
+          failed = failed;
           text = t;
-        })) ms →
-        IsShownWithin network 3 first
-        (set views k (record (open_view x) {
-          peer = Some terms.peer;
-          size = terms.size;
-          number = number;
-          complete = done;
-          failed = false;
-          text = t;
-        })) ms
-    sound_view t done ms h =
-        subst (λ (b : Bool). IsShownWithin network 3 first
-        (set views k (record (open_view x) {
-          peer = Some terms.peer;
-          size = terms.size;
-          number = number;
-          complete = done;
-          failed = b;
-          text = t;
-        })) ms) failed_not h
+        })) (messages ++ message x.address from (Says_ack number) ∷ [])
+
+    acknowledged : (more after : List ℕ) → Decoded x.state.role.mode x.state.position.held_back piece more after →
+        (t : List ℕ) → wire_text x.state.role.mode (x.stored ++ more) ++ after ≡ t → (done : Bool) →
+        nat_lt (length piece) terms.size ≡ done → Acknowledged done false t
+    acknowledged more after d t text done last =
+        let failed = has_failed x.state.position.phase in
+        subst (λ (b : Bool). Acknowledged done b t) failed_not
+        (subst (Acknowledged done failed) (more_text more after d ∙ text)
+        (subst (λ (b : Bool). Acknowledged b failed (text_of_end x ++ piece)) last r.stored))
+
+    -- the end in its next phase
+    stored_goes : (phase : Phase) (sink : Holding) (more after : List ℕ) →
+        Decoded x.state.role.mode x.state.position.held_back piece more after →
+        let turn = sent_turn phase from (ack_bytes number) (holding after x.state) in
+        let y = end_after x turn (Sink sink) in
+        IsShownWithin network 3 first (set views k (open_view y))
+        (messages ++ message x.address from (Says_ack number) ∷ []) →
+        PhaseKept network y phase → sink.committed ≡ is_complete phase → Goes network first views messages k x turn y
+    stored_goes phase sink more after d shown_now phase_kept committed = record {
+      said_now = message x.address from (Says_ack number) ∷ [];
+      shown = shown_now;
+      replies = (Ack number, spells_own (Ack number) r.fits, refl);
+      kept =
+          record {
+            phase = phase_kept;
+            held_back = held_fits x.state.role.mode x.state.position.held_back piece more after kept.held_back d;
+            committed = λ _. committed;
+          };
+      side = refl;
+      last_sent = inr refl;
+      stored = λ c. absurd (true≢false (sym c ∙ r.incomplete));
+    }
 
     next_goes : (sink : Holding) (more after : List ℕ) → sink.bytes ≡ x.stored ++ more → sink.committed ≡ false →
         Decoded x.state.role.mode x.state.position.held_back piece more after →
@@ -328,22 +332,8 @@ module _ (network : Network) where
         ap (λ (z : List ℕ). wire_text x.state.role.mode z ++ after) (sym bytes)
         ∙ sym (text_else (is_sender x.state.role.side) x.text (wire_text x.state.role.mode sink.bytes ++ after)
         r.receiver) in
-        record {
-          said_now = message x.address from (Says_ack number) ∷ [];
-          shown =
-              sound_view (text_of_end y) false (messages ++ message x.address from (Says_ack number) ∷ [])
-              (acknowledged sink more after bytes d (text_of_end y) text false last);
-          replies = (Ack number, spells_own (Ack number) r.fits, refl);
-          kept =
-              record {
-                phase = (r.receiver, r.peer);
-                held_back = held_fits x.state.role.mode x.state.position.held_back piece more after kept.held_back d;
-                committed = λ _. un;
-              };
-          side = refl;
-          last_sent = inr refl;
-          stored = λ c. absurd (true≢false (sym c ∙ r.incomplete));
-        }
+        stored_goes (Receiving terms number) sink more after d
+        (acknowledged more after d (text_of_end y) text false last) (r.receiver, r.peer) un
 
     whole_goes : Readable x terms piece → (sink : Holding) (more after : List ℕ) → sink.bytes ≡ x.stored ++ more →
         sink.committed ≡ true → Decoded x.state.role.mode x.state.position.held_back piece more after →
@@ -360,22 +350,8 @@ module _ (network : Network) where
         ∙ (append-nil (wire_text x.state.role.mode (x.stored ++ more))
         ∙ (ap (wire_text x.state.role.mode) (sym bytes)
         ∙ sym (text_else (is_sender x.state.role.side) x.text (wire_text x.state.role.mode sink.bytes) r.receiver))) in
-        record {
-          said_now = message x.address from (Says_ack number) ∷ [];
-          shown =
-              sound_view (text_of_end y) true (messages ++ message x.address from (Says_ack number) ∷ [])
-              (acknowledged sink more after bytes d (text_of_end y) text true last);
-          replies = (Ack number, spells_own (Ack number) r.fits, refl);
-          kept =
-              record {
-                phase = (r.receiver, r.peer);
-                held_back = held_fits x.state.role.mode x.state.position.held_back piece more after kept.held_back d;
-                committed = λ _. done;
-              };
-          side = refl;
-          last_sent = inr refl;
-          stored = λ c. absurd (true≢false (sym c ∙ r.incomplete));
-        }
+        stored_goes (Dallying terms number Fresh) sink more after d
+        (acknowledged more after d (text_of_end y) text true last) (r.receiver, r.peer) done
 
     -- after a commit
     commit_goes : Readable x terms piece → (mid sink : Holding) (more after : List ℕ) (turn : Turn) →
