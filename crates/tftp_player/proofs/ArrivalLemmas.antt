@@ -26,7 +26,8 @@ use Rattle.tftp_player.specs.declared.effect.Effect.{Effect}
 use Rattle.tftp_player.specs.declared.player.Player.{Player}
 use Rattle.tftp_player.specs.declared.player.Player.TheVariants.{Client, Server}
 use Rattle.tftp_player.specs.declared.report.Report.{Report}
-use Rattle.tftp_player.proofs.PlayLemmas.{ends_length, said_is, report_is, address_is, none_here, list_get}
+use Rattle.tftp_player.proofs.EndsByPort.{ends_length}
+use Rattle.tftp_player.proofs.PlayLemmas.{said_is, report_is, address_is, none_here, list_get}
 use Rattle.tftp_player.proofs.StepLemmas.{open_arrives, closed_arrives, none_arrives, other_arrives}
 
 -- each end has the port of its index

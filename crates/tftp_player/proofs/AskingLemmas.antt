@@ -38,12 +38,13 @@ use Rattle.tftp_player.specs.declared.player.Player.TheVariants.{Server}
 use Rattle.tftp_player.specs.declared.report.Report.{Report}
 use Rattle.tftp_player.specs.declared.served.Served.{Served}
 use Rattle.tftp_player.proofs.HeldLemmas.{AreBelow, AreBelow-with_new, AllKeys-with_new, IsRising-with_new}
-use Rattle.tftp_player.proofs.HeldLemmas.{with_new-last, at-with_new, at-with_new_other}
+use Rattle.tftp_player.proofs.HeldLemmas.{with_new-last}
 use Rattle.tftp_player.proofs.OpenedLemmas.{ends_push, records_push}
 use Rattle.tftp_player.proofs.OwnedLemmas.{AllOwned, pushed_owned}
 use Rattle.tftp_player.proofs.EndsByPort.{mapped-same, kept-push, transfers-push}
+use Rattle.tftp_rules.proofs.Entries.{lookup-insert_other, lookup-insert_same, numbers}
 use Rattle.tftp_rules.proofs.Indices.{slice_get-push_new}
-use Rattle.tftp_player.proofs.PlayLemmas.{ends_length, to_kept, from_kept}
+use Rattle.tftp_player.proofs.EndsByPort.{ends_length, to_kept, from_kept}
 use Rattle.tftp_player.proofs.PortLemmas.{OpensFor, PortOpened, PortRefused, PortSilent, opens_asks, port_opened}
 use Rattle.tftp_player.proofs.PortLemmas.{port_not_opened, service_opens}
 use Rattle.tftp_player.proofs.RepeatedLemmas.{repeated_is}
@@ -237,7 +238,8 @@ module _ (from : Endpoint) (bytes : List ℕ) (before : PlayedServer) (ps : List
 
     found : (sent : List Datagram) → at port after.held ≡ Some (transfer sent)
     found sent =
-        ap (λ (s : PlayedServer). at port s.held) (q sent).new ∙ at-with_new port (transfer sent) before.held below
+        ap (λ (s : PlayedServer). at port s.held) (q sent).new
+        ∙ lookup-insert_same numbers port (transfer sent) before.held
 
     recorded : (sent : List Datagram) →
         option_map (λ (g : Transfer). record_of g.end) (at port after.held) ≡ Some (record_of (x sent).state)
@@ -265,7 +267,7 @@ module _ (from : Endpoint) (bytes : List ℕ) (before : PlayedServer) (ps : List
     others other low high =
         let n : other ≢ port = omega (arith, port_next, high) in
         ap (λ (s : PlayedServer). at other s.held) (q []).new
-        ∙ at-with_new_other port other (transfer []) before.held below n
+        ∙ lookup-insert_other numbers port other (transfer []) before.held n
 
     new_kept : ServedKept port (own []) after.held
     new_kept =

@@ -35,7 +35,8 @@ use Rattle.tftp_player.proofs.TermsKept.{step_has, still_known}
 use Rattle.tftp_player.proofs.ExchangeLemmas.{Stepped, client_files, client_open, held_end, held_files, served_files}
 use Rattle.tftp_player.proofs.ExchangeLemmas.{served_kept, served_steps, same_transfer, keeps_armed}
 use Rattle.tftp_player.proofs.StepLemmas.{client_files as client_commits}
-use Rattle.tftp_player.proofs.PlayLemmas.{ends_get, kept_at, list_get, turn_ends, turn_staged, closed_is, has_not_ended}
+use Rattle.tftp_player.proofs.EndsByPort.{ends_get, kept_at}
+use Rattle.tftp_player.proofs.PlayLemmas.{list_get, turn_ends, turn_staged, closed_is, has_not_ended}
 use Rattle.tftp_player.proofs.PlayLemmas.{address_is}
 
 -- the open end at this port handled a datagram

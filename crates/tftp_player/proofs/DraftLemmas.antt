@@ -8,9 +8,8 @@ use Rattle.tftp_wire.specs.declared.packet.Packet.{Packet}
 use Rattle.tftp_wire.specs.declared.packet.Packet.TheVariants.{Read, Write, Data, Ack, Error, Oack}
 use Rattle.tftp_wire.specs.Reading.{has_error_opcode}
 use Rattle.tftp_file.specs.Memory.{memory_source}
-use Rattle.tftp_file.specs.Sink.{Holding, UnlessArmed, AppendsFreely, CommitsFreely, disarmed, with_piece, as_committed}
+use Rattle.tftp_file.specs.Sink.{Holding, UnlessArmed, CommitsFreely}
 use Rattle.tftp_file.specs.declared.fault.StoreFault.{StoreFault}
-use Rattle.tftp_file.specs.declared.fault.StoreFault.TheVariants as faults
 use Rattle.tftp_ends.specs.declared.action.Action.{Action}
 use Rattle.tftp_ends.specs.declared.action.Action.TheVariants.{Respond, Send, Store}
 use Rattle.tftp_ends.specs.declared.action.Response.{Response}
@@ -32,6 +31,8 @@ use Rattle.tftp_server.specs.Steps.{StepIn}
 use Rattle.tftp_store.specs.Store.{Stored, Drafted, FileList, with_file}
 use Rattle.tftp_rules.specs.Machine.{Endpoint}
 use Rattle.tftp_rules.specs.OpenEnds.{OpenEnd, end_after}
+use Rattle.tftp_rules.proofs.SinkMoves.{Kept_all, kept_by, none_committed, now_committed, same_bytes, still_committed}
+use Rattle.tftp_rules.proofs.SinkMoves.{took_armed}
 use Rattle.tftp_player.specs.Clients.{left_in}
 use Rattle.tftp_player.specs.Played.{served_as}
 use Rattle.tftp_player.specs.Serving.{CommitsLast}
@@ -137,53 +138,7 @@ leaves_uncommitted turn d d' u = record {
   commits = λ incomplete. u.not_yet;
 }
 
--- ---- an append
-kept_some : (before after now : Holding) → after ≡ now → (now.committed ≡ true → now ≡ before) →
-    before.committed ≡ false → after.committed ≡ false
-kept_some before after now is kept un = by_committed now.committed refl where
-  by_committed : (b : Bool) → now.committed ≡ b → after.committed ≡ false
-  by_committed true c = ap (λ (z : Holding). z.committed) (is ∙ kept c) ∙ un
-  by_committed false c = ap (λ (z : Holding). z.committed) is ∙ c
-
-free_append : (before after : Holding) (piece : List ℕ) (answer : Result Done StoreFault) →
-    AppendsFreely before (Some after) piece answer → before.committed ≡ false → after.committed ≡ false
-free_append before after piece (Ok done) h un =
-    ap (λ (z : Holding). z.committed) (same_Some after (with_piece before piece) h)
-free_append before after piece (Err faults.Memory) h un =
-    ap (λ (z : Holding). z.committed) (same_Some after before h) ∙ un
-free_append before after piece (Err faults.Missing) h un =
-    kept_some before after h.holding (same_Some after h.holding h.leaves) h.uncommitted un
-free_append before after piece (Err faults.Exists) h un =
-    kept_some before after h.holding (same_Some after h.holding h.leaves) h.uncommitted un
-free_append before after piece (Err faults.Full) h un =
-    kept_some before after h.holding (same_Some after h.holding h.leaves) h.uncommitted un
-free_append before after piece (Err faults.Io) h un =
-    kept_some before after h.holding (same_Some after h.holding h.leaves) h.uncommitted un
-
-append_by : (armed : Bool) (before after : Holding) (piece : List ℕ) (answer : Result Done StoreFault) →
-    UnlessArmed armed before (Some after) answer (AppendsFreely before (Some after) piece answer) →
-    before.committed ≡ false → after.committed ≡ false
-append_by true before after piece answer h un =
-    ap (λ (z : Holding). z.committed) (same_Some after (disarmed before) h.leaves) ∙ un
-append_by false before after piece answer h un = free_append before after piece answer h un
-
--- ---- a commit
-refused_by : (armed : Bool) (before after : Holding) (fault : StoreFault) →
-    UnlessArmed armed before (Some after) (let r : Result Done StoreFault = Err fault in r)
-    (CommitsFreely before (Some after) (let r : Result Done StoreFault = Err fault in r)) →
-    after.committed ≡ before.committed
-refused_by true before after fault h = ap (λ (z : Holding). z.committed) (same_Some after (disarmed before) h.leaves)
-refused_by false before after fault h = ap (λ (z : Holding). z.committed) (same_Some after before h)
-
-taken_by : (armed : Bool) (before after : Holding) →
-    UnlessArmed armed before (Some after) (let r : Result Done StoreFault = Ok tt in r)
-    (CommitsFreely before (Some after) (let r : Result Done StoreFault = Ok tt in r)) →
-    after ≡ as_committed before
-taken_by true before after h = absurd (not_refused h.answer) where
-  not_refused : (let r : Result Done StoreFault = Ok tt in r) ≡ Err faults.Full → ⊥
-  not_refused e = cc
-taken_by false before after h = same_Some after (as_committed before) h
-
+-- ---- an append, and a commit
 module _ (from : Endpoint) (bytes : List ℕ) (e : EndState) (turn : Turn) (d d' : Drafts) where
   appended_un : (piece : List ℕ) (mid : Drafts) (answer : Result Done StoreFault) → d.draft.committed ≡ false →
       Appended (drafting_sink memory_meaning) piece d mid answer → IsUncommitted d mid
@@ -193,7 +148,7 @@ module _ (from : Endpoint) (bytes : List ℕ) (e : EndState) (turn : Turn) (d d'
     path = h.2.path;
     replace = h.2.replace;
     files = same_Some mid.store.files d.store.files h.2.files;
-    not_yet = append_by d.store.refuses (seen d) (seen mid) (b ∷ piece) answer h.0 un;
+    not_yet = none_committed (took_armed d.store.refuses (seen d) (seen mid) (b ∷ piece) answer h.0) un;
   }
 
   -- the last block was committed, or was not
@@ -203,8 +158,9 @@ module _ (from : Endpoint) (bytes : List ℕ) (e : EndState) (turn : Turn) (d d'
       (CommitsFreely (seen mid) (Some (seen d')) answer) → DraftingBecomes memory_meaning mid d' (is_ok answer) →
       turn ≡ committed_turn terms number from (holding held e) answer → Leaves turn d d'
   committed_leaves terms number held mid (Ok done) un u h becomes is =
-      let now : seen d' ≡ as_committed (seen mid) = taken_by mid.store.refuses (seen mid) (seen d') h in
-      let whole : d'.draft.bytes ≡ mid.draft.bytes = ap (λ (z : Holding). z.bytes) now in
+      let kept : Kept_all (seen mid) (seen d') (Ok done) =
+      kept_by mid.store.refuses (seen mid) (seen d') (Ok done) h in
+      let whole : d'.draft.bytes ≡ mid.draft.bytes = same_bytes kept in
       let put : d'.store.files ≡ with_file mid.store.files mid.path mid.draft.bytes =
       same_Some d'.store.files _ becomes.files.0 in
       let stored : IsStored mid.replace mid.path mid.draft.bytes mid.store.files d'.store.files =
@@ -217,7 +173,7 @@ module _ (from : Endpoint) (bytes : List ℕ) (e : EndState) (turn : Turn) (d d'
       (subst (λ (fs : FileList). IsStored mid.replace mid.path mid.draft.bytes fs d'.store.files) u.files stored))) in
       record {
         files = subst (λ (b : Bool). FilesAfter d.replace b d.path d'.draft.bytes d.store.files d'.store.files)
-            (sym (ap (λ (b : Bool). not b && d'.draft.committed) un ∙ ap (λ (z : Holding). z.committed) now)) here;
+            (sym (ap (λ (b : Bool). not b && d'.draft.committed) un ∙ now_committed done kept)) here;
         commits =
             λ incomplete. absurd (true≢false (ap (λ (t : Turn). is_complete t.position.phase) (sym is) ∙ incomplete));
       }
@@ -225,7 +181,8 @@ module _ (from : Endpoint) (bytes : List ℕ) (e : EndState) (turn : Turn) (d d'
     path = becomes.path ∙ u.path;
     replace = becomes.replace ∙ u.replace;
     files = same_Some d'.store.files mid.store.files becomes.files ∙ u.files;
-    not_yet = refused_by mid.store.refuses (seen mid) (seen d') fault h ∙ u.not_yet;
+    not_yet =
+        still_committed fault (kept_by mid.store.refuses (seen mid) (seen d') (Err fault) h) ∙ u.not_yet;
   })
 
   goes_leaves :

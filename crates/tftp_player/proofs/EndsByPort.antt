@@ -6,8 +6,12 @@ use Rattle.std.specs.Prelude.{slice_get, slice_set}
 use Rattle.std.proofs.lemmas.List.Sums.{sum_by-cons, sum_by_push}
 use Rattle.std.proofs.lemmas.Option.{same_Some}
 use Rattle.tftp_server.specs.State.{at}
-use Rattle.tftp_player.specs.World.{WorldEnd}
+use Rattle.tftp_player.specs.World.{WorldEnd, end_record}
 use Rattle.tftp_player.specs.Requests.{is_transfer, open_transfers}
+use Rattle.tftp_ends.specs.declared.record.Record.{Record}
+use Rattle.tftp_player.specs.Played.{end_at, ends_from, records_from, PlayerKept, AllKept}
+use Rattle.tftp_player.specs.Serving.{Transfer}
+use Rattle.tftp_player.specs.declared.player.Player.{Player}
 
 -- `mapped_from port held ps` is the list of the values of the ends, in order, from this port on
 module _ {P T X : Type 0} (mapped_at : ℕ → List (ℕ × T) → P → X) (mapped_from : ℕ → List (ℕ × T) → List P → List X)
@@ -198,3 +202,48 @@ transfers-close ends k x y e was is =
     let one : one_if (is_transfer x) ≡ 1 = ap one_if was in
     let none : one_if (is_transfer y) ≡ 0 = ap one_if is in
     omega (arith, count_set is_transfer ends k x y e, one, none)
+
+-- ---- of the ends of a world
+pub ends_length : (held : List (ℕ × Transfer)) (ps : List Player) → length (ends_from 1024 held ps) ≡ length ps
+ends_length held ps = mapped-length end_at ends_from (λ port h. refl) (λ port h p qs. refl) 1024 held ps
+
+pub ends_get : (held : List (ℕ × Transfer)) (ps : List Player) (k : ℕ) (p : Player) → slice_get ps k ≡ Some p →
+    slice_get (ends_from 1024 held ps) k ≡ Some (end_at (1024 + k) held p)
+ends_get held ps k p e = mapped-get end_at ends_from (λ port h. refl) (λ port h q qs. refl) 1024 held ps k p e
+
+pub to_kept : (port : ℕ) (held : List (ℕ × Transfer)) (ps : List Player) → AllKept port held ps →
+    Kept_from PlayerKept port held ps
+to_kept port held [] k = tt
+to_kept port held (p ∷ ps) k = (k.0, to_kept (port + 1) held ps k.1)
+
+pub from_kept : (port : ℕ) (held : List (ℕ × Transfer)) (ps : List Player) → Kept_from PlayerKept port held ps →
+    AllKept port held ps
+from_kept port held [] k = tt
+from_kept port held (p ∷ ps) k = (k.0, from_kept (port + 1) held ps k.1)
+
+pub kept_at : (held : List (ℕ × Transfer)) (ps : List Player) (k : ℕ) (p : Player) → AllKept 1024 held ps →
+    slice_get ps k ≡ Some p → PlayerKept (1024 + k) held p
+kept_at held ps k p all e = kept-get PlayerKept 1024 held ps k p (to_kept 1024 held ps all) e
+
+-- the record at an index
+pub records_get : (port : ℕ) (ends : List WorldEnd) (k : ℕ) (x : WorldEnd) → slice_get ends k ≡ Some x →
+    slice_get (records_from port ends) k ≡ Some (port + k, end_record x)
+records_get port [] k x e = absurd (let f : None ≡ Some x = e in cc)
+records_get port (y ∷ ends) zero x e =
+    let same : y ≡ x = cc in
+    let here : port ≡ port + zero = omega arith in
+    ap (λ (z : WorldEnd). Some (port, end_record z)) same ∙ ap (λ (n : ℕ). Some (n, end_record x)) here
+records_get port (y ∷ ends) (suc k) x e =
+    let there : port + 1 + k ≡ port + suc k = omega arith in
+    records_get (port + 1) ends k x e ∙ ap (λ (n : ℕ). Some (n, end_record x)) there
+
+pub records_set : (port : ℕ) (ends : List WorldEnd) (k : ℕ) (y : WorldEnd) →
+    records_from port (slice_set ends k y) ≡ slice_set (records_from port ends) k (port + k, end_record y)
+records_set port [] k y = refl
+records_set port (x ∷ ends) zero y =
+    let here : port ≡ port + zero = omega arith in
+    ap (λ (n : ℕ). (n, end_record y) ∷ records_from (port + 1) ends) here
+records_set port (x ∷ ends) (suc k) y =
+    let there : port + 1 + k ≡ port + suc k = omega arith in
+    ap (λ (rs : List (ℕ × Record)). (port, end_record x) ∷ rs) (records_set (port + 1) ends k y)
+    ∙ ap (λ (n : ℕ). (port, end_record x) ∷ slice_set (records_from (port + 1) ends) k (n, end_record y)) there

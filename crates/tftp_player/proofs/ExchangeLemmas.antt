@@ -17,6 +17,7 @@ use Rattle.tftp_store.specs.Memory.{with_armed}
 use Rattle.tftp_server.specs.State.{at, draft_of, with_next}
 use Rattle.tftp_store.specs.Store.{Stored, Drafted}
 use Rattle.tftp_rules.specs.OpenEnds.{OpenEnd, files_of, end_after}
+use Rattle.tftp_rules.proofs.Entries.{lookup-remove_other, lookup-set_other, lookup-set_same, numbers}
 use Rattle.tftp_player.specs.Clients.{server_at, left_in, holding_in, no_holding, ClientTurns}
 use Rattle.tftp_player.specs.Effect.{effect_of}
 use Rattle.tftp_player.specs.PlayedClient.{PlayedClient}
@@ -30,8 +31,7 @@ use Rattle.tftp_player.specs.declared.player.Player.{Player}
 use Rattle.tftp_player.specs.declared.player.Player.TheVariants.{Client, Server}
 use Rattle.tftp_player.specs.declared.served.Served.{Served}
 use Rattle.tftp_player.proofs.HeldLemmas.{AreBelow, AllKeys-with_next, AllKeys-without, IsRising-with_next}
-use Rattle.tftp_player.proofs.HeldLemmas.{IsRising-without, length-with_next, length-without, at-with_next}
-use Rattle.tftp_player.proofs.HeldLemmas.{at-with_next_other, at-without_other}
+use Rattle.tftp_player.proofs.HeldLemmas.{IsRising-without, length-with_next, length-without}
 use Rattle.tftp_player.proofs.OwnedLemmas.{AllOwned, client_owned, server_owned, closed_owned}
 use Rattle.tftp_player.specs.Requests.{is_transfer}
 use Rattle.tftp_player.proofs.Standing.{standing_record, standing_open, standing_ended, standing_transfer}
@@ -317,7 +317,8 @@ module _ (port : ℕ) (s : Served) (before : PlayedServer) (h next : Transfer) (
       ∙ (ap (λ (q : Record). Closed_end (record (closed_end y) { recorded = q })) recorded
       ∙ (sym (standing_ended y closed) ∙ ap standing (sym after_is)))
   end_by false still =
-      served_is port armed (with_next port next before.held) next open_now (at-with_next port h next before.held found)
+      served_is port armed (with_next port next before.held) next open_now
+      (lookup-set_same numbers port h next before.held found)
       ∙ (ap (λ (e : EndState). Open_end (served_as port armed e (left_in next.files) draft next.request)) goes.end
       ∙ (ap (λ (l : List ℕ). Open_end (served_as port armed (after_turn h.end turn) (left_in next.files) draft l))
       goes.request
@@ -336,7 +337,7 @@ module _ (port : ℕ) (s : Served) (before : PlayedServer) (h next : Transfer) (
       subst (λ (o : Option Record). IsServed port armed o (with_next port next before.held))
       (sym (not_some s.ended open_now)) (record {
         transfer = next;
-        found = at-with_next port h next before.held found;
+        found = lookup-set_same numbers port h next before.held found;
         is_open = ap (λ (e : EndState). is_some (outcome_of e.position.phase)) goes.end ∙ still;
         side = ap (λ (e : EndState). is_client e.role.side) goes.end ∙ side_is;
         files = subst (λ (e : EndState). AreFilesOf e.role.side next.files) (sym goes.end) fits;
@@ -349,8 +350,9 @@ module _ (port : ℕ) (s : Served) (before : PlayedServer) (h next : Transfer) (
   others_by : (b : Bool) (other : ℕ) → other ≢ port →
       at other (concluded_held b port (with_next port next before.held)) ≡ at other before.held
   others_by true other n =
-      at-without_other port other (with_next port next before.held) n ∙ at-with_next_other port other next before.held n
-  others_by false other n = at-with_next_other port other next before.held n
+      lookup-remove_other numbers port other (with_next port next before.held) n
+      ∙ lookup-set_other numbers port other h next before.held found n
+  others_by false other n = lookup-set_other numbers port other h next before.held found n
 
   below_by : (b : Bool) (tid : ℕ) → AreBelow tid before.held →
       AreBelow tid (concluded_held b port (with_next port next before.held))
@@ -403,7 +405,8 @@ module _ (port : ℕ) (s : Served) (before : PlayedServer) (h next : Transfer) (
       inr (
         transfer_was,
         transfer_now true e,
-        length-without port next (with_next port next before.held) (at-with_next port h next before.held found)
+        length-without port next (with_next port next before.held)
+            (lookup-set_same numbers port h next before.held found)
             ∙ length-with_next port next before.held,
       )
   counted_by false e = inl (transfer_now false e ∙ sym transfer_was, length-with_next port next before.held)

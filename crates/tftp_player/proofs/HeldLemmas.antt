@@ -1,26 +1,18 @@
 -- The transfers that a server holds, in rising order of their identifiers.
-use Rattle.std.proofs.Common.{◌≡◌, ◌≢◌, ℕ, suc, ◌+◌, ◌<◌, Bool, true, false, List, [], ◌∷◌, ◌++◌, length, cond, Option}
+use Rattle.std.proofs.Common.{◌≡◌, ◌≢◌, ℕ, suc, ◌+◌, ◌<◌, Bool, true, false, List, [], ◌∷◌, ◌++◌, length, cond}
 use Rattle.std.proofs.Common.{Some, None, refl, sym, ap, ◌∙◌, subst, arith}
 use Rattle.std.proofs.lemmas.Bool.{true≢false}
-use Rattle.std.proofs.lemmas.Bool.Decides.{nat_tests}
+use Rattle.std.proofs.lemmas.Map.{length-set_value}
+use Rattle.std.proofs.lemmas.Map.Entries.{lookup_tail}
 use Rattle.std.specs.BTreeMap.{is_at}
 use Rattle.std.specs.Cmp.{nat_cmp_is}
 use Rattle.std.specs.List.{AllByRecursion}
-use Rattle.std.specs.Ordering.{nat_cmp, match_ordering, is_eq}
+use Rattle.std.specs.Ordering.{nat_cmp, match_ordering}
 use Rattle.std.specs.declared.cmp.Ordering.{Ordering}
-use Rattle.std.specs.declared.cmp.Ordering.TheVariants.{Equal, Greater}
+use Rattle.std.specs.declared.cmp.Ordering.TheVariants.{Greater}
 use Rattle.tftp_server.specs.State.{at, with_new, with_next, without}
+use Rattle.tftp_rules.proofs.Entries.{at_other, at_same, numbers, same_at}
 use Rattle.tftp_player.specs.Exchange.{IsRising}
-
--- the test of an identifier passes at that identifier alone
-pub at_same : (tid k : ℕ) → k ≡ tid → is_at (nat_cmp tid) k ≡ true
-at_same tid k e = ap is_eq (sym (nat_cmp_is tid k Equal (sym e)))
-
-pub at_other : (tid k : ℕ) → k ≢ tid → is_at (nat_cmp tid) k ≡ false
-at_other tid k e = grind (arith, nat_tests)
-
-pub same_at : (tid k : ℕ) → is_at (nat_cmp tid) k ≡ true → k ≡ tid
-same_at tid k h = grind (arith, nat_tests)
 
 module _ {T : Type 0} where
   -- each identifier is below this one, or above it
@@ -36,87 +28,9 @@ module _ {T : Type 0} where
       (sym (nat_cmp_is tid e.0 Greater below.0))
       ∙ ap (λ (es : List (ℕ × T)). e ∷ es) (with_new-last tid new held below.1)
 
-  -- the last one is found, and every other as before
-  pub at-last : (tid : ℕ) (new : T) (held : List (ℕ × T)) → AreBelow tid held →
-      at tid (held ++ (tid, new) ∷ []) ≡ Some new
-  at-last tid new [] below = ap (λ (b : Bool). cond b (Some new) None) (at_same tid tid refl)
-  at-last tid new (e ∷ held) below =
-      ap (λ (b : Bool). cond b (Some e.1) (at tid (held ++ (tid, new) ∷ [])))
-      (at_other tid e.0 (let l = below.0 in let n : e.0 ≢ tid = omega arith in n)) ∙ at-last tid new held below.1
-
-  pub at-last_other : (tid other : ℕ) (new : T) (held : List (ℕ × T)) → other ≢ tid →
-      at other (held ++ (tid, new) ∷ []) ≡ at other held
-  at-last_other tid other new [] n = ap (λ (b : Bool). cond b (Some new) None) (at_other other tid (λ e. n (sym e)))
-  at-last_other tid other new (e ∷ held) n =
-      ap (λ (o : Option T). cond (is_at (nat_cmp other) e.0) (Some e.1) o) (at-last_other tid other new held n)
-
-  pub at-with_new : (tid : ℕ) (new : T) (held : List (ℕ × T)) → AreBelow tid held →
-      at tid (with_new tid new held) ≡ Some new
-  at-with_new tid new held below = ap (at tid) (with_new-last tid new held below) ∙ at-last tid new held below
-
-  pub at-with_new_other : (tid other : ℕ) (new : T) (held : List (ℕ × T)) → AreBelow tid held → other ≢ tid →
-      at other (with_new tid new held) ≡ at other held
-  at-with_new_other tid other new held below n =
-      ap (at other) (with_new-last tid new held below) ∙ at-last_other tid other new held n
-
-  -- the transfer that replaced another is found at its identifier, and every other as before
-  next_at : (tid : ℕ) (next : T) (e : ℕ × T) (held more : List (ℕ × T)) (b : Bool) → is_at (nat_cmp tid) e.0 ≡ b →
-      (b ≡ false → at tid more ≡ Some next) →
-      at tid (cond b ((e.0, next) ∷ held) (e ∷ more)) ≡ Some next
-  next_at tid next e held more true h rest = ap (λ (c : Bool). cond c (Some next) (at tid held)) h
-  next_at tid next e held more false h rest = ap (λ (c : Bool). cond c (Some e.1) (at tid more)) h ∙ rest refl
-
-  rest_found : (tid : ℕ) (e : ℕ × T) (held : List (ℕ × T)) (was : T) → at tid (e ∷ held) ≡ Some was →
-      is_at (nat_cmp tid) e.0 ≡ false → at tid held ≡ Some was
-  rest_found tid e held was found h = ap (λ (c : Bool). cond c (Some e.1) (at tid held)) (sym h) ∙ found
-
-  pub at-with_next : (tid : ℕ) (was next : T) (held : List (ℕ × T)) → at tid held ≡ Some was →
-      at tid (with_next tid next held) ≡ Some next
-  at-with_next tid was next [] found = absurd (let f : None ≡ Some was = found in cc)
-  at-with_next tid was next (e ∷ held) found =
-      next_at tid next e held (with_next tid next held) (is_at (nat_cmp tid) e.0) refl
-      (λ h. at-with_next tid was next held (rest_found tid e held was found h))
-
-  next_other : (other : ℕ) (next : T) (e : ℕ × T) (held more : List (ℕ × T)) (b : Bool) →
-      (b ≡ true → is_at (nat_cmp other) e.0 ≡ false) → at other more ≡ at other held →
-      at other (cond b ((e.0, next) ∷ held) (e ∷ more)) ≡ at other (e ∷ held)
-  next_other other next e held more true h rest =
-      ap (λ (c : Bool). cond c (Some next) (at other held)) (h refl)
-      ∙ sym (ap (λ (c : Bool). cond c (Some e.1) (at other held)) (h refl))
-  next_other other next e held more false h rest =
-      ap (λ (o : Option T). cond (is_at (nat_cmp other) e.0) (Some e.1) o) rest
-
-  pub at-with_next_other : (tid other : ℕ) (next : T) (held : List (ℕ × T)) → other ≢ tid →
-      at other (with_next tid next held) ≡ at other held
-  at-with_next_other tid other next [] n = refl
-  at-with_next_other tid other next (e ∷ held) n =
-      next_other other next e held (with_next tid next held) (is_at (nat_cmp tid) e.0)
-      (λ h. at_other other e.0 (λ f. n (sym f ∙ same_at tid e.0 h))) (at-with_next_other tid other next held n)
-
-  -- after one is removed, every other is found as before
-  out_other : (other : ℕ) (e : ℕ × T) (held more : List (ℕ × T)) (b : Bool) →
-      (b ≡ true → is_at (nat_cmp other) e.0 ≡ false) → at other more ≡ at other held →
-      at other (cond b held (e ∷ more)) ≡ at other (e ∷ held)
-  out_other other e held more true h rest = sym (ap (λ (c : Bool). cond c (Some e.1) (at other held)) (h refl))
-  out_other other e held more false h rest = ap (λ (o : Option T). cond (is_at (nat_cmp other) e.0) (Some e.1) o) rest
-
-  pub at-without_other : (tid other : ℕ) (held : List (ℕ × T)) → other ≢ tid →
-      at other (without tid held) ≡ at other held
-  at-without_other tid other [] n = refl
-  at-without_other tid other (e ∷ held) n =
-      out_other other e held (without tid held) (is_at (nat_cmp tid) e.0)
-      (λ h. at_other other e.0 (λ f. n (sym f ∙ same_at tid e.0 h))) (at-without_other tid other held n)
-
   -- the number of transfers
-  next_length : (next : T) (e : ℕ × T) (held more : List (ℕ × T)) (b : Bool) → length more ≡ length held →
-      length (cond b ((e.0, next) ∷ held) (e ∷ more)) ≡ length (e ∷ held)
-  next_length next e held more true rest = refl
-  next_length next e held more false rest = ap suc rest
-
   pub length-with_next : (tid : ℕ) (next : T) (held : List (ℕ × T)) → length (with_next tid next held) ≡ length held
-  length-with_next tid next [] = refl
-  length-with_next tid next (e ∷ held) =
-      next_length next e held (with_next tid next held) (is_at (nat_cmp tid) e.0) (length-with_next tid next held)
+  length-with_next tid next held = length-set_value (is_at (nat_cmp tid)) held next
 
   out_length : (tid : ℕ) (e : ℕ × T) (held more : List (ℕ × T)) (b : Bool) → is_at (nat_cmp tid) e.0 ≡ b →
       (b ≡ false → suc (length more) ≡ length held) →
@@ -129,7 +43,7 @@ module _ {T : Type 0} where
   length-without tid was [] found = absurd (let f : None ≡ Some was = found in cc)
   length-without tid was (e ∷ held) found =
       out_length tid e held (without tid held) (is_at (nat_cmp tid) e.0) refl
-      (λ h. length-without tid was held (rest_found tid e held was found h))
+      (λ h. length-without tid was held (sym (lookup_tail (is_at (nat_cmp tid)) e held h) ∙ found))
 
   -- what holds of all identifiers still does
   all_pushed : (P : ℕ × T → Type 0) (tid : ℕ) (new : T) (held : List (ℕ × T)) → AllByRecursion P held → P (tid, new) →
@@ -221,10 +135,10 @@ module _ {T : Type 0} where
       AllByRecursion (λ (f : ℕ × T). e.0 < f.0) held → AllByRecursion (λ (f : ℕ × T). f.0 ≢ tid) more →
       AllByRecursion (λ (f : ℕ × T). f.0 ≢ tid) (cond b held (e ∷ more))
   gone_out tid e held more true h above rest =
-      let here = same_at tid e.0 h in
+      let here = same_at numbers tid e.0 h in
       AllKeys-weaker (λ (k : ℕ). e.0 < k) (λ (k : ℕ). k ≢ tid) held
       (λ k l. let n : k ≢ tid = omega (arith, here, l) in n) above
-  gone_out tid e held more false h above rest = ((λ same. true≢false (sym (at_same tid e.0 same) ∙ h)), rest)
+  gone_out tid e held more false h above rest = ((λ same. true≢false (sym (at_same numbers tid e.0 same) ∙ h)), rest)
 
   pub gone-without : (tid : ℕ) (held : List (ℕ × T)) → IsRising held →
       AllByRecursion (λ (f : ℕ × T). f.0 ≢ tid) (without tid held)
@@ -236,12 +150,13 @@ module _ {T : Type 0} where
   pub each_found : (held : List (ℕ × T)) → IsRising held → AllByRecursion (λ (f : ℕ × T). at f.0 held ≡ Some f.1) held
   each_found [] rises = tt
   each_found (e ∷ held) rises = (
-    ap (λ (b : Bool). cond b (Some e.1) (at e.0 held)) (at_same e.0 e.0 refl),
+    ap (λ (b : Bool). cond b (Some e.1) (at e.0 held)) (at_same numbers e.0 e.0 refl),
     all_both (λ (f : ℕ × T). e.0 < f.0) (λ (f : ℕ × T). at f.0 held ≡ Some f.1)
         (λ (f : ℕ × T). at f.0 (e ∷ held) ≡ Some f.1) held
         (λ f above found.
         ap (λ (b : Bool). cond b (Some e.1) (at f.0 held))
-        (at_other f.0 e.0 (let n : e.0 ≢ f.0 = omega (arith, above) in n)) ∙ found) rises.0 (each_found held rises.1),
+        (at_other numbers f.0 e.0 (let n : e.0 ≢ f.0 = omega (arith, above) in n)) ∙ found) rises.0
+        (each_found held rises.1),
   )
 
   -- below the next identifier, if below this one

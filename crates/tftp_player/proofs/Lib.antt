@@ -39,6 +39,7 @@ pub mod AskingLemmas
 mod PlayedKeeps
 mod StraightActions
 mod StraightSteps
+mod RunsLeft
 mod StraightRuns
 mod StraightPort
 mod StraightOpenings

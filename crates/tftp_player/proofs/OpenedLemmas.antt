@@ -38,7 +38,7 @@ use Rattle.tftp_player.proofs.ClientLemmas.{getting_client, putting_client, read
 use Rattle.tftp_player.proofs.HeldLemmas.{AreBelow, AreBelow-more}
 use Rattle.tftp_player.proofs.OwnedLemmas.{pushed_owned}
 use Rattle.tftp_player.proofs.EndsByPort.{mapped-push, kept-push, transfers-push_other}
-use Rattle.tftp_player.proofs.PlayLemmas.{ends_length, to_kept, from_kept}
+use Rattle.tftp_player.proofs.EndsByPort.{ends_length, to_kept, from_kept}
 use Rattle.tftp_player.proofs.Standing.{standing_record}
 use Rattle.tftp_player.proofs.ExchangeLemmas.{kept_by_port, no_transfer}
 use Rattle.tftp_player.proofs.StepLemmas.{get_step, put_step}

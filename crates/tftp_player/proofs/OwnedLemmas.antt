@@ -13,7 +13,8 @@ use Rattle.tftp_player.specs.Exchange.{IsOwned, IsRising}
 use Rattle.tftp_player.specs.declared.player.Player.{Player}
 use Rattle.tftp_player.specs.declared.player.Player.TheVariants.{Client, Server}
 use Rattle.tftp_player.specs.declared.served.Served.{Served}
-use Rattle.tftp_player.proofs.HeldLemmas.{at_same, same_at, AllKeys-without, AllKeys-weaker, all_both, gone-without}
+use Rattle.tftp_player.proofs.HeldLemmas.{AllKeys-without, AllKeys-weaker, all_both, gone-without}
+use Rattle.tftp_rules.proofs.Entries.{at_same, numbers, same_at}
 use Rattle.tftp_rules.proofs.Indices.{slice_get-set_same, slice_get-set_other, slice_get-push_old}
 
 -- each transfer is one of these ends
@@ -67,8 +68,9 @@ server_owned ps index p s' held there lives all =
     (λ k o. by k o (is_at (nat_cmp (1024 + index)) k) refl) all where
       by : (k : ℕ) → IsOwned ps k → (b : Bool) → is_at (nat_cmp (1024 + index)) k ≡ b →
           IsOwned (slice_set ps index (Server s')) k
-      by k o true t = owned_here ps index p s' k there lives (same_at (1024 + index) k t)
-      by k o false t = owned_elsewhere ps index (Server s') k (λ e. true≢false (sym (at_same (1024 + index) k e) ∙ t)) o
+      by k o true t = owned_here ps index p s' k there lives (same_at numbers (1024 + index) k t)
+      by k o false t =
+          owned_elsewhere ps index (Server s') k (λ e. true≢false (sym (at_same numbers (1024 + index) k e) ∙ t)) o
 
 -- an end of the server replaced by another with the same record
 same_end : (ps : List Player) (index : ℕ) (s : Served) (k : ℕ) → slice_get ps index ≡ Some (Server s) →
@@ -87,10 +89,11 @@ same_owned ps index s s' held there e all =
       by : (k : ℕ) → IsOwned ps k → (b : Bool) → is_at (nat_cmp (1024 + index)) k ≡ b →
           IsOwned (slice_set ps index (Server s')) k
       by k o true t =
-          let is = same_at (1024 + index) k t in
+          let is = same_at numbers (1024 + index) k t in
           owned_here ps index (Server s) s' k there
           (e ∙ (ap (λ (q : Served). q.ended) (sym (same_end ps index s k there is o)) ∙ o.lives)) is
-      by k o false t = owned_elsewhere ps index (Server s') k (λ f. true≢false (sym (at_same (1024 + index) k f) ∙ t)) o
+      by k o false t =
+          owned_elsewhere ps index (Server s') k (λ f. true≢false (sym (at_same numbers (1024 + index) k f) ∙ t)) o
 
 -- and one that was removed from it
 pub closed_owned : (ps : List Player) (port index : ℕ) (p' : Player) (held : List (ℕ × Transfer)) →

@@ -1,5 +1,5 @@
 -- The effect of a turn at one index on all ends of a world, and on the world.
-use Rattle.std.proofs.Common.{◌≡◌, ℕ, suc, zero, ◌+◌, ◌<◌, ◌≤◌, Bool, true, false, List, [], ◌∷◌, ◌++◌, length, Option}
+use Rattle.std.proofs.Common.{◌≡◌, ℕ, suc, ◌+◌, ◌<◌, ◌≤◌, Bool, true, false, List, [], ◌∷◌, ◌++◌, length, Option}
 use Rattle.std.proofs.Common.{Some, None, refl, sym, ap, ◌∙◌, subst, arith, inl, inr}
 use Rattle.std.specs.Prelude.{◌⊎◌, is_some, slice_get, slice_set, slice_index_or, option_map}
 use Rattle.std.proofs.lemmas.Bool.{true≢false}
@@ -24,7 +24,7 @@ use Rattle.tftp_server.specs.declared.config.Config.{Config}
 use Rattle.tftp_rules.specs.Machine.{Endpoint}
 use Rattle.tftp_player.specs.Clients.{server_at}
 use Rattle.tftp_player.specs.Effect.{effect_of, no_effect, said_by, index_after, report_by}
-use Rattle.tftp_player.specs.Played.{served_end, end_at, ends_from, records_from, PlayerKept, IsServed, AllKept}
+use Rattle.tftp_player.specs.Played.{served_end, end_at, ends_from, records_from, PlayerKept, IsServed}
 use Rattle.tftp_player.specs.Played.{PlayerTimeoutStep, has_ended, address_of, client_end}
 use Rattle.tftp_player.specs.Serving.{PlayedServer, Transfer, CommitsLast}
 use Rattle.tftp_player.specs.Exchange.{ends_of, IsStaged, SameStore, EndTimesOut, StageTimeoutStep, record_closed}
@@ -44,7 +44,8 @@ use Rattle.tftp_player.specs.declared.served.Served.{Served}
 use Rattle.tftp_server.specs.Steps.{with_end}
 use Rattle.tftp_store.specs.Store.{Stored, Drafted}
 use Rattle.tftp_player.specs.declared.report.Report.{Report}
-use Rattle.tftp_player.proofs.EndsByPort.{mapped-length, mapped-get, mapped-set, Kept_from, kept-get, kept-set}
+use Rattle.tftp_player.proofs.EndsByPort.{ends_length, ends_get, to_kept, from_kept, kept_at, records_get, records_set}
+use Rattle.tftp_player.proofs.EndsByPort.{mapped-set, kept-set}
 use Rattle.tftp_player.proofs.EndsByPort.{transfers-set, transfers-close}
 use Rattle.tftp_player.proofs.Standing.{standing_record, standing_address, standing_closed}
 use Rattle.tftp_player.proofs.ExchangeLemmas.{by_port, kept_by_port, Stepped, same_kind, client_files, client_steps}
@@ -52,51 +53,6 @@ use Rattle.tftp_player.proofs.ExchangeLemmas.{held_end, served_steps, served_kep
 use Rattle.tftp_player.proofs.ExchangeLemmas.{same_draft_kind, same_armed}
 use Rattle.tftp_player.proofs.StepLemmas.{timeout_step, timeout_stays}
 use Rattle.tftp_player.proofs.TermsKept.{still_known, timeout_has}
-
--- the ends, one after another
-pub ends_length : (held : List (ℕ × Transfer)) (ps : List Player) → length (ends_from 1024 held ps) ≡ length ps
-ends_length held ps = mapped-length end_at ends_from (λ port h. refl) (λ port h p qs. refl) 1024 held ps
-
-pub ends_get : (held : List (ℕ × Transfer)) (ps : List Player) (k : ℕ) (p : Player) → slice_get ps k ≡ Some p →
-    slice_get (ends_from 1024 held ps) k ≡ Some (end_at (1024 + k) held p)
-ends_get held ps k p e = mapped-get end_at ends_from (λ port h. refl) (λ port h q qs. refl) 1024 held ps k p e
-
-pub to_kept : (port : ℕ) (held : List (ℕ × Transfer)) (ps : List Player) → AllKept port held ps →
-    Kept_from PlayerKept port held ps
-to_kept port held [] k = tt
-to_kept port held (p ∷ ps) k = (k.0, to_kept (port + 1) held ps k.1)
-
-pub from_kept : (port : ℕ) (held : List (ℕ × Transfer)) (ps : List Player) → Kept_from PlayerKept port held ps →
-    AllKept port held ps
-from_kept port held [] k = tt
-from_kept port held (p ∷ ps) k = (k.0, from_kept (port + 1) held ps k.1)
-
-pub kept_at : (held : List (ℕ × Transfer)) (ps : List Player) (k : ℕ) (p : Player) → AllKept 1024 held ps →
-    slice_get ps k ≡ Some p → PlayerKept (1024 + k) held p
-kept_at held ps k p all e = kept-get PlayerKept 1024 held ps k p (to_kept 1024 held ps all) e
-
--- the record at an index
-pub records_get : (port : ℕ) (ends : List WorldEnd) (k : ℕ) (x : WorldEnd) → slice_get ends k ≡ Some x →
-    slice_get (records_from port ends) k ≡ Some (port + k, end_record x)
-records_get port [] k x e = absurd (let f : None ≡ Some x = e in cc)
-records_get port (y ∷ ends) zero x e =
-    let same : y ≡ x = cc in
-    let here : port ≡ port + zero = omega arith in
-    ap (λ (z : WorldEnd). Some (port, end_record z)) same ∙ ap (λ (n : ℕ). Some (n, end_record x)) here
-records_get port (y ∷ ends) (suc k) x e =
-    let there : port + 1 + k ≡ port + suc k = omega arith in
-    records_get (port + 1) ends k x e ∙ ap (λ (n : ℕ). Some (n, end_record x)) there
-
-pub records_set : (port : ℕ) (ends : List WorldEnd) (k : ℕ) (y : WorldEnd) →
-    records_from port (slice_set ends k y) ≡ slice_set (records_from port ends) k (port + k, end_record y)
-records_set port [] k y = refl
-records_set port (x ∷ ends) zero y =
-    let here : port ≡ port + zero = omega arith in
-    ap (λ (n : ℕ). (n, end_record y) ∷ records_from (port + 1) ends) here
-records_set port (x ∷ ends) (suc k) y =
-    let there : port + 1 + k ≡ port + suc k = omega arith in
-    ap (λ (rs : List (ℕ × Record)). (port, end_record x) ∷ rs) (records_set (port + 1) ends k y)
-    ∙ ap (λ (n : ℕ). (port, end_record x) ∷ slice_set (records_from (port + 1) ends) k (n, end_record y)) there
 
 -- ---- a turn at one index
 module _ (index : ℕ) (before after : PlayedServer) (ps : List Player) (p : Player) (x : OpenEnd) (p' : Player)

@@ -1,6 +1,6 @@
 -- What is visible of what the server's request port did.
 use Rattle.std.proofs.Common.{◌≡◌, ℕ, Bool, true, false, List, [], ◌∷◌, Option, Some, None, Result, Ok, Err, refl, sym}
-use Rattle.std.proofs.Common.{ap, ◌∙◌, inl, inr}
+use Rattle.std.proofs.Common.{ap, ◌∙◌, inl, inr, rules}
 use Rattle.std.specs.Prelude.{◌⊎◌, ◌*◌, if◌then◌else◌, nat_lt, nat_le, is_some, option_map}
 use Rattle.tftp_wire.specs.declared.mode.Mode.{Mode}
 use Rattle.tftp_wire.specs.declared.options.RawOption.{RawOption}
@@ -171,67 +171,15 @@ pub new_sender :
     (w : WorldState) (from : Endpoint) (bytes : List ℕ) (mode : Mode) (path file : List ℕ) (agreed : List Known) →
     IsNewEnd w from (new_served mode path file) (held_sender (sending_end w from bytes mode path file agreed))
     (sending_end w from bytes mode path file agreed)
-new_sender w from bytes mode path file [] = record {
-  state = refl;
-  end = refl;
-  address = refl;
-  still = refl;
-  to = refl;
-  side = refl;
-  files = refl;
-  commits = tt;
-  known = refl;
-  mode = refl;
-  path = refl;
-  ended = refl;
-}
-new_sender w from bytes mode path file (known ∷ agreed) = record {
-  state = refl;
-  end = refl;
-  address = refl;
-  still = refl;
-  to = refl;
-  side = refl;
-  files = refl;
-  commits = tt;
-  known = refl;
-  mode = refl;
-  path = refl;
-  ended = refl;
-}
+new_sender w from bytes mode path file [] = search rules
+new_sender w from bytes mode path file (known ∷ agreed) = search rules
 
 pub new_receiver :
     (w : WorldState) (from : Endpoint) (bytes : List ℕ) (mode : Mode) (path : List ℕ) (agreed : List Known) →
     IsNewEnd w from (new_served mode path []) (held_receiver (receiving_end w from bytes mode path agreed))
     (receiving_end w from bytes mode path agreed)
-new_receiver w from bytes mode path [] = record {
-  state = refl;
-  end = refl;
-  address = refl;
-  still = refl;
-  to = refl;
-  side = refl;
-  files = refl;
-  commits = λ _. refl;
-  known = refl;
-  mode = refl;
-  path = refl;
-  ended = refl;
-}
-new_receiver w from bytes mode path (known ∷ agreed) = record {
-  state = refl;
-  end = refl;
-  address = refl;
-  still = refl;
-  to = refl;
-  side = refl;
-  files = refl;
-  commits = λ _. refl;
-  known = refl;
-  mode = refl;
-  path = refl;
-  ended = refl;
-}
+new_receiver w from bytes mode path [] = search rules
+new_receiver w from bytes mode path (known ∷ agreed) = search rules
 
 -- ---- what the port did, by what it returned
 module _ (w : WorldState) (asking : PortAsking) (result : PortLeft) where

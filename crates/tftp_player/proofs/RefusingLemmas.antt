@@ -34,7 +34,8 @@ use Rattle.tftp_player.specs.declared.player.Player.TheVariants.{Client, Server}
 use Rattle.tftp_player.specs.declared.served.Served.{Served}
 use Rattle.tftp_player.proofs.OwnedLemmas.{AllOwned, client_owned, same_owned}
 use Rattle.tftp_player.proofs.EndsByPort.{mapped-set, kept-set, transfers-set}
-use Rattle.tftp_player.proofs.PlayLemmas.{ends_get, kept_at, list_get, to_kept, from_kept, records_get, records_set}
+use Rattle.tftp_player.proofs.EndsByPort.{ends_get, kept_at, to_kept, from_kept, records_get, records_set}
+use Rattle.tftp_player.proofs.PlayLemmas.{list_get}
 use Rattle.tftp_player.proofs.Standing.{standing_open, standing_closed}
 use Rattle.tftp_player.proofs.ExchangeLemmas.{by_port, kept_by_port}
 use Rattle.tftp_player.proofs.StepLemmas.{refuse_step}

@@ -26,7 +26,7 @@ use Rattle.tftp_player.specs.declared.player.Player.TheVariants.{Client, Server}
 use Rattle.tftp_player.specs.declared.served.Served.{Served}
 use Rattle.tftp_player.proofs.UnansweredLemmas.{any_at}
 use Rattle.tftp_player.proofs.HeldLemmas.{all_both, each_found}
-use Rattle.tftp_player.proofs.PlayLemmas.{ends_get, kept_at}
+use Rattle.tftp_player.proofs.EndsByPort.{ends_get, kept_at}
 
 module _ (from : Endpoint) (packet : Packet) where
   -- a transfer that is found is one of them

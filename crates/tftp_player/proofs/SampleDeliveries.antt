@@ -28,7 +28,7 @@ use Rattle.tftp_ends.specs.Step.{Turn, Done, AcksAgain, Acts, Appended, GoesOn, 
 use Rattle.tftp_ends.specs.Step.{filled_turn, response_turn, sent_turn, ack_bytes}
 use Rattle.tftp_ends.specs.Text.{Decoded}
 use Rattle.tftp_rules.specs.OpenEnds.{OpenEnd, files_of, holding_of, end_after}
-use Rattle.tftp_player.specs.World.{WorldState, WorldEnd, Open_end, Closed_end, StoredFile, datagram, file_at}
+use Rattle.tftp_player.specs.World.{WorldState, WorldEnd, Open_end, Closed_end, StoredFile, file_at}
 use Rattle.tftp_player.specs.World.{in_the_way, has_committed, no_report, report_of, world_after}
 use Rattle.tftp_player.specs.WorldRuns.{PlaysAll}
 use Rattle.tftp_player.specs.WorldSteps.{FilesAfter, Settles, At_open_end, WorldStep, may_refuse_commit, world_sink}

@@ -23,6 +23,7 @@ use Rattle.tftp_server.specs.State.{at, with_next, draft_of, is_closed}
 use Rattle.tftp_server.specs.Steps.{StepIn, TimesOutLent, TakesDatagramLent, KeepsHeld, with_end}
 use Rattle.tftp_store.specs.Store.{Stored, Drafted, FileList, new_draft}
 use Rattle.tftp_rules.specs.Machine.{Endpoint}
+use Rattle.tftp_rules.proofs.Entries.{lookup-set_same, numbers}
 use Rattle.tftp_player.specs.Clients.{server_at}
 use Rattle.tftp_player.specs.Effect.{effect_of}
 use Rattle.tftp_player.specs.Serving.{server_armed, PlayedServer, Transfer, ServedKept, ServedTurns, ServedTimeoutStep}
@@ -31,7 +32,6 @@ use Rattle.tftp_player.specs.Serving.{concluded_held}
 use Rattle.tftp_player.specs.Room.{AgreesWithin, answer_room}
 use Rattle.tftp_player.specs.declared.effect.Effect.{Effect}
 use Rattle.tftp_player.specs.declared.served.Served.{Served}
-use Rattle.tftp_player.proofs.HeldLemmas.{at-with_next}
 use Rattle.tftp_player.proofs.RoomLemmas.{answer_short, known_agrees, timeout_short}
 
 -- a transfer that made a step has closed as the step returned
@@ -40,7 +40,7 @@ pub closes_as : (port : ℕ) (h next : Transfer) (held held' : List (ℕ × Tran
     step ≡ reported h.end turn →
     ClosesAs step.closed (at port held')
 closes_as port h next held held' turn step found e is reports =
-    subst (ClosesAs step.closed) (sym (ap (at port) e ∙ at-with_next port h next held found))
+    subst (ClosesAs step.closed) (sym (ap (at port) e ∙ lookup-set_same numbers port h next held found))
     (ap (λ (s : Step). s.closed) reports ∙ ap (λ (e : EndState). outcome_of e.position.phase) (sym is))
 
 pub times_out_closes : (port : ℕ) (old new : List (ℕ × Transfer)) (step : Step) (outgoing : Outgoing) →
@@ -113,11 +113,12 @@ served_times_out port old new before mid after step outgoing out effect r t rest
     t.held ∙ ap (λ (e : EndState). with_next port (with_end e t.transfer) before.held) t.carries.state in
     let lends =
     sent_is outgoing (at port mid.held) (with_end t.end t.transfer) out r
-    (ap (at port) t.held ∙ at-with_next port t.transfer (with_end t.end t.transfer) before.held t.found) sent in (
+    (ap (at port) t.held ∙ lookup-set_same numbers port t.transfer (with_end t.end t.transfer) before.held t.found)
+    sent in (
       t.transfer,
       t.found,
       turns_served port old old new before mid after t.transfer.end turn next old.refuses before.store effect r refl
-          (ap (at port) held ∙ at-with_next port t.transfer next before.held t.found)
+          (ap (at port) held ∙ lookup-set_same numbers port t.transfer next before.held t.found)
           (rest ∙ ap (λ (held : List (ℕ × Transfer)). record before { held = held }) held)
           refl
           c
@@ -140,7 +141,7 @@ fits_last port old new step outgoing capacity last t lends room =
     let same : length (lent outgoing t.end) ≡ length (reply_bytes (timeout_turn t.transfer.end).reply) =
     ap length t.carries.bytes in
     subst (λ (o : Option Transfer). IsRoomFor outgoing o capacity)
-    (sym (ap (at port) t.held ∙ at-with_next port t.transfer (with_end t.end t.transfer) old t.found))
+    (sym (ap (at port) t.held ∙ lookup-set_same numbers port t.transfer (with_end t.end t.transfer) old t.found))
     (let l : length last ≡ length t.transfer.end.position.last_sent = ap length is in
     omega (arith, short, same, l, room))
 
@@ -191,7 +192,7 @@ fits_room port from bytes was before armed mid quieted step outgoing r capacity 
     subst (λ (o : Option Transfer). IsRoomFor outgoing o capacity)
     (sym
     (ap (λ (s : PlayedServer). at port s.held) quiet
-    ∙ (ap (at port) t.held ∙ at-with_next port t.transfer t.next before.held t.found)))
+    ∙ (ap (at port) t.held ∙ lookup-set_same numbers port t.transfer t.next before.held t.found)))
     (omega (arith, lends, same, short, room))
 
 module _ (port : ℕ) (from : Endpoint) (bytes : List ℕ) (was old new : Served) (before mid quieted after : PlayedServer)
@@ -207,7 +208,7 @@ module _ (port : ℕ) (from : Endpoint) (bytes : List ℕ) (was old new : Served
   steps_so t sent rest armed_so quiet c made =
       let found : at port quieted.held ≡ Some t.next =
       ap (λ (s : PlayedServer). at port s.held) quiet
-      ∙ (ap (at port) t.held ∙ at-with_next port t.transfer t.next before.held t.found) in
+      ∙ (ap (at port) t.held ∙ lookup-set_same numbers port t.transfer t.next before.held t.found) in
       let lends = sent_is outgoing (at port quieted.held) t.next out r found sent in
       record {
         transfer = t.transfer;

@@ -26,7 +26,8 @@ use Rattle.tftp_player.specs.declared.datagram.Datagram.{Datagram}
 use Rattle.tftp_player.specs.declared.player.Player.{Player}
 use Rattle.tftp_player.specs.declared.player.Player.TheVariants.{Client, Server}
 use Rattle.tftp_player.specs.declared.served.Served.{Served}
-use Rattle.tftp_player.proofs.PlayLemmas.{ends_length, ends_get, kept_at, list_get}
+use Rattle.tftp_player.proofs.EndsByPort.{ends_length, ends_get, kept_at}
+use Rattle.tftp_player.proofs.PlayLemmas.{list_get}
 use Rattle.tftp_player.proofs.Standing.{stands_as}
 use Rattle.tftp_player.proofs.ExchangeLemmas.{has_draft}
 

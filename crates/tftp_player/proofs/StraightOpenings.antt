@@ -38,7 +38,7 @@ use Rattle.tftp_rules.specs.EndKept.{HeldBackFits}
 use Rattle.tftp_rules.proofs.WaitingMoves.{agreed_size}
 use Rattle.tftp_rules.proofs.SaidLemmas.{spells_own, own_oack, taken_oack}
 use Rattle.tftp_player.specs.Openings.{reading_client, writing_client, sending_end, receiving_end}
-use Rattle.tftp_player.specs.Straight.{IsAccepted, IsThrough, Ends, ReadsStraight, WritesStraight, ReadsComplete}
+use Rattle.tftp_player.specs.Straight.{IsAccepted, Ends, ReadsStraight, WritesStraight, ReadsComplete}
 use Rattle.tftp_player.specs.Straight.{WritesComplete, read_count, write_count}
 use Rattle.tftp_player.specs.World.{WorldState, StoredFile, file_at, datagram, WorldEnd, Open_end}
 use Rattle.tftp_player.specs.WorldKept.{Refines}
@@ -49,9 +49,10 @@ use Rattle.tftp_player.specs.declared.report.Report.{Report}
 use Rattle.tftp_rules.proofs.EndOpenings.{nothing_held}
 use Rattle.tftp_rules.proofs.Granted.{answer_granted}
 use Rattle.tftp_rules.proofs.Indices.{slice_get-push_old, slice_get-push_new}
+use Rattle.tftp_player.proofs.RunsLeft.{IsLeft, Reaches, walks, reader_ends, writer_ends}
 use Rattle.tftp_player.proofs.StraightActions.{from_server, data_next, block_within}
 use Rattle.tftp_player.proofs.StraightPort.{HasAsked, has_asked, port_comes, has_opened, accepted_answers}
-use Rattle.tftp_player.proofs.StraightRuns.{IsLeft, Reaches, walks, IsReady, ready_next, IsOver, stays_at, set_at}
+use Rattle.tftp_player.proofs.StraightRuns.{IsReady, ready_next, stays_at, set_at}
 use Rattle.tftp_player.proofs.StraightRuns.{SendsAt, AwaitsAt, fit_of, next_is_stored, awaits_now, ack_ready}
 use Rattle.tftp_player.proofs.StraightRuns.{ack_sender, ack_receiver, from_data}
 use Rattle.tftp_player.proofs.StraightSteps.{ports_of, delivered, handles_send, handles_oack}
@@ -120,45 +121,6 @@ before_next k e = omega (arith, e)
 
 next_is_other : (k : ℕ) → k + 1 ≢ k
 next_is_other k e = omega (arith, e)
-
--- ---- the end
-reader_through : (old new : WorldState) (count : ℕ) →
-    IsOver new (length old.ends + 1) (length old.ends) (length old.sent + count) → IsThrough old new count
-reader_through old new count o =
-    record {
-      client = o.y;
-      server = o.x;
-      client_at = o.y_at;
-      server_at = o.x_at;
-      client_done = o.y_done;
-      server_done = o.x_done;
-      counted = o.counted;
-    }
-
-writer_through : (old new : WorldState) (count : ℕ) →
-    IsOver new (length old.ends) (length old.ends + 1) (length old.sent + count) → IsThrough old new count
-writer_through old new count o =
-    record {
-      client = o.x;
-      server = o.y;
-      client_at = o.x_at;
-      server_at = o.y_at;
-      client_done = o.x_done;
-      server_done = o.y_done;
-      counted = o.counted;
-    }
-
-reader_ends : (old new : WorldState) (made n count : ℕ) → n ≡ count →
-    Reaches new (length old.ends + 1) (length old.ends) (length old.sent) made n → Ends old new made count
-reader_ends old new made n count is r =
-    subst (λ (c : ℕ). Ends old new made c) is
-    (record { few = r.few; goes_on = r.goes_on; through = λ e. reader_through old new n (r.over e) })
-
-writer_ends : (old new : WorldState) (made n count : ℕ) → n ≡ count →
-    Reaches new (length old.ends) (length old.ends + 1) (length old.sent) made n → Ends old new made count
-writer_ends old new made n count is r =
-    subst (λ (c : ℕ). Ends old new made c) is
-    (record { few = r.few; goes_on = r.goes_on; through = λ e. writer_through old new n (r.over e) })
 
 get_may : (strangers : Bool) (name : List ℕ) (mode : Mode) (asked : Asked) → MayHappen strangers (Get name mode asked)
 get_may true name mode asked = tt

@@ -13,8 +13,6 @@ use Rattle.tftp_wire.specs.Spelling.{Spells}
 use Rattle.tftp_wire.proofs.SpellingLemmas.{one_meaning, spelled_has_no_fault}
 use Rattle.tftp_server.specs.declared.config.Config.{Config}
 use Rattle.tftp_negotiate.specs.Ranges.{IsBlockSize}
-use Rattle.tftp_ends.specs.declared.phase.Phase.{Phase}
-use Rattle.tftp_ends.specs.declared.phase.Phase.TheVariants.{Waiting, Sending, Receiving, Dallying, Closed}
 use Rattle.tftp_ends.specs.End.{is_sender, is_client}
 use Rattle.tftp_ends.specs.Action.{Decodes}
 use Rattle.tftp_ends.specs.Step.{timeout_turn}
@@ -23,7 +21,6 @@ use Rattle.tftp_rules.specs.Machine.{Endpoint, Elsewhere, Message}
 use Rattle.tftp_rules.specs.Rules.{Rule, message}
 use Rattle.tftp_rules.specs.Said.{said}
 use Rattle.tftp_rules.specs.OpenEnds.{OpenEnd, files_of, open_view}
-use Rattle.tftp_rules.specs.EndKept.{PhaseKept}
 use Rattle.tftp_rules.specs.EndShown.{Stands, IsOpenAt, IsThere}
 use Rattle.tftp_rules.proofs.Actions.{strays}
 use Rattle.tftp_rules.proofs.SaidLemmas.{says_spelled}
@@ -44,6 +41,7 @@ use Rattle.tftp_rules.proofs.Indices.{slice_get-set_cases}
 use Rattle.tftp_player.proofs.Standing.{open_is}
 use Rattle.tftp_rules.proofs.Shown.{shown_start, shown_within}
 use Rattle.tftp_rules.proofs.ViewSafe.{shown_at_home}
+use Rattle.tftp_rules.proofs.EndMoves.{end_armed as kept_armed}
 use Rattle.tftp_player.proofs.KnownSteps.{from_server, known_step}
 use Rattle.tftp_player.proofs.WorldTurns.{ports_set, nothing_in, one_in, turn_keeps, view_at}
 use Rattle.tftp_player.proofs.WorldKeeps.{reading_keeps, writing_keeps, serving_keeps, asked_so, stays_ok, none_more}
@@ -150,35 +148,13 @@ armed_view : (x : WorldEnd) → view_of_end (armed_end x) ≡ view_of_end x
 armed_view (Open_end x) = armed_open (is_sender x.state.role.side) x
 armed_view (Closed_end x) = refl
 
-phase_armed : (phase : Phase) (x : OpenEnd) → PhaseKept two_hosts x phase →
-    PhaseKept two_hosts (record x { refuses = true }) phase
-phase_armed (Waiting asked limit) x h = h
-phase_armed (Sending terms number) x h = record {
-  sender = h.sender;
-  positive = h.positive;
-  size = h.size;
-  fits = h.fits;
-  so_far = h.so_far;
-  left = h.left;
-  last_sent_to = h.last_sent_to;
-  measured = h.measured;
-}
-phase_armed (Receiving terms number) x h = h
-phase_armed (Dallying terms number dally) x h = h
-phase_armed (Closed terms number complete outcome) x h = tt
-
 armed_kept : (w : WorldState) (b : Bool) (x : OpenEnd) → IsKeptIn w (Open_end x) →
     IsKeptIn w (Open_end (if b then x else record x { refuses = true }))
 armed_kept w true x h = h
 armed_kept w false x h = record {
   stands = record {
     still = h.stands.still;
-    kept =
-        record {
-          phase = phase_armed x.state.position.phase x h.stands.kept.phase;
-          held_back = h.stands.kept.held_back;
-          committed = h.stands.kept.committed;
-        };
+    kept = kept_armed two_hosts x true h.stands.kept;
     last_sent = h.stands.last_sent;
   };
   stored = h.stored;
