@@ -9,6 +9,7 @@ use Rattle.tftp_player.specs.declared.fault.WorldFault.TheVariants.{NoSuchDatagr
 use Rattle.tftp_player.specs.declared.fault.WorldFault.TheVariants.{Memory}
 use Rattle.tftp_wire.specs.declared.mode.Mode.{Mode}
 use Rattle.tftp_negotiate.specs.declared.asked.Asked.{Asked}
+use Rattle.tftp_negotiate.specs.declared.limits.Limits.{Limits}
 use Rattle.tftp_file.specs.Netascii.{wire_text}
 use Rattle.tftp_ends.specs.declared.record.Record.{Record}
 use Rattle.tftp_ends.specs.End.{is_client, record_of}
@@ -22,11 +23,12 @@ use Rattle.tftp_player.specs.PlayedClient.{PlayedClient}
 use Rattle.tftp_player.specs.Played.{client_end, end_at, ends_from, records_from, PlayerKept}
 use Rattle.tftp_player.specs.Requests.{open_transfers}
 use Rattle.tftp_player.specs.Serving.{PlayedServer}
-use Rattle.tftp_player.specs.Exchange.{ends_of, IsStaged, Enters, world_of}
+use Rattle.tftp_player.specs.Exchange.{ends_of, IsStaged, IsSetup, Enters, world_of}
 use Rattle.tftp_player.specs.World.{WorldState, next_port, sent_report, opened_in, WorldEnd, Open_end, end_record}
 use Rattle.tftp_player.specs.World.{standing}
 use Rattle.tftp_player.specs.WorldSteps.{WorldStep, HasPort}
 use Rattle.tftp_player.specs.Openings.{reading_client, writing_client}
+use Rattle.tftp_player.specs.declared.client.ClientSetup.{ClientSetup}
 use Rattle.tftp_player.specs.declared.datagram.Datagram.{Datagram}
 use Rattle.tftp_player.specs.declared.effect.Effect.{Effect}
 use Rattle.tftp_player.specs.declared.event.Event.{Event}
@@ -169,57 +171,52 @@ opens_so w event c effect port report new x is effects e step =
     }) is)))
     step)
 
-module _ (config : Config) (sent : List Datagram) (server : PlayedServer) (ps : List Player)
-    (records : List (ℕ × Record)) (old : WorldState)
-    (view : world_of config sent server ps ≡ old) (staged : IsStaged server ps records) (name : List ℕ) (mode : Mode)
-    (asked : Asked) (c : PlayedClient) (effect : Effect) (port : ℕ)
-    (at : port ≡ next_port old) (fits : port < 65536) (report : Report) (new : WorldState) where
-  has : HasPort old
-  has = let p = at in omega (arith, p, fits)
-
+module _ (old : WorldState) (setup : ClientSetup) (s : IsSetup old setup) (name : List ℕ) (mode : Mode) (asked : Asked)
+    (c : PlayedClient) (effect : Effect) (report : Report) (new : WorldState) where
   -- a client sent a read request
   pub got : MayGet name mode asked →
-      c ≡ asking_client (getting request_port name mode asked config.limits.max_file config.retries) →
-      effect ≡ asking_effect port name mode asked →
-      Enters old port c effect report new → WorldStep old (Get name mode asked) report new
+      c ≡ asking_client (getting request_port name mode asked setup.config.limits.max_file setup.config.retries) →
+      effect ≡ asking_effect setup.port name mode asked →
+      Enters old setup.port c effect report new → WorldStep old (Get name mode asked) report new
   got can client effects e =
       let x = reading_client old name mode asked in
       let own : c ≡ asking_client (getting request_port name mode asked old.limits.max_file old.retries) =
-      subst (λ (w : WorldState). c ≡ asking_client (getting request_port name mode asked w.limits.max_file w.retries))
-      view client in
-      let is : standing (client_end port c) ≡ Open_end x =
-      ap (λ (k : PlayedClient). standing (client_end port k)) own
+      client
+      ∙ (ap (λ (l : Limits). asking_client (getting request_port name mode asked l.max_file setup.config.retries))
+      s.limits
+      ∙ ap (λ (n : ℕ). asking_client (getting request_port name mode asked old.limits.max_file n)) s.retries) in
+      let is : standing (client_end setup.port c) ≡ Open_end x =
+      ap (λ (k : PlayedClient). standing (client_end setup.port k)) own
       ∙ ap Open_end
-      (ap (λ (n : ℕ). getting_client n name mode asked old.limits.max_file old.retries) at
+      (ap (λ (n : ℕ). getting_client n name mode asked old.limits.max_file old.retries) s.port
       ∙ sym (reading_is old name mode asked)) in
-      opens_so old (Get name mode asked) c effect port report new x is
-      (effects ∙ ap (λ (n : ℕ). asking_effect n name mode asked) at) e
-      (get_step old name mode asked has can)
+      opens_so old (Get name mode asked) c effect setup.port report new x is
+      (effects ∙ ap (λ (n : ℕ). asking_effect n name mode asked) s.port) e
+      (get_step old name mode asked s.has can)
 
   -- a client sent a write request
   pub has_put : (file : List ℕ) → MayPut name mode asked (length (wire_text mode file)) →
       c ≡ sending_client
-      (putting request_port name mode asked (length (wire_text mode file)) config.limits.max_file config.retries)
-      (wire_text mode file) file →
-      effect ≡ sending_effect port name mode asked → Enters old port c effect report new →
+      (putting request_port name mode asked (length (wire_text mode file)) setup.config.limits.max_file
+      setup.config.retries) (wire_text mode file) file →
+      effect ≡ sending_effect setup.port name mode asked → Enters old setup.port c effect report new →
       WorldStep old (Put name mode asked file) report new
   has_put file can client effects e =
       let text = wire_text mode file in
       let x = writing_client old name mode asked file in
-      let own : c
-      ≡ sending_client (putting request_port name mode asked (length text) old.limits.max_file old.retries) text file =
-      subst
-      (λ (w : WorldState). c
-      ≡ sending_client (putting request_port name mode asked (length text) w.limits.max_file w.retries) text file) view
-      client in
-      let is : standing (client_end port c) ≡ Open_end x =
-      ap (λ (k : PlayedClient). standing (client_end port k)) own
+      let by : ℕ → ℕ → PlayedClient = λ (most retries : ℕ).
+      sending_client (putting request_port name mode asked (length text) most retries) text file in
+      let own : c ≡ by old.limits.max_file old.retries =
+      client
+      ∙ (ap (λ (l : Limits). by l.max_file setup.config.retries) s.limits ∙ ap (by old.limits.max_file) s.retries) in
+      let is : standing (client_end setup.port c) ≡ Open_end x =
+      ap (λ (k : PlayedClient). standing (client_end setup.port k)) own
       ∙ ap Open_end
-      (ap (λ (n : ℕ). putting_client n name mode asked file old.limits.max_file old.retries) at
+      (ap (λ (n : ℕ). putting_client n name mode asked file old.limits.max_file old.retries) s.port
       ∙ sym (writing_is old name mode asked file)) in
-      opens_so old (Put name mode asked file) c effect port report new x is
-      (effects ∙ ap (λ (n : ℕ). sending_effect n name mode asked) at) e
-      (put_step old name mode asked file has can)
+      opens_so old (Put name mode asked file) c effect setup.port report new x is
+      (effects ∙ ap (λ (n : ℕ). sending_effect n name mode asked) s.port) e
+      (put_step old name mode asked file s.has can)
 
 pub no_port :
     (config : Config) (sent : List Datagram) (server : PlayedServer) (ps : List Player) (old : WorldState) (count : ℕ) →

@@ -19,9 +19,10 @@ use Rattle.tftp_rules.specs.Machine.{Endpoint}
 use Rattle.tftp_player.specs.World.{WorldState, ClosedEnd, WorldEnd, Open_end, Closed_end}
 use Rattle.tftp_player.specs.World.{end_record, end_address, end_stored, end_committed, StoredFile}
 use Rattle.tftp_player.specs.World.{file_at, in_the_way, has_committed}
-use Rattle.tftp_player.specs.World.{standing}
-use Rattle.tftp_player.specs.WorldSteps.{EndStep, FilesAfter}
+use Rattle.tftp_player.specs.World.{next_port, standing}
+use Rattle.tftp_player.specs.WorldSteps.{EndStep, FilesAfter, HasPort}
 use Rattle.tftp_server.specs.declared.config.Config.{Config}
+use Rattle.tftp_player.specs.declared.client.ClientSetup.{ClientSetup}
 use Rattle.tftp_player.specs.declared.datagram.Datagram.{Datagram}
 use Rattle.tftp_player.specs.declared.effect.Effect.{Effect}
 use Rattle.tftp_player.specs.declared.ends.Ends.{Ends}
@@ -131,6 +132,13 @@ world_of config sent server players =
       cap = config.cap;
       overwrite = config.overwrite;
     }
+
+-- what a world gives its next client
+pub record IsSetup (w : WorldState) (setup : ClientSetup) : Type 0 where
+  pub port : setup.port ≡ next_port w
+  pub has : HasPort w
+  pub limits : setup.config.limits ≡ w.limits
+  pub retries : setup.config.retries ≡ w.retries
 
 -- another client opened, at this port, and sent this
 pub record Enters (old : WorldState) (port : ℕ) (c : PlayedClient) (effect : Effect)

@@ -24,6 +24,14 @@ use tftp_file::{Files, MAX_WIRE, MemSource, SharedBytes, wire_length_within};
 use tftp_negotiate::Asked;
 use tftp_wire::{Bytes, Mode};
 
+/// What a world gives a client that opens.
+#[derive(Clone, Copy)]
+pub(crate) struct ClientSetup {
+    pub(crate) alloc: Global,
+    pub(crate) port: u16,
+    pub(crate) config: EndConfig,
+}
+
 /// A client, with its source if it sends and its shelf if it receives.
 #[derive(Drop)]
 pub(crate) struct Client {
@@ -51,31 +59,37 @@ impl Model for Client {
 impl Client {
     /// A client that asks the server for a file, and its request.
     pub(crate) fn get(
-        alloc: Global,
-        port: u16,
+        setup: ClientSetup,
         name: &[u8],
         mode: Mode,
         asked: &Asked,
-        config: &EndConfig,
     ) -> Result<(Client, Effect), WorldFault>
         ensures client { IfOk result (λ opened.
             opened.0 ≡ asking_client (getting request_port name.now mode asked.now
-            config.now.limits.max_file config.now.retries)) }
+            setup.config.limits.max_file setup.config.retries)) }
         ensures effect { IfOk result (λ opened.
-            opened.1 ≡ asking_effect port name.now mode asked.now) }
+            opened.1 ≡ asking_effect setup.port name.now mode asked.now) }
         ensures ok { OnOk result (MayGet name.now mode asked.now) }
         ensures refused { IfErr result (AskRefuses (MayGet name.now mode asked.now)) }
     {
-        let mut out = Vec::new(alloc);
-        match End::get(alloc, REQUEST_PORT, name, mode, asked, config, &mut out) {
+        let mut out = Vec::new(setup.alloc);
+        match End::get(
+            setup.alloc,
+            REQUEST_PORT,
+            name,
+            mode,
+            asked,
+            &setup.config,
+            &mut out,
+        ) {
             Ok((end, step)) => Ok((
                 Client {
                     end,
-                    files: Files::Sink(ClientSink::new(alloc)),
+                    files: Files::Sink(ClientSink::new(setup.alloc)),
                     file: SharedBytes::new(),
                     max_block: largest_block(asked),
                 },
-                effect_of(client_at(port), step, out),
+                effect_of(client_at(setup.port), step, out),
             )),
             Err(fault) => Err(open_fault(fault)),
         }
@@ -83,34 +97,32 @@ impl Client {
 
     /// A client that sends this file to the server, and its request.
     pub(crate) fn put(
-        alloc: Global,
-        port: u16,
+        setup: ClientSetup,
         name: &[u8],
         mode: Mode,
         asked: &Asked,
         file: Bytes,
-        config: &EndConfig,
     ) -> Result<(Client, Effect), WorldFault>
         ensures client { IfOk result (λ opened.
             opened.0 ≡ sending_client (putting request_port name.now mode asked.now
-            (length (wire_text mode file)) config.now.limits.max_file config.now.retries)
+            (length (wire_text mode file)) setup.config.limits.max_file setup.config.retries)
             (wire_text mode file) file) }
         ensures effect { IfOk result (λ opened.
-            opened.1 ≡ sending_effect port name.now mode asked.now) }
+            opened.1 ≡ sending_effect setup.port name.now mode asked.now) }
         ensures ok { OnOk result (MayPut name.now mode asked.now (length (wire_text mode file))) }
         ensures refused { IfErr result
             (AskRefuses (MayPut name.now mode asked.now (length (wire_text mode file)))) }
     {
         let length = wire_length_within(file.as_slice(), mode, MAX_WIRE + 1);
-        let mut out = Vec::new(alloc);
+        let mut out = Vec::new(setup.alloc);
         match End::put(
-            alloc,
+            setup.alloc,
             REQUEST_PORT,
             name,
             mode,
             asked,
             length,
-            config,
+            &setup.config,
             &mut out,
         ) {
             Ok((end, step)) => {
@@ -127,7 +139,7 @@ impl Client {
                         file,
                         max_block: largest_block(asked),
                     },
-                    effect_of(client_at(port), step, out),
+                    effect_of(client_at(setup.port), step, out),
                 ))
             }
             Err(fault) => Err(open_fault(fault)),

@@ -1,14 +1,14 @@
 //! How the clients of a world open.
 
-ghost use Rattle.std.specs.Prelude.{◌≡◌, true, IfOk, IfErr, OnErr};
+ghost use Rattle.std.specs.Prelude.{◌≡◌, ◌<◌, true, IfOk, IfErr, IfSome, IfNone, OnErr};
 ghost use Rattle.tftp_ends.specs.End.{is_client};
-ghost use Rattle.tftp_player.specs.Exchange.{Enters};
+ghost use Rattle.tftp_player.specs.Exchange.{Enters, IsSetup};
 ghost use Rattle.tftp_player.specs.WorldSteps.{WorldRefuses};
 ghost use Rattle.tftp_player.specs.World.{next_port};
 ghost use Rattle.tftp_player.specs.WorldSteps.{WorldStep};
 ghost use Rattle.tftp_player.specs.declared.event.Event.TheVariants.{Get, Put};
 
-use crate::client::Client;
+use crate::client::{Client, ClientSetup};
 use crate::effect::{Effect, write_down};
 use crate::exchange::Exchange;
 use crate::{Report, WorldFault};
@@ -17,6 +17,24 @@ use tftp_negotiate::Asked;
 use tftp_wire::{Bytes, Mode};
 
 impl Exchange {
+    /// What the next client opens with, if a port is left.
+    fn next_client(&self) -> Option<ClientSetup>
+        ensures some { IfSome result (IsSetup self.now) }
+        ensures none { IfNone result (65535 < next_port self.now) }
+    {
+        match self.ends.next_port() {
+            Some(port) => Some(ClientSetup {
+                alloc: self.alloc,
+                port,
+                config: EndConfig {
+                    limits: self.config.limits,
+                    retries: self.config.retries,
+                },
+            }),
+            None => None,
+        }
+    }
+
     /// A client sends a read request.
     pub(super) fn get(
         &mut self,
@@ -29,15 +47,11 @@ impl Exchange {
         ensures refused { IfErr result (WorldRefuses self.old (Get name.now mode asked.now)) }
         ensures err { OnErr result (self.new ≡ self.old) }
     {
-        let Some(port) = self.ends.next_port() else {
+        let Some(setup) = self.next_client() else {
             return Err(WorldFault::NoPort);
         };
-        let config = EndConfig {
-            limits: self.config.limits,
-            retries: self.config.retries,
-        };
-        match Client::get(self.alloc, port, name, mode, asked, &config) {
-            Ok((client, effect)) => self.enter(port, client, effect),
+        match Client::get(setup, name, mode, asked) {
+            Ok((client, effect)) => self.enter(setup.port, client, effect),
             Err(fault) => Err(fault),
         }
     }
@@ -55,15 +69,11 @@ impl Exchange {
         ensures refused { IfErr result (WorldRefuses self.old (Put name.now mode asked.now file)) }
         ensures err { OnErr result (self.new ≡ self.old) }
     {
-        let Some(port) = self.ends.next_port() else {
+        let Some(setup) = self.next_client() else {
             return Err(WorldFault::NoPort);
         };
-        let config = EndConfig {
-            limits: self.config.limits,
-            retries: self.config.retries,
-        };
-        match Client::put(self.alloc, port, name, mode, asked, file, &config) {
-            Ok((client, effect)) => self.enter(port, client, effect),
+        match Client::put(setup, name, mode, asked, file) {
+            Ok((client, effect)) => self.enter(setup.port, client, effect),
             Err(fault) => Err(fault),
         }
     }

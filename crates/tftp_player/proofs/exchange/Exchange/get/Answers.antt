@@ -1,53 +1,32 @@
 -- A client that reads a file opens, or returns the first fault that applies.
-use Rattle.std.proofs.Common.{refl, ◌≡◌, subst, sym}
+use Rattle.std.proofs.Common.{subst, sym}
 use Rattle.std.proofs.lemmas.Result.{IfOk-weaker, IfErr-weaker}
 use Rattle.tftp_ends.specs.Opening.{MayGet}
 use Rattle.tftp_player.specs.Clients.{AskRefuses}
 use Rattle.tftp_player.specs.declared.fault.WorldFault.{WorldFault}
-use Rattle.tftp_player.specs.World.{next_port}
-use Rattle.tftp_player.specs.WorldSteps.{HasPort}
-use Rattle.tftp_player.proofs.OpenedLemmas.{got, no_port, has_port, port_found, get_refused}
+use Rattle.tftp_player.proofs.OpenedLemmas.{got, get_refused}
 use Rattle.tftp_player.proofs.exchange.Exchange.get.Goals as goal
 
-pub returns-in_default-clause-refused : goal.returns-in_default-clause-refused
-returns-in_default-clause-refused c =
-    no_port c.self.inside.config c.self.inside.sent.items c.self.inside.ends.server c.self.inside.ends.players.items _ _
-    c.self.view_is refl c.in_default.ensures.none
-
 pub enter-requires-clause-port : goal.enter-requires-clause-port
-enter-requires-clause-port c =
-    port_found c.self.inside.config c.self.inside.sent.items c.self.inside.ends.server c.self.inside.ends.players.items
-    _ _ c.in-Some.port c.self.view_is refl c.in-Some.ensures.some
+enter-requires-clause-port c = c.in-Some.ensures.some.port
 
 pub returns-in-Ok-clause-steps : goal.returns-in-Ok-clause-steps
 returns-in-Ok-clause-steps c =
-    let at : c.in-Some.port ≡ next_port c.args.self.now =
-    port_found c.self.inside.config c.self.inside.sent.items c.self.inside.ends.server c.self.inside.ends.players.items
-    c.args.self.now _ c.in-Some.port c.self.view_is refl c.in-Some.ensures.some in
     IfOk-weaker c.enter.result _ _
-    (λ report e.
-    got c.self.inside.config c.self.inside.sent.items c.self.inside.ends.server c.self.inside.ends.players.items
-    c.self.inside.ends.records.items c.args.self.now c.self.view_is c.self.invariant.1 c.args.name.now c.args.mode
-    c.args.asked.now c.in-Ok.client c.in-Ok.effect c.in-Some.port
-    at c.in-Some.ensures.fits report c.enter.new.self c.in-Ok.ensures.ok c.in-Ok.ensures.client c.in-Ok.ensures.effect
-    e)
+    (λ report e. got c.args.self.now c.in-Some.setup c.in-Some.ensures.some c.args.name.now c.args.mode
+    c.args.asked.now c.in-Ok.client c.in-Ok.effect report c.enter.new.self c.in-Ok.ensures.ok c.in-Ok.ensures.client
+    c.in-Ok.ensures.effect e)
     c.enter.ensures.enters
 
 pub returns-in-Ok-clause-refused : goal.returns-in-Ok-clause-refused
 returns-in-Ok-clause-refused c =
-    let has : HasPort c.args.self.now =
-    has_port c.self.inside.config c.self.inside.sent.items c.self.inside.ends.server c.self.inside.ends.players.items
-    c.args.self.now _ c.in-Some.port c.self.view_is refl c.in-Some.ensures.some c.in-Some.ensures.fits in
     IfErr-weaker c.enter.result _ _
-    (λ fault e.
-    get_refused c.args.self.now c.args.name.now c.args.mode c.args.asked.now has fault
-    (subst (λ (f : WorldFault). AskRefuses (MayGet c.args.name.now c.args.mode c.args.asked.now) f) (sym e)
+    (λ fault e. get_refused c.args.self.now c.args.name.now c.args.mode c.args.asked.now c.in-Some.ensures.some.has
+    fault (subst (λ (f : WorldFault). AskRefuses (MayGet c.args.name.now c.args.mode c.args.asked.now) f) (sym e)
     c.in-Ok.ensures.ok))
     c.enter.ensures.memory
 
 pub returns-in-Err-clause-refused : goal.returns-in-Err-clause-refused
 returns-in-Err-clause-refused c =
-    get_refused c.args.self.now c.args.name.now c.args.mode c.args.asked.now
-    (has_port c.self.inside.config c.self.inside.sent.items c.self.inside.ends.server c.self.inside.ends.players.items
-    c.args.self.now _ c.in-Some.port c.self.view_is refl c.in-Some.ensures.some c.in-Some.ensures.fits) c.in-Err.fault
+    get_refused c.args.self.now c.args.name.now c.args.mode c.args.asked.now c.in-Some.ensures.some.has c.in-Err.fault
     c.in-Err.ensures.refused
