@@ -1,7 +1,7 @@
 //! What may happen in a world.
 
 ghost use Rattle.std.specs.Prelude.{◌≡◌};
-ghost use Rattle.tftp_player.specs.PlayedWorld.{strayed_after};
+ghost use Rattle.tftp_player.specs.PlayedWorld.{is_stray};
 
 use tftp_ends::Endpoint;
 use tftp_negotiate::Asked;
@@ -42,10 +42,10 @@ pub enum Event {
 }
 
 impl Event {
-    /// Whether a datagram of neither host has arrived after this event.
-    pub(crate) fn strayed_after(&self, strayed: bool) -> bool
-        ensures { result ≡ strayed_after strayed self.now }
+    /// Whether it is a datagram of neither host.
+    pub(crate) fn is_stray(&self) -> bool
+        ensures { result ≡ is_stray self.now }
     {
-        strayed || matches!(self, Event::Stray(..))
+        matches!(self, Event::Stray(..))
     }
 }

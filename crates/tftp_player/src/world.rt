@@ -158,10 +158,10 @@ impl World {
         ensures home { IsHome self.new }
         ensures played { WasPlayed self.new }
     {
-        let strayed = event.strayed_after(self.strayed);
+        let stray = event.is_stray();
         match self.exchange.step(event) {
             Ok(report) => {
-                self.strayed = strayed;
+                self.strayed |= stray;
                 Ok(report)
             }
             Err(fault) => Err(fault),

@@ -1,5 +1,5 @@
 -- A world keeps its invariant after an event, and so it is safe.
-use Rattle.std.proofs.Common.{Bool, subst, sym}
+use Rattle.std.proofs.Common.{Bool, ◌||◌, subst, sym}
 use Rattle.tftp_player.specs.World.{WorldState}
 use Rattle.tftp_player.specs.WorldKept.{Refines}
 use Rattle.tftp_player.proofs.SentLemmas.{sends_each}
@@ -9,7 +9,7 @@ use Rattle.tftp_player.proofs.world.World.apply.Goals as goal
 
 pub invariant_of-self : goal.invariant_of-self
 invariant_of-self c = (
-  subst (λ (strayed : Bool). Refines strayed c.step.new.self) (sym c.strayed_after-strayed.ensures)
+  subst (λ (stray : Bool). Refines (c.self.inside.strayed || stray) c.step.new.self) (sym c.is_stray-stray.ensures)
       (played_keeps c.self.inside.strayed c.self.inside.exchange c.step.new.self c.args.event c.in-Ok.report
       c.self.invariant.0 c.in-Ok.ensures.steps),
   sends_each c.self.inside.exchange c.step.new.self c.args.event c.in-Ok.report c.in-Ok.ensures.steps
@@ -17,10 +17,12 @@ invariant_of-self c = (
 )
 
 pub returns-in-Ok-clause-safe : goal.returns-in-Ok-clause-safe
-returns-in-Ok-clause-safe c = kept_is_safe c.strayed_after-strayed.result c.step.new.self (invariant_of-self c).0
+returns-in-Ok-clause-safe c =
+    kept_is_safe (c.self.inside.strayed || c.is_stray-stray.result) c.step.new.self (invariant_of-self c).0
 
 pub returns-in-Ok-clause-home : goal.returns-in-Ok-clause-home
-returns-in-Ok-clause-home c = home_of c.strayed_after-strayed.result c.step.new.self (invariant_of-self c).0
+returns-in-Ok-clause-home c =
+    home_of (c.self.inside.strayed || c.is_stray-stray.result) c.step.new.self (invariant_of-self c).0
 
 pub returns-in-Err-clause-safe : goal.returns-in-Err-clause-safe
 returns-in-Err-clause-safe c =
