@@ -1,6 +1,6 @@
 -- In the end state of the journals what a receiver was handed is what its peer's file gave: the invariant by the run
 -- says it of a text that is padded, and no padding is part of what is claimed.
-use Rattle.std.proofs.Common.{◌≡◌, ℕ, true, false, List, [], length, Option, Some, None, refl, sym, ap, ◌∙◌, subst, inl}
+use Rattle.std.proofs.Common.{◌≡◌, ℕ, true, false, List, [], length, Some, None, refl, sym, ap, ◌∙◌, subst, inl}
 use Rattle.std.proofs.Common.{inr}
 use Rattle.std.specs.Prelude.{◌≢◌, slice_get, option_map}
 use Rattle.std.proofs.lemmas.Bool.{true≢false}
@@ -16,8 +16,8 @@ use Rattle.tftp_ends.specs.End.{EndState, is_client, is_complete, is_sender, rec
 use Rattle.tftp_store.specs.Store.{StoreMeaning}
 use Rattle.tftp_server.specs.State.{TransferState}
 use Rattle.tftp_rules.specs.Facts.{IsServing}
-use Rattle.tftp_rules.specs.Machine.{At_server, Elsewhere, Endpoint, Host, Machine, Party}
-use Rattle.tftp_rules.specs.OpenEnds.{OpenEnd, goes_on, open_view, received_text}
+use Rattle.tftp_rules.specs.Machine.{Elsewhere, Endpoint, Machine, Party}
+use Rattle.tftp_rules.specs.OpenEnds.{OpenEnd, open_view, received_text}
 use Rattle.tftp_rules.specs.Safety.{IsCompleteAt, IsSenderAt}
 use Rattle.tftp_rules.specs.Shows.{EndView, Matches, Shows}
 use Rattle.tftp_rules.specs.ViewSafety.{IsAmong, IsSafeViews, safety_view}
@@ -260,7 +260,7 @@ module _ {S F D G K : Type 0} {stores : StoreMeaning S D} {sources : SourceMeani
       ((by.1.ends (view 0 x s).address m.is_open).serving (m.client ∙ (told.client ∙ client)) p
       (m.peer ∙ (told.peer ∙ peer))).1 in
       let v = view_serving by.0 (by.0.party (view 0 x s).address) p (view 0 x s).address by.3 serves in
-      is_serving v.0 p x.address v.1 v.2 v.3 (v.4 ∙ ap (λ (a : Endpoint). Some a) told.address)
+      is_serving v.0 p x.address v.1 v.2 v.3 (◌∙◌ {a = v.0.peer} v.4 (ap (λ (a : Endpoint). Some a) told.address))
 
   -- a transfer whose peer is ours is at its port
   at_its_port : (port : ℕ) (transfer : TransferState F D) (a p : Endpoint) → HasOpened programs port transfer a →

@@ -3,11 +3,9 @@ use Rattle.std.specs.Prelude.{ℕ, ◌≡◌, ◌⊎◌, Bool, true, false, List
 use Rattle.std.proofs.Common.{refl, sym, ap, subst, ◌∙◌, inl, inr}
 use Rattle.std.proofs.lemmas.Bool.{true≢false}
 use Rattle.std.proofs.lemmas.Option.{same_Some, none-some}
-use Rattle.tftp_file.specs.Sink.{Holding, Appends, Commits, UnlessArmed, AppendsFreely, CommitsFreely, disarmed}
-use Rattle.tftp_file.specs.Sink.{with_piece, as_committed}
+use Rattle.tftp_file.specs.Sink.{Holding, Appends, Commits}
 use Rattle.tftp_file.specs.Source.{SourceMeaning}
 use Rattle.tftp_file.specs.declared.fault.StoreFault.{StoreFault}
-use Rattle.tftp_file.specs.declared.fault.StoreFault.TheVariants as faults
 use Rattle.tftp_file.specs.declared.files.Files.{Files}
 use Rattle.tftp_file.specs.declared.files.Files.TheVariants.{Source, Sink}
 use Rattle.tftp_ends.specs.declared.action.Action.{Action}
@@ -18,57 +16,14 @@ use Rattle.tftp_ends.specs.Step.{Done, Turn, Acts, Appended, GoesOn, Stores}
 use Rattle.tftp_store.specs.Store.{Stored, Drafted, StoreMeaning, FileList, holding_of, files_of, with_file, is_taken}
 use Rattle.tftp_rules.specs.Machine.{Endpoint}
 use Rattle.tftp_rules.proofs.KnownSteps.{appended_known}
+use Rattle.tftp_rules.proofs.SinkMoves.{kept_by, none_committed, same_bytes, still_committed, took_armed}
 use Rattle.tftp_server.specs.Draft.{Drafting, DraftingBecomes, FilesBy, drafting_sink, drafting_holds}
 use Rattle.tftp_server.specs.Steps.{StepIn}
 
--- ---- whether a draft is committed
--- an append commits nothing
-kept_some : (before after now : Holding) → after ≡ now → (now.committed ≡ true → now ≡ before) →
-    after.committed ≡ true → before.committed ≡ true
-kept_some before after now is kept done =
-    ap (λ (z : Holding). z.committed) (sym (kept (sym (ap (λ (z : Holding). z.committed) is) ∙ done)))
-    ∙ (sym (ap (λ (z : Holding). z.committed) is) ∙ done)
-
-free_append : (before after : Holding) (piece : List ℕ) (answer : Result Done StoreFault) →
-    AppendsFreely before (Some after) piece answer → after.committed ≡ true → before.committed ≡ true
-free_append before after piece (Ok done) h c =
-    absurd (true≢false (sym c ∙ ap (λ (z : Holding). z.committed) (same_Some after (with_piece before piece) h)))
-free_append before after piece (Err faults.Memory) h c =
-    ap (λ (z : Holding). z.committed) (sym (same_Some after before h)) ∙ c
-free_append before after piece (Err faults.Missing) h c =
-    kept_some before after h.holding (same_Some after h.holding h.leaves) h.uncommitted c
-free_append before after piece (Err faults.Exists) h c =
-    kept_some before after h.holding (same_Some after h.holding h.leaves) h.uncommitted c
-free_append before after piece (Err faults.Full) h c =
-    kept_some before after h.holding (same_Some after h.holding h.leaves) h.uncommitted c
-free_append before after piece (Err faults.Io) h c =
-    kept_some before after h.holding (same_Some after h.holding h.leaves) h.uncommitted c
-
-append_by : (armed : Bool) (before after : Holding) (piece : List ℕ) (answer : Result Done StoreFault) →
-    UnlessArmed armed before (Some after) answer (AppendsFreely before (Some after) piece answer) →
-    after.committed ≡ true → before.committed ≡ true
-append_by true before after piece answer h c =
-    ap (λ (z : Holding). z.committed) (sym (same_Some after (disarmed before) h.leaves)) ∙ c
-append_by false before after piece answer h c = free_append before after piece answer h c
-
--- nor does a commit that is refused
-refused_by : (armed : Bool) (before after : Holding) (fault : StoreFault) →
-    UnlessArmed armed before (Some after) (let r : Result Done StoreFault = Err fault in r)
-    (CommitsFreely before (Some after) (let r : Result Done StoreFault = Err fault in r)) →
-    after.committed ≡ true → before.committed ≡ true
-refused_by true before after fault h c =
-    ap (λ (z : Holding). z.committed) (sym (same_Some after (disarmed before) h.leaves)) ∙ c
-refused_by false before after fault h c = ap (λ (z : Holding). z.committed) (sym (same_Some after before h)) ∙ c
-
--- a commit that succeeds keeps the bytes
-taken_by : (armed : Bool) (before after : Holding) →
-    UnlessArmed armed before (Some after) (let r : Result Done StoreFault = Ok tt in r)
-    (CommitsFreely before (Some after) (let r : Result Done StoreFault = Ok tt in r)) →
-    after.bytes ≡ before.bytes
-taken_by true before after h = absurd (not_refused h.answer) where
-  not_refused : (let r : Result Done StoreFault = Ok tt in r) ≡ Err faults.Full → ⊥
-  not_refused e = cc
-taken_by false before after h = ap (λ (z : Holding). z.bytes) (same_Some after (as_committed before) h)
+-- what is committed now was so before, if nothing was committed since
+was_committed : (before after : Bool) → (before ≡ false → after ≡ false) → after ≡ true → before ≡ true
+was_committed true after still c = refl
+was_committed false after still c = absurd (true≢false (sym c ∙ still refl))
 
 -- ---- a store with one of its drafts
 -- both are known
@@ -148,7 +103,8 @@ module _ {S D : Type 0} (meaning : StoreMeaning S D) where
         path = a.2.path;
         replace = a.2.replace;
         files = a.2.files;
-        committed = append_by h.refuses h hm (b ∷ piece) answer two;
+        committed =
+            was_committed h.committed hm.committed (none_committed (took_armed h.refuses h hm (b ∷ piece) answer two));
       }
 
   -- a commit that succeeded
@@ -180,7 +136,8 @@ module _ {S D : Type 0} (meaning : StoreMeaning S D) where
       Commits (drafting_holds meaning mid) (drafting_holds meaning d') answer →
       DraftingBecomes meaning mid d' (is_ok answer) → Leaves d d' h h'
   committed_leaves d mid d' h hm h' (Ok done) q r u c becomes =
-      inr (puts d mid d' h hm h' q u (taken_by hm.refuses hm h' (both (Ok done) c)) becomes.files) where
+      inr (puts d mid d' h hm h' q u (same_bytes (kept_by hm.refuses hm h' (Ok done) (both (Ok done) c)))
+      becomes.files) where
         both : (answer : Result Done StoreFault) →
             Commits (drafting_holds meaning mid) (drafting_holds meaning d') answer →
             Commits (Some hm) (Some h') answer
@@ -193,7 +150,8 @@ module _ {S D : Type 0} (meaning : StoreMeaning S D) where
         path = becomes.path;
         replace = becomes.replace;
         files = becomes.files;
-        committed = refused_by hm.refuses hm h' fault (both (Err fault) c);
+        committed =
+            λ now. sym (still_committed fault (kept_by hm.refuses hm h' (Err fault) (both (Err fault) c))) ∙ now;
       })) where
         both : (answer : Result Done StoreFault) →
             Commits (drafting_holds meaning mid) (drafting_holds meaning d') answer → Commits (Some hm) (Some h') answer

@@ -15,7 +15,7 @@ use Rattle.tftp_store.specs.Store.{Stored, Drafted, new_draft}
 use Rattle.tftp_lines.specs.Printed.{line_text}
 use Rattle.tftp_lines.specs.declared.printed.Printed.TheVariants.{Closed}
 use Rattle.tftp_rules.specs.Machine.{Endpoint}
-use Rattle.tftp_server.specs.State.{TransferState, ServerState, at}
+use Rattle.tftp_server.specs.State.{TransferState, ServerState}
 use Rattle.tftp_server.specs.declared.config.Config.{Config}
 use Rattle.tftp_sockets.specs.Journal.Event.{Received, Sent, Watched, Elapsed, Printed, Quiet}
 use Rattle.tftp_sockets.specs.Journal.QuietEvent.{Empty, Slept, Woke}

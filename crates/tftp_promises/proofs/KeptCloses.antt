@@ -10,12 +10,13 @@ use Rattle.tftp_sockets.specs.Journal.{Event}
 use Rattle.tftp_loop.specs.Serves.{LoopState, Does, Closes, Transfer_closed}
 use Rattle.tftp_rules.specs.Machine.{Endpoint, Message}
 use Rattle.tftp_rules.specs.Shows.{IsShown}
+use Rattle.tftp_rules.proofs.Entries.{lookup-remove_other, numbers}
 use Rattle.tftp_promises.specs.Openings.{HasClosed, place_at}
 use Rattle.tftp_promises.specs.Order.{Programs}
 use Rattle.tftp_promises.specs.Programs.{requests_at}
 use Rattle.tftp_promises.specs.Promises.{joined}
 use Rattle.tftp_promises.specs.Snapshots.{Snapshot, server_did}
-use Rattle.tftp_promises.proofs.Identifiers.{at-without_other, at-without_cases, once-without}
+use Rattle.tftp_promises.proofs.Identifiers.{at-without_cases, once-without}
 use Rattle.tftp_promises.proofs.Kept.{How, AreKeyedOnce, HasTransferBy, TransferKept, ServerKept, IsKept}
 use Rattle.tftp_promises.proofs.Kept.{same_transfer}
 use Rattle.tftp_promises.proofs.KeptEvents.{IsSilent}
@@ -83,7 +84,7 @@ module _ {S F D G K : Type 0} {stores : StoreMeaning S D} {sources : SourceMeani
       HasTransferBy programs now q transfer a
   held_after q transfer a (inl e) = elim (cases_eq q port) [
     | inl same ↦ inr (inl ((same, e.0), e.1))
-    | inr n ↦ inl (ap (at q) held ∙ (at-without_other port q old.state.server.held n ∙ e.0), e.1)
+    | inr n ↦ inl (ap (at q) held ∙ (lookup-remove_other numbers port q old.state.server.held n ∙ e.0), e.1)
   ]
   held_after q transfer a (inr closed) = inr (inr closed)
 

@@ -1,145 +1,53 @@
--- A request that a transfer answers keeps the invariant.
-use Rattle.std.proofs.Common.{◌≡◌, ◌≢◌, ℕ, ◌+◌, ◌*◌, ◌<◌, ◌≤◌, Bool, true, false, List, [], ◌∷◌, ◌++◌, length, take}
-use Rattle.std.proofs.Common.{drop, min, Option, Some, None, refl, sym, ap, ◌∙◌, subst, inl, inr, arith}
-use Rattle.std.specs.Prelude.{◌⊎◌, ◌==◌, IsSome, if◌then◌else◌, map, option_map, option_to_list}
+-- A transfer that a request opens keeps the invariant.
+use Rattle.std.proofs.Common.{◌≡◌, ◌≢◌, ℕ, ◌+◌, Bool, true, false, List, [], ◌∷◌, ◌++◌, length}
+use Rattle.std.proofs.Common.{Option, Some, None, refl, sym, ap, ◌∙◌, subst, inl, inr}
+use Rattle.std.specs.Prelude.{◌⊎◌, ◌==◌, if◌then◌else◌, map, option_map, option_to_list}
 use Rattle.std.specs.List.{Contains}
-use Rattle.std.proofs.lemmas.Bool.{true≢false, eq-eqb, ne_eqb}
-use Rattle.std.proofs.lemmas.List.{append_cancel_right, take_min, drop_min}
+use Rattle.std.proofs.lemmas.Bool.{eq-eqb, ne_eqb}
+use Rattle.std.proofs.lemmas.List.{append_cancel_right}
 use Rattle.std.proofs.lemmas.List.Elements.{Contains-append_left, Contains-append_right, Contains-push}
 use Rattle.tftp_wire.specs.Spelling.{Spells}
-use Rattle.tftp_wire.specs.declared.mode.Mode.{Mode}
-use Rattle.tftp_wire.specs.declared.options.RawOption.{RawOption}
-use Rattle.tftp_wire.specs.declared.packet.Packet.{Packet as WirePacket}
-use Rattle.tftp_wire.specs.declared.packet.Request.{Request as WireRequest}
-use Rattle.tftp_negotiate.specs.declared.known.Known.{Known}
-use Rattle.tftp_negotiate.specs.declared.limits.TheConstants.{DEFAULT_BLOCK}
-use Rattle.tftp_negotiate.specs.Agreed.{size}
-use Rattle.tftp_negotiate.specs.Ranges.{IsBlockSize}
-use Rattle.tftp_file.specs.Block.{Fits, IsPrefixOf, block}
-use Rattle.tftp_file.specs.Netascii.{wire_text}
 use Rattle.tftp_file.specs.Sink.{SinkMeaning}
 use Rattle.tftp_file.specs.Source.{SourceMeaning}
-use Rattle.tftp_file.specs.declared.files.Files.TheVariants.{Source, Sink}
-use Rattle.tftp_ends.specs.Action.{Decodes}
-use Rattle.tftp_ends.specs.End.{EndState, is_complete, is_sender}
-use Rattle.tftp_ends.specs.Opening.{serving_read, serving_write}
-use Rattle.tftp_ends.specs.Step.{block_length}
-use Rattle.tftp_store.specs.Store.{StoreMeaning, Stored, files_of, new_draft}
+use Rattle.tftp_ends.specs.End.{EndState}
+use Rattle.tftp_store.specs.Store.{StoreMeaning}
 use Rattle.tftp_server.specs.Request.{A_transfer, Left, left_by}
 use Rattle.tftp_server.specs.State.{TransferState, ServerState, at, with_new}
-use Rattle.tftp_server.specs.declared.config.Config.{Config}
 use Rattle.tftp_sockets.specs.Journal.{Event}
 use Rattle.tftp_sockets.specs.Journal.Event.{Sent}
 use Rattle.tftp_loop.specs.Serves.{AnswersRequest, Does, LoopState, Request_answered, after_request}
-use Rattle.tftp_rules.specs.EndOpens.{EndOpens, IsNewly, left_at_first, new_receiver, new_sender, sending}
-use Rattle.tftp_rules.specs.Machine.{At_server, Endpoint, Message, Packet, is_same}
+use Rattle.tftp_rules.specs.EndOpens.{EndOpens}
+use Rattle.tftp_rules.specs.Machine.{At_server, Endpoint, Message, is_same}
 use Rattle.tftp_rules.specs.OpenEnds.{OpenEnd, open_view, peer_of}
 use Rattle.tftp_rules.specs.Rules.{message}
 use Rattle.tftp_rules.specs.Said.{said}
-use Rattle.tftp_rules.specs.Shows.{EndView, IsShown, NoneAt, requested}
-use Rattle.tftp_rules.proofs.EndOpenings.{opens_to_send, opens_to_store}
+use Rattle.tftp_rules.specs.Shows.{EndView, IsShown, NoneAt}
+use Rattle.tftp_rules.proofs.Entries.{lookup-insert_other, lookup-insert_same, numbers}
 use Rattle.tftp_rules.proofs.Endpoints.{same_self}
-use Rattle.tftp_rules.proofs.FirstSent.{first_want}
 use Rattle.tftp_rules.proofs.Indices.{slice_get-push_new}
 use Rattle.tftp_rules.proofs.SaidLemmas.{spells_own}
-use Rattle.tftp_promises.specs.Modelled.{AreModelled}
-use Rattle.tftp_promises.specs.Moved.{Moved, came_if, first_moved, opening_moves, or_before}
-use Rattle.tftp_promises.specs.Openings.{HasClosed, above, is_ours, moved_at, opened_at, opens_at, or_place, place}
+use Rattle.tftp_promises.specs.Moved.{came_if}
+use Rattle.tftp_promises.specs.Openings.{HasClosed, above, is_ours, opens_at, or_place, place}
 use Rattle.tftp_promises.specs.Openings.{place_at}
 use Rattle.tftp_promises.specs.Order.{Programs, IsStranger}
-use Rattle.tftp_promises.specs.Ports.{IsStored, opened_ports}
+use Rattle.tftp_promises.specs.Ports.{opened_ports}
 use Rattle.tftp_promises.specs.Programs.{endpoint}
 use Rattle.tftp_promises.specs.Promises.{joined}
 use Rattle.tftp_promises.specs.Snapshots.{Snapshot, server_did}
 use Rattle.tftp_promises.proofs.RunPlaces.{placed_by, places}
-use Rattle.tftp_promises.proofs.Kept.{How, By_models, By_run, AreKeyedOnce, GaveSo, HasStored, HasTransferBy, IsFreshBy}
-use Rattle.tftp_promises.proofs.Kept.{IsKept, IsKnown, IsOfTransfer, IsStrangers, IsThere, ServerKept, TookSo}
-use Rattle.tftp_promises.proofs.Kept.{TransferKept, length_of, place_text, same_transfer}
-use Rattle.tftp_promises.proofs.KeptAsks.{says_request}
+use Rattle.tftp_promises.proofs.Kept.{How, AreKeyedOnce, HasStored, HasTransferBy, IsFreshBy}
+use Rattle.tftp_promises.proofs.Kept.{IsKept, IsOfTransfer, IsStrangers, IsThere, ServerKept}
+use Rattle.tftp_promises.proofs.Kept.{TransferKept, same_transfer}
 use Rattle.tftp_promises.proofs.KeptEvents.{only_one}
-use Rattle.tftp_promises.proofs.KeptRefusals.{closed_earlier, left_is, new_is, one_sent, refusal_keeps, silent_keeps}
+use Rattle.tftp_promises.proofs.KeptRefusals.{closed_earlier, left_is, new_is, one_sent}
 use Rattle.tftp_promises.proofs.KeptServer.{ServerTurns, server_keeps}
 use Rattle.tftp_promises.proofs.KeptViews.{among_push, viewed_before}
 use Rattle.tftp_promises.proofs.MovedSteps.{MovesNone, none_answered}
-use Rattle.tftp_promises.proofs.NewIdentifiers.{at-with_new, at-with_new_cases, at-with_new_other, once-with_new}
+use Rattle.tftp_promises.proofs.NewIdentifiers.{at-with_new_cases, once-with_new}
 use Rattle.tftp_promises.proofs.NewPlaces.{at_server as place_at_server, client_apart, new_place}
 use Rattle.tftp_promises.proofs.Places.{strange_if}
-use Rattle.tftp_promises.proofs.PortAnswers.{Begins_to_send, Begins_to_store, IfKnown, IsFirst, OpensToSend}
-use Rattle.tftp_promises.proofs.PortAnswers.{OpensToStore, PortAnswers, Says_error, SendsFile, Silent, port_answers}
-use Rattle.tftp_promises.proofs.Requested.{IsAsked}
-use Rattle.tftp_promises.proofs.ServerStays.{SameStored, content_by, content_known, files_same, if_some, known_same}
-use Rattle.tftp_promises.proofs.ServerStays.{same_if, same_if_known, same_then, stored_after}
-use Rattle.tftp_promises.proofs.Texts.{begins_by_take, begins_padded, pad_length, then_rest}
-use Rattle.tftp_promises.proofs.Unanswered.{none_answers}
-
--- the end of a read sends, and that of a write has stored nothing yet
-read_sends : (agreed : List Known) (peer : Endpoint) (mode : Mode) (text : List ℕ) (retries : ℕ) →
-    is_sender (sending agreed peer mode text retries).role.side ≡ true
-read_sends [] peer mode text retries = refl
-read_sends (known ∷ agreed) peer mode text retries = refl
-
-write_stores : (agreed : List Known) (peer : Endpoint) (mode : Mode) (retries : ℕ) →
-    is_sender (serving_write agreed peer mode retries).role.side ≡ false
-write_stores [] peer mode retries = refl
-write_stores (known ∷ agreed) peer mode retries = refl
-
-write_begins : (agreed : List Known) (peer : Endpoint) (mode : Mode) (retries : ℕ) →
-    is_complete (serving_write agreed peer mode retries).position.phase ≡ false
-write_begins [] peer mode retries = refl
-write_begins (known ∷ agreed) peer mode retries = refl
-
-read_mode : (agreed : List Known) (peer : Endpoint) (mode : Mode) (text : List ℕ) (retries : ℕ) →
-    (sending agreed peer mode text retries).role.mode ≡ mode
-read_mode [] peer mode text retries = refl
-read_mode (known ∷ agreed) peer mode text retries = refl
-
-read_length : (agreed : List Known) (peer : Endpoint) (mode : Mode) (measured retries : ℕ) (piece : List ℕ) →
-    (serving_read agreed peer mode measured retries piece).role.length ≡ measured
-read_length [] peer mode measured retries piece = refl
-read_length (known ∷ agreed) peer mode measured retries piece = refl
-
--- the peer of both is the client
-read_peer : (agreed : List Known) (peer : Endpoint) (mode : Mode) (text : List ℕ) (retries : ℕ) →
-    peer_of (sending agreed peer mode text retries).position.phase ≡ Some peer
-read_peer [] peer mode text retries = refl
-read_peer (known ∷ agreed) peer mode text retries = refl
-
-write_peer : (agreed : List Known) (peer : Endpoint) (mode : Mode) (retries : ℕ) →
-    peer_of (serving_write agreed peer mode retries).position.phase ≡ Some peer
-write_peer [] peer mode retries = refl
-write_peer (known ∷ agreed) peer mode retries = refl
-
-write_moves_none : (agreed : List Known) (peer : Endpoint) (mode : Mode) (retries : ℕ) →
-    (first_moved (serving_write agreed peer mode retries)).bytes ≡ []
-write_moves_none [] peer mode retries = refl
-write_moves_none (known ∷ agreed) peer mode retries = refl
-
--- what a read sends first is of the text that begins so
-first_of_text : (agreed : List Known) (peer : Endpoint) (mode : Mode) (measured retries : ℕ) (piece text : List ℕ) →
-    IsFirst agreed measured piece → length text ≡ measured →
-    (length (first_moved (serving_read agreed peer mode measured retries piece)).bytes ≤ measured →
-    IsPrefixOf (first_moved (serving_read agreed peer mode measured retries piece)).bytes text) →
-    (serving_read agreed peer mode measured retries piece ≡ sending agreed peer mode text retries)
-    × IsPrefixOf (first_moved (serving_read agreed peer mode measured retries piece)).bytes text
-    × ((first_moved (serving_read agreed peer mode measured retries piece)).bytes ++ left_at_first agreed text ≡ text)
-first_of_text [] peer mode measured retries piece text first long begins =
-    let want : block_length measured DEFAULT_BLOCK 1 ≡ min DEFAULT_BLOCK (length text) =
-    first_want measured (length text) (sym long) in
-    let short : length piece ≤ measured = omega (arith, first, want, long) in
-    let b : IsPrefixOf piece text = begins short in
-    let is : piece ≡ block text DEFAULT_BLOCK 1 =
-    sym (begins_by_take piece text b) ∙ (ap (λ (n : ℕ). take n text) (first ∙ want) ∙ take_min DEFAULT_BLOCK text) in (
-      ap (λ (n : ℕ). serving_read [] peer mode n retries piece) (sym long)
-          ∙ ap (λ (p : List ℕ). serving_read [] peer mode (length text) retries p) is,
-      b,
-      ap (λ (ts : List ℕ). piece ++ ts) (sym (drop_min DEFAULT_BLOCK text) ∙ ap (λ (n : ℕ). drop n text)
-          (sym (first ∙ want))) ∙ then_rest piece text b,
-    )
-first_of_text (known ∷ agreed) peer mode measured retries piece text first long begins = (
-  ap (λ (n : ℕ). serving_read (known ∷ agreed) peer mode n retries piece) (sym long),
-  (text, refl),
-  refl,
-)
+use Rattle.tftp_promises.proofs.ServerStays.{SameStored, files_same, known_same}
+use Rattle.tftp_promises.proofs.ServerStays.{same_then, stored_after}
 
 module _ {S F D G K : Type 0} {stores : StoreMeaning S D} {sources : SourceMeaning F} {inputs : SourceMeaning G}
     {outputs : SinkMeaning K}
@@ -179,13 +87,13 @@ module _ {S F D G K : Type 0} {stores : StoreMeaning S D} {sources : SourceMeani
     placed : placed_by programs old.run does ≡ a ∷ []
     placed = ap (map (place programs count answers.from)) opens_port
 
-    its_place : Contains (places programs now.run) a
+    pub its_place : Contains (places programs now.run) a
     its_place =
         subst (λ (ps : List Endpoint). Contains (ps ++ opened) a) (sym placed)
         (Contains-append_left (a ∷ []) opened a (Contains-push [] a))
 
     -- it is what came at this place, and at this port
-    came_here : opens_at programs a old.run does ≡ Some transfer
+    pub came_here : opens_at programs a old.run does ≡ Some transfer
     came_here = ap (came_if (is_same a a)) is ∙ ap (λ (b : Bool). if b then Some transfer else None) (same_self a)
 
     abbrev or_there : (port : ℕ) → Option (TransferState F D) → Endpoint
@@ -211,14 +119,14 @@ module _ {S F D G K : Type 0} {stores : StoreMeaning S D} {sources : SourceMeani
     free_port port t e same =
         let f : None ≡ Some t = sym answers.free ∙ (ap (λ (p : ℕ). at p server.held) (sym same) ∙ e) in cc
 
-    none_there : NoneAt kept.views a
+    pub none_there : NoneAt kept.views a
     none_there k view at same = elim (kept.only view (k, at)) [
       | inl h ↦ client_apart programs now fresh a its_place h.k h.client h.found (sym h.address ∙ same)
       | inr h ↦ place_is_new view.address (kept.server.opened h.port h.transfer view.address h.is_transfer) same
     ]
 
     -- it is at the server
-    at_server : (joined programs).host_of a ≡ At_server
+    pub at_server : (joined programs).host_of a ≡ At_server
     at_server = place_at_server programs now fresh a its_place
 
     state_is : new ≡ after_request old.state answers.from (left_by (A_transfer transfer store) server answers.from tid)
@@ -227,7 +135,7 @@ module _ {S F D G K : Type 0} {stores : StoreMeaning S D} {sources : SourceMeani
     held_is : new.server.held ≡ with_new tid transfer server.held
     held_is = ap (λ (s : LoopState S F D). s.server.held) state_is
 
-    store_is : new.server.store ≡ store
+    pub store_is : new.server.store ≡ store
     store_is = ap (λ (s : LoopState S F D). s.server.store) state_is
 
     module _ (same : SameStored programs how server.store store) (x : OpenEnd) (address : x.address ≡ a)
@@ -428,14 +336,14 @@ module _ {S F D G K : Type 0} {stores : StoreMeaning S D} {sources : SourceMeani
       still_there port t b (inl found) =
           let n = free_port port t found.0 in
           inl (
-            ap (at port) held_is ∙ (at-with_new_other tid port transfer server.held n ∙ found.0),
+            ap (at port) held_is ∙ (lookup-insert_other numbers tid port transfer server.held n ∙ found.0),
             found.1
                 ∙ sym (place_still port n),
           )
       still_there port t b (inr closed) = inr (inr closed)
 
       there_now : HasTransferBy programs now tid transfer a
-      there_now = inl (ap (at tid) held_is ∙ at-with_new tid transfer server.held, sym place_now)
+      there_now = inl (ap (at tid) held_is ∙ lookup-insert_same numbers tid transfer server.held, sym place_now)
 
       turns : ServerTurns programs old kept now added
       turns = record {
@@ -470,232 +378,3 @@ module _ {S F D G K : Type 0} {stores : StoreMeaning S D} {sources : SourceMeani
 
       pub opening_keeps : IsKept programs how now
       opening_keeps = server_keeps programs old kept does added turns
-
-  -- ---- what the request is
-  -- it was sent, and no end answers it
-  newly : (write : Bool) (mode : Mode) (options : List RawOption)
-      (asked : IsAsked answers.steps.decoded answers.steps.repeated write mode options) →
-      IsNewly (joined programs) kept.views kept.messages answers.from answers.bytes write asked.request
-  newly write mode options asked =
-      let packet = requested write asked.request in
-      let spells : Spells packet answers.bytes =
-      subst (λ (d : Option WirePacket). Decodes answers.bytes d) asked.packet answers.steps.says in
-      let come = kept.server.pending answers.from answers.bytes answers.pending in
-      record {
-        sent =
-            subst (λ (p : Packet). Contains kept.messages (message answers.from (joined programs).request_port p))
-            (says_request write asked.request)
-            (come packet spells);
-        spells = spells;
-        unanswered =
-            none_answers programs old kept answers.from packet answers.steps.repeated answers.steps.decoded
-            answers.steps.repeats asked.packet asked.new;
-      }
-
-  -- a read
-  module _ (path : List ℕ) (mode : Mode) (options : List RawOption)
-      (asked : IsAsked answers.steps.decoded answers.steps.repeated false mode options)
-      (o : OpensToSend stores sources server answers.from answers.bytes (content_by programs how old.state) path
-      asked.request.mode answers.steps.came) where
-    abbrev r : WireRequest
-    r = asked.request
-
-    -- its transfer
-    abbrev sent : TransferState F D
-    sent =
-        record {
-          end = serving_read o.agreed answers.from r.mode o.measured server.config.retries o.piece;
-          files = Source o.rest;
-          path = path;
-          request = answers.bytes;
-        }
-
-    send_text : (file text : List ℕ) → length text ≡ o.measured →
-        serving_read o.agreed answers.from r.mode o.measured server.config.retries o.piece ≡ sending o.agreed
-        answers.from r.mode text server.config.retries →
-        HasStored programs how now (new_sender a answers.bytes o.agreed answers.from r.mode path file text
-        server.config.retries) (Source o.rest) → IsKept programs how now
-    send_text file text long end has =
-        let x = new_sender a answers.bytes o.agreed answers.from r.mode path file text server.config.retries in
-        let fits : Fits text (size o.agreed) = subst (λ (n : ℕ). n < 65535 * size o.agreed) (sym long) o.fits in
-        opening_keeps sent server.store o.is (same_if programs how server.store server.store refl) x refl
-        (read_peer o.agreed answers.from r.mode text server.config.retries) (sym end) refl refl
-        (opens_to_send (joined programs) kept.shown.0 kept.views kept.messages a answers.from answers.bytes r path file
-        text o.agreed server.config.retries kept.shown.1
-        (at_server sent server.store o.is) (none_there sent server.store o.is) (newly false mode options asked)
-        o.granted fits)
-        has
-
-    -- by the models
-    send_file : (models : AreModelled programs) → how ≡ By_models models → (stored : Stored) →
-        stores.stored server.store ≡ Some stored →
-        SendsFile stores sources server answers.from answers.bytes (content_by programs how old.state) stored path
-        r.mode o.agreed o.measured o.piece o.rest → IsKept programs how now
-    send_file models is stored known f =
-        let text = wire_text r.mode f.file in
-        let x = new_sender a answers.bytes o.agreed answers.from r.mode path f.file text server.config.retries in
-        let under : IsStored stores new path f.file = (
-          stored.files,
-          ap (λ (s : S). files_of (stores.stored s)) (store_is sent server.store o.is)
-              ∙ ap files_of known,
-          f.there,
-        ) in
-        send_text f.file text (sym f.whole) f.end
-        (subst (λ (w : How programs). HasStored programs w now x (Source o.rest)) (sym is)
-        (record {
-          sender = read_sends o.agreed answers.from r.mode text server.config.retries;
-          text =
-              ap (λ (m : Mode). wire_text m f.file)
-              (sym (read_mode o.agreed answers.from r.mode text server.config.retries));
-          left = λ _. inl f.left;
-          was = inl under;
-          stays = λ _. under;
-        }))
-
-    -- by the run
-    its_opening : opened_at programs a now.run ≡ Some sent
-    its_opening =
-        ap (λ (z : Option (TransferState F D)). or_before z (opened_at programs a old.run))
-        (came_here sent server.store o.is)
-
-    its_moved : moved_at programs a now.run ≡ first_moved sent.end
-    its_moved =
-        ap (λ (z : Option (TransferState F D)). opening_moves z (moved_at programs a old.run))
-        (came_here sent server.store o.is)
-
-    send_moved : (pad : ℕ) → how ≡ By_run pad → IsKept programs how now
-    send_moved pad is =
-        let text = place_text programs pad a in
-        let told = fresh.told a (its_place sent server.store o.is) in
-        let long : length_of (opened_at programs a programs.server.run) ≡ o.measured =
-        ap length_of (sym told.opened) ∙ (ap length_of its_opening ∙ read_length o.agreed answers.from r.mode o.measured
-        server.config.retries o.piece) in
-        let measured : length text ≡ o.measured =
-        pad_length pad (length_of (opened_at programs a programs.server.run))
-        (moved_at programs a programs.server.run).bytes ∙ long in
-        let all : List ℕ = (moved_at programs a programs.server.run).bytes in
-        let begins : IsPrefixOf (first_moved sent.end).bytes all =
-        subst (λ (m : Moved). IsPrefixOf m.bytes all) its_moved told.bytes in
-        let f =
-        first_of_text o.agreed answers.from r.mode o.measured server.config.retries o.piece text o.first measured
-        (λ short. begins_padded pad (length_of (opened_at programs a programs.server.run)) (first_moved sent.end).bytes
-        all begins (subst (λ (n : ℕ). length (first_moved sent.end).bytes ≤ n) (sym long) short)) in
-        let x = new_sender a answers.bytes o.agreed answers.from r.mode path [] text server.config.retries in
-        let gave : GaveSo x (moved_at programs a now.run) =
-        subst (λ (m : Moved). GaveSo x m) (sym its_moved) (record { prefix = f.1; left = λ _. f.2 }) in
-        send_text [] text measured f.0
-        (subst (λ (w : How programs). HasStored programs w now x (Source o.rest)) (sym is)
-        (record {
-          sender = read_sends o.agreed answers.from r.mode text server.config.retries;
-          opened =
-              record { opening = sent; opened = its_opening; path = refl; role = ap (λ (e : EndState). e.role) f.0 };
-          text = refl;
-          gave = gave;
-        }))
-
-    sending_by : (w : How programs) → how ≡ w → IsKept programs how now
-    sending_by (By_models models) is =
-        let P : Stored → Type 0 =
-        λ (stored : Stored). SendsFile stores sources server answers.from answers.bytes
-        (content_by programs how old.state) stored path r.mode o.agreed o.measured o.piece o.rest in
-        let known : IsSome (stores.stored server.store) =
-        subst (λ (w : How programs). IsKnown programs w old.state) is kept.server.known in
-        let file : IfKnown (stores.stored server.store) P =
-        subst (λ (w : How programs). IfKnown (content_by programs w old.state) P) is o.file in
-        let f = if_some programs (stores.stored server.store) P known file in
-        send_file models is f.0 f.1 f.2
-    sending_by (By_run pad) is = send_moved pad is
-
-    sending_keeps : IsKept programs how now
-    sending_keeps = sending_by how refl
-
-  -- a write
-  module _ (path : List ℕ) (mode : Mode) (options : List RawOption)
-      (asked : IsAsked answers.steps.decoded answers.steps.repeated true mode options)
-      (o : OpensToStore stores sources server answers.from answers.bytes (content_by programs how old.state) path
-      asked.request.mode answers.steps.came) where
-    -- its transfer, and its end
-    abbrev stored_by : TransferState F D
-    stored_by =
-        record {
-          end = serving_write o.agreed answers.from asked.request.mode server.config.retries;
-          files = Sink o.draft;
-          path = path;
-          request = answers.bytes;
-        }
-
-    abbrev receiver : OpenEnd
-    receiver = new_receiver a answers.bytes o.agreed answers.from asked.request.mode path server.config.retries
-
-    store_has : HasStored programs how now receiver (Sink o.draft) → IsKept programs how now
-    store_has has =
-        opening_keeps stored_by o.store o.is (same_if_known programs how old.state o.store kept.server.known o.same)
-        receiver refl (write_peer o.agreed answers.from asked.request.mode server.config.retries) refl refl refl
-        (opens_to_store (joined programs) kept.shown.0 kept.views kept.messages a answers.from answers.bytes
-        asked.request path o.agreed server.config.retries kept.shown.1
-        (at_server stored_by o.store o.is) (none_there stored_by o.store o.is) (newly true mode options asked)
-        o.granted)
-        has
-
-    storing_by : (w : How programs) → how ≡ w → IsKept programs how now
-    storing_by (By_models models) is =
-        let known : IsSome (stores.stored server.store) =
-        subst (λ (w : How programs). IsKnown programs w old.state) is kept.server.known in
-        let drafted : IfKnown (stores.stored server.store) (λ stored. stores.drafted o.draft ≡ Some new_draft) =
-        subst (λ (w : How programs). IfKnown (content_by programs w old.state)
-        (λ stored. stores.drafted o.draft ≡ Some new_draft)) is o.drafted in
-        store_has (subst (λ (w : How programs). HasStored programs w now receiver (Sink o.draft)) (sym is) (record {
-          receiver = write_stores o.agreed answers.from asked.request.mode server.config.retries;
-          drafted =
-              (if_some programs (stores.stored server.store) (λ stored. stores.drafted o.draft ≡ Some new_draft) known
-              drafted).2;
-          stays =
-              λ _ done. absurd (true≢false (sym done ∙ write_begins o.agreed answers.from asked.request.mode
-              server.config.retries));
-        }))
-    storing_by (By_run pad) is =
-        let moved : moved_at programs a now.run ≡ first_moved stored_by.end =
-        ap (λ (z : Option (TransferState F D)). opening_moves z (moved_at programs a old.run))
-        (came_here stored_by o.store o.is) in
-        let none : (first_moved stored_by.end).bytes ≡ [] =
-        write_moves_none o.agreed answers.from asked.request.mode server.config.retries in
-        store_has (subst (λ (w : How programs). HasStored programs w now receiver (Sink o.draft)) (sym is) (record {
-          receiver = write_stores o.agreed answers.from asked.request.mode server.config.retries;
-          opened = record {
-            opening = stored_by;
-            opened =
-                ap (λ (z : Option (TransferState F D)). or_before z (opened_at programs a old.run))
-                (came_here stored_by o.store o.is);
-            path = refl;
-            role = refl;
-          };
-          took =
-              subst (λ (m : Moved). TookSo receiver m) (sym moved)
-              (record { stored = sym none; committed = λ c. absurd (true≢false (sym c)); refuses = refl });
-        }))
-
-    storing_keeps : IsKept programs how now
-    storing_keeps = storing_by how refl
-
-  -- ---- the answer
-  kept_by : PortAnswers stores sources server answers.from answers.bytes (content_by programs how old.state)
-      answers.steps.decoded answers.steps.repeated answers.steps.came → IsKept programs how now
-  kept_by (Silent is) = silent_keeps programs old kept answers added noted is
-  kept_by (Says_error r) = refusal_keeps programs old kept answers added noted r
-  kept_by (Begins_to_send path mode options asked opens) =
-      sending_keeps path mode options asked
-      (subst (λ (m : Mode). OpensToSend stores sources server answers.from answers.bytes
-      (content_by programs how old.state) path m answers.steps.came) (sym asked.same_mode) opens)
-  kept_by (Begins_to_store path mode options asked opens) =
-      storing_keeps path mode options asked
-      (subst (λ (m : Mode). OpensToStore stores sources server answers.from answers.bytes
-      (content_by programs how old.state) path m answers.steps.came) (sym asked.same_mode) opens)
-
-  max_block : IsBlockSize server.config.limits.max_block
-  max_block = subst (λ (c : Config). IsBlockSize c.limits.max_block) (sym kept.server.config) programs.server.max_block
-
-  -- each answer to a request keeps the invariant
-  pub request_keeps : IsKept programs how now
-  request_keeps =
-      kept_by (port_answers stores sources server answers.from answers.bytes (content_by programs how old.state)
-      max_block (content_known programs how old.state) answers.tid answers.left answers.steps)

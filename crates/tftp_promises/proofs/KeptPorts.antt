@@ -16,6 +16,7 @@ use Rattle.tftp_rules.specs.Machine.{Endpoint, Message}
 use Rattle.tftp_rules.specs.OpenEnds.{OpenEnd, open_view}
 use Rattle.tftp_rules.specs.Shows.{EndView, IsShown}
 use Rattle.tftp_rules.specs.ViewSafety.{IsAmong}
+use Rattle.tftp_rules.proofs.Entries.{lookup-set_other, lookup-set_same, numbers}
 use Rattle.tftp_rules.proofs.Indices.{slice_get-set_same}
 use Rattle.tftp_promises.specs.Openings.{HasClosed, place_at}
 use Rattle.tftp_promises.specs.Order.{Programs, IsStranger}
@@ -23,7 +24,7 @@ use Rattle.tftp_promises.specs.Programs.{endpoint, requests_at}
 use Rattle.tftp_promises.specs.Promises.{joined}
 use Rattle.tftp_promises.specs.Snapshots.{Snapshot, server_did}
 use Rattle.tftp_promises.proofs.RunPlaces.{places}
-use Rattle.tftp_promises.proofs.Identifiers.{at-with_next, at-with_next_other, at-with_next_cases, once-with_next}
+use Rattle.tftp_promises.proofs.Identifiers.{at-with_next_cases, once-with_next}
 use Rattle.tftp_promises.proofs.Kept.{How, AreKeyedOnce, IsThere, IsViewed, HasStored, HasTransferBy, TransferKept}
 use Rattle.tftp_promises.proofs.Kept.{ServerKept, IsOfTransfer, IsKept, IsFreshBy, IsStrangers, same_transfer}
 use Rattle.tftp_promises.proofs.KeptServer.{ServerTurns, server_keeps}
@@ -93,7 +94,7 @@ module _ {S F D G K : Type 0} {stores : StoreMeaning S D} {sources : SourceMeani
     was_there = (kept.transfers port transfer place (inl (found, refl))).address
 
     found_now : at port new.server.held ≡ Some turns.next
-    found_now = ap (at port) turns.held ∙ at-with_next port transfer turns.next old.state.server.held found
+    found_now = ap (at port) turns.held ∙ lookup-set_same numbers port transfer turns.next old.state.server.held found
 
     -- the place of another transfer, held or removed, is another one
     other_place : (q : ℕ) (t : TransferState F D) (a : Endpoint) → q ≢ port →
@@ -221,7 +222,7 @@ module _ {S F D G K : Type 0} {stores : StoreMeaning S D} {sources : SourceMeani
             port = q;
             transfer = t;
             is_transfer = inl (
-              ap (at q) turns.held ∙ (at-with_next_other port q turns.next old.state.server.held n
+              ap (at q) turns.held ∙ (lookup-set_other numbers port q transfer turns.next old.state.server.held found n
                   ∙ e.0),
               e.1 ∙ sym (stays.seats q),
             );

@@ -37,6 +37,8 @@ pub mod PortAnswers
 pub mod Unanswered
 pub mod KeptRefusals
 pub mod KeptOpenings
+pub mod KeptRequests
+pub mod RequestedEnds
 pub mod KeptStill
 pub mod KeptCloses
 pub mod StoredFiles
@@ -52,6 +54,7 @@ pub mod TurnsAtPort
 pub mod TransferFiles
 pub mod PortSteps
 pub mod PortDatagrams
+pub mod PortEnds
 pub mod PortTimeouts
 pub mod PortWork
 pub mod KeptServes

@@ -1,5 +1,5 @@
 -- A datagram that the server handles at the port of a transfer keeps the invariant.
-use Rattle.std.proofs.Common.{◌≡◌, ℕ, Bool, true, false, List, [], ◌∷◌, ◌++◌, Some, None, refl, sym, ap, ◌∙◌, subst}
+use Rattle.std.proofs.Common.{◌≡◌, ℕ, Bool, true, false, List, [], ◌∷◌, ◌++◌, None, refl, sym, ap, ◌∙◌, subst}
 use Rattle.std.proofs.Common.{inl, inr}
 use Rattle.std.specs.Prelude.{◌≢◌, ◌⊎◌, Option, is_some, IsSome, ⊤}
 use Rattle.std.proofs.lemmas.Bool.{true≢false, cases_Bool}
@@ -14,15 +14,13 @@ use Rattle.tftp_ends.specs.declared.action.Action.{Action}
 use Rattle.tftp_ends.specs.declared.action.Action.TheVariants.{Respond}
 use Rattle.tftp_ends.specs.declared.action.Response.{Response}
 use Rattle.tftp_ends.specs.declared.error_reply.ErrorReply.TheVariants.{UnknownTransferId}
-use Rattle.tftp_ends.specs.declared.phase.Phase.{Phase}
-use Rattle.tftp_ends.specs.declared.phase.Phase.TheVariants.{Waiting, Sending, Receiving, Dallying, Closed}
 use Rattle.tftp_ends.specs.declared.role.Role.{Role}
 use Rattle.tftp_ends.specs.Action.{datagram_action}
-use Rattle.tftp_ends.specs.End.{EndState, Position, is_client, is_sender, outcome_of}
+use Rattle.tftp_ends.specs.End.{EndState, Position, is_sender, outcome_of}
 use Rattle.tftp_ends.specs.Files.{AreSame}
 use Rattle.tftp_ends.specs.Step.{Reply, Turn, Acts, DatagramStep, after_turn, error_bytes, with_position}
 use Rattle.tftp_store.specs.Store.{StoreMeaning}
-use Rattle.tftp_server.specs.Draft.{Drafting, files_in, drafting_sink, KeepsStore}
+use Rattle.tftp_server.specs.Draft.{files_in, drafting_sink}
 use Rattle.tftp_server.specs.State.{ServerState, with_next}
 use Rattle.tftp_server.specs.Steps.{StepIn, TakesDatagramLent}
 use Rattle.tftp_server.specs.declared.config.Config.{Config}
@@ -32,9 +30,9 @@ use Rattle.tftp_loop.specs.Serves.{LoopState, ServesPort, At_port, AtPort, A_dat
 use Rattle.tftp_loop.specs.Serves.{ReceivesAndHandles, port_state}
 use Rattle.tftp_rules.specs.EndShown.{Stands, IsOpenAt, Goes}
 use Rattle.tftp_rules.specs.KnownFiles.{known_source, known_sink}
-use Rattle.tftp_rules.specs.EndKept.{EndKept, PhaseKept}
-use Rattle.tftp_rules.specs.Machine.{Endpoint, Network}
-use Rattle.tftp_rules.specs.OpenEnds.{OpenEnd, files_of, with_files, in_state, end_after, open_view, peer_of}
+use Rattle.tftp_rules.specs.Machine.{Endpoint}
+use Rattle.tftp_rules.specs.OpenEnds.{OpenEnd, files_of, in_state, end_after, open_view, peer_of}
+use Rattle.tftp_rules.proofs.EndMoves.{end_armed}
 use Rattle.tftp_rules.proofs.EndTurns.{datagram_goes}
 use Rattle.tftp_rules.proofs.KnownSteps.{step_known}
 use Rattle.tftp_promises.specs.Modelled.{AreModelled}
@@ -51,6 +49,7 @@ use Rattle.tftp_promises.proofs.Kept.{IsStrangers}
 use Rattle.tftp_promises.proofs.MovedFiles.{GotSo, MovesOver, files_move}
 use Rattle.tftp_promises.proofs.MovedSteps.{moves_here, none_at_port, none_beside}
 use Rattle.tftp_promises.proofs.Places.{not_ours}
+use Rattle.tftp_promises.proofs.PortEnds.{after_rest, has_peer, same_in}
 use Rattle.tftp_promises.proofs.PortSteps.{some_is, no_outcome, datagram_silent, server_is, stays_by, sends_only}
 use Rattle.tftp_promises.proofs.ServerStays.{FilesStay, known_if, stay_if, stored_after}
 use Rattle.tftp_promises.proofs.StoredFiles.{IsIn}
@@ -58,72 +57,6 @@ use Rattle.tftp_promises.proofs.TransferFiles.{armed, content_of, files_left}
 use Rattle.tftp_promises.proofs.WrongPeers.{datagram_stays, stays_strangers, wrong_peer, wrong_replies}
 use Rattle.tftp_promises.proofs.TurnsAtPort.{Becomes, IsSeated, turn_keeps}
 use Rattle.tftp_promises.proofs.Texts.{pad_to}
-
--- what an end is after a turn does not depend on its files
-pub after_rest : (x : OpenEnd) (held : Files (List ℕ) Holding) →
-    ((with_files x held).address ≡ x.address) × ((with_files x held).state ≡ x.state)
-    × ((with_files x held).path ≡ x.path) × ((with_files x held).request ≡ x.request)
-after_rest x (Source left) = (refl, refl, refl, refl)
-after_rest x (Sink holding) = (refl, refl, refl, refl)
-
-module _ (network : Network) where
-  -- what holds of an end does not depend on whether its sink is set to refuse
-  phase_armed : (phase : Phase) (x : OpenEnd) (refuses : Bool) → PhaseKept network x phase →
-      PhaseKept network (armed refuses x) phase
-  phase_armed (Waiting asked limit) x refuses h = h
-  phase_armed (Sending terms number) x refuses h =
-      record {
-        sender = h.sender;
-        positive = h.positive;
-        size = h.size;
-        fits = h.fits;
-        so_far = h.so_far;
-        left = h.left;
-        last_sent_to = h.last_sent_to;
-        measured = h.measured;
-      }
-  phase_armed (Receiving terms number) x refuses h = h
-  phase_armed (Dallying terms number dally) x refuses h = h
-  phase_armed (Closed terms number complete outcome) x refuses h = tt
-
-  pub end_armed : (x : OpenEnd) (refuses : Bool) → EndKept network x → EndKept network (armed refuses x)
-  end_armed x refuses h =
-      record {
-        phase = phase_armed x.state.position.phase x refuses h.phase;
-        held_back = h.held_back;
-        committed = h.committed;
-      }
-
-  -- an open end of the server has a peer
-  has_peer : (x : OpenEnd) (phase : Phase) → PhaseKept network x phase → is_client x.state.role.side ≡ false →
-      is_some (outcome_of phase) ≡ false → peer_of phase ≡ None → ⊥
-  has_peer x (Waiting asked limit) h side o e = true≢false (sym h.0 ∙ side)
-  has_peer x (Sending terms number) h side o e = let f : Some terms.peer ≡ None = e in cc
-  has_peer x (Receiving terms number) h side o e = let f : Some terms.peer ≡ None = e in cc
-  has_peer x (Dallying terms number dally) h side o e = let f : Some terms.peer ≡ None = e in cc
-  has_peer x (Closed terms number complete outcome) h side o e = true≢false o
-
--- the same files of a transfer, over the same store
-module _ {S F D : Type 0} where
-  abbrev source_or : F → Files F (Drafting S D) → F
-  source_or other (Source s) = s
-  source_or other (Sink d) = other
-
-  abbrev drafting_or : Drafting S D → Files F (Drafting S D) → Drafting S D
-  drafting_or other (Source s) = other
-  drafting_or other (Sink d) = d
-
-  same_in : (store store' : S) (path path' : List ℕ) (replace : Bool) (files files' : Files F D) →
-      files_in store' path' replace files' ≡ files_in store path replace files →
-      KeepsStore files store store' → AreSame (λ (a b : F). ⊤) (λ (a b : D). ⊤) files files' →
-      (store' ≡ store) × (files' ≡ files)
-  same_in store store' path path' replace (Source s) (Source s') same stays kind =
-      (stays, ap (λ (f : F). Source f) (ap (source_or s) same))
-  same_in store store' path path' replace (Sink d) (Sink d') same stays kind =
-      let one = ap (drafting_or (record { store = store; draft = d; path = path; replace = replace })) same in
-      (ap (λ (z : Drafting S D). z.store) one, ap (λ (z : Drafting S D). Sink z.draft) one)
-  same_in store store' path path' replace (Source s) (Sink d') same stays kind = absurd kind
-  same_in store store' path path' replace (Sink d) (Source s') same stays kind = absurd kind
 
 module _ {S F D G K : Type 0} {stores : StoreMeaning S D} {sources : SourceMeaning F} {inputs : SourceMeaning G}
     {outputs : SinkMeaning K}

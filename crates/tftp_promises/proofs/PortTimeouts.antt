@@ -39,7 +39,7 @@ use Rattle.tftp_promises.proofs.Kept.{IsStrangers}
 use Rattle.tftp_promises.proofs.KeptEvents.{SendsOnly, elapsed_silent}
 use Rattle.tftp_promises.proofs.KeptFiles.{left_is, now_is, sink_is, sink_no_source, source_is}
 use Rattle.tftp_promises.proofs.MovedSteps.{MovesNone}
-use Rattle.tftp_promises.proofs.PortDatagrams.{after_rest}
+use Rattle.tftp_promises.proofs.PortEnds.{after_rest}
 use Rattle.tftp_promises.proofs.PortSteps.{no_outcome, server_is, stays_by, sends_only}
 use Rattle.tftp_promises.proofs.ServerStays.{AllStored, FilesStay, known_if, stay_if, stored_after}
 use Rattle.tftp_promises.proofs.StoredFiles.{IsIn}

@@ -1,0 +1,301 @@
+-- A request that the request port answers keeps the invariant.
+use Rattle.std.proofs.Common.{◌≡◌, ℕ, ◌*◌, ◌<◌, ◌≤◌, Bool, true, false, List, [], ◌++◌, length}
+use Rattle.std.proofs.Common.{Option, Some, refl, sym, ap, ◌∙◌, subst, inl}
+use Rattle.std.specs.Prelude.{IsSome}
+use Rattle.std.specs.List.{Contains}
+use Rattle.std.proofs.lemmas.Bool.{true≢false}
+use Rattle.tftp_wire.specs.Spelling.{Spells}
+use Rattle.tftp_wire.specs.declared.mode.Mode.{Mode}
+use Rattle.tftp_wire.specs.declared.options.RawOption.{RawOption}
+use Rattle.tftp_wire.specs.declared.packet.Packet.{Packet as WirePacket}
+use Rattle.tftp_wire.specs.declared.packet.Request.{Request as WireRequest}
+use Rattle.tftp_negotiate.specs.Agreed.{size}
+use Rattle.tftp_negotiate.specs.Ranges.{IsBlockSize}
+use Rattle.tftp_file.specs.Block.{Fits, IsPrefixOf}
+use Rattle.tftp_file.specs.Netascii.{wire_text}
+use Rattle.tftp_file.specs.Sink.{SinkMeaning}
+use Rattle.tftp_file.specs.Source.{SourceMeaning}
+use Rattle.tftp_file.specs.declared.files.Files.TheVariants.{Source, Sink}
+use Rattle.tftp_ends.specs.Action.{Decodes}
+use Rattle.tftp_ends.specs.End.{EndState}
+use Rattle.tftp_ends.specs.Opening.{serving_read, serving_write}
+use Rattle.tftp_store.specs.Store.{StoreMeaning, Stored, files_of, new_draft}
+use Rattle.tftp_server.specs.State.{TransferState, ServerState}
+use Rattle.tftp_server.specs.declared.config.Config.{Config}
+use Rattle.tftp_sockets.specs.Journal.{Event}
+use Rattle.tftp_loop.specs.Serves.{AnswersRequest, LoopState, Request_answered}
+use Rattle.tftp_rules.specs.EndOpens.{IsNewly, new_receiver, new_sender, sending}
+use Rattle.tftp_rules.specs.Machine.{Endpoint, Packet}
+use Rattle.tftp_rules.specs.OpenEnds.{OpenEnd}
+use Rattle.tftp_rules.specs.Rules.{message}
+use Rattle.tftp_rules.specs.Shows.{requested}
+use Rattle.tftp_rules.proofs.EndOpenings.{opens_to_send, opens_to_store}
+use Rattle.tftp_promises.specs.Modelled.{AreModelled}
+use Rattle.tftp_promises.specs.Moved.{Moved, first_moved, opening_moves, or_before}
+use Rattle.tftp_promises.specs.Openings.{moved_at, opened_at, place}
+use Rattle.tftp_promises.specs.Order.{Programs}
+use Rattle.tftp_promises.specs.Ports.{IsStored, opened_ports}
+use Rattle.tftp_promises.specs.Promises.{joined}
+use Rattle.tftp_promises.specs.Snapshots.{Snapshot, server_did}
+use Rattle.tftp_promises.proofs.Kept.{How, By_models, By_run, GaveSo, HasStored, IsFreshBy, IsKept, IsKnown, TookSo}
+use Rattle.tftp_promises.proofs.Kept.{length_of, place_text}
+use Rattle.tftp_promises.proofs.KeptAsks.{says_request}
+use Rattle.tftp_promises.proofs.KeptOpenings.{at_server, came_here, its_place, none_there, opening_keeps, store_is}
+use Rattle.tftp_promises.proofs.KeptRefusals.{refusal_keeps, silent_keeps}
+use Rattle.tftp_promises.proofs.PortAnswers.{Begins_to_send, Begins_to_store, IfKnown, OpensToSend}
+use Rattle.tftp_promises.proofs.PortAnswers.{OpensToStore, PortAnswers, Says_error, SendsFile, Silent, port_answers}
+use Rattle.tftp_promises.proofs.Requested.{IsAsked}
+use Rattle.tftp_promises.proofs.RequestedEnds.{first_of_text, read_length, read_mode, read_peer, read_sends}
+use Rattle.tftp_promises.proofs.RequestedEnds.{write_begins, write_moves_none, write_peer, write_stores}
+use Rattle.tftp_promises.proofs.ServerStays.{content_by, content_known, if_some, same_if, same_if_known}
+use Rattle.tftp_promises.proofs.Texts.{begins_padded, pad_length}
+use Rattle.tftp_promises.proofs.Unanswered.{none_answers}
+
+module _ {S F D G K : Type 0} {stores : StoreMeaning S D} {sources : SourceMeaning F} {inputs : SourceMeaning G}
+    {outputs : SinkMeaning K}
+    (programs : Programs stores sources inputs outputs) {how : How programs} (old : Snapshot programs)
+    (kept : IsKept programs how old) {new : LoopState S F D} (answers : AnswersRequest stores sources old.state new)
+    (added : List Event) (noted : new.events ≡ added ++ old.state.events)
+    (fresh : IsFreshBy programs (server_did programs old (Request_answered answers) added)) where
+  abbrev server : ServerState S F D
+  server = old.state.server
+
+  abbrev now : Snapshot programs
+  now = server_did programs old (Request_answered answers) added
+
+  -- the place of a transfer that opens
+  abbrev a : Endpoint
+  a = place programs (length (opened_ports old.run)) answers.from answers.tid
+
+  -- ---- what the request is
+  -- it was sent, and no end answers it
+  newly : (write : Bool) (mode : Mode) (options : List RawOption)
+      (asked : IsAsked answers.steps.decoded answers.steps.repeated write mode options) →
+      IsNewly (joined programs) kept.views kept.messages answers.from answers.bytes write asked.request
+  newly write mode options asked =
+      let packet = requested write asked.request in
+      let spells : Spells packet answers.bytes =
+      subst (λ (d : Option WirePacket). Decodes answers.bytes d) asked.packet answers.steps.says in
+      let come = kept.server.pending answers.from answers.bytes answers.pending in
+      record {
+        sent =
+            subst (λ (p : Packet). Contains kept.messages (message answers.from (joined programs).request_port p))
+            (says_request write asked.request)
+            (come packet spells);
+        spells = spells;
+        unanswered =
+            none_answers programs old kept answers.from packet answers.steps.repeated answers.steps.decoded
+            answers.steps.repeats asked.packet asked.new;
+      }
+
+  -- a read
+  module _ (path : List ℕ) (mode : Mode) (options : List RawOption)
+      (asked : IsAsked answers.steps.decoded answers.steps.repeated false mode options)
+      (o : OpensToSend stores sources server answers.from answers.bytes (content_by programs how old.state) path
+      asked.request.mode answers.steps.came) where
+    abbrev r : WireRequest
+    r = asked.request
+
+    -- its transfer
+    abbrev sent : TransferState F D
+    sent =
+        record {
+          end = serving_read o.agreed answers.from r.mode o.measured server.config.retries o.piece;
+          files = Source o.rest;
+          path = path;
+          request = answers.bytes;
+        }
+
+    send_text : (file text : List ℕ) → length text ≡ o.measured →
+        serving_read o.agreed answers.from r.mode o.measured server.config.retries o.piece ≡ sending o.agreed
+        answers.from r.mode text server.config.retries →
+        HasStored programs how now (new_sender a answers.bytes o.agreed answers.from r.mode path file text
+        server.config.retries) (Source o.rest) → IsKept programs how now
+    send_text file text long end has =
+        let x = new_sender a answers.bytes o.agreed answers.from r.mode path file text server.config.retries in
+        let fits : Fits text (size o.agreed) = subst (λ (n : ℕ). n < 65535 * size o.agreed) (sym long) o.fits in
+        opening_keeps programs old kept answers added noted fresh sent server.store o.is
+        (same_if programs how server.store server.store refl) x refl
+        (read_peer o.agreed answers.from r.mode text server.config.retries) (sym end) refl refl
+        (opens_to_send (joined programs) kept.shown.0 kept.views kept.messages a answers.from answers.bytes r path file
+        text o.agreed server.config.retries kept.shown.1
+        (at_server programs old kept answers added noted fresh sent server.store o.is)
+        (none_there programs old kept answers added noted fresh sent server.store o.is)
+        (newly false mode options asked) o.granted fits)
+        has
+
+    -- by the models
+    send_file : (models : AreModelled programs) → how ≡ By_models models → (stored : Stored) →
+        stores.stored server.store ≡ Some stored →
+        SendsFile stores sources server answers.from answers.bytes (content_by programs how old.state) stored path
+        r.mode o.agreed o.measured o.piece o.rest → IsKept programs how now
+    send_file models is stored known f =
+        let text = wire_text r.mode f.file in
+        let x = new_sender a answers.bytes o.agreed answers.from r.mode path f.file text server.config.retries in
+        let under : IsStored stores new path f.file = (
+          stored.files,
+          ap (λ (s : S). files_of (stores.stored s))
+              (store_is programs old kept answers added noted fresh sent server.store o.is) ∙ ap files_of known,
+          f.there,
+        ) in
+        send_text f.file text (sym f.whole) f.end
+        (subst (λ (w : How programs). HasStored programs w now x (Source o.rest)) (sym is)
+        (record {
+          sender = read_sends o.agreed answers.from r.mode text server.config.retries;
+          text =
+              ap (λ (m : Mode). wire_text m f.file)
+              (sym (read_mode o.agreed answers.from r.mode text server.config.retries));
+          left = λ _. inl f.left;
+          was = inl under;
+          stays = λ _. under;
+        }))
+
+    -- by the run
+    its_opening : opened_at programs a now.run ≡ Some sent
+    its_opening =
+        ap (λ (z : Option (TransferState F D)). or_before z (opened_at programs a old.run))
+        (came_here programs old kept answers added noted fresh sent server.store o.is)
+
+    its_moved : moved_at programs a now.run ≡ first_moved sent.end
+    its_moved =
+        ap (λ (z : Option (TransferState F D)). opening_moves z (moved_at programs a old.run))
+        (came_here programs old kept answers added noted fresh sent server.store o.is)
+
+    send_moved : (pad : ℕ) → how ≡ By_run pad → IsKept programs how now
+    send_moved pad is =
+        let text = place_text programs pad a in
+        let told = fresh.told a (its_place programs old kept answers added noted fresh sent server.store o.is) in
+        let long : length_of (opened_at programs a programs.server.run) ≡ o.measured =
+        ap length_of (sym told.opened) ∙ (ap length_of its_opening ∙ read_length o.agreed answers.from r.mode o.measured
+        server.config.retries o.piece) in
+        let measured : length text ≡ o.measured =
+        pad_length pad (length_of (opened_at programs a programs.server.run))
+        (moved_at programs a programs.server.run).bytes ∙ long in
+        let all : List ℕ = (moved_at programs a programs.server.run).bytes in
+        let begins : IsPrefixOf (first_moved sent.end).bytes all =
+        subst (λ (m : Moved). IsPrefixOf m.bytes all) its_moved told.bytes in
+        let f =
+        first_of_text o.agreed answers.from r.mode o.measured server.config.retries o.piece text o.first measured
+        (λ short. begins_padded pad (length_of (opened_at programs a programs.server.run)) (first_moved sent.end).bytes
+        all begins (subst (λ (n : ℕ). length (first_moved sent.end).bytes ≤ n) (sym long) short)) in
+        let x = new_sender a answers.bytes o.agreed answers.from r.mode path [] text server.config.retries in
+        let gave : GaveSo x (moved_at programs a now.run) =
+        subst (λ (m : Moved). GaveSo x m) (sym its_moved) (record { prefix = f.1; left = λ _. f.2 }) in
+        send_text [] text measured f.0
+        (subst (λ (w : How programs). HasStored programs w now x (Source o.rest)) (sym is)
+        (record {
+          sender = read_sends o.agreed answers.from r.mode text server.config.retries;
+          opened =
+              record { opening = sent; opened = its_opening; path = refl; role = ap (λ (e : EndState). e.role) f.0 };
+          text = refl;
+          gave = gave;
+        }))
+
+    sending_by : (w : How programs) → how ≡ w → IsKept programs how now
+    sending_by (By_models models) is =
+        let P : Stored → Type 0 =
+        λ (stored : Stored). SendsFile stores sources server answers.from answers.bytes
+        (content_by programs how old.state) stored path r.mode o.agreed o.measured o.piece o.rest in
+        let known : IsSome (stores.stored server.store) =
+        subst (λ (w : How programs). IsKnown programs w old.state) is kept.server.known in
+        let file : IfKnown (stores.stored server.store) P =
+        subst (λ (w : How programs). IfKnown (content_by programs w old.state) P) is o.file in
+        let f = if_some programs (stores.stored server.store) P known file in
+        send_file models is f.0 f.1 f.2
+    sending_by (By_run pad) is = send_moved pad is
+
+    sending_keeps : IsKept programs how now
+    sending_keeps = sending_by how refl
+
+  -- a write
+  module _ (path : List ℕ) (mode : Mode) (options : List RawOption)
+      (asked : IsAsked answers.steps.decoded answers.steps.repeated true mode options)
+      (o : OpensToStore stores sources server answers.from answers.bytes (content_by programs how old.state) path
+      asked.request.mode answers.steps.came) where
+    -- its transfer, and its end
+    abbrev stored_by : TransferState F D
+    stored_by =
+        record {
+          end = serving_write o.agreed answers.from asked.request.mode server.config.retries;
+          files = Sink o.draft;
+          path = path;
+          request = answers.bytes;
+        }
+
+    abbrev receiver : OpenEnd
+    receiver = new_receiver a answers.bytes o.agreed answers.from asked.request.mode path server.config.retries
+
+    store_has : HasStored programs how now receiver (Sink o.draft) → IsKept programs how now
+    store_has has =
+        opening_keeps programs old kept answers added noted fresh stored_by o.store o.is
+        (same_if_known programs how old.state o.store kept.server.known o.same)
+        receiver refl (write_peer o.agreed answers.from asked.request.mode server.config.retries) refl refl refl
+        (opens_to_store (joined programs) kept.shown.0 kept.views kept.messages a answers.from answers.bytes
+        asked.request path o.agreed server.config.retries kept.shown.1
+        (at_server programs old kept answers added noted fresh stored_by o.store o.is)
+        (none_there programs old kept answers added noted fresh stored_by o.store o.is)
+        (newly true mode options asked) o.granted)
+        has
+
+    storing_by : (w : How programs) → how ≡ w → IsKept programs how now
+    storing_by (By_models models) is =
+        let known : IsSome (stores.stored server.store) =
+        subst (λ (w : How programs). IsKnown programs w old.state) is kept.server.known in
+        let drafted : IfKnown (stores.stored server.store) (λ stored. stores.drafted o.draft ≡ Some new_draft) =
+        subst (λ (w : How programs). IfKnown (content_by programs w old.state)
+        (λ stored. stores.drafted o.draft ≡ Some new_draft)) is o.drafted in
+        store_has (subst (λ (w : How programs). HasStored programs w now receiver (Sink o.draft)) (sym is) (record {
+          receiver = write_stores o.agreed answers.from asked.request.mode server.config.retries;
+          drafted =
+              (if_some programs (stores.stored server.store) (λ stored. stores.drafted o.draft ≡ Some new_draft) known
+              drafted).2;
+          stays =
+              λ _ done. absurd (true≢false (sym done ∙ write_begins o.agreed answers.from asked.request.mode
+              server.config.retries));
+        }))
+    storing_by (By_run pad) is =
+        let moved : moved_at programs a now.run ≡ first_moved stored_by.end =
+        ap (λ (z : Option (TransferState F D)). opening_moves z (moved_at programs a old.run))
+        (came_here programs old kept answers added noted fresh stored_by o.store o.is) in
+        let none : (first_moved stored_by.end).bytes ≡ [] =
+        write_moves_none o.agreed answers.from asked.request.mode server.config.retries in
+        store_has (subst (λ (w : How programs). HasStored programs w now receiver (Sink o.draft)) (sym is) (record {
+          receiver = write_stores o.agreed answers.from asked.request.mode server.config.retries;
+          opened = record {
+            opening = stored_by;
+            opened =
+                ap (λ (z : Option (TransferState F D)). or_before z (opened_at programs a old.run))
+                (came_here programs old kept answers added noted fresh stored_by o.store o.is);
+            path = refl;
+            role = refl;
+          };
+          took =
+              subst (λ (m : Moved). TookSo receiver m) (sym moved)
+              (record { stored = sym none; committed = λ c. absurd (true≢false (sym c)); refuses = refl });
+        }))
+
+    storing_keeps : IsKept programs how now
+    storing_keeps = storing_by how refl
+
+  -- ---- the answer
+  kept_by : PortAnswers stores sources server answers.from answers.bytes (content_by programs how old.state)
+      answers.steps.decoded answers.steps.repeated answers.steps.came → IsKept programs how now
+  kept_by (Silent is) = silent_keeps programs old kept answers added noted is
+  kept_by (Says_error r) = refusal_keeps programs old kept answers added noted r
+  kept_by (Begins_to_send path mode options asked opens) =
+      sending_keeps path mode options asked
+      (subst (λ (m : Mode). OpensToSend stores sources server answers.from answers.bytes
+      (content_by programs how old.state) path m answers.steps.came) (sym asked.same_mode) opens)
+  kept_by (Begins_to_store path mode options asked opens) =
+      storing_keeps path mode options asked
+      (subst (λ (m : Mode). OpensToStore stores sources server answers.from answers.bytes
+      (content_by programs how old.state) path m answers.steps.came) (sym asked.same_mode) opens)
+
+  max_block : IsBlockSize server.config.limits.max_block
+  max_block = subst (λ (c : Config). IsBlockSize c.limits.max_block) (sym kept.server.config) programs.server.max_block
+
+  -- each answer to a request keeps the invariant
+  pub request_keeps : IsKept programs how now
+  request_keeps =
+      kept_by (port_answers stores sources server answers.from answers.bytes (content_by programs how old.state)
+      max_block (content_known programs how old.state) answers.tid answers.left answers.steps)
