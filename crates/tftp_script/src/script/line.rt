@@ -1,6 +1,7 @@
 //! The parser of one line of a script.
 
-ghost use Rattle.std.specs.Prelude.{◌≡◌, ◌≢◌, false, is_some};
+ghost use Rattle.std.specs.Prelude.{◌≡◌, ◌≢◌, ◌++◌, ◌∷◌, [], true, false, is_some, IfErr, IsErrOf};
+ghost use Rattle.std.specs.Prelude.{OnOk, OnErr};
 ghost use Rattle.tftp_script.specs.declared.script.line.LineFault.TheVariants.{Faulty, Memory};
 ghost use Rattle.tftp_file.specs.declared.path.PathFault.TheVariants as path_faults;
 ghost use Rattle.tftp_store.specs.Memory.{contents};
@@ -89,7 +90,13 @@ impl Script {
     }
 
     /// Adds a file of the server, at a path that no other file has.
-    fn add_file(&mut self, path: Path, bytes: Vec<u8>) -> Result<(), LineFault> {
+    fn add_file(&mut self, path: Path, bytes: Vec<u8>) -> Result<(), LineFault>
+        ensures ok { OnOk result
+            (self.new.files.items ≡ self.old.files.items ++ (path, bytes) ∷ []) }
+        ensures faulty { IsErrOf result Faulty
+            → is_some (file_at path (contents self.old.files.items)) ≡ true }
+        ensures err { OnErr result (self.new.files.items ≡ self.old.files.items) }
+    {
         if has_path(self.files.as_slice(), &path) {
             return Err(LineFault::Faulty);
         }
@@ -98,6 +105,10 @@ impl Script {
 
     fn push_file(&mut self, path: Path, bytes: Vec<u8>) -> Result<(), LineFault>
         requires { is_some (file_at path (contents self.old.files.items)) ≡ false }
+        ensures ok { OnOk result
+            (self.new.files.items ≡ self.old.files.items ++ (path, bytes) ∷ []) }
+        ensures memory { IfErr result (λ fault. fault ≡ Memory) }
+        ensures err { OnErr result (self.new.files.items ≡ self.old.files.items) }
     {
         self.files.push((path, bytes))?;
         Ok(())
