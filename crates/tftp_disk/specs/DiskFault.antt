@@ -26,7 +26,7 @@ MayNotStore Full = Unit {0}
 MayNotStore Io = Unit {0}
 MayNotStore Memory = ⊥
 
--- at the prefix of a draft: an existing file is a fault only if it is not to be replaced
+-- at the beginning of a draft: an existing file is a fault only if it is not to be replaced
 abbrev pub MayNotBegin : Bool → StoreFault → Type 0
 MayNotBegin replace Missing = ⊥
 MayNotBegin replace Exists = replace ≡ false

@@ -1,1 +1,2 @@
 pub mod DiskFault
+pub mod Folder

@@ -1,5 +1,8 @@
 //! The folder of a file that gets a name: it is synced after that.
 
+ghost use Rattle.std.specs.Prelude.{◌≡◌};
+ghost use Rattle.tftp_disk.specs.Folder.{IsFolderOf, folder_or_root};
+
 use std::fs::{self, OpenFile};
 use std::io::{self, ErrorKind};
 use std::rt::Files;
@@ -34,13 +37,21 @@ impl<F: OpenFile + Drop> Folder<F> {
     }
 }
 
-/// The path of the folder of a path.
-fn folder_of(path: &str) -> &str {
+/// The path of the folder of a path: what is before its last slash, or `.` without a slash.
+pub fn folder_of(path: &str) -> &str
+    ensures { IsFolderOf path.now result.now }
+{
     match path.rsplit_once('/') {
-        Some(("", _)) => "/",
-        Some((folder, _)) => folder,
+        Some((folder, _)) => folder_or_root(folder),
         None => ".",
     }
+}
+
+/// The path of a folder that was cut before a slash, as a path of the system.
+pub fn folder_or_root(path: &str) -> &str
+    ensures { result.now ≡ folder_or_root path.now }
+{
+    if path.is_empty() { "/" } else { path }
 }
 
 /// Whether the error means that the file system cannot sync a folder.

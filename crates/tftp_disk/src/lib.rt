@@ -16,4 +16,4 @@ pub use block_writer::BlockWriter;
 pub use disk::{check_length, length_on_wire, name_fault, open_fault, write_fault};
 pub use error_keeper::ErrorKeeper;
 pub use existing::Existing;
-pub use folder::Folder;
+pub use folder::{Folder, folder_of, folder_or_root};
