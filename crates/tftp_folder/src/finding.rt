@@ -4,13 +4,13 @@ ghost use Rattle.std.specs.Prelude.{◌≡◌, IfErr, IfOk};
 ghost use Rattle.tftp_disk.specs.DiskFault.{MayNotOpen, MayNotStore, MayNotBegin, is_replaced};
 
 use crate::folder_store::FolderStore;
-use crate::naming::{FileId, folder_of, has_no_link};
+use crate::naming::{FileId, has_no_link};
 use std::alloc::Global;
 use std::fs::{self, Metadata, OpenFile, OpenOptions, Permissions};
 use std::io::{self, ErrorKind};
 use std::os::unix::fs::{MetadataExt, PermissionsExt};
 use std::rt::Files;
-use tftp_disk::Existing;
+use tftp_disk::{Existing, folder_of, folder_or_root};
 use tftp_file::{Path, StoreFault};
 use tftp_lines::Reason;
 
@@ -214,9 +214,9 @@ impl<R: Files + Drop> FolderStore<R> {
     {
         let folder = match found {
             Some(folder) => folder,
-            None => self.id_of(folder_or_top(self.root.as_str()))?,
+            None => self.id_of(folder_or_root(self.root.as_str()))?,
         };
-        let drafts = self.id_of(folder_or_top(self.drafts.as_str()))?;
+        let drafts = self.id_of(folder_or_root(self.drafts.as_str()))?;
         if folder.device == drafts.device {
             Ok(folder)
         } else {
@@ -257,11 +257,6 @@ impl<R: Files + Drop> FolderStore<R> {
             Err(error) => Err(self.write_refused(&error)),
         }
     }
-}
-
-/// A path without its trailing slash, as a path of the system.
-fn folder_or_top(path: &str) -> &str {
-    if path.is_empty() { "/" } else { path }
 }
 
 /// Gives a file the permissions of another, unless it has these.

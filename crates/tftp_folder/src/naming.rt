@@ -5,7 +5,7 @@ use std::fs::{self, Metadata};
 use std::io::{self, ErrorKind};
 use std::os::unix::fs::MetadataExt;
 use std::rt::Files;
-use tftp_disk::{Existing, Folder};
+use tftp_disk::{Existing, Folder, folder_of};
 use tftp_lines::Reason;
 
 /// The most folders on a path below the root.
@@ -175,13 +175,5 @@ fn rename_new<R: Files>(files: &R, draft: &str, target: &str) -> io::Result<()> 
         Ok(_) => Err(io::Error::from(ErrorKind::AlreadyExists)),
         Err(error) if error.kind() == ErrorKind::NotFound => fs::rename(files, draft, target),
         Err(error) => Err(error),
-    }
-}
-
-/// The folder of a path.
-pub(crate) fn folder_of(path: &str) -> &str {
-    match path.rsplit_once('/') {
-        Some(("", _)) | None => "/",
-        Some((folder, _)) => folder,
     }
 }
