@@ -3,8 +3,8 @@ use Rattle.std.specs.Prelude.{ℕ, List, [], ◌++◌, codes, Option, Some, None
 use Rattle.std.specs.Fmt.{decimal}
 use Rattle.tftp_ends.specs.Endpoint.{endpoint_text}
 use Rattle.tftp_ends.specs.Outcome.{outcome_text}
-use Rattle.tftp_ends.specs.declared.endpoint.Endpoint.{Endpoint}
 use Rattle.tftp_lines.specs.declared.reason.Reason.{Reason}
+use Rattle.tftp_lines.specs.declared.log_line.RequestLine.{RequestLine}
 use Rattle.tftp_lines.specs.declared.log_line.Lost.{Lost as LostReason}
 use Rattle.tftp_lines.specs.declared.log_line.Lost.TheVariants as lost_reasons
 use Rattle.tftp_lines.specs.declared.log_line.LogLine.{LogLine}
@@ -22,31 +22,31 @@ abbrev pub why_text : Option Reason → List ℕ
 why_text (Some reason) = codes ", " ++ reason_text reason
 why_text None = []
 
--- the sender of a datagram, and the datagram
-abbrev pub asked_text : Endpoint → List ℕ → List ℕ → List ℕ
-asked_text peer request rest = endpoint_text peer ++ (codes " " ++ (request ++ rest))
+-- a datagram to the request port: its sender, and its packet's line
+abbrev pub request_text : RequestLine → List ℕ
+request_text request = endpoint_text request.peer ++ (codes " " ++ request.line.now)
 
 -- a line, without its end
 abbrev pub log_text : LogLine → List ℕ
-log_text (Opened port peer request answer) =
+log_text (Opened port request answer) =
     codes "opened "
-    ++ (decimal port ++ (codes " " ++ asked_text peer request.now (codes ": " ++ answer.now)))
-log_text (Refused peer request answer reason) =
-    codes "refused " ++ asked_text peer request.now (codes ": " ++ (answer.now ++ why_text reason))
-log_text (Ignored peer request) =
-    codes "ignored " ++ (endpoint_text peer ++ (codes " " ++ request.now))
-log_text (Lost peer request lost) =
-    codes "lost " ++ asked_text peer request.now (codes ": " ++ lost_text lost)
-log_text (Unsent port peer request reason) =
+    ++ (decimal port ++ (codes " " ++ (request_text request ++ (codes ": " ++ answer.now))))
+log_text (Refused request answer reason) =
+    codes "refused " ++ (request_text request ++ (codes ": " ++ (answer.now ++ why_text reason)))
+log_text (Ignored request) = codes "ignored " ++ request_text request
+log_text (Lost request lost) =
+    codes "lost " ++ (request_text request ++ (codes ": " ++ lost_text lost))
+log_text (Unsent port request reason) =
     codes "unsent "
-    ++ (decimal port
-    ++ (codes " " ++ asked_text peer request.now (codes ": " ++ reason_text reason)))
-log_text (Closed port peer request answer bytes millis outcome reason) =
+    ++ (decimal port ++ (codes " " ++ (request_text request ++ (codes ": " ++ reason_text reason))))
+log_text (Closed port request answer bytes millis outcome reason) =
     codes "closed "
     ++ (decimal port
-    ++ (codes " " ++ asked_text peer request.now (codes ": "
+    ++ (codes " "
+    ++ (request_text request
+    ++ (codes ": "
     ++ (answer.now
     ++ (codes ", "
     ++ (decimal bytes
     ++ (codes " bytes, "
-    ++ (decimal millis ++ (codes " ms, " ++ (outcome_text outcome ++ why_text reason))))))))))
+    ++ (decimal millis ++ (codes " ms, " ++ (outcome_text outcome ++ why_text reason)))))))))))

@@ -27,41 +27,57 @@ impl fmt::Display for Lost {
     }
 }
 
-/// A line of the log of `tftpd`. A datagram is written as its packet's line, or as its first fault.
+/// A datagram to the request port, as a part of a line.
+#[derive(Clone, Copy, Debug)]
+pub struct RequestLine<'a> {
+    /// The sender.
+    pub peer: Endpoint,
+    /// The line of its packet, or its first fault.
+    pub line: &'a str,
+}
+
+impl fmt::Display for RequestLine<'_> {
+    ghost use Rattle.std.specs.Prelude.{Some};
+    ghost use Rattle.tftp_lines.specs.LogLine.{request_text};
+
+    ghost output = { λ request. Some (request_text request) };
+
+    fn fmt<W: fmt::Write>(&self, f: &mut fmt::Formatter<W>) -> fmt::Result {
+        let (peer, line) = (self.peer, self.line);
+        write!(f, "{peer} {line}")
+    }
+}
+
+/// A line of the log of `tftpd`. `answer` is the line of a packet.
 #[derive(Clone, Copy, Debug)]
 pub enum LogLine<'a> {
     /// A request opened the transfer at this port; `answer` is its first datagram.
     Opened {
         port: u16,
-        peer: Endpoint,
-        request: &'a str,
+        request: RequestLine<'a>,
         answer: &'a str,
     },
     /// A datagram to the request port opened no transfer and was answered; the reason, if the
     /// system refused a call on a file.
     Refused {
-        peer: Endpoint,
-        request: &'a str,
+        request: RequestLine<'a>,
         answer: &'a str,
         reason: Option<Reason>,
     },
     /// A datagram to the request port opened no transfer and was not answered.
     Ignored {
-        peer: Endpoint,
-        request: &'a str,
+        request: RequestLine<'a>,
     },
     /// A request that might have opened a transfer is lost.
     Lost {
-        peer: Endpoint,
-        request: &'a str,
+        request: RequestLine<'a>,
         lost: Lost,
     },
     /// The system refused to send a datagram, from this port, to the peer that made the request.
     /// It is lost like one that the network loses.
     Unsent {
         port: u16,
-        peer: Endpoint,
-        request: &'a str,
+        request: RequestLine<'a>,
         reason: Reason,
     },
     /// A transfer closed, after `bytes` bytes of DATA and `millis` milliseconds; the reason, if the
@@ -69,8 +85,7 @@ pub enum LogLine<'a> {
     /// options.
     Closed {
         port: u16,
-        peer: Endpoint,
-        request: &'a str,
+        request: RequestLine<'a>,
         answer: &'a str,
         bytes: u64,
         millis: u64,
@@ -107,34 +122,26 @@ impl fmt::Display for LogLine<'_> {
         match *self {
             LogLine::Opened {
                 port,
-                peer,
                 request,
                 answer,
-            } => write!(f, "opened {port} {peer} {request}: {answer}"),
+            } => write!(f, "opened {port} {request}: {answer}"),
             LogLine::Refused {
-                peer,
                 request,
                 answer,
                 reason,
             } => {
                 let why = Why(reason);
-                write!(f, "refused {peer} {request}: {answer}{why}")
+                write!(f, "refused {request}: {answer}{why}")
             }
-            LogLine::Ignored { peer, request } => write!(f, "ignored {peer} {request}"),
-            LogLine::Lost {
-                peer,
-                request,
-                lost,
-            } => write!(f, "lost {peer} {request}: {lost}"),
+            LogLine::Ignored { request } => write!(f, "ignored {request}"),
+            LogLine::Lost { request, lost } => write!(f, "lost {request}: {lost}"),
             LogLine::Unsent {
                 port,
-                peer,
                 request,
                 reason,
-            } => write!(f, "unsent {port} {peer} {request}: {reason}"),
+            } => write!(f, "unsent {port} {request}: {reason}"),
             LogLine::Closed {
                 port,
-                peer,
                 request,
                 answer,
                 bytes,
@@ -145,7 +152,7 @@ impl fmt::Display for LogLine<'_> {
                 let why = Why(reason);
                 write!(
                     f,
-                    "closed {port} {peer} {request}: {answer}, {bytes} bytes, \
+                    "closed {port} {request}: {answer}, {bytes} bytes, \
                      {millis} ms, {outcome}{why}"
                 )
             }

@@ -4,7 +4,7 @@ use crate::datagram::Datagram;
 use std::alloc::Global;
 use std::cell::Cell;
 use tftp_ends::{Endpoint, Outcome};
-use tftp_lines::{LogLine, Reason};
+use tftp_lines::{LogLine, Reason, RequestLine};
 use tftp_wire::{PacketRef, decode_ref, show_datagram};
 
 /// The content of a transfer's log lines.
@@ -50,13 +50,20 @@ impl LogEntry {
         self.unsent.set(Some(reason));
     }
 
+    /// The request that opened the transfer.
+    fn request_line(&self) -> RequestLine<'_> {
+        RequestLine {
+            peer: self.peer,
+            line: self.request.as_str(),
+        }
+    }
+
     /// The line of a datagram that the system refused to send since the last call, if it did.
     pub(crate) fn take_unsent(&self, port: u16) -> Option<LogLine<'_>> {
         match self.unsent.replace(None) {
             Some(reason) => Some(LogLine::Unsent {
                 port,
-                peer: self.peer,
-                request: self.request.as_str(),
+                request: self.request_line(),
                 reason,
             }),
             None => None,
@@ -67,8 +74,7 @@ impl LogEntry {
     pub(crate) fn opened(&self, port: u16) -> LogLine<'_> {
         LogLine::Opened {
             port,
-            peer: self.peer,
-            request: self.request.as_str(),
+            request: self.request_line(),
             answer: self.answer.as_str(),
         }
     }
@@ -84,8 +90,7 @@ impl LogEntry {
     ) -> LogLine<'_> {
         LogLine::Closed {
             port,
-            peer: self.peer,
-            request: self.request.as_str(),
+            request: self.request_line(),
             answer: self.answer.as_str(),
             bytes: self.bytes,
             millis: reading.saturating_sub(self.opened_at),

@@ -10,7 +10,7 @@ use crate::serving::LoopFault;
 use crate::transfer_port::TransferPort;
 use std::alloc::Global;
 use tftp_ends::{Outcome, Record};
-use tftp_lines::{LogLine, Lost, Printed, Reason};
+use tftp_lines::{LogLine, Lost, Printed, Reason, RequestLine};
 use tftp_server::{Server, Store};
 use tftp_sockets::{Journal, print_line};
 
@@ -23,17 +23,17 @@ pub(crate) fn log_unopened<E: Eprint>(
     answer: &[u8],
     reason: Option<Reason>,
 ) {
-    let request = shown(alloc, datagram.bytes);
+    let shown_request = shown(alloc, datagram.bytes);
     let shown_answer = shown(alloc, answer);
+    let request = RequestLine {
+        peer: datagram.from,
+        line: shown_request.as_str(),
+    };
     let line = if answer.is_empty() {
-        LogLine::Ignored {
-            peer: datagram.from,
-            request: request.as_str(),
-        }
+        LogLine::Ignored { request }
     } else {
         LogLine::Refused {
-            peer: datagram.from,
-            request: request.as_str(),
+            request,
             answer: shown_answer.as_str(),
             reason,
         }
@@ -43,12 +43,12 @@ pub(crate) fn log_unopened<E: Eprint>(
 
 /// Logs a lost request.
 pub(crate) fn log_lost<E: Eprint>(rt: &E, alloc: Global, datagram: Datagram<'_>, lost: Lost) {
-    let request = shown(alloc, datagram.bytes);
-    let line = LogLine::Lost {
+    let shown_request = shown(alloc, datagram.bytes);
+    let request = RequestLine {
         peer: datagram.from,
-        request: request.as_str(),
-        lost,
+        line: shown_request.as_str(),
     };
+    let line = LogLine::Lost { request, lost };
     let _ = eprintln!(rt; "{line}");
 }
 
@@ -60,11 +60,13 @@ pub(crate) fn log_unsent_answer<E: Eprint>(
     datagram: Datagram<'_>,
     reason: Reason,
 ) {
-    let request = shown(alloc, datagram.bytes);
+    let shown_request = shown(alloc, datagram.bytes);
     let line = LogLine::Unsent {
         port,
-        peer: datagram.from,
-        request: request.as_str(),
+        request: RequestLine {
+            peer: datagram.from,
+            line: shown_request.as_str(),
+        },
         reason,
     };
     let _ = eprintln!(rt; "{line}");
