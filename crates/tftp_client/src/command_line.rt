@@ -29,9 +29,9 @@ Examples:
   tftp put 127.0.0.1:6969 notes.txt notes.txt --netascii";
 
 const DALLYING: &str = "\
-Once LOCAL has its name, `complete N` is printed. The client then stays for two timeouts, 2 seconds
-or twice the agreed timeout, to acknowledge the last block again if the server repeats it (RFC 1350,
-section 6).";
+Once LOCAL has its name, `complete N` is printed. The client then dallies for two timeouts, 2
+seconds or twice the agreed timeout, to acknowledge the last block again if the server repeats it
+(RFC 1350, section 6).";
 
 /// What standard error writes to.
 #[derive(Clone, Copy)]
