@@ -6,7 +6,7 @@ use Rattle.tftp_file.specs.Source.{SourceMeaning}
 use Rattle.tftp_store.specs.Store.{StoreMeaning}
 use Rattle.tftp_server.specs.State.{ServerState}
 use Rattle.tftp_sockets.specs.Journal.{Event}
-use Rattle.tftp_loop.specs.Serves.{Serves, ServesIn, ServesToEnd, listening}
+use Rattle.tftp_loop.specs.WholeRun.{Serves, ServesIn, ServesToEnd, listening}
 use Rattle.tftp_daemon.specs.Words.{WordsConfigure}
 use Rattle.tftp_daemon.specs.declared.daemon.DaemonConfig.{DaemonConfig}
 use Rattle.tftp_folder.specs.declared.folder_store.FolderStore.{FolderStore}

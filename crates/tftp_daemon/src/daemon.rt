@@ -2,7 +2,7 @@
 
 ghost use Rattle.std.specs.Prelude.{◌≡◌, ◌≤◌, ℕ, IfOk, OnOk, option_map};
 ghost use Rattle.tftp_server.specs.Config.{IsConfig};
-ghost use Rattle.tftp_loop.specs.Serves.{Serves, ServesIn, ServesToEnd, listening};
+ghost use Rattle.tftp_loop.specs.WholeRun.{Serves, ServesIn, ServesToEnd, listening};
 ghost use Rattle.tftp_daemon.specs.Configured.{IsServerOf, IsUploads, MayServe};
 ghost use Rattle.tftp_daemon.specs.Configured.{status_of};
 

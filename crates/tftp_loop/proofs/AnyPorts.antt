@@ -11,11 +11,11 @@ use Rattle.tftp_loop.specs.Run.{Run}
 use Rattle.tftp_loop.specs.Run.Run.{Start, Then}
 use Rattle.tftp_loop.specs.Serves.{LoopState, Does, MayWait, RequestLoss, No_memory, No_room, No_port, No_identifier}
 use Rattle.tftp_loop.specs.Serves.{Same_port}
-use Rattle.tftp_loop.specs.Serves.{ServesFrom, ServesFromIn, ServesToEnd, ServesToEndIn, Serves, ServesIn}
+use Rattle.tftp_loop.specs.WholeRun.{ServesFrom, ServesFromIn, ServesToEnd, ServesToEndIn, Serves, ServesIn}
 use Rattle.tftp_loop.specs.Serves.Does.{Waited, At_port, Request_received, No_request_found, Request_not_received}
 use Rattle.tftp_loop.specs.Serves.Does.{No_port_found}
 use Rattle.tftp_loop.specs.Serves.Does.{Request_answered, Request_lost, Clock_read, Store_set, Transfer_closed}
-use Rattle.tftp_loop.specs.Serves.ServesIn.{Bound, Unbound}
+use Rattle.tftp_loop.specs.WholeRun.ServesIn.{Bound, Unbound}
 use Rattle.tftp_loop.specs.declared.port_order.PortRange.{PortRange}
 use Rattle.tftp_loop.specs.declared.serving.Ending.{Ending}
 

@@ -1,5 +1,5 @@
 -- What a step of an end leaves of its retries, and of the timeouts until it closes.
-use Rattle.std.proofs.Common.{arith, ◌≡◌, ◌≤◌, ◌+◌, ◌||◌, ◌&&◌, ◌⊎◌, not, max, ℕ, Bool, true, false}
+use Rattle.std.proofs.Common.{arith, ◌≡◌, ◌-◌, ◌≤◌, ◌+◌, ◌||◌, ◌&&◌, ◌⊎◌, not, max, ℕ, Bool, true, false}
 use Rattle.std.proofs.Common.{List, Option, Some, None, refl, sym, ap, subst, ◌∙◌, inl, inr}
 use Rattle.std.specs.Prelude.{◌==◌, if◌then◌else◌, is_some, Result, Ok, Err}
 use Rattle.std.proofs.lemmas.Bool.{cases_eq, eq-eqb, ne_eqb}
@@ -307,38 +307,30 @@ tries e to again = elim (cases_eq e.position.retries_left 0) [
   | inr some ↦ rw (ne_eqb e.position.retries_left 0 some) (again some)
 ]
 
+-- an end that waits for an answer sends its newest datagram again
+tries_again : (e : EndState) → ((left : ℕ) → timeouts_in left e.position.phase ≡ left + 1)
+    → Spends e (after (if e.position.retries_left == 0 then Close outcomes.TimedOut else Retransmit)
+    e.position.last_sent_to e)
+tries_again e counts =
+    tries e e.position.last_sent_to
+    (λ some.
+    let now = counts (e.position.retries_left - 1) in
+    let before = counts e.position.retries_left in
+    record {
+      moves = Stays_in refl (omega arith);
+      left = λ h. omega (arith, some, now, before);
+      complete = refl;
+      closes = λ o is. inr (inr is);
+    })
+
 -- an end in a phase
 abbrev in_phase_alone : Phase → EndState → EndState
 in_phase_alone p e = record e { position = record e.position { phase = p } }
 
 timeout_at : (p : Phase) (e : EndState) → Spends (in_phase_alone p e) (timeout_turn (in_phase_alone p e)).position
-timeout_at (Waiting asked limit) e =
-    tries (in_phase_alone (Waiting asked limit) e) e.position.last_sent_to
-    (λ some. record {
-      moves = Stays_in refl (omega arith);
-      left = λ h. omega (arith, some);
-      complete = refl;
-      closes =
-          λ o is. inr (inr is);
-    })
-timeout_at (Sending terms number) e =
-    tries (in_phase_alone (Sending terms number) e) e.position.last_sent_to
-    (λ some. record {
-      moves = Stays_in refl (omega arith);
-      left = λ h. omega (arith, some);
-      complete = refl;
-      closes =
-          λ o is. inr (inr is);
-    })
-timeout_at (Receiving terms number) e =
-    tries (in_phase_alone (Receiving terms number) e) e.position.last_sent_to
-    (λ some. record {
-      moves = Stays_in refl (omega arith);
-      left = λ h. omega (arith, some);
-      complete = refl;
-      closes =
-          λ o is. inr (inr is);
-    })
+timeout_at (Waiting asked limit) e = tries_again (in_phase_alone (Waiting asked limit) e) (λ left. refl)
+timeout_at (Sending terms number) e = tries_again (in_phase_alone (Sending terms number) e) (λ left. refl)
+timeout_at (Receiving terms number) e = tries_again (in_phase_alone (Receiving terms number) e) (λ left. refl)
 timeout_at (Dallying terms number Fresh) e =
     record {
       moves = Waits_on (omega arith) refl;

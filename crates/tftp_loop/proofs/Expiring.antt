@@ -1,18 +1,17 @@
 -- A transfer that makes no progress is closed in time, and its line is printed.
-use Rattle.std.proofs.Common.{arith, ◌≡◌, ◌<◌, ◌≤◌, ◌+◌, ◌*◌, ◌-◌, ◌⊎◌, max, mul-add, ℕ, Bool, true, false, List}
+use Rattle.std.proofs.Common.{arith, ◌≡◌, ◌<◌, ◌≤◌, ◌+◌, ◌*◌, ◌⊎◌, max, ℕ, List}
 use Rattle.std.proofs.Common.{[], ◌∷◌, ◌++◌, length, Option, Some, None, IsSome, refl, sym, ap, subst, ◌∙◌, inl}
 use Rattle.std.proofs.Common.{inr}
-use Rattle.std.specs.Prelude.{slice_index_or, slice_set, if◌then◌else◌}
+use Rattle.std.specs.Prelude.{slice_index_or, slice_set}
 use Rattle.std.specs.List.{Contains}
 use Rattle.std.proofs.lemmas.Bool.{cases_eq}
 use Rattle.std.proofs.lemmas.List.{append_assoc, length-map}
-use Rattle.std.proofs.lemmas.Option.{none-some, same_Some}
+use Rattle.std.proofs.lemmas.Option.{none-some}
 use Rattle.tftp_file.specs.Source.{SourceMeaning}
 use Rattle.tftp_ends.specs.declared.endpoint.Endpoint.{Endpoint}
 use Rattle.tftp_ends.specs.declared.outcome.Outcome.{Outcome}
 use Rattle.tftp_ends.specs.declared.record.Record.{Record}
 use Rattle.tftp_ends.specs.End.{EndState, is_complete, outcome_of, record_of}
-use Rattle.tftp_ends.specs.Step.{after_turn, timeout_turn}
 use Rattle.tftp_store.specs.Store.{StoreMeaning}
 use Rattle.tftp_server.specs.State.{TransferState, at, draft_of, is_closed, taken_of, with_new}
 use Rattle.tftp_server.specs.Request.{Came, Left, Nothing, Error_reply, A_transfer, left_by}
@@ -24,7 +23,7 @@ use Rattle.tftp_sockets.specs.Journal.{Event, replied}
 use Rattle.tftp_sockets.specs.Journal.Event.{Printed}
 use Rattle.tftp_loop.specs.Run.{Run}
 use Rattle.tftp_loop.specs.Serves.{Timer, PortState, LoopState, AtPort, Does, Waits, answering_port}
-use Rattle.tftp_loop.specs.Serves.{interval_at, marked_by, port_state, started, timer_after}
+use Rattle.tftp_loop.specs.Serves.{interval_at, marked_by, port_state, started}
 use Rattle.tftp_loop.specs.Serves.{with_timer}
 use Rattle.tftp_loop.specs.Serves.Does.{Waited, At_port, Request_received, No_request_found, Request_not_received}
 use Rattle.tftp_loop.specs.Serves.Does.{No_port_found}
@@ -35,146 +34,17 @@ use Rattle.tftp_loop.specs.Expiry.{PrintsClose, ReceivesNone, ReceivesNoneAt, cl
 use Rattle.tftp_loop.specs.Tended.{AreKept}
 use Rattle.tftp_loop.proofs.Adding.{Adds, adds_more, step_adds, step_forward}
 use Rattle.tftp_loop.proofs.Bounded.{some_at, sound_along}
-use Rattle.tftp_loop.proofs.EndSteps.{most_left, open_left, timeout_spends, timeouts_left}
+use Rattle.tftp_loop.proofs.EndSteps.{most_left, open_left, timeouts_left}
+use Rattle.tftp_loop.proofs.InTime.{InTime, at_last, changes_closes, changes_complete, changes_in_time, first_time}
+use Rattle.tftp_loop.proofs.InTime.{rested}
 use Rattle.tftp_loop.proofs.ListLemmas.{set_long}
-use Rattle.tftp_loop.proofs.PortEnds.{By_datagram, By_late_timeout, By_nothing, By_timeout, Changes, SameTimer}
-use Rattle.tftp_loop.proofs.PortEnds.{at_transfer, same_timer}
+use Rattle.tftp_loop.proofs.PortEnds.{SameTimer, at_transfer, same_timer}
 use Rattle.tftp_loop.proofs.PortStays.{stays_at}
 use Rattle.tftp_loop.proofs.Rounds.{InRound, begins_round, step_round, wait_or_work}
 use Rattle.tftp_loop.proofs.Sleeping.{step_kept}
 use Rattle.tftp_loop.proofs.Tables.{any_default, appended_at, appended_long, inserted_apart, removed_apart}
-use Rattle.tftp_loop.proofs.Tables.{removed_place, set_other, set_own}
+use Rattle.tftp_loop.proofs.Tables.{not_taken, removed_place, set_other, set_own, taken_by}
 use Rattle.tftp_loop.proofs.Waits.{marked_at}
-
--- ---- the time that is left
--- so many timeouts are over, and each took an interval and a round at most
-record InTime (start millis round most since deadline left : ℕ) : Type 0 where
-  pub spent : ℕ
-  pub few : left + spent ≤ most + 1
-  pub due : deadline ≤ start + (millis + round) * spent + millis
-  pub newest : since ≤ start + (millis + round) * spent + millis
-
-module _ (start millis round most : ℕ) where
-  first_time : (deadline left : ℕ) → deadline ≤ start + millis → left ≤ most + 1
-      → InTime start millis round most start deadline left
-  first_time deadline left near few =
-      let none : (millis + round) * 0 ≡ 0 = omega arith in
-      record { spent = 0; few = omega (arith, few); due = omega (arith, near, none); newest = omega (arith, none) }
-
-  no_later : (since deadline deadline' left left' : ℕ) → deadline' ≤ deadline → left' ≤ left
-      → InTime start millis round most since deadline left → InTime start millis round most since deadline' left'
-  no_later since deadline deadline' left left' sooner fewer t =
-      let few = t.few in
-      let due = t.due in
-      record { spent = t.spent; few = omega (arith, few, fewer); due = omega (arith, due, sooner); newest = t.newest }
-
-  -- a timeout in the round in which it was due
-  timed_out : (since deadline deadline' now left left' : ℕ) → now ≤ since + round → deadline' ≤ now + millis
-      → left' + 1 ≤ left → InTime start millis round most since deadline left
-      → InTime start millis round most since deadline' left'
-  timed_out since deadline deadline' now left left' soon near fewer t =
-      let few = t.few in
-      let newest = t.newest in
-      let more : (millis + round) * (t.spent + 1) ≡ (millis + round) * t.spent + (millis + round) * 1 =
-      mul-add (millis + round) t.spent 1 in
-      let one : (millis + round) * 1 ≡ millis + round = omega arith in
-      record {
-        spent = t.spent + 1;
-        few = omega (arith, few, fewer);
-        due =
-            omega (arith, newest, soon, near, more, one);
-        newest = omega (arith, newest, more, one);
-      }
-
-  -- at a wait the deadline is to come
-  rested : (since deadline now left : ℕ) → now ≤ deadline → InTime start millis round most since deadline left
-      → InTime start millis round most now deadline left
-  rested since deadline now left before t =
-      let due = t.due in
-      record { spent = t.spent; few = t.few; due = t.due; newest = omega (arith, due, before) }
-
-  at_last : (since deadline now left : ℕ) → 1 ≤ left → now ≤ deadline
-      → InTime start millis round most since deadline left → now ≤ start + millis + (millis + round) * most
-  at_last since deadline now left some before t =
-      let few = t.few in
-      let due = t.due in
-      let rest = most - t.spent in
-      let all : (millis + round) * (t.spent + rest) ≡ (millis + round) * t.spent + (millis + round) * rest =
-      mul-add (millis + round) t.spent rest in
-      let sum : t.spent + rest ≡ most = omega (arith, few, some) in
-      let same : (millis + round) * (t.spent + rest) ≡ (millis + round) * most =
-      ap (λ (n : ℕ). (millis + round) * n) sum in
-      omega (arith, due, before, all, same)
-
--- ---- what a step at the port leaves
-module _ (start millis round most : ℕ) (Idle Silent : Type 0) (now since : ℕ) (timer timer' : Timer) (e e' : EndState)
-    (changes : Changes Idle Silent now timer timer' e e') where
-  changes_in_time : Idle → timer.interval * 1000 ≡ millis → now ≤ since + round
-      → (1 ≤ timeouts_left e → InTime start millis round most since timer.deadline (timeouts_left e))
-      → 1 ≤ timeouts_left e' → InTime start millis round most since timer'.deadline (timeouts_left e')
-  changes_in_time idle interval soon before some = elim changes [
-    | By_datagram progress handled is_idle silent is ↦
-        let still = is_idle idle in
-        let fewer = handled.left still in
-        let deadline : timer'.deadline ≡ timer.deadline =
-        ap (λ (t : Timer). t.deadline) is ∙ ap (λ (b : Bool). (timer_after now b timer).deadline) still in
-        no_later start millis round most since timer.deadline timer'.deadline (timeouts_left e) (timeouts_left e')
-        (omega (arith, deadline)) fewer (before (omega (arith, some, fewer)))
-    | By_timeout end is ↦
-        let same : timeouts_left e' ≡ timeouts_left (after_turn e (timeout_turn e)) =
-        ap (λ (f : EndState). timeouts_left f) end in
-        let spends : timeouts_left (after_turn e (timeout_turn e)) + 1 ≤ timeouts_left e =
-        (timeout_spends e).left (omega (arith, some, same)) in
-        let deadline : timer'.deadline ≡ deadline_of now timer.interval = ap (λ (t : Timer). t.deadline) is in
-        timed_out start millis round most since timer.deadline timer'.deadline now (timeouts_left e)
-        (timeouts_left e') soon (omega (arith, deadline, interval)) (omega (arith, spends, same))
-        (before (omega (arith, spends)))
-    | By_late_timeout end none is ↦
-        let same : timeouts_left e' ≡ timeouts_left e = ap (λ (f : EndState). timeouts_left f) end in
-        absurd (omega (arith, some, same, none))
-    | By_nothing end deadline interval' ↦
-        let same : timeouts_left e' ≡ timeouts_left e = ap (λ (f : EndState). timeouts_left f) end in
-        no_later start millis round most since timer.deadline timer'.deadline (timeouts_left e) (timeouts_left e')
-        (omega (arith, deadline)) (omega (arith, same)) (before (omega (arith, some, same)))
-  ]
-
-  changes_complete : Silent → is_complete e'.position.phase ≡ is_complete e.position.phase
-  changes_complete quiet = elim changes [
-    | By_datagram progress handled is_idle silent is ↦ absurd (silent quiet)
-    | By_timeout end is ↦ ap (λ (f : EndState). is_complete f.position.phase) end ∙ (timeout_spends e).complete
-    | By_late_timeout end none is ↦ ap (λ (f : EndState). is_complete f.position.phase) end
-    | By_nothing end deadline interval ↦ ap (λ (f : EndState). is_complete f.position.phase) end
-  ]
-
-  -- from the end before to the first one
-  closes_first : (e0 : EndState) (outcome : Outcome) → is_complete e.position.phase ≡ is_complete e0.position.phase
-      → ((o : Outcome) → outcome_of e.position.phase ≡ Some o → ClosesInSilence e0.position.phase o)
-      → ClosesInSilence e.position.phase outcome → ClosesInSilence e0.position.phase outcome
-  closes_first e0 outcome complete closes (inl timed) = inl timed
-  closes_first e0 outcome complete closes (inr (inl done)) = inr (inl (done.0, sym complete ∙ done.1))
-  closes_first e0 outcome complete closes (inr (inr closed)) = closes outcome closed
-
-  changes_closes : Silent → (e0 : EndState) → is_complete e.position.phase ≡ is_complete e0.position.phase
-      → ((o : Outcome) → outcome_of e.position.phase ≡ Some o → ClosesInSilence e0.position.phase o)
-      → (o : Outcome) → outcome_of e'.position.phase ≡ Some o → ClosesInSilence e0.position.phase o
-  changes_closes quiet e0 complete closes o closed = elim changes [
-    | By_datagram progress handled is_idle silent is ↦ absurd (silent quiet)
-    | By_timeout end is ↦
-        closes_first e0 o complete closes ((timeout_spends e).closes o
-        (sym (ap (λ (f : EndState). outcome_of f.position.phase) end) ∙ closed))
-    | By_late_timeout end none is ↦ closes o (sym (ap (λ (f : EndState). outcome_of f.position.phase) end) ∙ closed)
-    | By_nothing end deadline interval ↦ closes o (sym (ap (λ (f : EndState). outcome_of f.position.phase) end)
-        ∙ closed)
-  ]
-
--- what was taken is the record of the transfer
-taken_by : {X : Type 0} (b : Bool) (x y : X) → (if b then Some x else None) ≡ Some y → x ≡ y
-taken_by true x y h = same_Some x y h
-taken_by false x y h = absurd (none-some y h)
-
-not_taken : {X : Type 0} (b : Bool) (x : X) → (if b then Some x else None) ≡ None → b ≡ false
-not_taken true x h = absurd (none-some x (sym h))
-not_taken false x h = refl
 
 module _ {S F D : Type 0} (meaning : StoreMeaning S D) (sources : SourceMeaning F) (first : LoopState S F D)
     (timer : Timer) (e0 : EndState) where
@@ -351,6 +221,15 @@ module _ {S F D : Type 0} (meaning : StoreMeaning S D) (sources : SourceMeaning 
       }
 
   -- ---- one step
+  -- that leaves each timer and each transfer
+  passes : (Quiet More : Type 0) (since : ℕ) (s t u : LoopState S F D) (does : Does meaning sources s t)
+      → (More → Quiet) → t ≡ u → u.timers ≡ s.timers → u.server.held ≡ s.server.held → Lasts Quiet since s
+      → Lives More since t
+  passes Quiet More since s t u does fewer is timers held lasts =
+      inr (same_lasts Quiet More since s t fewer (step_adds meaning sources s t does)
+      (ap (λ (v : LoopState S F D). v.timers) is ∙ timers) (ap (λ (v : LoopState S F D). v.server.held) is ∙ held)
+      lasts)
+
   step_lives : (Quiet More : Type 0) (since : ℕ) (s t : LoopState S F D) (does : Does meaning sources s t)
       → IsNoWait meaning sources does → IsIdle meaning sources timer.port does → (More → Quiet)
       → (More → ReceivesNone meaning sources timer.port does) → t.now ≤ since + round → AreKept s.server.held s.timers
@@ -363,17 +242,13 @@ module _ {S F D : Type 0} (meaning : StoreMeaning S D) (sources : SourceMeaning 
       (subst (λ (u : LoopState S F D). u.now ≤ since + round) d.is soon)
       (subst (λ (u : LoopState S F D). Adds s.events u.events) d.is adds) lasts))
   step_lives Quiet More since s t (Request_received d) is idle fewer silent soon kept lasts =
-      inr (same_lasts Quiet More since s t fewer (step_adds meaning sources s t (Request_received d))
-      (ap (λ (u : LoopState S F D). u.timers) d.is) (ap (λ (u : LoopState S F D). u.server.held) d.is) lasts)
+      passes Quiet More since s t _ (Request_received d) fewer d.is refl refl lasts
   step_lives Quiet More since s t (No_request_found d) is idle fewer silent soon kept lasts =
-      inr (same_lasts Quiet More since s t fewer (step_adds meaning sources s t (No_request_found d))
-      (ap (λ (u : LoopState S F D). u.timers) d.is) (ap (λ (u : LoopState S F D). u.server.held) d.is) lasts)
+      passes Quiet More since s t _ (No_request_found d) fewer d.is refl refl lasts
   step_lives Quiet More since s t (Request_not_received d) is idle fewer silent soon kept lasts =
-      inr (same_lasts Quiet More since s t fewer (step_adds meaning sources s t (Request_not_received d))
-      (ap (λ (u : LoopState S F D). u.timers) d.is) (ap (λ (u : LoopState S F D). u.server.held) d.is) lasts)
+      passes Quiet More since s t _ (Request_not_received d) fewer d.is refl refl lasts
   step_lives Quiet More since s t (No_port_found d) is idle fewer silent soon kept lasts =
-      inr (same_lasts Quiet More since s t fewer (step_adds meaning sources s t (No_port_found d))
-      (ap (λ (u : LoopState S F D). u.timers) d.is) (ap (λ (u : LoopState S F D). u.server.held) d.is) lasts)
+      passes Quiet More since s t _ (No_port_found d) fewer d.is refl refl lasts
   step_lives Quiet More since s t (Request_answered d) is idle fewer silent soon kept lasts =
       let fs = replied (answering_port s.requests d.left.opened.tid) d.left.opened.to d.left.sent s.events in
       let adds = subst (λ (u : LoopState S F D). Adds s.events u.events) d.is
@@ -388,14 +263,11 @@ module _ {S F D : Type 0} (meaning : StoreMeaning S D) (sources : SourceMeaning 
       })) (sym d.steps.left)
       (opens_lasts Quiet More since d.from d.tid s fs d.steps.came d.free kept fewer adds lasts)))
   step_lives Quiet More since s t (Request_lost d) is idle fewer silent soon kept lasts =
-      inr (same_lasts Quiet More since s t fewer (step_adds meaning sources s t (Request_lost d))
-      (ap (λ (u : LoopState S F D). u.timers) d.is) (ap (λ (u : LoopState S F D). u.server.held) d.is) lasts)
+      passes Quiet More since s t _ (Request_lost d) fewer d.is refl refl lasts
   step_lives Quiet More since s t (Clock_read d) is idle fewer silent soon kept lasts =
-      inr (same_lasts Quiet More since s t fewer (step_adds meaning sources s t (Clock_read d))
-      (ap (λ (u : LoopState S F D). u.timers) d.is) (ap (λ (u : LoopState S F D). u.server.held) d.is) lasts)
+      passes Quiet More since s t _ (Clock_read d) fewer d.is refl refl lasts
   step_lives Quiet More since s t (Store_set d) is idle fewer silent soon kept lasts =
-      inr (same_lasts Quiet More since s t fewer (step_adds meaning sources s t (Store_set d))
-      (ap (λ (u : LoopState S F D). u.timers) d.is) (ap (λ (u : LoopState S F D). u.server.held) d.is) lasts)
+      passes Quiet More since s t _ (Store_set d) fewer d.is refl refl lasts
   step_lives Quiet More since s t (Transfer_closed d) is idle fewer silent soon kept lasts =
       elim (cases_eq lasts.place d.index) [
         | inl here ↦

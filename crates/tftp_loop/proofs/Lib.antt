@@ -25,5 +25,6 @@ pub mod PortEnds
 pub mod Bounded
 pub mod Adding
 pub mod Rounds
+pub mod InTime
 pub mod Expiring
 pub mod Handling

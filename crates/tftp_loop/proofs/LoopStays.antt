@@ -1,6 +1,6 @@
 -- What work keeps: each transfer has its own timer, and what was read stays so.
 use Rattle.std.proofs.Common.{arith, ◌≡◌, ◌<◌, ◌≤◌, ◌-◌, ◌==◌, ◌||◌, ◌⊎◌, ℕ, Bool, true, false, List, [], ◌∷◌, ◌++◌}
-use Rattle.std.proofs.Common.{length, Option, None, IsSome, refl, sym, ap, subst, ◌∙◌, inl, inr}
+use Rattle.std.proofs.Common.{length, Option, None, Some, IsSome, refl, sym, ap, subst, ◌∙◌, inl, inr}
 use Rattle.std.specs.Prelude.{slice_set, slice_index_or, is_some, All}
 use Rattle.std.specs.List.{swap_remove}
 use Rattle.std.proofs.lemmas.Bool.{cases_eq}
@@ -10,6 +10,8 @@ use Rattle.tftp_store.specs.Store.{StoreMeaning}
 use Rattle.tftp_server.specs.State.{TransferState, ServerState, at, with_new, without}
 use Rattle.tftp_server.specs.Request.{Came, Left, Nothing, Error_reply, A_transfer, left_by}
 use Rattle.tftp_sockets.specs.Journal.{Event, replied}
+use Rattle.tftp_sockets.specs.Journal.Event.{Received, Quiet}
+use Rattle.tftp_sockets.specs.Journal.QuietEvent.{Empty, Failed}
 use Rattle.tftp_sockets.specs.Quiet.{was_tried}
 use Rattle.tftp_loop.specs.Run.{Run}
 use Rattle.tftp_loop.specs.Run.Run.{Start, Then}
@@ -269,6 +271,20 @@ module _ {S F D : Type 0} (meaning : StoreMeaning S D) (sources : SourceMeaning 
   still_tried true pending P f h = f refl
   still_tried false pending P f h = absurd (let g : false ≡ true = h in cc)
 
+  -- the request port was read
+  asks_keep : (s : LoopState S F D) (pending : Option (Endpoint × List ℕ)) (marked : Bool) (event : Event)
+      → ((q : ℕ) → was_tried q (event ∷ s.events) ≡ ((s.requests == q) || was_tried q s.events))
+      → Keeps s (record s { pending = pending; marked = marked; events = event ∷ s.events })
+  asks_keep s pending marked event reads =
+      let tries : KeepsTries s.events (event ∷ s.events) =
+      λ q h. reads q ∙ or_right (s.requests == q) (was_tried q s.events) h in
+      record {
+        tries = tries;
+        kept = λ h. h;
+        read = λ h k e l m. tries (slice_index_or s.timers k e).port (h k e l m);
+        tried = λ h m. reads s.requests ∙ own_receive s.requests (was_tried s.requests s.events);
+      }
+
   step_keeps : (s t : LoopState S F D) (does : Does meaning sources s t) → IsWork meaning sources does → Keeps s t
   step_keeps s t (Waited d) work = absurd work
   step_keeps s t (Clock_read d) work = absurd work
@@ -281,39 +297,14 @@ module _ {S F D : Type 0} (meaning : StoreMeaning S D) (sources : SourceMeaning 
         tried = λ h m. stays.tries s.requests (h m);
       })
   step_keeps s t (Request_received d) work =
-      subst (Keeps s) (sym d.is) (record {
-        tries = λ q h. or_right (s.requests == q) (was_tried q s.events) h;
-        kept = λ h. h;
-        read =
-            λ h k e l m. or_right (s.requests == (slice_index_or s.timers k e).port)
-            (was_tried (slice_index_or s.timers k e).port s.events) (h k e l m);
-        tried = λ h m. own_receive s.requests (was_tried s.requests s.events);
-      })
+      subst (Keeps s) (sym d.is)
+      (asks_keep s (Some (d.from, d.bytes)) true (Received s.requests d.from d.bytes) (λ q. refl))
   step_keeps s t (No_request_found d) work =
-      subst (Keeps s) (sym d.is) (record {
-        tries = λ q h. or_right (s.requests == q) (was_tried q s.events) h;
-        kept = λ h. h;
-        read =
-            λ h k e l m. or_right (s.requests == (slice_index_or s.timers k e).port)
-            (was_tried (slice_index_or s.timers k e).port s.events) (h k e l m);
-        tried = λ h m. own_receive s.requests (was_tried s.requests s.events);
-      })
+      subst (Keeps s) (sym d.is) (asks_keep s s.pending false (Quiet (Empty s.requests)) (λ q. refl))
   step_keeps s t (Request_not_received d) work =
-      subst (Keeps s) (sym d.is) (record {
-        tries = λ q h. or_right (s.requests == q) (was_tried q s.events) h;
-        kept = λ h. h;
-        read =
-            λ h k e l m. or_right (s.requests == (slice_index_or s.timers k e).port)
-            (was_tried (slice_index_or s.timers k e).port s.events) (h k e l m);
-        tried = λ h m. own_receive s.requests (was_tried s.requests s.events);
-      })
+      subst (Keeps s) (sym d.is) (asks_keep s s.pending true (Quiet (Failed s.requests)) (λ q. refl))
   step_keeps s t (No_port_found d) work =
-      subst (Keeps s) (sym d.is) (record {
-        tries = λ q h. h;
-        kept = λ h. h;
-        read = λ h. h;
-        tried = λ h. h;
-      })
+      subst (Keeps s) (sym d.is) (record { tries = λ q h. h; kept = λ h. h; read = λ h. h; tried = λ h. h })
   step_keeps s t (Request_answered d) work =
       let fs = replied (answering_port s.requests d.left.opened.tid) d.left.opened.to d.left.sent s.events in
       let tries : KeepsTries s.events fs =
@@ -341,12 +332,7 @@ module _ {S F D : Type 0} (meaning : StoreMeaning S D) (sources : SourceMeaning 
         tried = λ h m. still_tried s.marked (is_some s.pending) (was_tried s.requests s.events ≡ true) h m;
       })
   step_keeps s t (Store_set d) work =
-      subst (Keeps s) (sym d.is) (record {
-        tries = λ q h. h;
-        kept = λ h. h;
-        read = λ h. h;
-        tried = λ h. h;
-      })
+      subst (Keeps s) (sym d.is) (record { tries = λ q h. h; kept = λ h. h; read = λ h. h; tried = λ h. h })
   step_keeps s t (Transfer_closed d) work =
       subst (Keeps s) (sym d.is) (record {
         tries = λ q h. h;

@@ -43,6 +43,9 @@ pub replied_tries : (port : ℕ) (to : Option Endpoint) (bytes : List ℕ) (even
 replied_tries port None bytes events q h = h
 replied_tries port (Some to) bytes events q h = h
 
+same_tries : (es fs : List Event) → fs ≡ es → KeepsTries es fs
+same_tries es fs e = subst (KeepsTries es) (sym e) (λ q h. h)
+
 pub own_receive : (port : ℕ) (before : Bool) → ((port == port) || before) ≡ true
 own_receive port before = or_left (port == port) before (eq-eqb port port refl)
 
@@ -99,14 +102,17 @@ after_port now true timer = refl
 after_port now false timer = refl
 
 module _ {S F D : Type 0} (meaning : StoreMeaning S D) (sources : SourceMeaning F) where
+  same_server : (port : ℕ) (old new : ServerState S F D) → new ≡ old → StaysHeld port old.held new.held
+  same_server port old new e = same_held port old.held new.held (ap (λ (s : ServerState S F D). s.held) e)
+
   keeps_held : (port : ℕ) (o : Option (TransferState F D)) (old new : ServerState S F D) →
       KeepsHeld meaning sources port o old new → StaysHeld port old.held new.held
-  keeps_held port None old new keeps = same_held port old.held new.held (ap (λ (s : ServerState S F D). s.held) keeps)
+  keeps_held port None old new keeps = same_server port old new keeps
   keeps_held port (Some transfer) old new keeps = next_held port old.held new.held keeps.0 keeps.2
 
   pub works_held : (port : ℕ) (o : Option (TransferState F D)) (old new : ServerState S F D) →
       WorksAt meaning sources port o old new → StaysHeld port old.held new.held
-  works_held port None old new works = same_held port old.held new.held (ap (λ (s : ServerState S F D). s.held) works)
+  works_held port None old new works = same_server port old new works
   works_held port (Some transfer) old new works = next_held port old.held new.held works.0 works.2
 
   -- what a turn at a port keeps
@@ -120,74 +126,49 @@ module _ {S F D : Type 0} (meaning : StoreMeaning S D) (sources : SourceMeaning 
   looks_by : (timer after : Timer) → after ≡ timer → Looks timer → Looks after
   looks_by timer after e h = subst Looks (sym e) h
 
-  tries_by : (port : ℕ) (es fs : List Event) (event : Event) → fs ≡ event ∷ es → KeepsTries es (event ∷ es) →
-      KeepsTries es fs
-  tries_by port es fs event e k = subst (KeepsTries es) (sym e) k
-
   -- the port was read
   read_by : (timer after : Timer) (es : List Event) → after.port ≡ timer.port → was_tried timer.port es ≡ true →
       IsRead es after
   read_by timer after es same tried marked = subst (λ (p : ℕ). was_tried p es ≡ true) (sym same) tried
 
+  -- a step that begins with a receive at its port
+  receives_at : (old new : PortState S F D) (event : Event)
+      → ((q : ℕ) → was_tried q (event ∷ old.events) ≡ ((old.timer.port == q) || was_tried q old.events))
+      → KeepsTries (event ∷ old.events) new.events → new.timer.port ≡ old.timer.port
+      → StaysHeld old.timer.port old.server.held new.server.held → (Looks old.timer → Looks new.timer) → StaysAt old new
+  receives_at old new event reads more port held look = record {
+    port = port;
+    held = held;
+    look = look;
+    tries = λ q h. more q (reads q ∙ or_right (old.timer.port == q) (was_tried q old.events) h);
+    read =
+        λ h. read_by old.timer new.timer new.events port
+        (more old.timer.port (reads old.timer.port ∙ own_receive old.timer.port (was_tried old.timer.port old.events)));
+  }
+
   pub stays_at : (now : ℕ) (old new : PortState S F D) → AtPort meaning sources now old new → StaysAt old new
   stays_at now old new (A_datagram d) =
-      let port = ap (λ (t : Timer). t.port) d.timer ∙ after_port now d.step.progress old.timer in
-      let received = Received old.timer.port d.from d.bytes ∷ old.events in
-      let more : KeepsTries received new.events =
-      subst (KeepsTries received) (sym d.handles.events)
-      (answered_tries old.timer.port d.handles.takes.takes.turn.reply received) in
-      record {
-        port = port;
-        held = next_held old.timer.port old.server.held new.server.held d.handles.takes.next d.handles.takes.held;
-        look =
-            λ h. looks_by (timer_after now d.step.progress old.timer) new.timer d.timer
-            (after_looks now d.step.progress old.timer);
-        tries = λ q h. more q (or_right (old.timer.port == q) (was_tried q old.events) h);
-        read =
-            λ h. read_by old.timer new.timer new.events port
-            (more old.timer.port (own_receive old.timer.port (was_tried old.timer.port old.events)));
-      }
+      let received = Received old.timer.port d.from d.bytes in
+      receives_at old new received (λ q. refl)
+      (subst (KeepsTries (received ∷ old.events)) (sym d.handles.events)
+      (answered_tries old.timer.port d.handles.takes.takes.turn.reply (received ∷ old.events)))
+      (ap (λ (t : Timer). t.port) d.timer ∙ after_port now d.step.progress old.timer)
+      (next_held old.timer.port old.server.held new.server.held d.handles.takes.next d.handles.takes.held)
+      (λ h. looks_by (timer_after now d.step.progress old.timer) new.timer d.timer
+      (after_looks now d.step.progress old.timer))
   stays_at now old new (A_lost_datagram d) =
-      let port = ap (λ (t : Timer). t.port) d.timer in
-      let received = Received old.timer.port d.from d.bytes ∷ old.events in
-      let more : KeepsTries received new.events = subst (KeepsTries received) (sym d.events) (λ q h. h) in
-      record {
-        port = port;
-        held = keeps_held old.timer.port (at old.timer.port old.server.held) old.server new.server d.loses.keeps;
-        look = λ h. looks_by (marked_as true old.timer) new.timer d.timer (omega arith);
-        tries = λ q h. more q (or_right (old.timer.port == q) (was_tried q old.events) h);
-        read =
-            λ h. read_by old.timer new.timer new.events port
-            (more old.timer.port (own_receive old.timer.port (was_tried old.timer.port old.events)));
-      }
+      receives_at old new (Received old.timer.port d.from d.bytes) (λ q. refl) (same_tries _ new.events d.events)
+      (ap (λ (t : Timer). t.port) d.timer)
+      (keeps_held old.timer.port (at old.timer.port old.server.held) old.server new.server d.loses.keeps)
+      (λ h. looks_by (marked_as true old.timer) new.timer d.timer (omega arith))
   stays_at now old new (Nothing_found d) =
-      let port = ap (λ (t : Timer). t.port) d.timer in
-      let found = Quiet (Empty old.timer.port) ∷ old.events in
-      let more : KeepsTries found new.events = subst (KeepsTries found) (sym d.events) (λ q h. h) in
-      record {
-        port = port;
-        held =
-            same_held old.timer.port old.server.held new.server.held (ap (λ (s : ServerState S F D). s.held) d.server);
-        look = λ h. looks_by (marked_as false old.timer) new.timer d.timer (omega arith);
-        tries = λ q h. more q (or_right (old.timer.port == q) (was_tried q old.events) h);
-        read =
-            λ h. read_by old.timer new.timer new.events port
-            (more old.timer.port (own_receive old.timer.port (was_tried old.timer.port old.events)));
-      }
+      receives_at old new (Quiet (Empty old.timer.port)) (λ q. refl) (same_tries _ new.events d.events)
+      (ap (λ (t : Timer). t.port) d.timer) (same_server old.timer.port old.server new.server d.server)
+      (λ h. looks_by (marked_as false old.timer) new.timer d.timer (omega arith))
   stays_at now old new (A_failed_receive d) =
-      let port = ap (λ (t : Timer). t.port) d.timer in
-      let found = Quiet (Failed old.timer.port) ∷ old.events in
-      let more : KeepsTries found new.events = subst (KeepsTries found) (sym d.events) (λ q h. h) in
-      record {
-        port = port;
-        held =
-            same_held old.timer.port old.server.held new.server.held (ap (λ (s : ServerState S F D). s.held) d.server);
-        look = λ h. looks_by (marked_as true old.timer) new.timer d.timer (omega arith);
-        tries = λ q h. more q (or_right (old.timer.port == q) (was_tried q old.events) h);
-        read =
-            λ h. read_by old.timer new.timer new.events port
-            (more old.timer.port (own_receive old.timer.port (was_tried old.timer.port old.events)));
-      }
+      receives_at old new (Quiet (Failed old.timer.port)) (λ q. refl) (same_tries _ new.events d.events)
+      (ap (λ (t : Timer). t.port) d.timer) (same_server old.timer.port old.server new.server d.server)
+      (λ h. looks_by (marked_as true old.timer) new.timer d.timer (omega arith))
   stays_at now old new (A_timeout d) =
       let port = ap (λ (t : Timer). t.port) d.timer in
       let elapsed = Elapsed old.timer.port now ∷ old.events in
@@ -201,19 +182,17 @@ module _ {S F D : Type 0} (meaning : StoreMeaning S D) (sources : SourceMeaning 
         read = λ h. read_by old.timer new.timer new.events port (more old.timer.port d.tried);
       }
   stays_at now old new (A_missed_timeout d) =
-      let port = ap (λ (t : Timer). t.port) d.timer in
-      let elapsed = Elapsed old.timer.port now ∷ old.events in
-      let more : KeepsTries elapsed new.events = subst (KeepsTries elapsed) (sym d.events) (λ q h. h) in
+      let more : KeepsTries old.events new.events =
+      same_tries (Elapsed old.timer.port now ∷ old.events) new.events d.events in
       record {
-        port = port;
-        held =
-            same_held old.timer.port old.server.held new.server.held (ap (λ (s : ServerState S F D). s.held) d.server);
+        port = ap (λ (t : Timer). t.port) d.timer;
+        held = same_server old.timer.port old.server new.server d.server;
         look = λ h. looks_by (restarted now old.timer) new.timer d.timer (omega arith);
-        tries = λ q h. more q h;
+        tries = more;
         read = λ h. subst (IsRead new.events) (sym d.timer) (λ m. more old.timer.port (h m));
       }
   stays_at now old new (Work d) =
-      let more : KeepsTries old.events new.events = subst (KeepsTries old.events) (sym d.events) (λ q h. h) in
+      let more = same_tries old.events new.events d.events in
       record {
         port = ap (λ (t : Timer). t.port) d.timer;
         held = works_held old.timer.port (at old.timer.port old.server.held) old.server new.server d.works.works;

@@ -5,6 +5,7 @@ use Rattle.std.specs.Prelude.{Result, Ok, Err, OnOk}
 use Rattle.tftp_file.specs.Source.{SourceMeaning}
 use Rattle.tftp_ends.specs.declared.endpoint.Endpoint.{Endpoint}
 use Rattle.tftp_store.specs.Store.{StoreMeaning}
+use Rattle.tftp_sockets.specs.Journal.{Event}
 use Rattle.tftp_sockets.specs.Journal.Event.{Received, Quiet}
 use Rattle.tftp_sockets.specs.Journal.QuietEvent.{Empty, Failed}
 use Rattle.tftp_sockets.specs.Quiet.{was_tried}
@@ -133,6 +134,24 @@ module _ {S F D : Type 0} (meaning : StoreMeaning S D) (sources : SourceMeaning 
     handled_settled handles settled = then_settled handles (noted_settled settled)
 
   -- ---- a receive found nothing, or failed
+  looked_state : (before after : List ℕ) (old new : ServerLoop S F D) (ready : Bool) (event : Event) →
+      old.pending ≡ None
+      → new ≡ record old { sockets = record old.sockets { is_ready = ready }; journal = new.journal }
+      → new.journal.events ≡ event ∷ old.journal.events →
+      state_of after new ≡ record (state_of before old) { marked = ready; events = event ∷ old.journal.events }
+  looked_state before after old new ready event none is events =
+      same_state (state_of after new)
+      (record (state_of before old) { marked = ready; events = event ∷ old.journal.events })
+      (ap (λ (d : ServerLoop S F D). d.sockets.requests.port) is)
+      (ap (λ (d : ServerLoop S F D). d.sockets.pool.range) is) (ap (λ (d : ServerLoop S F D). d.server) is)
+      (ap (λ (d : ServerLoop S F D). pending_in d.pending after) is
+      ∙ (ap (λ (p : Option (Endpoint × ℕ)). pending_in p after) none
+      ∙ sym (ap (λ (p : Option (Endpoint × ℕ)). pending_in p before) none)))
+      (ap (λ (d : ServerLoop S F D). (loop_state None d).timers) is)
+      (ap (λ (d : ServerLoop S F D). d.sockets.watch.now) is)
+      (ap (λ (d : ServerLoop S F D). d.sockets.is_ready) is)
+      (ap (λ (d : ServerLoop S F D). d.left) is) (ap (λ (d : ServerLoop S F D). d.rounds) is) events
+
   pub finds_none : (before after : List ℕ) (old new : ServerLoop S F D) → old.pending ≡ None →
       new ≡ record old { sockets = record old.sockets { is_ready = false }; journal = new.journal }
       → new.journal.events ≡ Quiet (Empty old.sockets.requests.port) ∷ old.journal.events →
@@ -140,21 +159,7 @@ module _ {S F D : Type 0} (meaning : StoreMeaning S D) (sources : SourceMeaning 
   finds_none before after old new none is events =
       once (Work_by (No_request_found (record {
         none = ap (λ (p : Option (Endpoint × ℕ)). pending_in p before) none;
-        is =
-            same_state (state_of after new)
-            (record (state_of before old) {
-              marked = false;
-              events = Quiet (Empty old.sockets.requests.port) ∷ old.journal.events;
-            })
-            (ap (λ (d : ServerLoop S F D). d.sockets.requests.port) is)
-            (ap (λ (d : ServerLoop S F D). d.sockets.pool.range) is) (ap (λ (d : ServerLoop S F D). d.server) is)
-            (ap (λ (d : ServerLoop S F D). pending_in d.pending after) is
-            ∙ (ap (λ (p : Option (Endpoint × ℕ)). pending_in p after) none
-            ∙ sym (ap (λ (p : Option (Endpoint × ℕ)). pending_in p before) none)))
-            (ap (λ (d : ServerLoop S F D). (loop_state None d).timers) is)
-            (ap (λ (d : ServerLoop S F D). d.sockets.watch.now) is)
-            (ap (λ (d : ServerLoop S F D). d.sockets.is_ready) is)
-            (ap (λ (d : ServerLoop S F D). d.left) is) (ap (λ (d : ServerLoop S F D). d.rounds) is) events;
+        is = looked_state before after old new false _ none is events;
       })) tt)
 
   pub fails_to_find : (before after : List ℕ) (old new : ServerLoop S F D) → old.pending ≡ None →
@@ -162,23 +167,11 @@ module _ {S F D : Type 0} (meaning : StoreMeaning S D) (sources : SourceMeaning 
       → new.journal.events ≡ Quiet (Failed old.sockets.requests.port) ∷ old.journal.events →
       WorksRound meaning sources before old after new
   fails_to_find before after old new none marked is events =
+      let looked = λ (ready : Bool).
+      record old { sockets = record old.sockets { is_ready = ready }; journal = new.journal } in
       once (Work_by (Request_not_received (record {
         none = ap (λ (p : Option (Endpoint × ℕ)). pending_in p before) none;
-        is =
-            same_state (state_of after new)
-            (record (state_of before old) {
-              marked = true;
-              events = Quiet (Failed old.sockets.requests.port) ∷ old.journal.events;
-            })
-            (ap (λ (d : ServerLoop S F D). d.sockets.requests.port) is)
-            (ap (λ (d : ServerLoop S F D). d.sockets.pool.range) is) (ap (λ (d : ServerLoop S F D). d.server) is)
-            (ap (λ (d : ServerLoop S F D). pending_in d.pending after) is
-            ∙ (ap (λ (p : Option (Endpoint × ℕ)). pending_in p after) none
-            ∙ sym (ap (λ (p : Option (Endpoint × ℕ)). pending_in p before) none)))
-            (ap (λ (d : ServerLoop S F D). (loop_state None d).timers) is)
-            (ap (λ (d : ServerLoop S F D). d.sockets.watch.now) is)
-            (ap (λ (d : ServerLoop S F D). d.sockets.is_ready) is ∙ marked)
-            (ap (λ (d : ServerLoop S F D). d.left) is) (ap (λ (d : ServerLoop S F D). d.rounds) is) events;
+        is = looked_state before after old new true _ none (is ∙ ap looked marked) events;
       })) tt)
 
 -- what holds of a success

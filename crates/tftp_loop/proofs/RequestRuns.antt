@@ -17,8 +17,8 @@ use Rattle.tftp_loop.specs.PortOrder.{IsOneOf}
 use Rattle.tftp_loop.specs.PortPool.{TriesInVain, TriesPorts}
 use Rattle.tftp_loop.specs.Run.{Run}
 use Rattle.tftp_loop.specs.Run.Run.{Start, Then}
-use Rattle.tftp_loop.specs.Serves.{LoopState, AnswersRequest, FindsNoPort, IsSet, LosesRequest, MayOpen, OpensNone}
-use Rattle.tftp_loop.specs.Serves.{RequestLoss}
+use Rattle.tftp_loop.specs.MayOpen.{MayOpen, OpensNone}
+use Rattle.tftp_loop.specs.Serves.{LoopState, AnswersRequest, FindsNoPort, IsSet, LosesRequest, RequestLoss}
 use Rattle.tftp_loop.specs.Serves.{No_memory, No_port, SetsStore, answering_port, with_timer}
 use Rattle.tftp_loop.specs.Serves.Does.{No_port_found, Request_received, Request_answered, Request_lost, Store_set}
 use Rattle.tftp_loop.specs.Served.{IsAdmission, Work_by}

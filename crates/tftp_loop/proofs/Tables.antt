@@ -1,7 +1,7 @@
 -- Elements and entries that a change leaves as they were.
 use Rattle.std.proofs.Common.{arith, ◌≡◌, ◌<◌, ◌≤◌, ◌-◌, ◌⊎◌, ℕ, zero, suc, Bool, true, false, List, [], ◌∷◌, ◌++◌}
-use Rattle.std.proofs.Common.{length, take, Option, Some, cond, refl, sym, ap, ◌∙◌, inl, inr}
-use Rattle.std.specs.Prelude.{slice_set, slice_index_or, is_some}
+use Rattle.std.proofs.Common.{length, take, Option, Some, None, cond, refl, sym, ap, ◌∙◌, inl, inr}
+use Rattle.std.specs.Prelude.{slice_set, slice_index_or, is_some, if◌then◌else◌}
 use Rattle.std.specs.List.{swap_remove}
 use Rattle.std.specs.Map.{lookup, remove_entry, set_value}
 use Rattle.std.specs.BTreeMap.{insert_entry, is_at}
@@ -10,6 +10,7 @@ use Rattle.std.specs.declared.cmp.Ordering.{Ordering}
 use Rattle.std.specs.declared.cmp.Ordering.TheVariants.{Less, Equal, Greater}
 use Rattle.std.proofs.lemmas.Bool.{cases_eq}
 use Rattle.std.proofs.lemmas.Bool.Decides.{nat_tests}
+use Rattle.std.proofs.lemmas.Option.{none-some, same_Some}
 use Rattle.tftp_loop.proofs.ListLemmas.{set_long}
 
 -- ---- elements
@@ -233,3 +234,12 @@ module _ {T : Type 0} where
       inserted_own_at (nat_cmp tid e.0) (is_at (nat_cmp tid)) tid v e held (insert_entry nat_cmp held tid v)
       (own_test tid tid (nat_cmp tid tid) refl refl)
       (λ h. ap is_eq h) (λ h. ap is_eq h) (inserted_own tid v held)
+
+-- what was taken is the record of the transfer
+pub taken_by : {X : Type 0} (b : Bool) (x y : X) → (if b then Some x else None) ≡ Some y → x ≡ y
+taken_by true x y h = same_Some x y h
+taken_by false x y h = absurd (none-some y h)
+
+pub not_taken : {X : Type 0} (b : Bool) (x : X) → (if b then Some x else None) ≡ None → b ≡ false
+not_taken true x h = absurd (none-some x (sym h))
+not_taken false x h = refl

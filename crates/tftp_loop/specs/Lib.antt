@@ -1,5 +1,7 @@
 pub mod Run
+pub mod MayOpen
 pub mod Serves
+pub mod WholeRun
 pub mod Served
 pub mod PortOrder
 pub mod PortPool

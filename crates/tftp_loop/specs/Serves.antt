@@ -1,9 +1,8 @@
 -- A run of a server over UDP: each step is followed at once by its answer, nothing else is sent or
 -- printed, and the server waits only when its work is done (RFC 1350, sections 2 and 4).
 use Rattle.std.specs.Prelude.{ℕ, ◌≡◌, ◌≢◌, ◌≤◌, ◌<◌, ◌-◌, ◌+◌, ◌||◌, ◌⊎◌, min, Bool, true, false}
-use Rattle.std.specs.Prelude.{if◌then◌else◌, List, [], ◌∷◌, ◌++◌, length, map}
+use Rattle.std.specs.Prelude.{if◌then◌else◌, List, [], ◌∷◌, ◌++◌, length, map, All, IfSome}
 use Rattle.std.specs.Prelude.{slice_set, slice_index_or, Option, Some, None, is_some, IsSome}
-use Rattle.std.specs.Prelude.{All, IfSome}
 use Rattle.std.specs.List.{swap_remove, list_any}
 use Rattle.tftp_file.specs.Source.{SourceMeaning}
 use Rattle.tftp_ends.specs.declared.endpoint.Endpoint.{Endpoint}
@@ -20,21 +19,19 @@ use Rattle.tftp_server.specs.State.{TransferState, ServerState, at, is_open, tak
 use Rattle.tftp_server.specs.Steps.{TakesDatagramLent, TimesOutLent, DatagramFaultLent, KeepsHeld}
 use Rattle.tftp_server.specs.declared.fault.ServerFault.{ServerFault}
 use Rattle.tftp_server.specs.declared.fault.ServerFault.TheVariants.{Memory}
-use Rattle.tftp_server.specs.Port.{Ask, asks_store}
-use Rattle.tftp_server.specs.Request.{Admits, RequestStep, Left}
+use Rattle.tftp_server.specs.Request.{RequestStep, Left}
 use Rattle.tftp_server.specs.Shortage.{LacksMemoryAt, RequestLacksMemory}
 use Rattle.tftp_server.specs.Work.{WorksAt}
 use Rattle.tftp_sockets.specs.Watch.{deadline_of, last_moment}
 use Rattle.tftp_sockets.specs.declared.watch.TheConstants.{LONGEST_WAIT}
 use Rattle.tftp_lines.specs.Printed.{line_text}
-use Rattle.tftp_lines.specs.declared.printed.Printed.TheVariants.{Closed, Listening}
-use Rattle.tftp_sockets.specs.Bound.{IsBoundTo}
+use Rattle.tftp_lines.specs.declared.printed.Printed.TheVariants.{Closed}
 use Rattle.tftp_sockets.specs.Journal.{Event, replied, answered}
 use Rattle.tftp_sockets.specs.Journal.Event.{Received, Watched, Elapsed, Printed, Quiet}
 use Rattle.tftp_sockets.specs.Journal.QuietEvent.{Empty, Failed, No_socket, Slept, Woke}
 use Rattle.tftp_sockets.specs.Quiet.{has_woken, is_among, was_tried}
+use Rattle.tftp_loop.specs.MayOpen.{MayOpen, OpensNone}
 use Rattle.tftp_loop.specs.PortOrder.{IsOneOf}
-use Rattle.tftp_loop.specs.Run.{Run}
 use Rattle.tftp_loop.specs.declared.port_order.PortRange.{PortRange}
 use Rattle.tftp_loop.specs.declared.serving.Ending.{Ending}
 
@@ -271,19 +268,6 @@ module _ {S F D : Type 0} where
             old.events;
       }
 
-module _ {S F D : Type 0} (server : ServerState S F D) (from : Endpoint) (bytes : List ℕ) where
-  -- a datagram to the request port may open a transfer: the store is asked
-  pub record MayOpen : Type 0 where
-    pub ask : Ask
-    pub admits : Admits server from bytes ask
-    pub asks : asks_store ask ≡ true
-
-  -- or it opens none
-  pub record OpensNone : Type 0 where
-    pub ask : Ask
-    pub admits : Admits server from bytes ask
-    pub asks : asks_store ask ≡ false
-
 -- a store is set for the next transfer, its port and then its longest length: each call leaves of
 -- it what writing a draft back leaves
 pub record IsSet {S D : Type 0} (meaning : StoreMeaning S D) (old new : S) : Type 0 where
@@ -512,46 +496,3 @@ at_start_in range requests ending server events =
 abbrev pub at_start : {S F D : Type 0} → ℕ → Ending → ServerState S F D → List Event
     → LoopState S F D
 at_start = at_start_in None
-
--- the journal after the line of the request port was printed
-abbrev pub listening : List ℕ → ℕ → List Event → List Event
-listening ip port events =
-    Printed (line_text (Listening (record { ip = ip; port = port }))) ∷ events
-
-module _ {S F D : Type 0} (meaning : StoreMeaning S D) (sources : SourceMeaning F) where
-  -- a server with a bound request port serves there, from one journal to the other, and its
-  -- transfers have ports of this range, if there is one
-  abbrev pub ServesFromIn : Option PortRange → ℕ → Ending → ServerState S F D
-      → List Event → List Event → Type 0
-  ServesFromIn range port ending server before after =
-      (last : LoopState S F D)
-      × Run (Does meaning sources) (at_start_in range port ending server before) last
-      × (after ≡ last.events)
-
-  -- the same, to the end: so many transfers closed, or so many waits are over
-  abbrev pub ServesToEndIn : Option PortRange → ℕ → Ending → ServerState S F D
-      → List Event → List Event → Type 0
-  ServesToEndIn range port ending server before after =
-      (last : LoopState S F D)
-      × Run (Does meaning sources) (at_start_in range port ending server before) last
-      × (after ≡ last.events) × ((last.left ≡ 0) ⊎ (last.rounds ≡ 0))
-
-  -- a whole run, from one journal to the other: the request port could not be bound; or it is at
-  -- the address and the port that it was to listen at, any port for 0, its line is printed, and
-  -- then the server serves, and its transfers have ports of this range, if there is one
-  pub data ServesIn (range : Option PortRange) (listen : Endpoint) (ending : Ending)
-      (server : ServerState S F D) (before after : List Event) : Type 0 where
-    Unbound : after ≡ before → ServesIn range listen ending server before after
-    Bound : (port : ℕ) → IsBoundTo listen listen.ip port
-        → ServesFromIn range port ending server (listening listen.ip port before) after
-        → ServesIn range listen ending server before after
-
-  -- the same, whatever ports the transfers have
-  abbrev pub ServesFrom : ℕ → Ending → ServerState S F D → List Event → List Event → Type 0
-  ServesFrom = ServesFromIn None
-
-  abbrev pub ServesToEnd : ℕ → Ending → ServerState S F D → List Event → List Event → Type 0
-  ServesToEnd = ServesToEndIn None
-
-  abbrev pub Serves : Endpoint → Ending → ServerState S F D → List Event → List Event → Type 0
-  Serves = ServesIn None

@@ -2,8 +2,8 @@
 
 ghost use Rattle.std.specs.Prelude.{◌≡◌, ◌⊎◌, IfErr, OnOk, ℕ, true};
 ghost use Rattle.tftp_loop.specs.Served.{FailsToBind, StopsServing};
-ghost use Rattle.tftp_loop.specs.Serves.{Serves, ServesFromIn, ServesIn, ServesToEnd};
-ghost use Rattle.tftp_loop.specs.Serves.{ServesToEndIn, listening};
+ghost use Rattle.tftp_loop.specs.WholeRun.{Serves, ServesFromIn, ServesIn, ServesToEnd};
+ghost use Rattle.tftp_loop.specs.WholeRun.{ServesToEndIn, listening};
 
 use crate::port_order::PortRange;
 use crate::server_loop::{Buffers, ServerLoop};

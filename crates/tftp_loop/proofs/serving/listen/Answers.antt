@@ -5,7 +5,8 @@ use Rattle.tftp_lines.specs.declared.printed.Printed.TheVariants.{Listening}
 use Rattle.tftp_sockets.specs.Journal.{Event}
 use Rattle.tftp_sockets.specs.Journal.Event.{Printed}
 use Rattle.tftp_loop.specs.Run.Run.{Start}
-use Rattle.tftp_loop.specs.Serves.{ServesFromIn, ServesToEndIn, at_start_in, listening}
+use Rattle.tftp_loop.specs.Serves.{at_start_in}
+use Rattle.tftp_loop.specs.WholeRun.{ServesFromIn, ServesToEndIn, listening}
 use Rattle.tftp_loop.proofs.Receipts.{on_ok_weaker}
 use Rattle.tftp_loop.proofs.serving.listen.Goals as goal
 

@@ -1,7 +1,7 @@
 use Rattle.std.proofs.Common.{ℕ, List, ap, subst, refl}
 use Rattle.tftp_loop.specs.PortPool.{PoolState}
-use Rattle.tftp_loop.specs.Serves.{ServesFromIn, ServesToEndIn, listening}
-use Rattle.tftp_loop.specs.Serves.ServesIn.{Bound}
+use Rattle.tftp_loop.specs.WholeRun.{ServesFromIn, ServesToEndIn, listening}
+use Rattle.tftp_loop.specs.WholeRun.ServesIn.{Bound}
 use Rattle.tftp_loop.proofs.AnyPorts.{serves_anywhere, serves_to_end}
 use Rattle.tftp_loop.proofs.Receipts.{on_ok_weaker}
 use Rattle.tftp_loop.proofs.serving.serve.Goals as goal
