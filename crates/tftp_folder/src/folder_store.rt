@@ -20,8 +20,7 @@ use std::rt::Files;
 use tftp_disk::{Existing, check_length, name_fault, open_fault, write_fault};
 use tftp_file::{FileFault, MAX_WIRE, Path, PathFault, StoreFault, path_of};
 use tftp_lines::{Reason, reason_of};
-use tftp_loop::ServedStore;
-use tftp_store::{Opening, Store};
+use tftp_store::{Opening, ServedStore, Store};
 use tftp_wire::Mode;
 
 /// The system's number of an error for a file that is missing.
@@ -234,7 +233,7 @@ fn is_below(folder: &[u8], path: &[u8]) -> bool
     }
 }
 
-impl<R: Files + Drop> ServedStore for FolderStore<R> {
+impl<R: Files + Drop> ServedStore<Reason> for FolderStore<R> {
     fn set_port(&mut self, port: u16)
         ensures { SameSettings self.old self.new }
     {

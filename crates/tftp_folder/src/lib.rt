@@ -16,4 +16,4 @@ mod wire_lengths;
 pub use folder_draft::FolderDraft;
 pub use folder_source::FolderSource;
 pub use folder_store::FolderStore;
-pub use tftp_loop::ServedStore;
+pub use tftp_store::ServedStore;

@@ -21,10 +21,8 @@ mod server_loop;
 mod server_udp;
 mod serving;
 mod sockets;
-mod store;
 mod transfer_port;
 
 pub use port_order::{PortOrder, PortRange};
 pub use server_udp::ServerUdp;
 pub use serving::{Ending, LoopConfig, LoopFault, serve};
-pub use store::ServedStore;

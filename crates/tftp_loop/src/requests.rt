@@ -18,12 +18,12 @@ use crate::log_entry::LogEntry;
 use crate::report::{log_lost, log_unopened, log_unsent_answer};
 use crate::server_loop::ServerLoop;
 use crate::server_udp::ServerUdp;
-use crate::store::ServedStore;
 use crate::transfer_port::{TransferPort, TransferSocket, next_look, reply};
 use tftp_ends::{DEFAULT_INTERVAL, Endpoint};
 use tftp_lines::{Lost, Reason};
 use tftp_server::{Admission, Opened, Server, Store};
 use tftp_sockets::{Port, Receipt, ServerSocket, deadline};
+use tftp_store::ServedStore;
 
 /// The identifier passed to the server for a datagram that opens no transfer.
 const NO_PORT: u16 = 0;
@@ -32,7 +32,7 @@ const NO_PORT: u16 = 0;
 /// they are sent.
 const MOST_AHEAD: usize = 1 << 20;
 
-impl<S: ServedStore + Drop> ServerLoop<S> {
+impl<S: ServedStore<Reason> + Drop> ServerLoop<S> {
     /// Handles the pending datagram of the request port, and then the next one, if there is one. It
     /// is the only one of its round, since an opening asks the store while transfers wait.
     pub(crate) fn take_request<N: ServerUdp + Eprint>(&mut self, rt: &N, request: &mut [u8])
@@ -338,7 +338,11 @@ impl<S: ServedStore + Drop> ServerLoop<S> {
 }
 
 /// Sets the store for the transfer that an admission may open at this port.
-fn set_store<S: ServedStore + Drop>(server: &mut Server<S>, admission: &Admission<'_>, tid: u16)
+fn set_store<S: ServedStore<Reason> + Drop>(
+    server: &mut Server<S>,
+    admission: &Admission<'_>,
+    tid: u16,
+)
     ensures rest { server.new ≡ record server.old { store = server.new.store } }
     ensures same { S.meaning.stored server.new.store ≡ S.meaning.stored server.old.store }
     ensures behind { IsSet S.meaning server.old.store server.new.store }

@@ -16,15 +16,16 @@ use crate::report::{log_unsent, record_of_closed, report_close};
 use crate::server_udp::ServerUdp;
 use crate::serving::{LoopConfig, LoopFault};
 use crate::sockets::Sockets;
-use crate::store::ServedStore;
 use crate::transfer_port::{TransferPort, count_active, mark_all, work_at};
 use std::alloc::{AllocError, Global};
 use std::time::Clock;
 use tftp_ends::{Endpoint, Record};
+use tftp_lines::Reason;
 use tftp_server::{Server, Store};
 use tftp_sockets::{
     DATAGRAM_BUFFER, Journal, Reports, index_of, poll_now, read_watch, wait, wait_for,
 };
+use tftp_store::ServedStore;
 
 /// The most ports that one wait reports.
 const MOST_REPORTS: usize = 128;
@@ -76,7 +77,7 @@ impl Buffers {
     }
 }
 
-impl<S: ServedStore + Drop> ServerLoop<S> {
+impl<S: ServedStore<Reason> + Drop> ServerLoop<S> {
     /// A server without ports of transfers.
     pub(crate) fn new(
         alloc: Global,

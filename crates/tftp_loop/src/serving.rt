@@ -9,13 +9,13 @@ use crate::port_order::PortRange;
 use crate::server_loop::{Buffers, ServerLoop};
 use crate::server_udp::ServerUdp;
 use crate::sockets::Sockets;
-use crate::store::ServedStore;
 use std::alloc::Global;
 use std::time::Clock;
 use tftp_ends::Endpoint;
 use tftp_lines::{Printed, Reason, reason_of};
 use tftp_server::Server;
 use tftp_sockets::{Journal, print_line};
+use tftp_store::ServedStore;
 
 /// The configuration of a server's loop.
 #[derive(Clone, Copy)]
@@ -65,7 +65,7 @@ pub enum LoopFault {
 /// `Socket` is returned only if no port was bound and nothing done, `Output` only if the last event
 /// is the line that could not be printed. If the configuration has a range of ports, each transfer
 /// that opens has one of them.
-pub fn serve<N: ServerUdp + Clock + Print + Eprint, S: ServedStore + Drop>(
+pub fn serve<N: ServerUdp + Clock + Print + Eprint, S: ServedStore<Reason> + Drop>(
     rt: &N,
     alloc: Global,
     server: Server<S>,
@@ -89,7 +89,7 @@ pub fn serve<N: ServerUdp + Clock + Print + Eprint, S: ServedStore + Drop>(
 }
 
 /// Prints the endpoint of the request port, and serves it.
-fn listen<N: ServerUdp + Clock + Print + Eprint, S: ServedStore + Drop>(
+fn listen<N: ServerUdp + Clock + Print + Eprint, S: ServedStore<Reason> + Drop>(
     rt: &N,
     alloc: Global,
     server: Server<S>,
@@ -117,7 +117,7 @@ fn listen<N: ServerUdp + Clock + Print + Eprint, S: ServedStore + Drop>(
 }
 
 /// Serves the request port.
-fn run<N: ServerUdp + Clock + Print + Eprint, S: ServedStore + Drop>(
+fn run<N: ServerUdp + Clock + Print + Eprint, S: ServedStore<Reason> + Drop>(
     rt: &N,
     alloc: Global,
     server: Server<S>,

@@ -6,8 +6,10 @@
 
 mod fault_store;
 mod memory;
+mod served;
 mod store;
 
 pub use fault_store::{FaultStore, OpenedSource};
 pub use memory::{MemDraft, MemStore};
+pub use served::ServedStore;
 pub use store::{Opening, Store};

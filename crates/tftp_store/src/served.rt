@@ -2,13 +2,13 @@
 
 ghost use Rattle.std.specs.Prelude.{◌≡◌};
 
-use tftp_lines::Reason;
-use tftp_server::Store;
-use tftp_store::MemStore;
+use crate::memory::MemStore;
+use crate::store::Store;
 
-/// A store that is set before each request is carried out, that stores the reasons for what it
-/// refuses, and that syncs drafts when its loop lets it.
-pub trait ServedStore: Store {
+/// A store that is set before each request is carried out, that keeps the reasons for what it
+/// refuses, and that syncs drafts when its loop lets it. Why a call is refused is a `Reason`, which
+/// only a log has.
+pub trait ServedStore<Reason>: Store {
     /// Sets the port of the next transfer, which names its draft. It leaves of the store what
     /// `write_behind` leaves.
     fn set_port(&mut self, port: u16)
@@ -34,7 +34,7 @@ pub trait ServedStore: Store {
 }
 
 /// Files in memory need no port and no sync, and have no reasons.
-impl ServedStore for MemStore {
+impl<Reason> ServedStore<Reason> for MemStore {
     fn set_port(&mut self, _port: u16) {}
 
     fn set_longest(&mut self, _bytes: u64) {}
