@@ -1,5 +1,5 @@
 -- What a receive at a port notes (RFC 1350, section 4).
-use Rattle.std.specs.Prelude.{ℕ, ◌≤◌, ⊤, List, ◌∷◌, length, take}
+use Rattle.std.specs.Prelude.{ℕ, ◌≤◌, ⊤, List, length, take}
 use Rattle.tftp_sockets.specs.Journal.{Event}
 use Rattle.tftp_sockets.specs.Journal.Event.{Received, Quiet}
 use Rattle.tftp_sockets.specs.Journal.QuietEvent.{Empty, Failed as Failure}
