@@ -5,7 +5,9 @@ use std::fmt::Display;
 use std::process::Abort;
 use std::test::Fail;
 use tftp_ends::{Endpoint, OpenFault, Outcome};
-use tftp_lines::{ClientOutcome, LineClock, LogLine, Lost, Printed, ProgressLine, Reason};
+use tftp_lines::{
+    ClientOutcome, LineClock, LogLine, Lost, Printed, ProgressLine, Reason, RequestLine,
+};
 
 /// A value prints this.
 fn prints<R: AllocGlobal + Abort, D: Display>(
@@ -114,13 +116,17 @@ const PEER: Endpoint = Endpoint {
     port: 1024,
 };
 
+/// A datagram from that peer.
+fn asked(line: &str) -> RequestLine<'_> {
+    RequestLine { peer: PEER, line }
+}
+
 /// The lines of a log of datagrams at the request port.
 #[test]
 fn log_lines(rt: HostRuntime) -> Result<(), Fail> {
     let opened = LogLine::Opened {
         port: 1025,
-        peer: PEER,
-        request: "RRQ a octet",
+        request: asked("RRQ a octet"),
         answer: "DATA 1 3",
     };
     prints(
@@ -129,8 +135,7 @@ fn log_lines(rt: HostRuntime) -> Result<(), Fail> {
         "opened 1025 10.0.0.2:1024 RRQ a octet: DATA 1 3",
     )?;
     let refused = LogLine::Refused {
-        peer: PEER,
-        request: "RRQ b octet",
+        request: asked("RRQ b octet"),
         answer: "ERROR 1 (file not found)",
         reason: None,
     };
@@ -140,8 +145,7 @@ fn log_lines(rt: HostRuntime) -> Result<(), Fail> {
         "refused 10.0.0.2:1024 RRQ b octet: ERROR 1 (file not found)",
     )?;
     let ignored = LogLine::Ignored {
-        peer: PEER,
-        request: "ERROR 0 (stop)",
+        request: asked("ERROR 0 (stop)"),
     };
     prints(&rt, &ignored, "ignored 10.0.0.2:1024 ERROR 0 (stop)")?;
     Ok(())
@@ -151,8 +155,7 @@ fn log_lines(rt: HostRuntime) -> Result<(), Fail> {
 #[test]
 fn log_lines_of_the_system(rt: HostRuntime) -> Result<(), Fail> {
     let refused = LogLine::Refused {
-        peer: PEER,
-        request: "RRQ b octet",
+        request: asked("RRQ b octet"),
         answer: "ERROR 2 (access violation)",
         reason: Some(Reason::TooManyOpenFiles),
     };
@@ -162,8 +165,7 @@ fn log_lines_of_the_system(rt: HostRuntime) -> Result<(), Fail> {
         "refused 10.0.0.2:1024 RRQ b octet: ERROR 2 (access violation), too many open files",
     )?;
     let lost = LogLine::Lost {
-        peer: PEER,
-        request: "RRQ b octet",
+        request: asked("RRQ b octet"),
         lost: Lost::Port,
     };
     prints(&rt, &lost, "lost 10.0.0.2:1024 RRQ b octet: no port")?;
@@ -175,8 +177,7 @@ fn log_lines_of_the_system(rt: HostRuntime) -> Result<(), Fail> {
 fn closing_log_line(rt: HostRuntime) -> Result<(), Fail> {
     let closed = LogLine::Closed {
         port: 1025,
-        peer: PEER,
-        request: "RRQ a octet",
+        request: asked("RRQ a octet"),
         answer: "DATA 1 3",
         bytes: 3,
         millis: 12,
