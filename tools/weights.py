@@ -1,9 +1,9 @@
 #!/usr/bin/env python3
 """Prints what each crate weighs in the gate: weights.py [--write]
 
-Its rows are of what the last gate, or `make`, left of each crate in out/incremental: routines (functions, and what is
-generated for types), megabytes of generated proof, of which each costs some two seconds of a processor, and must-fail
-edits. A crate of which nothing is left is left out. With --write the table stands in docs/PROVING.md.
+Its rows are of what the last `make` left of each crate in out/incremental: routines (functions, and what is generated
+for types), megabytes of generated proof, of which each costs some two seconds of a processor, and must-fail edits. A
+crate that `make` does not build is left out. With --write the table stands in docs/PROVING.md.
 """
 import re
 import sys
