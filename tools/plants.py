@@ -47,7 +47,9 @@ def plants(crate, folder, words):
     if ran.returncode:
         sys.exit(ran.stdout + ran.stderr)
     lines = ran.stdout.splitlines()
-    print(*(line for line in lines if line.startswith(TOLD)), sep="\n")
+    for line in lines:
+        if line.startswith(TOLD):
+            print(line)
     return {kind: int(count) for kind, count in re.findall(r"([\w-]+)=(\d+)", lines[-1])}
 
 
