@@ -83,6 +83,7 @@ bench-udp: bin/tftpd bin/tftp
 	python3 bench/udp/run.py bin/tftpd bin/tftp
 	python3 bench/udp/allocations.py bin/tftpd bin/tftp
 	python3 bench/udp/beside.py bin/tftpd
+	python3 bench/udp/calls.py bin/tftpd
 
 clean:
 	rm -rf bin out crates/*/out
