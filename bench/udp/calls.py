@@ -1,5 +1,5 @@
 #!/usr/bin/env python3
-"""Counts the system calls a block of tftpd while 16 quick clients get a file each, over loopback: calls.py TFTPD [ROUNDS]
+"""Counts the system calls a block of tftpd while 16 quick clients get a file each: calls.py TFTPD [ROUNDS]
 
 The clients are many.c, in one process: they ask for the next block as soon as they have one, so that few polls are in
 vain. `run.py TFTPD TFTP 1 calls` counts under 16 processes of a peer's client, which share a processor and are slow.
@@ -54,7 +54,8 @@ def main():
                 running = Running(peers.Tftpd(tftpd), room)
                 counts.append(calls(running, many, file, block))
                 running.stop()
-            print(f"get {block}: {statistics.median(counts):.2f} calls a block ({min(counts):.2f} to {max(counts):.2f})")
+            spread = f"{min(counts):.2f} to {max(counts):.2f}"
+            print(f"get {block}: {statistics.median(counts):.2f} calls a block ({spread})")
 
 
 main()
