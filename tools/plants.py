@@ -1,5 +1,5 @@
 #!/usr/bin/env python3
-"""Prints the row of docs/PROVING.md on what `rt plant` reports of a crate: plants.py CRATE [WORD..]
+"""Prints what `rt plant` reports of a crate, as the row of a table: plants.py CRATE [WORD..]
 
 With words, of the functions whose file, line or path has one of them (--only), private ones too. It works on a copy,
 without the comments at the variants of enums, of which `rt plant` makes no source; what `make` left of the crate and of

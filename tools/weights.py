@@ -1,16 +1,14 @@
 #!/usr/bin/env python3
-"""Prints what each crate weighs in the gate: weights.py [--write]
+"""Prints what each crate weighs in the gate: weights.py
 
 Its rows are of what the last `make` left of each crate in out/incremental: routines (functions, and what is generated
 for types), megabytes of generated proof, of which each costs some two seconds of a processor, and must-fail edits. A
-crate that `make` does not build is left out. With --write the table stands in docs/PROVING.md.
+crate that `make` does not build is left out.
 """
 import re
-import sys
 from pathlib import Path
 
 TOP = Path(__file__).resolve().parent.parent
-DOCUMENT = TOP / "docs" / "PROVING.md"
 HEAD = "| Crate | routines | MB of generated proof | edits |\n|---|---|---|---|\n"
 
 
@@ -27,16 +25,4 @@ def row(crate):
     return f"| `{crate}` | {len(sizes)} | {sum(sizes) / 1e6:.0f} | {edits or 'none'} |\n" if sizes else ""
 
 
-def main():
-    rows = "".join(map(row, crates()))
-    table = HEAD + rows
-    if sys.argv[1:] != ["--write"]:
-        print(table, end="")
-        return
-    text = DOCUMENT.read_text()
-    before, rest = text.split("| Crate | ", 1)
-    _, after = rest.split("\n\n", 1)
-    DOCUMENT.write_text(before + table + "\n" + after)
-
-
-main()
+print(HEAD + "".join(map(row, crates())), end="")
