@@ -38,6 +38,9 @@ sed "s/@VERSION@/$version/
     s/@ARCHITECTURE@/$architecture/
     s/@LIBC@/$libc/
     s/@SIZE@/$(du -sk --exclude=DEBIAN "$root" | cut -f 1)/" debian/control > "$root/DEBIAN/control"
+for script in postinst prerm postrm; do
+    install -m 755 "debian/$script" "$root/DEBIAN/$script"
+done
 (cd "$root" && find usr lib -type f -print0 | LC_ALL=C sort -z | xargs -0 md5sum) > "$root/DEBIAN/md5sums"
 
 mkdir -p out

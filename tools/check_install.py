@@ -16,8 +16,8 @@ from pathlib import Path
 
 TOP = Path(__file__).resolve().parent.parent
 PROGRAMS = ["tftp", "tftpd", "tftp-show", "tftp-play"]
-COPIED = ["Makefile", "LICENSE", "README.md", "SECURITY.md", "crates.txt", "completions", "debian", "docs/OPERATING.md",
-          "examples", "man", "packaging", "tools"]
+COPIED = ["Makefile", "LICENSE", "SECURITY.md", "crates.txt", "completions", "debian", "docs/OPERATING.md", "examples",
+          "man", "packaging", "tools"]
 WORDS = ["PREFIX=/usr", "PROGRAM_PREFIX=x-", "MANDIR=/usr/man", "UNITDIR=/usr/units"]
 SHELLS = {"bash": ["bash", "-n"], "zsh": ["zsh", "-f", "-n"], "fish": ["fish", "--no-execute"]}
 PATIENCE = 600
@@ -102,9 +102,21 @@ class Trial:
             self.expect(set(started), {'"/usr/bin/x-tftpd"'}, f"what {name} starts")
             # standard error goes where standard output goes, unless the unit says otherwise
             self.expect("\nStandardError=journal\n" in text, True, f"whether the log of {name} is in the journal")
+            named = set(re.findall(r"[\w./-]*tftpd\b(?!\.nft)", text))
+            self.expect(named, {"/usr/bin/x-tftpd", "x-tftpd"}, f"what {name} calls the program")
+        self.check_links(root / "usr/share/doc/fanjuvery")
         (root / "usr/bin/other").touch()
         self.run("make", "uninstall", *words)
         self.expect(sorted(files_below(root)), ["usr/bin/other"], "the files that uninstall leaves")
+
+    def check_links(self, folder):
+        """What the documents link to is installed, and the first names the programs as they are installed."""
+        for document in folder.glob("*.md"):
+            links = re.findall(r"\]\(([^)#:]+)[^):]*\)", document.read_text())
+            missing = [link for link in links if not (folder / link).exists()]
+            self.expect(missing, [], f"what {document.name} links to and is not installed")
+        named = set(re.findall(r"`(?:man \d )?([\w-]*tftp[\w-]*)`", (folder / "README.md").read_text()))
+        self.expect(named, {f"x-{name}" for name in PROGRAMS}, "the programs that README.md names")
 
     def check_no_build(self):
         """Without a program nothing is installed, and nothing is built."""
@@ -147,6 +159,30 @@ class Trial:
         for name in ["usr/bin/tftpd", "usr/share/man/man8/tftpd.8.gz", "usr/share/doc/fanjuvery/copyright",
                      "usr/share/doc/fanjuvery/changelog.gz", "lib/systemd/system/tftpd.service"]:
             self.expect(f" ./{name}\n" in held, True, f"whether the package has {name}")
+        control = self.room / "control"
+        self.run("dpkg-deb", "--control", package, control)
+        names = ["control", "md5sums", "postinst", "postrm", "prerm"]
+        self.expect(sorted(it.name for it in control.iterdir()), names, "the files of control")
+        for name in names[2:]:
+            self.run("sh", "-n", control / name)
+        self.check_removal(package)
+
+    def check_removal(self, package):
+        """The package is installed below a folder, where its scripts start nothing, and a purge leaves nothing of it."""
+        root = self.room / "debian"
+        (root / "var/lib/dpkg").mkdir(parents=True)
+        (root / "var/lib/dpkg/status").touch()
+        words = ["dpkg", "--root", root, "--force-depends", "--force-not-root", "--force-script-chrootless"]
+        if os.geteuid() != 0:
+            words = ["fakeroot", *words]
+            if not shutil.which("fakeroot"):
+                self.skipped.append("the removal of the package (no fakeroot)")
+                return
+        self.run(*words, "--install", package)
+        self.expect((root / "usr/bin/tftpd").is_file(), True, "whether the package installs tftpd")
+        self.run(*words, "--purge", "fanjuvery")
+        left = [name for name in files_below(root) if "tftp" in name or "fanjuvery" in name]
+        self.expect(left, [], "what a purge leaves")
 
     def check_completions(self):
         """Each shell that is there reads its completions."""

@@ -62,11 +62,19 @@ trap 'exit 130' HUP INT TERM
 named() {
     # as a word in double quotes of a unit, and then as the replacement of sed
     path=$(printf '%s' "$PREFIX/bin/$PROGRAM_PREFIX" | sed 's/[\\"]/\\&/g; s/%/%%/g' | sed 's/[&\\|]/\\&/g')
-    sed "s|/usr/local/bin/tftpd|${path}tftpd|
-        s|man:tftpd|man:${PROGRAM_PREFIX}tftpd|
-        s|^complete -F \(_[a-z_]*\) |&$PROGRAM_PREFIX|
-        s|^complete -c |&$PROGRAM_PREFIX|
-        s|^#compdef |&$PROGRAM_PREFIX|" "$1" > "$room/${1##*/}"
+    case $1 in
+    packaging/*.service)
+        sed "s|/usr/local/bin/tftpd|@path@|g; s|tftpd\.nft|@nft@|g
+            s|tftpd|${PROGRAM_PREFIX}tftpd|g
+            s|@path@|${path}tftpd|g; s|@nft@|tftpd.nft|g" "$1"
+        ;;
+    packaging/*.md) sed "s|@\(tftp[a-z-]*\)@|$PROGRAM_PREFIX\1|g" "$1" ;;
+    *)
+        sed "s|^complete -F \(_[a-z_]*\) |&$PROGRAM_PREFIX|
+            s|^complete -c |&$PROGRAM_PREFIX|
+            s|^#compdef |&$PROGRAM_PREFIX|" "$1"
+        ;;
+    esac > "$room/${1##*/}"
     echo "$room/${1##*/}"
 }
 
@@ -87,8 +95,8 @@ files() {
         echo "644 $UNITDIR/$PROGRAM_PREFIX$unit $(named "packaging/$unit")"
     done
     echo "644 $DOCDIR/tftpd.nft packaging/tftpd.nft"
-    for document in LICENSE README.md SECURITY.md docs/OPERATING.md; do
-        echo "644 $DOCDIR/${document#docs/} $document"
+    for document in LICENSE SECURITY.md docs/OPERATING.md "$(named packaging/README.md)"; do
+        echo "644 $DOCDIR/${document##*/} $document"
     done
 }
 
@@ -96,7 +104,7 @@ files() {
 packed() {
     for program in $programs; do echo "bin/$program"; done
     ls -d completions/* man/*.[1-8] packaging/*
-    echo LICENSE README.md SECURITY.md docs/OPERATING.md examples/loopback.sh examples/packets.hex | tr ' ' '\n'
+    echo LICENSE SECURITY.md docs/OPERATING.md examples/loopback.sh examples/packets.hex | tr ' ' '\n'
 }
 
 case $verb in

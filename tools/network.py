@@ -25,7 +25,7 @@ PAGE = TOP / "docs/OPERATING.md"
 LIMIT, PATIENCE, SILENCE = 1_200, 120, 2
 # The time after which a server sends again what a client of this script has not answered, in seconds
 INTERVAL = 20
-SERVER, CLIENT = "192.0.2.1", "198.51.100.2"
+SERVER, SECOND, CLIENT = "192.0.2.1", "192.0.2.9", "198.51.100.2"
 MANY = [f"198.51.100.{host}" for host in range(20, 220)]
 BLOCK = 1428
 APART = ["unshare", "--map-root-user", "--net", "--mount", "--pid", "--fork", "--kill-child", "--mount-proc"]
@@ -96,7 +96,8 @@ class Scene:
         self.router.link(self.server, "outer")
         self.router.run("ip address add 198.51.100.1/24 dev inner; ip address add 192.0.2.2/24 dev outer; "
                         "echo 1 > /proc/sys/net/ipv4/ip_forward")
-        self.server.run(f"ip address add {SERVER}/24 dev outer; ip route add default via 192.0.2.2")
+        self.server.run(f"ip address add {SERVER}/24 dev outer; ip address add {SECOND}/24 dev outer; "
+                        "ip route add default via 192.0.2.2")
         addresses = "; ".join(f"ip address add {host}/24 dev inner" for host in [CLIENT, *MANY])
         self.client.run(f"{addresses}; ip route add default via 198.51.100.1")
         # the folder of the units, in a file system of this run
@@ -127,16 +128,25 @@ class Scene:
         self.servers = []
         return logs
 
-    def is_served(self, port=69, options=("--retries", "10")):
+    def is_served(self, port=69, options=("--retries", "10"), address=SERVER):
         """Whether the client gets the file from this port. It asks once where it is to get nothing."""
         local = self.root / "local"
-        words = [self.tftp, "get", f"{SERVER}:{port}", "a", local, "--blksize", f"{BLOCK}", "--no-dally", *options]
+        words = [self.tftp, "get", f"{address}:{port}", "a", local, "--blksize", f"{BLOCK}", "--no-dally", *options]
         done = subprocess.run(self.client.words(*words), capture_output=True, text=True, timeout=PATIENCE)
         is_whole = local.exists() and local.read_bytes() == self.content
         for left in [local, self.root / "local.part"]:
             left.unlink(missing_ok=True)
         expect(is_whole, done.returncode == 0, f"whether the file is whole where {done} says so")
         return is_whole
+
+    def received(self, name, address):
+        """The bytes of the file that the client gets from port 69 of this address."""
+        local = self.root / "local"
+        words = [self.tftp, "get", f"{address}:69", name, local, "--blksize", f"{BLOCK}", "--no-dally", "--retries", "10"]
+        subprocess.run(self.client.words(*words), capture_output=True, check=True, timeout=PATIENCE)
+        content = local.read_bytes()
+        local.unlink()
+        return content
 
     def ask(self, *words):
         """What this script prints as the client, with these words."""
@@ -159,15 +169,27 @@ def try_unit(scene):
 
 
 def try_redirection(scene):
+    """The redirection serves one address of two, and with a line for each a server for each: a request to one is never
+    answered for another."""
     scene.serve([scene.root, "--listen", f"{SERVER}:6969", "--forever"])
-    expect(scene.is_served(options=["--retries", "0"]), False, "whether port 69 is served before it is redirected")
-    scene.server.rules(block_of("redirect to :6969"))
+    once = ["--retries", "0"]
+    expect(scene.is_served(options=once), False, "whether port 69 is served before it is redirected")
+    rules = block_of("dnat to")
+    scene.server.rules(rules)
     expect(scene.is_served(), True, "whether port 69 is served by the redirection")
+    expect(scene.is_served(options=once, address=SECOND), False, "whether the second address is served by the first's")
+    (scene.root / "second").mkdir()
+    (scene.root / "second/a").write_bytes(scene.content[::-1])
+    scene.serve([scene.root / "second", "--listen", f"{SECOND}:6969", "--forever"])
+    scene.server.rules(rules + rules.splitlines()[-1].replace(SERVER, SECOND))
+    answer = scene.received("a", SECOND)
+    expect(answer == scene.content[::-1], True, "whether the second address has a server of its own")
+    expect(scene.is_served(), True, "whether the first address is served beside it")
 
 
 def try_firewall(scene):
     """The firewall of the server, with and without the redirection."""
-    both = block_of("redirect to :6969") + f"nft -f - << 'END'\n{block_of('ct original proto-dst 69')}END"
+    both = block_of("dnat to") + f"nft -f - << 'END'\n{block_of('ct original proto-dst 69')}END"
     scene.server.rules(both)
     expect(scene.is_served(), True, "whether the firewall admits what is redirected")
     expect(scene.is_served(6969, ["--retries", "0"]), False, "whether the firewall admits another port")
@@ -200,7 +222,7 @@ def try_translation(scene):
 def try_limit(scene):
     """Of 50 requests of one address 30 are answered, behind the redirection, too; another address is not limited."""
     scene.serve([scene.root, "--listen", f"{SERVER}:6969", "--cap", "64", "--retries", "0", "--forever"])
-    scene.server.rules(block_of("redirect to :6969") + block_of("limit rate over"))
+    scene.server.rules(block_of("dnat to") + block_of("limit rate over"))
     answered, seconds = map(int, scene.ask("--answers", CLIENT, 50, 30))
     # two more a minute, if it took so long to send them
     expect(30 <= answered <= 30 + seconds // 30, True, f"whether {answered} of 50 requests are answered in {seconds} s")

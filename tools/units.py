@@ -3,7 +3,7 @@
 
 Debian's systemd is PID 1 of a container with a network of its own, in which what `make install` installs is at
 /usr/local. Its units are started, asked over a link by another host, killed, given a folder to write to, and spread
-over eight ports. It takes the four programs of bin/. FOLDER (out/debian) is where the container's files are made, once,
+over eight ports; Debian's package is installed, upgraded and removed. It takes the four programs of bin/. FOLDER (out/debian) is where the container's files are made, once,
 from Debian's archive; a run leaves no change in it. It needs root, and debootstrap, systemd-nspawn, ip, nft and
 unshare. It is run by hand, and not by the gate. The last line is a count; the status is 1 if a trial failed.
 """
@@ -73,6 +73,17 @@ def for_writes(unit, user):
     return "[Service]\n" + lines[1].replace("#", "").replace("User=USER", f"User={user}")
 
 
+def packed(version):
+    """The bytes of a package of this version."""
+    words = [TOP / "debian/pack.sh", version]
+    done = subprocess.run(words, check=True, stdout=subprocess.PIPE, text=True)
+    package = TOP / done.stdout.strip()
+    try:
+        return package.read_bytes()
+    finally:
+        package.unlink()
+
+
 class Container:
     """A Debian whose systemd runs, at the server's end of a link, and a client at the other."""
 
@@ -82,6 +93,7 @@ class Container:
         installed = self.room / "installed"
         words = [TOP / "tools/install.sh", "install", f"DESTDIR={installed}"]
         subprocess.run(words, check=True, stdout=subprocess.DEVNULL)
+        self.packages = [packed(version) for version in ["0.0.1", "0.0.2"]]
         self.client, self.server = Host(stack), Host(stack)
         self.client.link(self.server, "wire")
         self.server.run(f"ip address add {SERVER}/24 dev wire; ip route add 198.51.100.0/24 dev wire")
@@ -189,10 +201,13 @@ class Container:
 
 
 def try_no_folder(it):
-    """Without its folder the unit is not started, and does not fail."""
-    it.begin("tftpd")
-    found = [it.property("tftpd", name) for name in ["ConditionResult", "ActiveState", "Result"]]
-    expect(found, ["no", "inactive", "success"], "the unit without a folder")
+    """Without its folder a start fails, and says so."""
+    for unit in ["tftpd", "tftpd@6901"]:
+        told = it.told(f"systemctl enable --now {unit} || echo failed")
+        expect("Assertion failed" in told and told.endswith("failed\n"), True, f"whether a start fails: {told}")
+        found = [it.property(unit, name) for name in ["AssertResult", "ActiveState", "MemoryMax"]]
+        expect(found, ["no", "inactive", "infinity"], f"{unit} without a folder")
+        it.run(f"systemctl disable {unit}")
 
 
 def try_reading(it):
@@ -201,8 +216,8 @@ def try_reading(it):
     it.run("systemctl enable --now tftpd")
     until("port 69 is served", it.is_served)
     expect(it.put("new"), "tftp: PeerError(2)\n", "the answer to a write")
-    lines = [line.split()[0] for line in it.log("tftpd.service") if "192" in line or "198" in line]
-    expect(lines, ["opened", "closed", "refused"], "the lines of the journal")
+    lines = [line.split()[0] for line in it.log("tftpd.service") if re.search("192|198|0[.]0[.]0[.]0", line)]
+    expect(lines, ["listening", "opened", "closed", "refused"], "the lines of the journal")
     it.may("tftpd", None)
     it.sees("tftpd", False)
 
@@ -272,7 +287,33 @@ def try_grade(it):
         print(f"units: exposure of {unit}: {found and found[1]}")
 
 
-TRIALS = [try_no_folder, try_reading, try_kill, try_late_address, try_writing, try_instances, try_grade]
+def process_ids(it, *units):
+    return [it.property(unit, "MainPID") for unit in units]
+
+
+def try_package(it):
+    """An installation starts nothing, an upgrade starts again what runs, a removal stops it, a purge leaves no link."""
+    units = ["tftpd", "tftpd@6901"]
+    it.run("systemctl disable --now tftpd tftpd@{6901..6908}; umount /usr/local; systemctl daemon-reload")
+    install = "cat > /root/it.deb; dpkg -i /root/it.deb"
+    it.run(install, input=it.packages[0])
+    expect([it.property(unit, "ActiveState") for unit in units], ["inactive"] * 2, "the units after an installation")
+    it.run(f"systemctl enable --now {' '.join(units)}")
+    until("port 69 is served", it.is_served)
+    before = process_ids(it, *units)
+    it.run(install, input=it.packages[1])
+    until("port 69 is served after the upgrade", it.is_served)
+    after = process_ids(it, *units)
+    expect([one in ("0", other) for one, other in zip(after, before)], [False] * 2, f"whether {before} is {after}")
+    it.run("dpkg -r fanjuvery")
+    left = it.told("readlink /proc/[0-9]*/exe | grep tftpd")
+    expect(left, "", "the processes that a removal leaves")
+    it.run("dpkg -P fanjuvery")
+    left = it.told("find /etc /lib /usr/lib /usr/bin /usr/share -name '*tftpd*'")
+    expect(left, "", "the files that a purge leaves")
+
+
+TRIALS = [try_no_folder, try_reading, try_kill, try_late_address, try_writing, try_instances, try_grade, try_package]
 
 
 def run(folder):
