@@ -220,13 +220,16 @@ def try_translation(scene):
 
 
 def try_limit(scene):
-    """Of 50 requests of one address 30 are answered, behind the redirection, too; another address is not limited."""
+    """Of 50 requests of one address 30 are answered, behind the redirection, too; another address is not limited. A
+    port of system services is never answered, so that a service which answers everything is not, either."""
     scene.serve([scene.root, "--listen", f"{SERVER}:6969", "--cap", "64", "--retries", "0", "--forever"])
     scene.server.rules(block_of("dnat to") + block_of("limit rate over"))
     answered, seconds = map(int, scene.ask("--answers", CLIENT, 50, 30))
     # two more a minute, if it took so long to send them
     expect(30 <= answered <= 30 + seconds // 30, True, f"whether {answered} of 50 requests are answered in {seconds} s")
     expect(scene.ask("--answers", MANY[0], 1, 1)[0], "1", "whether another address is answered")
+    expect(scene.ask("--chatter", MANY[1], 1024)[0], "10", "how many answers a service gets that answers everything")
+    expect(scene.ask("--chatter", MANY[1], 19)[0], "0", "how many answers it gets from a port of system services")
     scene.stop()
 
 
@@ -271,6 +274,22 @@ def answers(address, count, wanted):
                 if len(found) == int(wanted):
                     deadline = time.monotonic() + SILENCE
     print(len(found), int(seconds))
+
+
+def chatter(address, port):
+    """Sends a datagram that is no packet, and another to each answer, ten at most. Prints how many answers there are."""
+    count = 0
+    with socket.socket(socket.AF_INET, socket.SOCK_DGRAM) as end:
+        end.bind((address, int(port)))
+        end.settimeout(SILENCE)
+        try:
+            while count < 10:
+                end.sendto(b"ABCDEFG", (SERVER, 69))
+                end.recv(600)
+                count += 1
+        except TimeoutError:
+            pass
+    print(count)
 
 
 class Fetch:
@@ -334,7 +353,8 @@ KERNEL = """table ip a {
     }
     chain nat {
         type nat hook prerouting priority dstnat
-        fib daddr type local udp dport 69 redirect to :jhash ip saddr mod 2 seed 69 map { 0 : 6901, 1 : 6902 }
+        ip daddr 192.0.2.1 udp dport 69 dnat to 192.0.2.1:6969
+        fib daddr type local udp dport 69 dnat to ip daddr:jhash ip saddr mod 2 seed 69 map { 0 : 6901, 1 : 6902 }
     }
     chain last {
         type nat hook postrouting priority srcnat
@@ -345,6 +365,7 @@ KERNEL = """table ip a {
         ct state established,related meta l4proto udp ct original proto-dst 69 accept
         udp dport 69 ct helper set "t"
         udp dport 69 meter clients { ip saddr timeout 1h limit rate over 2/minute burst 30 packets } drop
+        udp dport 69 udp sport < 1024 drop
     }
 }
 """
@@ -385,6 +406,8 @@ def main():
         sys.exit(run(*sys.argv[2:]))
     if sys.argv[1:2] == ["--answers"]:
         sys.exit(answers(*sys.argv[2:]))
+    if sys.argv[1:2] == ["--chatter"]:
+        sys.exit(chatter(*sys.argv[2:]))
     if sys.argv[1:2] == ["--fetch"]:
         sys.exit(fetch(*sys.argv[2:]))
     if len(sys.argv) not in (1, 3):
