@@ -295,7 +295,7 @@ def try_package(it):
     """An installation starts nothing, an upgrade starts again what runs, a removal stops it, a purge leaves no link."""
     units = ["tftpd", "tftpd@6901"]
     it.run("systemctl disable --now tftpd tftpd@{6901..6908}; umount /usr/local; systemctl daemon-reload")
-    install = "cat > /root/it.deb; dpkg -i /root/it.deb"
+    install = "cat > /it.deb; dpkg -i /it.deb"
     it.run(install, input=it.packages[0])
     expect([it.property(unit, "ActiveState") for unit in units], ["inactive"] * 2, "the units after an installation")
     it.run(f"systemctl enable --now {' '.join(units)}")
