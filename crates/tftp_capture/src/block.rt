@@ -1,0 +1,242 @@
+//! The blocks of pcapng: sections, interfaces and packets. Other blocks are passed over.
+
+ghost use Rattle.std.specs.Prelude.{◌≤◌, length, vec_len};
+ghost use Rattle.tftp_capture.specs.Record.{StaysWithin};
+
+use crate::capture::{MAX_RECORD, Stamp};
+use crate::fault::CaptureFault;
+use crate::input::{begins, fill, skip, take_bytes};
+use crate::number::after;
+use crate::order::Order;
+use crate::section::Section;
+use std::alloc::Global;
+use std::io::Read;
+
+/// The type of a section's block, which reads the same in both byte orders.
+pub(crate) const SECTION: u32 = 0x0a0d_0d0a;
+
+const INTERFACE: u32 = 1;
+
+const SIMPLE: u32 = 3;
+
+const ENHANCED: u32 = 6;
+
+/// What a block was.
+#[derive(Clone, Copy)]
+pub(crate) enum Found {
+    /// A packet, whose frame is in the buffer.
+    Packet(Stamp),
+    /// Something else.
+    Other,
+    /// None: the capture is at its end.
+    End,
+}
+
+/// The blocks of a capture.
+#[derive(Drop)]
+pub(crate) struct Blocks {
+    alloc: Global,
+    section: Section,
+    /// What is left of the last block.
+    left: u64,
+}
+
+impl Blocks {
+    /// Reads the header of the first section after its type.
+    pub(crate) fn read<R: Read>(alloc: Global, input: &mut R) -> Result<Blocks, CaptureFault> {
+        let mut size = [0; 4];
+        match fill(input, &mut size) {
+            Ok(()) => Blocks::begin(alloc, &size, input),
+            Err(fault) => Err(fault),
+        }
+    }
+
+    /// Reads the byte order of a section, whose block has this length.
+    fn begin<R: Read>(alloc: Global, size: &[u8], input: &mut R) -> Result<Blocks, CaptureFault>
+        requires { 4 ≤ length size.now }
+    {
+        let mut magic = [0; 4];
+        match fill(input, &mut magic) {
+            Ok(()) => {}
+            Err(fault) => return Err(fault),
+        }
+        let order = match u32::from_be_bytes(magic) {
+            0x1a2b_3c4d => Order::Big,
+            0x4d3c_2b1a => Order::Little,
+            _ => return Err(CaptureFault::Format),
+        };
+        // type, length and byte order are read
+        match left_of(order.number(size, 0), 12) {
+            Some(left) => Ok(Blocks {
+                alloc,
+                section: Section::new(alloc, order),
+                left,
+            }),
+            None => Err(CaptureFault::Block),
+        }
+    }
+
+    /// Reads the next block.
+    pub(crate) fn next<R: Read>(
+        &mut self,
+        input: &mut R,
+        bytes: &mut Vec<u8>,
+    ) -> Result<Found, CaptureFault>
+        ensures { StaysWithin (vec_len bytes.old) (vec_len bytes.new) }
+    {
+        match skip(input, self.left) {
+            Ok(()) => self.left = 0,
+            Err(fault) => return Err(fault),
+        }
+        let mut header = [0; 8];
+        match begins(input, &mut header) {
+            Ok(true) => self.read_block(input, header, bytes),
+            Ok(false) => Ok(Found::End),
+            Err(fault) => Err(fault),
+        }
+    }
+
+    fn read_block<R: Read>(
+        &mut self,
+        input: &mut R,
+        header: [u8; 8],
+        bytes: &mut Vec<u8>,
+    ) -> Result<Found, CaptureFault>
+        ensures { StaysWithin (vec_len bytes.old) (vec_len bytes.new) }
+    {
+        let order = self.section.order;
+        let kind = order.number(&header, 0);
+        if kind == SECTION {
+            return self.read_section(input, after(&header, 4));
+        }
+        self.left = match left_of(order.number(&header, 4), 8) {
+            Some(left) => left,
+            None => return Err(CaptureFault::Block),
+        };
+        match kind {
+            INTERFACE => self.read_interface(input, bytes),
+            SIMPLE => self.read_simple(input, bytes),
+            ENHANCED => self.read_enhanced(input, bytes),
+            _ => Ok(Found::Other),
+        }
+    }
+
+    /// Begins another section, with interfaces of its own.
+    fn read_section<R: Read>(&mut self, input: &mut R, size: &[u8]) -> Result<Found, CaptureFault>
+        requires { 4 ≤ length size.now }
+    {
+        match Blocks::begin(self.alloc, size, input) {
+            Ok(blocks) => *self = blocks,
+            Err(fault) => return Err(fault),
+        }
+        Ok(Found::Other)
+    }
+
+    /// Takes so many bytes of the block.
+    fn take_part<R: Read>(
+        &mut self,
+        input: &mut R,
+        count: u64,
+        bytes: &mut Vec<u8>,
+    ) -> Result<(), CaptureFault>
+        ensures { StaysWithin (vec_len bytes.old) (vec_len bytes.new) }
+    {
+        if count > MAX_RECORD as u64 {
+            return Err(CaptureFault::TooLong);
+        }
+        match self.left.checked_sub(count) {
+            Some(left) => self.left = left,
+            None => return Err(CaptureFault::Block),
+        }
+        take_bytes(input, count as usize, bytes)
+    }
+
+    fn read_interface<R: Read>(
+        &mut self,
+        input: &mut R,
+        bytes: &mut Vec<u8>,
+    ) -> Result<Found, CaptureFault>
+        ensures { StaysWithin (vec_len bytes.old) (vec_len bytes.new) }
+    {
+        // the last four bytes are the length again
+        let count = self.left.saturating_sub(4);
+        match self.take_part(input, count, bytes) {
+            Ok(()) => {}
+            Err(fault) => return Err(fault),
+        }
+        match self.section.add_interface(bytes.as_slice()) {
+            Ok(()) => Ok(Found::Other),
+            Err(fault) => Err(fault),
+        }
+    }
+
+    fn read_simple<R: Read>(
+        &mut self,
+        input: &mut R,
+        bytes: &mut Vec<u8>,
+    ) -> Result<Found, CaptureFault>
+        ensures { StaysWithin (vec_len bytes.old) (vec_len bytes.new) }
+    {
+        let mut header = [0; 4];
+        match self.take_header(input, &mut header) {
+            Ok(()) => {}
+            Err(fault) => return Err(fault),
+        }
+        let length = self.section.order.number(&header, 0);
+        let count = self.section.captured(length);
+        match self.take_part(input, u64::from(count), bytes) {
+            Ok(()) => Ok(Found::Packet(self.section.stamp(0, 0))),
+            Err(fault) => Err(fault),
+        }
+    }
+
+    fn read_enhanced<R: Read>(
+        &mut self,
+        input: &mut R,
+        bytes: &mut Vec<u8>,
+    ) -> Result<Found, CaptureFault>
+        ensures { StaysWithin (vec_len bytes.old) (vec_len bytes.new) }
+    {
+        let mut header = [0; 20];
+        match self.take_header(input, &mut header) {
+            Ok(()) => {}
+            Err(fault) => return Err(fault),
+        }
+        let order = self.section.order;
+        let count = order.number(&header, 12);
+        match self.take_part(input, u64::from(count), bytes) {
+            Ok(()) => {}
+            Err(fault) => return Err(fault),
+        }
+        let (high, low) = (order.number(&header, 4), order.number(&header, 8));
+        let ticks = u64::from(high) * 0x1_0000_0000 + u64::from(low);
+        let stamp = self.section.stamp(order.number(&header, 0), ticks);
+        Ok(Found::Packet(stamp))
+    }
+
+    /// Fills a buffer with the next bytes of the block.
+    fn take_header<R: Read>(
+        &mut self,
+        input: &mut R,
+        header: &mut [u8],
+    ) -> Result<(), CaptureFault> {
+        match self.left.checked_sub(header.len() as u64) {
+            Some(left) => self.left = left,
+            None => return Err(CaptureFault::Block),
+        }
+        fill(input, header)
+    }
+}
+
+/// What is left of a block of this length after its first bytes: at least the length again.
+fn left_of(length: u32, read: u32) -> Option<u64> {
+    if length % 4 != 0 {
+        return None;
+    }
+    let left = length.checked_sub(read)?;
+    if left < 4 {
+        None
+    } else {
+        Some(u64::from(left))
+    }
+}

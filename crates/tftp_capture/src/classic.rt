@@ -1,0 +1,91 @@
+//! The classic format: a header, and records with a header of four numbers each.
+
+ghost use Rattle.std.specs.Prelude.{vec_len};
+ghost use Rattle.tftp_capture.specs.Record.{StaysWithin};
+
+use crate::capture::{MAX_RECORD, Stamp};
+use crate::clock::Clock;
+use crate::fault::CaptureFault;
+use crate::input::{begins, fill, take_bytes};
+use crate::link::Link;
+use crate::order::Order;
+use std::io::Read;
+
+/// What the header of a capture says.
+#[derive(Clone, Copy)]
+pub(crate) struct Classic {
+    order: Order,
+    clock: Clock,
+    link: Link,
+}
+
+impl Classic {
+    /// The byte order and the clock that the first four bytes say, if they are of this format.
+    pub(crate) fn magic(head: [u8; 4]) -> Option<(Order, Clock)> {
+        match u32::from_be_bytes(head) {
+            0xa1b2_c3d4 => Some((Order::Big, Clock::MICROS)),
+            0xa1b2_3c4d => Some((Order::Big, Clock::NANOS)),
+            0xd4c3_b2a1 => Some((Order::Little, Clock::MICROS)),
+            0x4d3c_b2a1 => Some((Order::Little, Clock::NANOS)),
+            _ => None,
+        }
+    }
+
+    /// Reads the header after its first four bytes.
+    pub(crate) fn read<R: Read>(
+        order: Order,
+        clock: Clock,
+        input: &mut R,
+    ) -> Result<Classic, CaptureFault> {
+        let mut header = [0; 20];
+        match fill(input, &mut header) {
+            // the upper half says whether a checksum follows each frame
+            Ok(()) => Ok(Classic {
+                order,
+                clock,
+                link: Link::of(order.number(&header, 16) % 0x1_0000),
+            }),
+            Err(fault) => Err(fault),
+        }
+    }
+
+    /// Reads the next record: `None` at the end.
+    pub(crate) fn next<R: Read>(
+        self,
+        input: &mut R,
+        bytes: &mut Vec<u8>,
+    ) -> Result<Option<Stamp>, CaptureFault>
+        ensures { StaysWithin (vec_len bytes.old) (vec_len bytes.new) }
+    {
+        let mut header = [0; 16];
+        match begins(input, &mut header) {
+            Ok(true) => self.read_record(input, &header, bytes),
+            Ok(false) => Ok(None),
+            Err(fault) => Err(fault),
+        }
+    }
+
+    fn read_record<R: Read>(
+        self,
+        input: &mut R,
+        header: &[u8; 16],
+        bytes: &mut Vec<u8>,
+    ) -> Result<Option<Stamp>, CaptureFault>
+        ensures { StaysWithin (vec_len bytes.old) (vec_len bytes.new) }
+    {
+        let count = self.order.number(header, 8) as usize;
+        if count > MAX_RECORD {
+            return Err(CaptureFault::TooLong);
+        }
+        let seconds = u64::from(self.order.number(header, 0));
+        let ticks = u64::from(self.order.number(header, 4));
+        let micros = self.clock.micros(ticks).saturating_add(seconds * 1_000_000);
+        match take_bytes(input, count, bytes) {
+            Ok(()) => Ok(Some(Stamp {
+                link: self.link,
+                micros,
+            })),
+            Err(fault) => Err(fault),
+        }
+    }
+}
