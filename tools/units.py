@@ -203,8 +203,8 @@ class Container:
 def try_no_folder(it):
     """Without its folder a start fails, and says so."""
     for unit in ["tftpd", "tftpd@6901"]:
-        told = it.told(f"systemctl enable --now {unit} || echo failed")
-        expect("Assertion failed" in told and told.endswith("failed\n"), True, f"whether a start fails: {told}")
+        told = it.told(f"systemctl enable --now {unit} 2>&1 || echo status $?")
+        expect("Assertion failed" in told and told.endswith("status 1\n"), True, f"whether a start fails: {told}")
         found = [it.property(unit, name) for name in ["AssertResult", "ActiveState", "MemoryMax"]]
         expect(found, ["no", "inactive", "infinity"], f"{unit} without a folder")
         it.run(f"systemctl disable {unit}")
@@ -294,7 +294,8 @@ def process_ids(it, *units):
 def try_package(it):
     """An installation starts nothing, an upgrade starts again what runs, a removal stops it, a purge leaves no link."""
     units = ["tftpd", "tftpd@6901"]
-    it.run("systemctl disable --now tftpd tftpd@{6901..6908}; umount /usr/local; systemctl daemon-reload")
+    it.run("nft flush ruleset; systemctl disable --now tftpd tftpd@{6901..6908}; umount /usr/local; "
+           "systemctl daemon-reload")
     install = "cat > /it.deb; dpkg -i /it.deb"
     it.run(install, input=it.packages[0])
     expect([it.property(unit, "ActiveState") for unit in units], ["inactive"] * 2, "the units after an installation")
