@@ -1,6 +1,7 @@
 #!/usr/bin/env python3
 """Runs each command line of tftp-show and tftp-play that a document shows, and compares what it prints with what the
-document says. Of each examples/NAME.script at least one document has to show the output.
+document says. Of each examples/NAME.script at least one document has to show the output. The tour of tftpd and tftp in
+README.md is run twice in a folder, and leaves nothing there.
 
 The programs are those that the gate left in crates/*_main/out/, or else those of bin/."""
 
@@ -8,13 +9,18 @@ import os
 import pathlib
 import re
 import shlex
+import signal
 import subprocess
 import sys
 import tempfile
 
+from addresses import own_address
+
 ROOT = pathlib.Path(__file__).resolve().parent.parent
-PROGRAMS = {"tftp-show": "tftp_show_main", "tftp-play": "tftp_play_main"}
-SECONDS = 600
+PROGRAMS = {name: f"{name.replace('-', '_')}_main" for name in ["tftp-show", "tftp-play", "tftp", "tftpd"]}
+SECONDS, TOUR_SECONDS = 600, 120
+# Of the lines of the tour: the address that they name, and what differs from run to run
+ADDRESS, PORTS = "127.0.0.1:6969", re.compile(r"\d+ \d+ (?=Complete$)")
 
 
 def program(name):
@@ -53,6 +59,37 @@ def printed_by(command, folder):
     return done.stdout.decode(errors="replace").splitlines()
 
 
+def toured(folder, text, address):
+    """What the tour prints in this folder, and what it is said to print, each in order of lines; ports are left out."""
+    lines = [line for block in re.findall(r"(?ms)^```\n(.*?)^```$", text) if "bin/tftpd " in block
+             for line in block.replace(ADDRESS, address).splitlines()]
+    commands = "\n".join(line[2:] for line in lines if line.startswith("$ "))
+    environment = {"PATH": os.environ["PATH"], "LC_ALL": "C", "TMPDIR": folder}
+    # (in a session of its own: what still runs at the end is ended)
+    shell = subprocess.Popen(["bash", "-c", commands], cwd=folder, env=environment, stdin=subprocess.DEVNULL,
+                             stdout=subprocess.PIPE, stderr=subprocess.STDOUT, text=True, start_new_session=True)
+    try:
+        printed = shell.communicate(timeout=TOUR_SECONDS)[0]
+    except subprocess.TimeoutExpired:
+        os.killpg(shell.pid, signal.SIGKILL)
+        printed = shell.communicate()[0]
+    wanted = [line for line in lines if not line.startswith("$ ")]
+    return [sorted(PORTS.sub("", line) for line in it) for it in (printed.splitlines(), wanted)]
+
+
+def tour(folder):
+    """How many of two runs of the tour in README.md are not as it says, or leave something behind."""
+    text, failures = (ROOT / "README.md").read_text(), 0
+    examples, address = sorted(os.listdir(ROOT / "examples")), f"{own_address()}:6969"
+    for _ in range(2):
+        printed, wanted = toured(folder, text, address)
+        left = sorted(os.listdir(folder)), sorted(os.listdir(ROOT / "examples"))
+        if printed != wanted or left != (["bin", "examples"], examples):
+            failures += 1
+            print(f"README.md: the tour: prints {printed}; wanted {wanted}; leaves {left}")
+    return failures
+
+
 def main():
     documents = sorted([ROOT / "README.md", *(ROOT / "docs").glob("*.md"), *(ROOT / "crates").glob("*/README.md")])
     failures, compared, scripts = 0, 0, {path.name for path in (ROOT / "examples").glob("*.script")}
@@ -76,6 +113,7 @@ def main():
                     print(f"{document.relative_to(ROOT)}:{number}: {command}: prints otherwise")
                     for line in printed:
                         print(f"    {line}")
+        failures += tour(folder)
     for name in sorted(scripts):
         failures += 1
         print(f"examples/{name}: no document shows what it prints")
