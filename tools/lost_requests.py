@@ -1,10 +1,10 @@
 #!/usr/bin/env python3
 """Refuses each request for memory of a server in turn: lost_requests.py [TFTPD]
 
-TFTPD is the built tftpd; without words, the one that `rt ci` built. A client asks for a file, and again where its
-request is lost. Whichever request for memory is refused, the transfer completes, and a request that is lost is a line of
-the log that says so. Before the server serves, whichever is refused, it says that it is out of memory. The counter is
-refuse_memory.c, compiled into a temporary folder. A server has five minutes, however slow the host is.
+TFTPD is the built tftpd; without words, that of bin/, or else the one that `rt ci` built. A client asks for a file, and
+again where its request is lost. Whichever request for memory is refused, the transfer completes, and a request that is
+lost is a line of the log that says so. Before the server serves, whichever is refused, it says that it is out of memory.
+The counter is refuse_memory.c, compiled into a temporary folder. A server has five minutes, however slow the host is.
 """
 import os
 import re
@@ -16,17 +16,16 @@ import tempfile
 import time
 from pathlib import Path
 
-from addresses import own_address
-from memory_in_turn import compiled
+from lib.addresses import own_address
+from lib.packets import ack, data, rrq
+from lib.preload import compiled
+from lib.programs import programs
 
 HOST = own_address()
-TFTPD = Path(__file__).resolve().parent.parent / "crates" / "tftpd_main" / "out" / "tftpd_main"
 # the longest that a server may take, in seconds: by the test, and by its own count of waits
 PATIENCE = 300
 LIMITS = ["--rounds", "2000", "--retries", "10"]
-REQUEST = b"\0\1a\0octet\0"
-DATA = b"\0\3\0\1fortytwo"
-ACK = b"\0\4\0\1"
+REQUEST, DATA, ACK = rrq("a"), data(1, b"fortytwo"), ack(1)
 LOST = re.compile(rb"^lost ", re.M)
 
 
@@ -72,9 +71,9 @@ def fetched(server, port):
             client.sendto(REQUEST, (HOST, port))
             while len(LOST.findall(server.texts[server.process.stderr])) < requests:
                 if server.wait(client):
-                    data, peer = client.recvfrom(600)
-                    if data != DATA:
-                        sys.exit(f"lost requests: the answer is {data!r}")
+                    answer, peer = client.recvfrom(600)
+                    if answer != DATA:
+                        sys.exit(f"lost requests: the answer is {answer!r}")
                     client.sendto(ACK, peer)
                     return requests
                 if not server.open:
@@ -133,9 +132,7 @@ def unbegun(program, counter, folder):
 def main():
     if len(sys.argv) > 2:
         sys.exit(__doc__)
-    program = os.path.abspath(sys.argv[1] if len(sys.argv) == 2 else TFTPD)
-    if not os.path.exists(program):
-        sys.exit(f"lost requests: {program} is not there; `rt ci` builds it")
+    program = programs(["tftpd"], sys.argv[1:])["tftpd"]
     lost, unserved = 0, 0
     with tempfile.TemporaryDirectory(prefix="tftp-lost-") as folder:
         counter = compiled(folder)

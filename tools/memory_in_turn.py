@@ -9,11 +9,12 @@ refuse_memory.c, compiled into a temporary folder.
 """
 import os
 import re
-import shutil
 import subprocess
 import sys
 import tempfile
 from pathlib import Path
+
+from lib.preload import compiled
 
 SCENES = Path(__file__).resolve().parent.parent / "crates" / "tests_memory"
 PATIENCE = 120
@@ -49,18 +50,6 @@ number: 1, complete: true, outcome: Some(Complete) }
 number: 1, complete: true, outcome: None } stored 42 committed
 n 42
 """.splitlines()
-
-
-def compiled(folder, source=Path(__file__).with_name("refuse_memory.c")):
-    """The counter, or another source, as a library that is preloaded."""
-    library = Path(folder, source.stem + ".so")
-    kit = shutil.which("rt")
-    beside = Path(kit).resolve().parent.parent / "toolchain" / "bin" / "clang" if kit else "clang"
-    words = ["-O1", "-shared", "-fPIC", "-nostdlib", "-o", library, source]
-    for compiler in ["cc", "clang", str(beside)]:
-        if shutil.which(compiler) and subprocess.run([compiler, *words]).returncode == 0:
-            return library
-    sys.exit("memory: no C compiler serves here, neither cc nor clang, so nothing was refused")
 
 
 def played(program, counter, refused):

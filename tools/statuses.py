@@ -1,7 +1,8 @@
 #!/usr/bin/env python3
 """Runs the four programs and compares their statuses and messages: statuses.py [SHOW PLAY TFTP TFTPD]
 
-Without words it takes the programs that `rt ci` built. A run has two minutes, a server ends after 2000 waits at most.
+Without words it takes the programs of bin/, or else those that `rt ci` built. A run has two minutes, and so has each line
+that is waited for; a server ends after 2000 waits at most.
 Everything goes over an address of 127.0.0.0/8 and through one temporary folder. The last line is a count; the status is
 1 where something was not as wanted, or fewer runs than known were made.
 """
@@ -18,11 +19,13 @@ import time
 from contextlib import contextmanager
 from pathlib import Path
 
-from addresses import own_address
+from lib.addresses import own_address
+from lib.process import PATIENCE, Failure, Server, next_line
+from lib.programs import NAMES, programs
 
 HOST = own_address()
-CRATES = Path(__file__).resolve().parent.parent / "crates"
-PATIENCE = 120
+# The longest life of a server, in seconds
+LIFE = 900
 # How often a client asks again where the host is slow, and the words of a server that ends whatever happens
 RETRIES = ["--retries", "10"]
 LIMITS = ["--rounds", "2000", *RETRIES]
@@ -77,23 +80,17 @@ class Check:
 @contextmanager
 def serving(check, *words):
     """A tftpd of the folder `served`, and its address; it is killed at the end, whatever happened."""
-    words = [check.programs["tftpd"], "served", "--listen", f"{HOST}:0", *LIMITS, *words]
-    pipe = subprocess.PIPE
-    server = subprocess.Popen(words, cwd=check.folder, stdin=subprocess.DEVNULL, stdout=pipe, stderr=pipe)
-    try:
-        yield server, server.stdout.readline().decode().removeprefix("listening ").strip()
-    finally:
-        server.kill()
-        server.communicate()
+    with Server(check.programs["tftpd"], HOST, check.folder, [*LIMITS, *words], LIFE, root="served") as server:
+        yield server, server.word
 
 
 def has_ended(check, server, status, lines):
     """A server has ended by itself with this status, and its last words on each line are these."""
     check.runs += 1
-    wrote, told = server.communicate(timeout=PATIENCE)
-    ends = [line.split()[-1] for line in wrote.decode().splitlines()]
-    if server.returncode != status or ends != lines or told:
-        check.wrong.append(f"tftpd: status {server.returncode}, {wrote!r}, {told!r}; wanted {status}, {lines}")
+    code, wrote, told = server.ended()
+    ends = [line.split()[-1] for line in wrote.splitlines()]
+    if code != status or ends != lines or told:
+        check.wrong.append(f"tftpd: status {code}, {wrote!r}, {told!r}; wanted {status}, {lines}")
 
 
 def few_files(count):
@@ -361,7 +358,7 @@ def test_unprinted_close(check):
             how = {"stdout": subprocess.PIPE} if is_pipe else {"stdout": file, "preexec_fn": short_files(40)}
             server = subprocess.Popen(words, cwd=check.folder, stdin=subprocess.DEVNULL, stderr=subprocess.PIPE, **how)
         try:
-            listening = server.stdout.readline() if is_pipe else first_line_of(printed)
+            listening = next_line(server.stdout) if is_pipe else first_line_of(printed)
             address = listening.decode().removeprefix("listening ").strip()
             if is_pipe:
                 server.stdout.close()
@@ -414,20 +411,17 @@ def test_usage(check):
 def main():
     if len(sys.argv) not in (1, 5):
         sys.exit(__doc__)
-    names = ["tftp-show", "tftp-play", "tftp", "tftpd"]
-    mains = [f"{name.replace('-', '_')}_main" for name in names]
-    built = [CRATES / main / "out" / main for main in mains]
-    programs = dict(zip(names, map(os.path.abspath, sys.argv[1:] or built)))
-    for program in programs.values():
-        if not os.path.exists(program):
-            sys.exit(f"statuses: {program} is not there; `rt ci` builds it")
+    paths = programs(NAMES, sys.argv[1:])
     with tempfile.TemporaryDirectory(prefix="tftp-statuses-") as folder:
-        check = Check(programs, Path(folder))
+        check = Check(paths, Path(folder))
         (check.folder / "served").mkdir()
         (check.folder / "served" / "a").write_bytes(b"ABC")
         for test in [test_show, test_interrupted_reads, test_play, test_transfers, test_client_faults,
                      test_server_faults, test_unprinted_close, test_usage]:
-            test(check)
+            try:
+                test(check)
+            except (Failure, OSError, subprocess.TimeoutExpired) as fault:
+                check.wrong.append(f"{test.__name__}: {fault}")
     for line in check.wrong:
         print(line)
     if check.runs < RUNS_AT_LEAST:

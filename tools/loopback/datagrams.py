@@ -1,8 +1,11 @@
-"""The packets of TFTP (RFC 1350, section 5; RFC 2347), and a test's ports and ends that send and receive them."""
+"""A test's ports and ends, which send and receive the packets of lib/packets.py."""
 import socket
 import sys
 import time
 from pathlib import Path
+
+sys.path.append(str(Path(__file__).resolve().parent.parent))
+from lib.packets import ack, data, error, oack, rrq, wrq  # (the tests have them from here)
 
 # The longest wait for a datagram or a line, in seconds
 PATIENCE = 60
@@ -19,38 +22,6 @@ def expect(found, expected, what):
 def shortened(value):
     text = repr(value)
     return text if len(text) <= 300 else f"{text[:140]}..{text[-140:]} ({len(text)} characters)"
-
-
-def strings(*values):
-    return b"".join(str(value).encode() + b"\0" for value in values)
-
-
-def rrq(name, mode="octet", **options):
-    return b"\0\1" + strings(name, mode) + option_strings(options)
-
-
-def wrq(name, mode="octet", **options):
-    return b"\0\2" + strings(name, mode) + option_strings(options)
-
-
-def data(number, block):
-    return b"\0\3" + number.to_bytes(2, "big") + block
-
-
-def ack(number):
-    return b"\0\4" + number.to_bytes(2, "big")
-
-
-def error(code, text):
-    return b"\0\5" + code.to_bytes(2, "big") + strings(text)
-
-
-def oack(**options):
-    return b"\0\6" + option_strings(options)
-
-
-def option_strings(options):
-    return b"".join(strings(name, value) for name, value in options.items())
 
 
 def text_of(address):
@@ -102,9 +73,11 @@ def free_ports(count):
     """The first of so many ports in a row that no program has at any address, and that the system chooses for none.
     None is bound to see whether it is free: what another test starts meanwhile would have it, too, until it executes
     its program, and the port would be in use."""
-    lowest = int(Path("/proc/sys/net/ipv4/ip_local_port_range").read_text().split()[0])
+    lowest, highest = map(int, Path("/proc/sys/net/ipv4/ip_local_port_range").read_text().split())
     taken = taken_ports()
-    for first in range(4_001, lowest - count, count):
+    below, above = range(4_001, lowest - count, count), range(highest + 1, 65_536 - count, count)
+    # where the system may choose any port, one that it seldom chooses: it takes those with the parity of its first alike
+    for first in [*below, *above] or range(4_001, 65_536 - count, count):
         if taken.isdisjoint(range(first, first + count)):
             return first
     raise AssertionError(f"no {count} free ports in a row")

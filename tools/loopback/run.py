@@ -1,9 +1,11 @@
 #!/usr/bin/env python3
 """Tests of tftp and tftpd as processes over the loopback address: run.py [TFTP TFTPD [TEST..]]
 
-Without words it takes the programs that `rt ci` built, and runs every test, some at the same time. Each wait has a
-limit, and so has the whole. It uses addresses of 127.0.0.0/8 alone, one for each test, and one temporary folder. The
-last line is a count; the status is 1 if a test failed, or if fewer tests than known ran.
+Without words it takes the programs of bin/, or else those that `rt ci` built, and runs every test, some at the same time.
+Each wait has a limit, and so have each test and the whole; a test that hangs is named, with where it waits. It uses
+addresses of 127.0.0.0/8 alone, one for each test, and one temporary folder. A test that fails while this host stalled is
+run once more, alone, and that is said. The last line is a count; the status is 1 if a test failed, or if fewer tests than
+known ran.
 """
 import os
 import queue
@@ -25,13 +27,15 @@ import served_folder
 import server_alone
 import server_loop
 from scene import Scene, own_network
+from lib.programs import programs
+from lib.stalls import LIMIT as STALL, Stalls
 
 HERE = Path(__file__).resolve()
-CRATES = HERE.parent.parent.parent / "crates"
 MODULES = [both_programs, server_alone, server_loop, served_folder, client_alone, command_lines, options]
 TESTS_AT_LEAST = 71
 AT_ONCE = 8
-# The longest time of all tests together, in seconds, however slow the host is
+# The longest time of a test, and of all together, in seconds, however slow the host is
+TEST_LIMIT = float(os.environ.get("LOOPBACK_SECONDS", "600"))
 LIMIT = 1_200
 
 
@@ -53,27 +57,67 @@ def fault_of(test, scene):
     return None
 
 
-def run_tests(programs, folder, tests):
-    """Runs tests in some threads, and prints a line for each that fails. Returns the number that ran and failed."""
-    todo, faults, network = queue.SimpleQueue(), [], own_network()
-    for host, item in enumerate(tests.items(), 1):
-        todo.put((f"{network}.{host}", item))
+class Run:
+    """The tests that wait, run and have failed."""
 
-    def work():
+    def __init__(self, programs, folder, tests):
+        self.programs, self.folder, self.network, self.stalls = programs, folder, own_network(), Stalls()
+        self.todo, self.running, self.ran, self.faults, self.again = queue.SimpleQueue(), {}, 0, {}, []
+        for host, item in enumerate(tests.items(), 1):
+            self.todo.put((f"{self.network}.{host}", item))
+        self.tests, self.began = tests, time.monotonic()
+
+    def run(self, name, test, address, folder):
+        """Runs a test. Returns why it fails, and the longest stall of the host meanwhile."""
+        begun = time.monotonic()
+        self.running[name] = begun, threading.get_ident()
+        fault = fault_of(test, Scene(self.programs, Path(self.folder, folder), address))
+        del self.running[name]
+        return fault, self.stalls.longest_since(begun)
+
+    def work(self):
         with suppress(queue.Empty):
             while True:
-                address, (name, test) = todo.get_nowait()
-                fault = fault_of(test, Scene(programs, Path(folder, name), address))
-                faults.append(fault)
+                address, (name, test) = self.todo.get_nowait()
+                fault, stall = self.run(name, test, address, name)
+                self.ran += 1
                 if fault:
+                    self.faults[name] = fault
                     print(f"{name}: {fault}", flush=True)
+                    self.again += [(name, stall)] * (stall > STALL)
 
-    threads = [threading.Thread(target=work) for _ in range(AT_ONCE)]
-    for thread in threads:
-        thread.start()
-    for thread in threads:
-        thread.join()
-    return len(faults), len([fault for fault in faults if fault])
+    def repeat(self):
+        """Each test that failed while the host stalled, alone."""
+        for at, (name, stall) in enumerate(self.again):
+            fault, _ = self.run(name, self.tests[name], f"{self.network}.{201 + at % 50}", f"{name}.again")
+            print(f"{name}: once more, since the host stalled for {stall:.1f} s: {fault or 'passed'}", flush=True)
+            if not fault:
+                del self.faults[name]
+
+    def watch(self):
+        """Ends all if a test takes too long, or all of them do, and says which ran and where they were."""
+        while True:
+            time.sleep(0.5)
+            now = time.monotonic()
+            late = {name: begun for name, (begun, _) in list(self.running.items()) if now - begun > TEST_LIMIT}
+            if late or now - self.began > LIMIT - 30:
+                frames = sys._current_frames()
+                for name, (begun, thread) in list(self.running.items()):
+                    where = "".join(traceback.format_stack(frames[thread])[-4:]) if thread in frames else ""
+                    is_late = "has not ended" if name in late else "runs"
+                    print(f"{name}: {is_late} after {now - begun:.0f} s:\n{where}", end="", flush=True)
+                print(f"loopback: {self.ran} tests, and then one that hangs: {', '.join(late) or 'all together'}", flush=True)
+                os._exit(1)
+
+    def run_all(self):
+        threading.Thread(target=self.watch, daemon=True).start()
+        threads = [threading.Thread(target=self.work) for _ in range(AT_ONCE)]
+        for thread in threads:
+            thread.start()
+        for thread in threads:
+            thread.join()
+        self.repeat()
+        self.stalls.close()
 
 
 def run(folder, tftp, tftpd, *names):
@@ -81,9 +125,10 @@ def run(folder, tftp, tftpd, *names):
     began, tests = time.monotonic(), known_tests()
     if names:
         tests = {name: tests[name] for name in names}
-    ran, failed = run_tests({"tftp": tftp, "tftpd": tftpd}, folder, tests)
-    print(f"loopback: {ran} tests in {time.monotonic() - began:.0f} s, {failed} failed")
-    return 1 if failed or ran < (len(names) or TESTS_AT_LEAST) else 0
+    it = Run({"tftp": tftp, "tftpd": tftpd}, folder, tests)
+    it.run_all()
+    print(f"loopback: {it.ran} tests in {time.monotonic() - began:.0f} s, {len(it.faults)} failed")
+    return 1 if it.faults or it.ran < (len(names) or TESTS_AT_LEAST) else 0
 
 
 def run_apart(folder, words):
@@ -109,15 +154,11 @@ def main():
         sys.exit(run(*sys.argv[2:]))
     if len(sys.argv) == 2 or sys.argv[1:2] == ["--help"]:
         sys.exit(__doc__)
-    built = [CRATES / main / "out" / main for main in ("tftp_main", "tftpd_main")]
-    programs = [os.path.abspath(program) for program in sys.argv[1:3] or built]
-    for program in programs:
-        if not os.path.exists(program):
-            sys.exit(f"loopback: {program} is not there; `rt ci` builds it")
+    paths = programs(["tftp", "tftpd"], sys.argv[1:3]).values()
     for number in (signal.SIGTERM, signal.SIGHUP):
         signal.signal(number, lambda *_: sys.exit(1))
     with tempfile.TemporaryDirectory(prefix="tftp-loopback-") as folder:
-        status = run_apart(folder, [*programs, *sys.argv[3:]])
+        status = run_apart(folder, [*paths, *sys.argv[3:]])
     sys.exit(status)
 
 

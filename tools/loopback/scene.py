@@ -13,8 +13,8 @@ from proxy import Proxy
 
 HERE = Path(__file__).resolve().parent
 sys.path.append(str(HERE.parent))
-from addresses import own_network
-from memory_in_turn import compiled
+from lib.addresses import own_network
+from lib.preload import compiled
 
 # The longest life of a program, in seconds: it ends before a timeout of a patient transfer is due
 LIFE = 180

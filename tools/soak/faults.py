@@ -16,6 +16,18 @@ LONG = bytes(range(251)) * 4_000
 LIFE = 900
 # The words of a client that is to complete, on a busy host, too
 PATIENTLY = ["--timeout", "5", "--retries", "10"]
+# What a trial has started, which ends with it
+STARTED = []
+
+
+def begun(program):
+    STARTED.append(program)
+    return program
+
+
+def end_all():
+    while STARTED:
+        STARTED.pop().end()
 
 
 def clients(programs, folder, server, count, words=PATIENTLY):
@@ -24,9 +36,9 @@ def clients(programs, folder, server, count, words=PATIENTLY):
     for at in range(count):
         get, put = folder / f"got{at}", folder / f"put{at}"
         put.write_bytes(LONG)
-        started.append((Program([programs["tftp"], "get", server.word, "long", get.name, *words], folder, LIFE), get))
-        started.append((Program([programs["tftp"], "put", server.word, put.name, f"new{at}", *words], folder, LIFE),
-                        folder / f"new{at}"))
+        for command, path in [(["get", server.word, "long", get.name], get),
+                              (["put", server.word, put.name, f"new{at}"], folder / f"new{at}")]:
+            started.append((begun(Program([programs["tftp"], *command, *words], folder, LIFE)), path))
     return started
 
 
@@ -79,7 +91,7 @@ def serves_again(programs, folder, server):
 
 def started_server(programs, folder, **more):
     (folder / "long").write_bytes(LONG)
-    return Server(programs["tftpd"], folder, ["--cap", "64", "--retries", "10", "--forever"], LIFE, **more)
+    return begun(Server(programs["tftpd"], folder, ["--cap", "64", "--retries", "10", "--forever"], LIFE, **more))
 
 
 def stop_and_go_on(programs, folder, rng):
@@ -132,7 +144,7 @@ def small_files(programs, folder, rng):
 def served_file_changes(programs, folder, rng):
     """A served file is cut, or replaced by another, while it is sent: no client completes with a mixture of lengths."""
     server = started_server(programs, folder)
-    started = [(Program([programs["tftp"], "get", server.word, "long", f"got{at}", *PATIENTLY], folder, LIFE),
+    started = [(begun(Program([programs["tftp"], "get", server.word, "long", f"got{at}", *PATIENTLY], folder, LIFE)),
                 folder / f"got{at}") for at in range(3)]
     time.sleep(rng.random() * 0.05)
     other = bytes(reversed(LONG))
@@ -158,8 +170,8 @@ def folder_is_exchanged(programs, folder, rng):
         path.mkdir()
     (root / "long").write_bytes(LONG)
     (folder / "local").write_bytes(LONG * 10)
-    server = Server(programs["tftpd"], folder, ["--forever"], LIFE, root="root")
-    started = [Program([programs["tftp"], "put", server.word, "local", f"sub/new{at}", *PATIENTLY], folder, LIFE)
+    server = begun(Server(programs["tftpd"], folder, ["--forever"], LIFE, root="root"))
+    started = [begun(Program([programs["tftp"], "put", server.word, "local", f"sub/new{at}", *PATIENTLY], folder, LIFE))
                for at in range(3)]
     end = time.monotonic() + PATIENCE
     while time.monotonic() < end and not list(root.glob(".tftp-*")):
@@ -181,23 +193,26 @@ def closed_streams(programs, folder, rng):
     server = started_server(programs, folder)
     for at, closed in enumerate(["<&-", ">&-", "2>&-", "<&- >&- 2>&-"]):
         target = folder / f"closed{at}"
-        command = f"exec \"$0\" get {server.word} long {target.name} --no-dally --blksize 1428 {closed}"
-        done = subprocess.run(["timeout", "-s", "KILL", f"{LIFE}", "sh", "-c", command, programs["tftp"]], cwd=folder,
-                              stdin=subprocess.DEVNULL, stdout=subprocess.DEVNULL, stderr=subprocess.DEVNULL)
-        if target.exists() and target.read_bytes() != LONG:
-            raise Failure(f"with {closed} the file has {target.stat().st_size} bytes (status {done.returncode})")
+        words = f"get {server.word} long {target.name} --no-dally --blksize 1428 {' '.join(PATIENTLY)}"
+        done = subprocess.run(["timeout", "-s", "KILL", f"{LIFE}", "sh", "-c", f"exec \"$0\" {words} {closed}",
+                               programs["tftp"]], cwd=folder, stdin=subprocess.DEVNULL, stdout=subprocess.DEVNULL,
+                              stderr=subprocess.DEVNULL)
+        if done.returncode or not whole_or_absent(target):
+            raise Failure(f"with {closed} a client ends with status {done.returncode}, and {target.name} is "
+                          f"{'there' if target.exists() else 'not there'}")
     server.end()
 
 
 def full_disk(programs, folder, rng):
-    """A put into a file system that is full is refused, and leaves no file with a name. Skipped where none can be made."""
+    """A put into a file system that is full is refused, and leaves no file with a name. Skipped where none can be made:
+    by root, or by a user who runs the whole in a namespace (`unshare --map-root-user --mount`)."""
     root = folder / "small"
     root.mkdir()
     made = subprocess.run(["mount", "-t", "tmpfs", "-o", "size=1200k", "tmpfs", str(root)], capture_output=True)
     if made.returncode:
-        return "skipped: no small file system can be mounted"
+        return "skipped: a full disk (no small file system can be mounted)"
     try:
-        server = Server(programs["tftpd"], folder, ["--forever"], LIFE, root="small")
+        server = begun(Server(programs["tftpd"], folder, ["--forever"], LIFE, root="small"))
         (root / "long").write_bytes(LONG)
         (folder / "local").write_bytes(LONG)
         put = Program([programs["tftp"], "put", server.word, "local", "new", *PATIENTLY], folder, LIFE)
@@ -227,6 +242,8 @@ def run(programs, folder, rng, seconds):
             skipped = trial(programs, place, rng)
         except Failure as failure:
             raise Failure(f"{trial.__name__}: {failure}") from failure
+        finally:
+            end_all()
         if skipped:
             counts[skipped] = 1
         counts["faults"] += not skipped

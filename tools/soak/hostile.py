@@ -4,11 +4,12 @@ A server answers from several ports and from another address, rightly most of th
 status and its file are the model's, too.
 """
 import time
+from collections import Counter
 
 import model
 from mutations import mutated, random_bytes
 from ports import ELSEWHERE, PATIENCE, Failure, Port, Program, Sent, Stalled, wait_for
-from raw import EARLY, MOST_STEPS, STALL
+from raw import EARLY, LEAST, MOST_STEPS, STALL
 
 LIMIT = 4_290_183_239
 # The longest life of a client, in seconds
@@ -31,7 +32,7 @@ class Trial:
         self.elsewhere = Port(ELSEWHERE)
         self.ports = [self.requests, self.first, self.second, self.elsewhere]
         self.expected = {port: [] for port in self.ports}
-        self.counts = {"datagrams": 0, "transfers": 1, "retransmissions": 0, "faults": 0}
+        self.counts = Counter(transfers=1)
         flags = ["--fallback"] * self.falls_back + ["--netascii"] * (self.mode == b"netascii")
         flags += ["--no-dally"] * (not self.dallies) + ["--retries", f"{self.retries}", *words]
         command = ["get", self.requests.word(), "n", name] if self.kind == "RRQ" else \
@@ -80,7 +81,7 @@ class Trial:
         """What a right server sends next."""
         end = self.model.end
         if not end and self.rng.random() < 0.6:
-            agreed = [(name, b"%d" % value) for name, value in self.asked.items()
+            agreed = [(name, b"%d" % self.agreed(name, value)) for name, value in self.asked.items()
                       if self.rng.random() < 0.7 and (name != b"tsize" or self.mode == b"octet")]
             if agreed:
                 return b"\0\6" + model.pairs(agreed)
@@ -93,6 +94,14 @@ class Trial:
             self.text = self.text_to_send(end.size)
         number = end.number if end.is_complete else end.number + 1
         return model.data(number, self.text[(number - 1) * end.size:number * end.size])
+
+    def agreed(self, name, value):
+        """What a server may answer to this value of an option: smaller blocks, and some length of the file."""
+        if name == b"blksize" and self.rng.random() < 0.3:
+            return self.rng.randrange(8, value + 1)
+        if name == b"tsize" and self.kind == "RRQ":
+            return self.rng.choice([0, 5, LIMIT, LIMIT, LIMIT + 1])
+        return value
 
     def text_to_send(self, size):
         content = self.rng.randbytes(self.rng.choice([0, 3, size, 9 * size + 1]))
@@ -231,6 +240,7 @@ class Trial:
         status, printed, errors = self.client.ended()
         left, outcome = self.timers()[0], self.outcome()
         is_whole = self.model.end and self.model.end.is_complete
+        self.counts["reads complete" if self.kind == "RRQ" else "writes complete"] += bool(is_whole)
         if not outcome and not is_whole:
             outcome = "TimedOut" if left == 0 else f"TimedOut with {left} retries left"
         if is_whole:
@@ -251,14 +261,16 @@ class Trial:
 
 def run(programs, folder, rng, seconds):
     """Runs trials for so long, one after another. Returns their counts together."""
-    counts, end, at = {"stalls": 0}, time.monotonic() + seconds, 0
+    counts, end, at = Counter(), time.monotonic() + seconds, 0
     while time.monotonic() < end:
         trial, at = Trial(programs, folder, rng, f"local{at}"), at + 1
         try:
-            for name, count in trial.run().items():
-                counts[name] = counts.get(name, 0) + count
+            counts += trial.run()
         except Stalled:
             counts["stalls"] += 1
         finally:
             trial.close()
+    for way in ["reads complete", "writes complete"]:
+        if counts[way] < LEAST:
+            raise Failure(f"too few {way}: {dict(counts)}")
     return counts

@@ -1,13 +1,14 @@
 """Both programs over a network that loses, repeats, delays and reorders datagrams, requests too, and sends strays.
 
-A client completes with the whole file or times out; the server never reports a read as complete whose client has not
-its file (RFC 1350, section 6).
+A client completes with the whole file or times out. The lines of the server are matched with what its clients report: it
+reports a read as complete only if the client has the file, and a client reports a write as complete only if the server
+does (RFC 1350, section 6). No other outcome is allowed, and some transfers of each kind have to be complete.
 """
 import random
 import threading
 import time
 
-from ports import ELSEWHERE, LAST, Failure, Port, Program, Server, wait_for
+from ports import ELSEWHERE, LAST, PATIENCE, Failure, Port, Program, Server, wait_for
 
 # Of a hundred datagrams so many are lost, repeated, sent after the next one, and joined by a stray
 RATES = {"lost": 10, "repeated": 10, "late": 10, "stray": 5}
@@ -18,6 +19,13 @@ AT_ONCE = 6
 # The longest life of a client, in seconds
 LIFE = 900
 EDGES = [0, 1, 511, 512, 513, 1_023, 1_024, 1_427, 1_428, 1_429, 14_280, 65_464, 70_000]
+# A file of so many bytes has as many blocks of 8 bytes as have numbers
+LONGEST = 65_534 * 8 + 7
+# What the server prints of a transfer: the third where a request that came late opened one that its client, which has
+# another, refuses
+OUTCOMES = {"Complete", "TimedOut", "PeerError(5)"}
+# How many transfers of each kind have to be complete, and which share of all
+LEAST, SHARE = 1, 1 / 3
 
 
 class Network:
@@ -39,6 +47,10 @@ class Network:
         self.thread.join()
         for port in [self.requests, self.outside, self.elsewhere, *self.transfers.values()]:
             port.close()
+
+    def opened(self):
+        """The ports of the transfers that the server has opened for this client."""
+        return {address[1] for address in list(self.transfers) if address != self.server}
 
     def run(self):
         while not self.is_closed.is_set():
@@ -82,18 +94,18 @@ def words_of(rng, is_long):
 
 
 class Trial:
-    """One client of the server, over a network of its own."""
+    """One client of the server, over a network of its own, and the lines of the server on it."""
 
-    def __init__(self, programs, folder, server, rng, name, life=LIFE, is_long=False):
-        self.folder, self.name, self.is_read = folder, name, is_long or rng.random() < 0.5
-        self.life = life
-        length = 65_534 * 8 + 7 if is_long else rng.choice(EDGES)
+    def __init__(self, programs, folder, server, rng, name, is_read, life=LIFE, is_long=False):
+        self.folder, self.name, self.is_read, self.life = folder, name, is_read, life
+        length = LONGEST if is_long else rng.choice(EDGES)
         words = words_of(rng, is_long)
         if words[:2] == ["--blksize", "8"] and not is_long:
             length %= 200
         self.content = (b"text\r\n\n\r" * (length // 8 + 1))[:length] if "--netascii" in words else rng.randbytes(length)
         self.source, self.target = (f"s{name}", f"t{name}") if self.is_read else (f"t{name}", f"s{name}")
         (folder / (self.source if self.is_read else self.target)).write_bytes(self.content)
+        self.outcomes, self.is_complete, self.since = {}, None, None
         self.network = Network(server.address, rng, *((FEW, 10_000) if is_long else (RATES, 100)))
         command = ["get", self.network.requests.word(), self.source, self.target] if self.is_read else \
             ["put", self.network.requests.word(), self.target, self.source]
@@ -103,44 +115,124 @@ class Trial:
         self.client.end()
         self.network.close()
 
+    def has_ended(self):
+        self.client.take()
+        return self.client.process.poll() is not None
+
     def finish(self):
-        """Whether the client has completed; a file that it reports is whole."""
-        status, printed, errors = self.client.ended(self.life)
+        """The client has ended. A file that it reports is whole."""
+        status, printed, errors = self.client.ended()
         given = self.source if not self.is_read else self.target
         path = self.folder / given
-        if status == 0:
+        if (status, errors) == (0, ""):
             if printed != f"complete {len(self.content)}\n" or path.read_bytes() != self.content:
-                raise Failure(f"{self.name}: {printed!r} {errors!r}, and the file differs")
-        elif (status, errors) != (1, "tftp: TimedOut\n") and "PeerError" not in errors:
+                raise Failure(f"{self.name}: {printed!r}, and the file differs")
+        elif (status, printed, errors) != (1, "", "tftp: TimedOut\n"):
             raise Failure(f"{self.name}: status {status}: {printed!r} {errors!r}")
         elif path.exists() and path.read_bytes() != self.content:
             raise Failure(f"{self.name}: a file that is not whole")
-        return status == 0
+        self.is_complete, self.since = status == 0, time.monotonic()
+
+    def take_line(self, transfer, outcome):
+        """The server has closed a transfer of this client."""
+        if outcome not in OUTCOMES or transfer not in self.network.opened():
+            raise Failure(f"{self.name}: the server closes {transfer} of {self.network.opened()} as {outcome}")
+        self.outcomes.setdefault(transfer, []).append(outcome)
+
+    def is_settled(self):
+        """Whether the server has closed all transfers of this client, which it has to do in time; then each end has what
+        the other reports."""
+        if self.is_complete is None:
+            return False
+        waited = time.monotonic() - self.since
+        if self.network.opened() - set(self.outcomes) and waited > PATIENCE:
+            raise Failure(f"{self.name}: no line of {self.network.opened() - set(self.outcomes)}")
+        # (a request may still be on its way)
+        if self.network.opened() - set(self.outcomes) or waited < 1:
+            return False
+        reports = [outcome for each in self.outcomes.values() for outcome in each]
+        if self.is_read and "Complete" in reports and not self.is_complete:
+            raise Failure(f"{self.name}: the server reports a read as complete, and its client {reports}")
+        if not self.is_read and self.is_complete and "Complete" not in reports:
+            raise Failure(f"{self.name}: the client reports a write as complete, and the server {reports}")
+        return True
+
+
+class Trials:
+    """The clients that run, those whose transfers the server has still open, and the counts."""
+
+    def __init__(self, programs, folder, rng, life, is_long):
+        self.programs, self.folder, self.rng, self.life, self.is_long = programs, folder, rng, life, is_long
+        # (a request that comes late opens a transfer though its client has ended: those that have, by their ports)
+        self.running, self.settling, self.past = [], [], {}
+        self.counts = {"datagrams": 0, "lost": 0, "transfers": 0, "reads complete": 0, "writes complete": 0}
+        words = ["--cap", "64", "--forever", "--max-block", "65464"]
+        self.server = Server(programs["tftpd"], folder, words, life + LAST)
+
+    def begin(self):
+        name, own = f"{self.counts['transfers']}", random.Random(self.rng.random())
+        is_read = self.is_long or self.counts["transfers"] % 2 == 0
+        trial = Trial(self.programs, self.folder, self.server, own, name, is_read, self.life, self.is_long)
+        self.running.append(trial)
+        self.counts["transfers"] += 1
+
+    def step(self):
+        """Looks at the clients and the lines of the server once."""
+        time.sleep(0.05)
+        for line in self.server.lines():
+            self.take_line(line)
+        for trial in [each for each in self.running if each.has_ended()]:
+            trial.finish()
+            self.running.remove(trial)
+            self.settling.append(trial)
+            way = "reads" if trial.is_read else "writes"
+            self.counts[f"{way} complete"] += trial.is_complete
+        for trial in [each for each in self.settling if each.is_settled()]:
+            self.settling.remove(trial)
+            trial.close()
+            self.past[trial.network.outside.address[1]] = trial
+            for name, count in trial.network.counts.items():
+                self.counts[name] += count
+
+    def take_line(self, line):
+        words = line.split()
+        if len(words) != 3:
+            raise Failure(f"a line of the server: {line!r}")
+        transfer, client, outcome = int(words[0]), int(words[1]), words[2]
+        found = [each for each in self.running + self.settling if each.network.outside.address[1] == client]
+        if found:
+            found[0].take_line(transfer, outcome)
+        elif client not in self.past or outcome not in OUTCOMES - {"Complete"}:
+            raise Failure(f"a line of a transfer whose client has ended, or of none: {line}")
+
+    def complete(self, way):
+        return self.counts[f"{way} complete"]
+
+    def have_least(self):
+        """Whether enough transfers are complete."""
+        ways = ["reads"] if self.is_long else ["reads", "writes"]
+        return all(self.complete(way) >= LEAST for way in ways) and \
+            self.complete("reads") + self.complete("writes") >= SHARE * self.counts["transfers"]
+
+    def close(self):
+        for trial in self.running + self.settling:
+            trial.close()
+        self.server.end()
 
 
 def run(programs, folder, rng, seconds, is_long=False):
-    """Runs some clients side by side, again and again for so long, or one of 65,535 blocks. Returns the counts."""
-    counts, end = {"datagrams": 0, "lost": 0, "transfers": 0, "complete": 0}, time.monotonic() + seconds
+    """Runs clients side by side for so long, or one of 65,535 blocks. Returns the counts."""
+    end = time.monotonic() + seconds
     # on a busy host so many blocks take some minutes
-    life = max(LIFE, seconds) if is_long else LIFE
-    server = Server(programs["tftpd"], folder, ["--cap", "64", "--forever", "--max-block", "65464"], seconds + LAST)
+    trials = Trials(programs, folder, rng, max(LIFE, seconds) if is_long else LIFE, is_long)
     try:
-        while counts["transfers"] == 0 or (time.monotonic() < end and not is_long):
-            names = [f"{counts['transfers'] + at}" for at in range(1 if is_long else AT_ONCE)]
-            trials = []
-            try:
-                for name in names:
-                    own = random.Random(rng.random())
-                    trials.append(Trial(programs, folder, server, own, name, life, is_long))
-                for trial in trials:
-                    counts["complete"] += trial.finish()
-            finally:
-                for trial in trials:
-                    trial.close()
-            for trial in trials:
-                counts["transfers"] += 1
-                for name, count in trial.network.counts.items():
-                    counts[name] += count
-        return counts
+        trials.begin()
+        while trials.running or trials.settling:
+            while not is_long and time.monotonic() < end and len(trials.running) < AT_ONCE:
+                trials.begin()
+            trials.step()
+        if not trials.have_least():
+            raise Failure(f"too few transfers are complete: {trials.counts}")
+        return trials.counts
     finally:
-        server.end()
+        trials.close()

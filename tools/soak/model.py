@@ -442,11 +442,14 @@ class Client:
 
 
 class RequestPort:
-    """A server's request port: its files by path, its folders, and the transfers that it holds."""
+    """A server's request port: its files by path, its folders, and the transfers that it holds. With `uploads`, the path
+    of a folder, files below that alone are written."""
 
-    def __init__(self, files, folders, cap=16, retries=5, max_block=1_428, max_file=4_290_183_239, replaces=False):
+    def __init__(self, files, folders, cap=16, retries=5, max_block=1_428, max_file=4_290_183_239, replaces=False,
+                 is_read_only=False, uploads=""):
         self.files, self.folders, self.cap, self.retries = files, {b"", *folders}, cap, retries
         self.max_block, self.max_file, self.replaces = max_block, max_file, replaces
+        self.is_read_only, self.uploads = is_read_only, uploads.encode()
         # the open ends with the client and the packet that opened each
         self.held = []
 
@@ -485,6 +488,7 @@ class RequestPort:
             return "file too large"
         number = 0 if agreed else 1
         end = Sender(client, agreed, self.retries, text, number, oack(agreed))
+        end.path = path
         if not agreed:
             end.newest = end.block(1)
         return end
@@ -493,6 +497,8 @@ class RequestPort:
         agreed = answer(packet.options, "WRQ", packet.mode, 0, self.max_block, self.max_file)
         if isinstance(agreed, str):
             return agreed
+        if self.is_read_only or (self.uploads and not path.startswith(self.uploads + b"/")):
+            return "access violation"
         if path.rpartition(b"/")[0] not in self.folders:
             return "access violation"
         if path in self.folders or (path in self.files and not self.replaces):

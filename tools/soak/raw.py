@@ -2,26 +2,50 @@
 
 They send valid, mutated, truncated, repeated, reordered and foreign datagrams in bursts. The model is asked at once, and
 then each expected answer has to arrive. Any other datagram has to be a retransmission that is due. What closes without
-a datagram has to be due, too, after all its retransmissions.
+a datagram has to be due, too, after all its retransmissions. At the end the folder has the files of the model and no
+other, and some reads and writes have to be complete.
 """
+import os
 import time
+from collections import Counter
 
 import model
 from mutations import mutated, random_bytes
 from ports import LAST, PATIENCE, Failure, Port, Program, Sent, Server, Stalled, wait_for
+from lib import stalls
 
 # How much earlier than the model's a timer may be, in seconds, since two clocks are read that count otherwise
 EARLY = 0.05
 # Nothing is sent to an end that could close within so many seconds. Where a stall of this host takes longer the trial
 # begins again
-STALL = 0.5
+STALL = stalls.LIMIT
 MOST_CLIENTS = 64
+# The most requests of a burst
+MOST_ASKED = 6
+# How many transfers of each kind have to be complete
+LEAST = 1
+# The texts of a server's ERRORs
+ERRORS = {*model.TEXTS}
 # The most steps of a burst
 MOST_STEPS = 3
 # The most resident memory of a server at the end
 MOST_MEGABYTES = 12
 MOST_CHECKED = 400
 SIZES = [8, 9, 100, 511, 512, 513, 1_024, 1_428, 1_468, 8_192, 65_464]
+LENGTHS = [0, 1, 7, 8, 9, 511, 512, 513, 1_024, 1_427, 1_428, 1_429, 5_000, 70_000, 600_000]
+# Files that are cut short while they are read: more bytes than are read at once
+CUT, CUT_LENGTH = [f"cut{at}" for at in range(6)], 300_000
+# The words of a command line for what a request port of the model is made with
+FLAGS = {"replaces": "--overwrite", "is_read_only": "--read-only"}
+
+
+def words_of(limits):
+    """The words of a server with these limits."""
+    words = [FLAGS[name] for name, value in limits.items() if name in FLAGS and value]
+    for name, value in limits.items():
+        if name not in FLAGS:
+            words += [f"--{name.replace('_', '-')}", f"{value}"]
+    return words
 
 
 class Live:
@@ -29,6 +53,8 @@ class Live:
 
     def __init__(self, port):
         self.port, self.end, self.transfer, self.text = port, None, None, None
+        # whether the file that it reads was cut short meanwhile
+        self.is_cut = False
         # what it sent before its newest steps, of which retransmissions may be on their way
         self.older = []
         # `began` is the earliest time at which the timer of the newest datagram may have begun
@@ -45,6 +71,10 @@ class Live:
 
     def is_owed(self):
         return bool(self.refusals or self.expected)
+
+    def may_close(self, seconds):
+        """Whether its transfer closes by itself within so many seconds."""
+        return bool(self.end) and self.left() < seconds
 
     def left(self):
         """How long it stays open without progress, in seconds."""
@@ -74,11 +104,12 @@ class Live:
 class Trial:
     """A server with raw clients, for some seconds."""
 
-    def __init__(self, program, folder, rng, life, words=(), **limits):
-        self.rng, self.counts = rng, {"datagrams": 0, "transfers": 0, "retransmissions": 0, "faults": 0}
+    def __init__(self, program, folder, rng, life, **limits):
+        self.rng, self.folder, self.counts = rng, folder, Counter()
         self.files = self.make_files(folder)
-        self.port = model.RequestPort(dict(self.files), [b"sub"], cap=MOST_CLIENTS, **limits)
-        self.server = Server(program, folder, [*words, "--cap", f"{MOST_CLIENTS}", "--forever"], life)
+        limits = {"cap": MOST_CLIENTS, **limits}
+        self.port = model.RequestPort(dict(self.files), [b"sub"], **limits)
+        self.server = Server(program, folder, [*words_of(limits), "--forever"], life)
         self.probe, self.stranger = Port(), Port()
         self.live, self.commits = [], set()
         # the server reads its clock once a round, and handles what came since in that round, too: what is sent now is
@@ -88,11 +119,13 @@ class Trial:
     def make_files(self, folder):
         (folder / "sub").mkdir()
         files = {}
-        for at, length in enumerate([0, 1, 7, 8, 9, 511, 512, 513, 1_024, 1_427, 1_428, 1_429, 5_000, 70_000]):
+        for at, length in enumerate(LENGTHS):
             content = self.rng.randbytes(length) if at % 2 else (b"line\r\n\r" * (length // 7 + 1))[:length]
             name = f"sub/f{length}" if at % 3 == 0 else f"f{length}"
             files[name.encode()] = content
-            (folder / name).write_bytes(content)
+        files |= {name.encode(): (b"a line\n" * CUT_LENGTH)[:CUT_LENGTH] for name in CUT}
+        for name, content in files.items():
+            (folder / name.decode()).write_bytes(content)
         return files
 
     def close(self):
@@ -105,7 +138,8 @@ class Trial:
     def options(self):
         rng, options = self.rng, []
         choices = [(b"blksize", rng.choice(SIZES + [7, 65_465])), (b"timeout", rng.choice([3, 3, 5, 0, 256])),
-                   (b"tsize", rng.choice([0, 0, 100, 2**64])), (b"windowsize", 4), (b"BLKSIZE", 512), (b"x", "")]
+                   (b"tsize", rng.choice([0, 0, 100, 601, 2**64 - 1, 2**64])), (b"windowsize", 4), (b"BLKSIZE", 512),
+                   (b"x", "")]
         for name, value in rng.sample(choices, rng.randrange(4)):
             options.append((name, str(value).encode()))
         return options
@@ -113,15 +147,21 @@ class Trial:
     def request(self):
         rng = self.rng
         mode = rng.choice([b"octet", b"octet", b"netascii", b"OcTeT", b"mail"])
+        if rng.random() < 0.03:
+            return model.request("RRQ", f"f{LENGTHS[-1]}".encode(), mode, [(b"blksize", rng.choice([b"8", b"9", b"10"]))])
         names = [*self.files, *self.files, b"none", b"sub", b"../a", b"a//b", b"/f512", b"a+b", b""]
         if rng.random() < 0.5:
             return model.request("RRQ", rng.choice(names), mode, self.options())
-        name = rng.choice([b"n%d" % rng.randrange(10_000), b"sub/n%d" % rng.randrange(10_000), b"none/n", b"f512"])
-        return model.request("WRQ", name, mode, self.options())
+        names = [b"n%d" % rng.randrange(10_000), b"sub/n%d" % rng.randrange(10_000), b"none/n", b"f512"]
+        # one that another client writes now: who commits first has it
+        written = [each.end.path for each in self.live if isinstance(each.end, model.Receiver) and not each.end.outcome]
+        return model.request("WRQ", rng.choice(names + written[-2:]), mode, self.options())
 
     def ask(self):
-        """A burst at the request port. A request may come twice, and other datagrams with it."""
-        if len(self.port.held) + 4 > MOST_CLIENTS:
+        """A burst at the request port. A request may come twice, and other datagrams with it. Where a client may be told
+        that the server is busy, no transfer closes meanwhile."""
+        is_near = len(self.port.held) + MOST_ASKED > self.port.cap
+        if is_near and any(each.may_close(STALL) for each in self.live):
             return
         for _ in range(self.rng.randrange(1, 4)):
             live, datagram = Live(Port()), self.request()
@@ -131,6 +171,8 @@ class Trial:
             for _ in range(self.rng.choice([1, 1, 2])):
                 self.ask_once(live, datagram)
             live.was_in_time()
+        if is_near and any(each.may_close(EARLY) for each in self.live):
+            raise Stalled
 
     def ask_once(self, live, datagram):
         answer, end = self.port.on_datagram(live.port.address, datagram)
@@ -140,6 +182,12 @@ class Trial:
             live.opens(end, self.text_to_send(end) if isinstance(end, model.Receiver) else None, self.round)
         elif answer:
             live.refusals.append(answer)
+            self.note(answer)
+
+    def note(self, answer):
+        """Counts the ERRORs by their texts."""
+        if answer[:2] == b"\0\5":
+            self.counts[answer[4:-1].decode()] += 1
 
     def text_to_send(self, end):
         content = self.rng.randbytes(self.rng.choice([0, 1, 10, end.size, 3 * end.size + 5]))
@@ -164,7 +212,8 @@ class Trial:
 
     def converse(self, live):
         """A burst at the port of a transfer, at times with a stranger's datagram."""
-        for _ in range(self.rng.choice([1, 1, 1, 2, 3])):
+        # (one of a file that was cut may be the last, for all that the model knows)
+        for _ in range(1 if live.is_cut else self.rng.choice([1, 1, 1, 2, 3])):
             if self.rng.random() < 0.03:
                 self.from_stranger(live)
             datagram = self.datagram_for(live)
@@ -187,6 +236,19 @@ class Trial:
             live.older, live.began = [*live.older[-MOST_STEPS + 1:], older], self.round
         if answer:
             live.expected.append(answer)
+            self.note(answer)
+
+    def cut_file(self):
+        """A served file is cut short. Who reads it gets what was read before, and then an ERROR: no short block, which
+        would be mistaken for the last (RFC 1350, section 6)."""
+        readers = [live.end.path for live in self.live if isinstance(live.end, model.Sender) and not live.is_cut]
+        name = self.rng.choice([name for name in readers if name.decode() in CUT] or [each.encode() for each in CUT])
+        length = self.rng.randrange(len(self.port.files[name]) // 2, len(self.port.files[name]) + 1)
+        os.truncate(self.folder / name.decode(), length)
+        if length < len(self.port.files[name]):
+            self.port.files[name] = self.port.files[name][:length]
+            for live in self.live:
+                live.is_cut = live.is_cut or (isinstance(live.end, model.Sender) and live.end.path == name)
 
     def from_stranger(self, live):
         datagram = self.rng.choice([live.next_datagram(), b"\0\5\0\0\0", b"\0\5", b"x"])
@@ -194,6 +256,7 @@ class Trial:
         self.sent(self.stranger, datagram, live.transfer)
         live.was_in_time()
         if answer:
+            self.note(answer)
             self.receive_exactly(self.stranger, answer, live.transfer)
 
     def receive_exactly(self, port, answer, sender):
@@ -237,6 +300,10 @@ class Trial:
             raise Failure(f"{datagram[:60]} from {sender} in place of {live.transfer}", live.port.seen)
         if live.expected and datagram == live.expected[0]:
             live.expected.pop(0)
+        elif live.expected and live.is_cut and datagram == model.error("file changed"):
+            live.expected.pop(0)
+            live.end.close("SourceFault")
+            self.note(datagram)
         else:
             self.take_again(live, datagram, when)
 
@@ -272,6 +339,8 @@ class Trial:
         if end.outcome != outcome or live.expected:
             raise Failure(f"{line}; the model: {end.outcome}, {end.left} left, {since:.3f} s since its timer began",
                           live.port.seen)
+        if outcome == "Complete":
+            self.counts["reads complete" if isinstance(end, model.Sender) else "writes complete"] += 1
         self.port.has_closed(end)
         self.forget(live)
 
@@ -298,7 +367,10 @@ class Trial:
         end = time.monotonic() + seconds
         self.is_quiet()
         while time.monotonic() < end:
-            if self.rng.random() < 0.3:
+            dice = self.rng.random()
+            if dice < 0.02:
+                self.cut_file()
+            elif dice < 0.3:
                 self.ask()
             else:
                 for live in self.rng.sample(self.live, min(len(self.live), self.rng.randrange(1, 12))):
@@ -320,30 +392,29 @@ class Trial:
 
 def run(programs, folder, rng, seconds, **limits):
     """Runs a trial, and others where this host stalled. Returns their counts together."""
-    counts, end, at = {"stalls": 0}, time.monotonic() + seconds, 0
+    counts, end, at = Counter(stalls=0), time.monotonic() + seconds, 0
     while at == 0 or time.monotonic() < end:
         place, at = folder / f"{at}", at + 1
         place.mkdir()
         try:
-            for name, count in run_once(programs, place, rng, max(end - time.monotonic(), 1), **limits).items():
-                counts[name] = counts.get(name, 0) + count
+            counts += run_once(programs, place, rng, max(end - time.monotonic(), 1), **limits)
         except Stalled:
             counts["stalls"] += 1
+    for way in ["reads complete"] + ["writes complete"] * (not limits.get("is_read_only")):
+        if counts[way] < LEAST:
+            raise Failure(f"too few {way}: {dict(counts)}")
     return counts
 
 
 def run_once(programs, folder, rng, seconds, **limits):
     """Returns the counts of a trial."""
-    words = [word for name, value in limits.items() for word in (f"--{name.replace('_', '-')}", f"{value}")]
-    trial = Trial(programs["tftpd"], folder, rng, seconds + LAST, words, **limits)
+    trial = Trial(programs["tftpd"], folder, rng, seconds + LAST, **limits)
     try:
         trial.run(seconds)
         files, megabytes = trial.finish()
         if files > 7 or megabytes > (MOST_MEGABYTES if not trial.server.has_checks() else MOST_CHECKED):
             raise Failure(f"{files} open files and {megabytes:.1f} MB at the end")
-        for path, content in trial.port.files.items():
-            if (folder / path.decode()).read_bytes() != content:
-                raise Failure(f"the file {path} differs")
+        has_files(folder, trial.port.files)
         name = next(iter(trial.files)).decode()
         get = Program([programs["tftp"], "get", trial.server.word, name, "got", "--no-dally"], folder, 60)
         if get.ended()[0] or (folder / "got").read_bytes() != trial.files[name.encode()]:
@@ -351,3 +422,12 @@ def run_once(programs, folder, rng, seconds, **limits):
         return trial.counts
     finally:
         trial.close()
+
+
+def has_files(folder, files):
+    """The folder and those below have these files, and no other but drafts of transfers that failed."""
+    paths = [path for path in folder.rglob("*") if not path.is_dir() and not path.name.startswith(".tftp-")]
+    found = {str(path.relative_to(folder)).encode(): path.read_bytes() for path in paths}
+    if found != files:
+        wrong = sorted(name for name in {*found, *files} if found.get(name) != files.get(name))
+        raise Failure(f"the files {wrong[:5]} differ, or are not there, or are of no transfer")

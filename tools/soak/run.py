@@ -1,101 +1,147 @@
 #!/usr/bin/env python3
 """Tries tftp and tftpd for some time against a model, a bad network and a bad host.
 
-run.py [SECONDS SEED [TFTP TFTPD [TRIAL..]]]: without words it takes half a minute, a fixed seed, the programs that
-`rt ci` built, and all trials. They run side by side, each with numbers of its own from the seed: raw clients at two
-servers, hostile servers, both programs over a lossy network, and faults of the host. It uses 127.0.0.0/8 alone and one
-temporary folder; each process has a limit, and is ended by its number. Prints what was tried; on a failure the seed, and
-the last datagrams as lines for tftp-show.
+run.py [SECONDS SEED [TFTP TFTPD [TRIAL..]]]: without words it takes half a minute, the seed of the commit (its first
+digits), the programs of bin/ or else those that `rt ci` left, and all trials. Each trial is a process of its own, with
+numbers of its own from the seed: raw clients at five servers, hostile servers, both programs over a lossy network, the
+longest file, and faults of the host. It uses 127.0.0.0/8 alone and one temporary folder; each process has a limit, and
+is ended by its number. Prints what was tried; on a failure the seed, and the last datagrams as lines for tftp-show.
+
+A trial that fails while this host let a process wait for longer than its tests in real time can bear is run once more,
+and that is said last. Nothing else is repeated.
 """
 import random
+import subprocess
 import sys
 import tempfile
-import threading
 import time
 import traceback
+from collections import Counter
 from pathlib import Path
 
 import faults
 import hostile
+import longest
 import lossy
 import raw
 import vectors
-from ports import Failure
+from ports import LAST
+from lib.process import Failure
+from lib.programs import TOP, programs
+from lib.stalls import LIMIT, Stalls
 
-CRATES = Path(__file__).resolve().parent.parent.parent / "crates"
-# From this time on a file of 65,535 blocks is fetched, too, in seconds
+# From this time on a file of 65,535 blocks is fetched over the bad network, too, in seconds
 LONG_TRIAL = 120
+# Where so many datagrams were sent to servers, each of their ERRORs has to have been seen
+MANY = 20_000
 
 TRIALS = {
     "raw clients": lambda *it: raw.run(*it, retries=3),
     "raw clients, small limits": lambda *it: raw.run(*it, retries=1, max_block=512, max_file=600),
+    "raw clients, few transfers": lambda *it: raw.run(*it, retries=2, cap=3, max_block=65_464, replaces=True),
+    "raw clients, uploads": lambda *it: raw.run(*it, retries=2, uploads="sub", max_block=8_192),
+    "raw clients, read-only": lambda *it: raw.run(*it, retries=2, is_read_only=True),
     "hostile servers": hostile.run,
     "hostile servers, second": hostile.run,
-    "hostile servers, third": hostile.run,
     "lossy network": lossy.run,
+    "longest file": longest.run,
     "faults of the host": faults.run,
 }
+LONG = {"65,535 blocks": lambda *it: lossy.run(*it, is_long=True)}
 
 
-class Stalls:
-    """How late this host lets a process wake: where that is more than `raw.STALL`, trials may begin again."""
-
-    def __init__(self):
-        self.longest, self.is_over = 0.0, threading.Event()
-        self.thread = threading.Thread(target=self.run)
-        self.thread.start()
-
-    def run(self):
-        while not self.is_over.is_set():
-            before = time.monotonic()
-            time.sleep(0.05)
-            self.longest = max(self.longest, time.monotonic() - before - 0.05)
-
-    def close(self):
-        self.is_over.set()
-        self.thread.join()
+def commit_seed():
+    """The number of the commit's first digits: another with each commit, and the same for one."""
+    done = subprocess.run(["git", "rev-parse", "--short=8", "HEAD"], cwd=TOP, capture_output=True, text=True)
+    return int(done.stdout.strip() or "1", 16) if done.returncode == 0 else 1
 
 
-def show(name, failure, when):
-    """Prints why a trial failed, with its last datagrams."""
-    if not isinstance(failure, Failure):
-        traceback.print_exception(failure, file=sys.stdout)
-    lines = [f"{name}, {when}: {failure}", *(f"  {datagram.hex()}" for datagram in getattr(failure, "datagrams", ()))]
-    print("\n".join(lines), flush=True)
+def run_one(name, number, seed, seconds, paths, place):
+    """Runs a trial in this process, and prints what it tried. The status is 0, or 1 where it failed, and 3 where it
+    failed and the host stalled."""
+    stalls, began = Stalls(), time.monotonic()
+    try:
+        counts = {**TRIALS, **LONG}[name](paths, Path(place), random.Random(seed * 1_000 + number), seconds)
+        print(f"{name}: " + ", ".join(f"{count} {what}" for what, count in counts.items() if count))
+        return 0
+    except Exception as failure:  # whatever happened, it is printed with its seed
+        if not isinstance(failure, Failure):
+            traceback.print_exception(failure, file=sys.stdout)
+        print(f"{name}, seed {seed}, after {time.monotonic() - began:.0f} s with stalls of the host of up to "
+              f"{stalls.longest_since():.1f} s: {failure}")
+        for datagram in getattr(failure, "datagrams", ()):
+            print(f"  {datagram.hex()}")
+        return 3 if stalls.longest_since() > LIMIT else 1
+    finally:
+        stalls.close()
+
+
+class Trial:
+    """A trial that runs in a process of its own."""
+
+    def __init__(self, name, number, seed, seconds, words, folder):
+        self.name, self.folder = name, Path(folder)
+        self.folder.mkdir()
+        self.end = time.monotonic() + seconds + LAST
+        command = [sys.executable, __file__, "--one", name, f"{number}", f"{seed}", f"{seconds}", *words, folder]
+        # (an address of its own: a server or a client of another trial may still send to a port that is used again)
+        self.process = subprocess.Popen(command, stdout=subprocess.PIPE, stderr=subprocess.STDOUT, text=True)
+
+    def ended(self):
+        """Its status, and what it printed."""
+        try:
+            printed, _ = self.process.communicate(timeout=max(self.end - time.monotonic(), 1))
+        except subprocess.TimeoutExpired:
+            self.process.kill()
+            return 1, f"{self.name}: has not ended after its time and {LAST} s\n{self.process.communicate()[0]}"
+        return self.process.returncode, printed
+
+
+def counts_of(printed):
+    """The counts that trials have printed, by their names."""
+    counts = Counter()
+    for line in printed.splitlines():
+        for part in line.partition(": ")[2].split(", "):
+            number, _, name = part.partition(" ")
+            counts[name] += int(number) if number.isdigit() else 0
+    return counts
+
+
+def unseen(printed):
+    """The ERRORs of a server that no trial has seen, where so many datagrams were sent that each had to come."""
+    counts = counts_of(printed)
+    missing = sorted(raw.ERRORS - {name for name, count in counts.items() if count})
+    return missing if counts["datagrams"] >= MANY else []
 
 
 def main():
-    seconds, seed = float((sys.argv[1:2] or ["30"])[0]), int((sys.argv[2:3] or ["1"])[0])
-    built = [CRATES / f"{name}_main" / "out" / f"{name}_main" for name in ("tftp", "tftpd")]
-    programs = dict(zip(("tftp", "tftpd"), [str(Path(word).resolve()) for word in sys.argv[3:5] or built]))
+    if sys.argv[1:2] == ["--one"]:
+        name, number, seed, seconds, tftp, tftpd, place = sys.argv[2:]
+        return run_one(name, int(number), int(seed), float(seconds), {"tftp": tftp, "tftpd": tftpd}, place)
+    seconds = float((sys.argv[1:2] or ["30"])[0])
+    seed = int(sys.argv[2]) if len(sys.argv) > 2 else commit_seed()
+    words = list(programs(["tftp", "tftpd"], sys.argv[3:5]).values())
     vectors.small_parts()
     vectors.exchanges()
-    trials = dict(TRIALS)
-    if seconds >= LONG_TRIAL:
-        trials["65,535 blocks"] = lambda *it: lossy.run(*it, is_long=True)
-    failures, stalls, began = [], Stalls(), time.monotonic()
+    names = sys.argv[5:] or [*TRIALS, *(LONG if seconds >= LONG_TRIAL else [])]
+    texts, failed, repeated, began = [], [], [], time.monotonic()
     with tempfile.TemporaryDirectory(prefix="soak") as folder:
-        def work(at, name, trial):
-            place = Path(folder, f"{at}")
-            place.mkdir()
-            try:
-                counts = trial(programs, place, random.Random(seed * 1_000 + at), seconds)
-                print(f"{name}: " + ", ".join(f"{count} {what}" for what, count in counts.items()), flush=True)
-            except Exception as failure:  # whatever happened, the other trials go on
-                failures.append(name)
-                show(name, failure, f"seed {seed}, after {time.monotonic() - began:.0f} s with stalls of the host of up to "
-                                    f"{stalls.longest:.1f} s")
-
-        threads = [threading.Thread(target=work, args=(at, *item)) for at, item in enumerate(trials.items())
-                   if item[0] in (sys.argv[5:] or trials)]
-        for thread in threads:
-            thread.start()
-        for thread in threads:
-            thread.join()
-    stalls.close()
-    print(f"the longest stall of this host: {stalls.longest:.1f} s")
-    print(f"soak: {len(threads) - len(failures)} passed, {len(failures)} failed")
-    return bool(failures)
+        trials = [Trial(name, at, seed, seconds, words, f"{folder}/{at}") for at, name in enumerate(names)]
+        for at, trial in enumerate(trials):
+            status, printed = trial.ended()
+            print(printed, end="", flush=True)
+            texts.append(printed)
+            if status == 3:
+                repeated.append(trial.name)
+                status, printed = Trial(trial.name, at, seed, seconds, words, f"{folder}/{at}.again").ended()
+                print(f"once more, since the host stalled: {printed}", end="", flush=True)
+            failed += [trial.name] * (status != 0)
+    if not sys.argv[5:] and not failed:
+        failed += [f"no ERROR `{text}`" for text in unseen("".join(texts))]
+    more = f"; repeated where the host stalled: {', '.join(repeated)}" if repeated else ""
+    print(f"soak: seed {seed}, {time.monotonic() - began:.0f} s; {len(names) - len(failed)} passed, {len(failed)} failed"
+          f"{': ' if failed else ''}{', '.join(failed)}{more}")
+    return bool(failed)
 
 
 if __name__ == "__main__":

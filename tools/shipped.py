@@ -1,0 +1,71 @@
+#!/usr/bin/env python3
+"""Puts into bin/ what `make` would build, over what `rt ci` has just proved: shipped.py [FOLDER]
+
+`make` builds tftp and tftpd for every processor of x86-64 (tools/build.sh), and `rt ci` all programs for x86-64-v2. So
+these two are compiled here once more, over the libraries that `rt ci` left, by the prover, which proves the functions of
+the program's own crate again; tftp-show and tftp-play are those of `rt ci`. What comes out is the same, byte for byte, as
+what `make` builds. Where checks of this checkout have left libraries of their own, of the same text, those are used;
+and where of another, tools/build.sh proves them again.
+"""
+import shutil
+import subprocess
+import sys
+import tempfile
+from pathlib import Path
+
+from lib.programs import NAMES, TOP, of_crate
+
+# what is for every processor of x86-64, and the word that says so
+PLAIN, FLAG = ("tftp", "tftpd"), "--cpu=x86-64"
+KIT = Path(shutil.which("rt") or sys.exit("shipped: rt is not on the PATH")).resolve().parent.parent
+sys.path.append(str(KIT / "bin"))
+import rtlib
+
+
+def crate_of(name):
+    """The crate of a program, as rt has it."""
+    wanted = name.replace("-", "_") + "_main"
+    return next(crate for crate in rtlib.crates_below(str(TOP)) if crate.name == wanted)
+
+
+def has_libraries(crate):
+    """Whether all libraries below are those of `rt ci`, which have no stamp, or all of the text as it stands."""
+    stamps = [Path(it.folder, "out/rlib/stamp").is_file() for it in crate.below()]
+    is_there = all(Path(it.rlib, "format").is_file() for it in crate.below())
+    return is_there and (not any(stamps) or all(it.is_built() for it in crate.below()))
+
+
+def compiled(crate, room):
+    """Proves a program's own crate and compiles it. Returns the path, or stops."""
+    made, to, toolchain = f"{room}/{crate.name}.o", Path(room, crate.name), f"{KIT}/toolchain"
+    words = [*crate.words(["--jobs", "2"], keeps=False), FLAG, "--toolchain", toolchain, "--backend", "llvm"]
+    linked = ["--target", "x86_64-unknown-linux-gnu", "--toolchain", toolchain, "-o", to, made,
+              f"{KIT}/c/libos_c.a", f"{KIT}/c/liblibc_c.a"]
+    for command in [[rtlib.RATTLE, "build", *words, "-o", made], [f"{KIT}/bin/rattle-link", *linked]]:
+        done = subprocess.run(command, cwd=crate.folder, stdin=subprocess.DEVNULL, capture_output=True, text=True)
+        if done.returncode or (command[1] == "build" and "logic=proved " not in done.stdout):
+            sys.exit(f"shipped: {crate.name}: {done.stdout[-2000:]}{done.stderr[-2000:]}")
+    return to
+
+
+def main():
+    folder = Path(sys.argv[1] if sys.argv[1:] else TOP / "bin")
+    folder.mkdir(exist_ok=True)
+    with tempfile.TemporaryDirectory(prefix="shipped-") as room:
+        for name in NAMES:
+            crate = crate_of(name)
+            place, how = of_crate(crate.name), "as rt ci built it"
+            if name in PLAIN and has_libraries(crate):
+                place, how = compiled(crate, room), f"{FLAG}, over the libraries of rt ci"
+            elif name in PLAIN:
+                subprocess.run([TOP / "tools/build.sh", crate.name], check=True)
+                how = "by tools/build.sh"
+            # (a program that runs is not written to)
+            shutil.copy2(place, folder / f"{name}.new")
+            (folder / f"{name}.new").replace(folder / name)
+            (folder / name).touch()
+            print(f"{name}: {how}", flush=True)
+
+
+if __name__ == "__main__":
+    main()

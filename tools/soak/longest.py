@@ -1,0 +1,40 @@
+"""Files at the limit of block numbers, without a bad network: 65,535 blocks of 8 bytes arrive, in both directions, and one
+byte more is refused before the first."""
+import time
+
+from ports import LAST, Failure, Program, Server
+from lossy import LIFE, LONGEST
+
+# The words of a client in which the host may stall, and those of the longest file
+PATIENTLY = ["--retries", "10", "--timeout", "5", "--blksize", "8"]
+
+
+def ends(client, status, printed, errors):
+    found = client.ended(LIFE)
+    client.end()
+    if found != (status, printed, errors):
+        raise Failure(f"a client at the limit of block numbers: {found}; expected {(status, printed, errors)}")
+
+
+def run(programs, folder, rng, seconds):
+    """Returns the counts."""
+    began, content = time.monotonic(), rng.randbytes(LONGEST)
+    (folder / "longest").write_bytes(content)
+    (folder / "longer").write_bytes(content + b"1")
+    server = Server(programs["tftpd"], folder, ["--forever", "--retries", "10"], seconds + LAST)
+
+    def tftp(*words):
+        return Program([programs["tftp"], words[0], server.word, *words[1:], *PATIENTLY], folder, LIFE)
+
+    try:
+        clients = [tftp("get", "longest", "got", "--no-dally"), tftp("put", "longest", "new")]
+        ends(tftp("get", "longer", "none"), 1, "", "tftp: PeerError(0)\n")
+        ends(tftp("put", "longer", "none"), 2, "", "tftp: TooLarge\n")
+        for client in clients:
+            ends(client, 0, f"complete {LONGEST}\n", "")
+        for name in ["got", "new"]:
+            if (folder / name).read_bytes() != content:
+                raise Failure(f"{name}: the file differs")
+        return {"blocks": 2 * 65_535, "seconds": round(time.monotonic() - began)}
+    finally:
+        server.end()
