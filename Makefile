@@ -1,7 +1,10 @@
 # make, make build: proves the four programs and builds them into bin/
 # make run: the four programs on a small sample, out of bin/, or from source by `rt try` where bin/ is not up to date
 # make tftp-show, tftp-play, tftp or tftpd: proves and builds that program alone, which takes less than all four
-# make test: the gate, every proof from nothing, and then what is tried of the programs that it built
+# make test: the gate, every proof from nothing, and then what is tried of the programs that it built; with REQUIRE_ALL=1
+#   nothing may be skipped. The last line is `N passed, N failed`
+# make quick CRATE=NAME: what a change of one crate is tried by in minutes
+# make slips CRATES="NAME ..": tries the wrong bodies in crates/NAME/slips/, of all crates without words
 # make install, make uninstall: programs, manuals, completions, units and documents at DESTDIR and PREFIX; they copy what
 #   is in bin/, and build nothing. PROGRAM_PREFIX= is put before the names of the programs and their manuals
 # make dist: an archive of what is installed, with a script that installs it on hosts without the kit
@@ -21,11 +24,15 @@ UNITDIR := $(PREFIX)/lib/systemd/system
 PROGRAMS := bin/tftp-show bin/tftp-play bin/tftp bin/tftpd
 SOURCES := $(shell find crates -path '*/out' -prune -o \( -name '*.rt' -o -name '*.antt' \) -print) crates.txt
 
-# what is run behind `rt ci`, over the programs in crates/*/out. The first that fails twice ends the gate: programs in
-# real time share the host with whatever else it does, and what they said the first time is there to be read
-CHECKS := tools/same_options.py tools/check_install.py tools/check_documents.py tools/statement.py tools/definitions.py tools/one_journal.py tools/same_pictures.sh tools/statuses.py tools/loopback/run.py tools/network.py tools/memory_in_turn.py tools/lost_requests.py tools/soak/run.py
+# what is run behind `rt ci`, over bin/, which holds by then what `make` builds (tools/shipped.py). Each is run once, with a
+# limit, whatever the others come to: tools/gate.py says what was skipped and what failed
+CHECKS := tools/same_options.py tools/check_install.py tools/check_documents.py tools/statement.py tools/definitions.py \
+	tools/one_journal.py tools/same_pictures.sh tools/lint.py tools/processors.py '$(MAKE) --no-print-directory run' \
+	tools/statuses.py tools/memory_in_turn.py tools/lost_requests.py 'python3 -m unittest' \
+	tools/loopback/run.py 'tools/network.py bin/tftp bin/tftpd' tools/soak/run.py
 
-.PHONY: build run sample tftp-show tftp-play tftp tftpd test install uninstall dist deb soak bench bench-udp clean
+.PHONY: build run sample tftp-show tftp-play tftp tftpd test quick slips install uninstall dist deb soak bench \
+	bench-udp clean
 # one after another: each crate is proved by as many processors as there are
 .NOTPARALLEL:
 
@@ -54,8 +61,13 @@ sample:
 	examples/loopback.sh bin/tftpd bin/tftp
 
 test:
-	rt ci
-	@set -e; for check in $(CHECKS); do echo "$$check"; $$check || { echo "$$check failed: once more"; $$check; }; done
+	@tools/gate.py $(CHECKS)
+
+quick:
+	@tools/quick.sh '$(CRATE)'
+
+slips:
+	@tools/slips.py $(CRATES)
 
 install uninstall:
 	@tools/install.sh $@ 'DESTDIR=$(DESTDIR)' 'PREFIX=$(PREFIX)' 'PROGRAM_PREFIX=$(PROGRAM_PREFIX)' \

@@ -1,10 +1,11 @@
 #!/usr/bin/env python3
-"""Runs each command line of tftp-show and tftp-play that a document shows, and compares what it prints with what the
-document says. Of each examples/NAME.script at least one document has to show the output. The tour of tftpd and tftp in
-README.md is run twice in a folder, and leaves nothing there.
+"""Runs each command line of tftp-show and tftp-play that a document or a manual shows, and compares what it prints with
+what stands there. Nothing is written to standard error, and the status is that of the manuals. Of each
+examples/NAME.script at least one document has to show the output. The tour of tftpd and tftp in README.md is run twice in
+a folder, and leaves nothing there.
 
-The programs are those that the gate left in crates/*_main/out/, or else those of bin/."""
-
+The programs are those of bin/, or else those that the gate left in crates/*_main/out/.
+"""
 import os
 import pathlib
 import re
@@ -14,49 +15,58 @@ import subprocess
 import sys
 import tempfile
 
-from addresses import own_address
+from lib.addresses import own_address
+from lib.programs import NAMES, TOP, program
 
-ROOT = pathlib.Path(__file__).resolve().parent.parent
-PROGRAMS = {name: f"{name.replace('-', '_')}_main" for name in ["tftp-show", "tftp-play", "tftp", "tftpd"]}
-SECONDS, TOUR_SECONDS = 600, 120
+SECONDS = TOUR_SECONDS = 120
 # Of the lines of the tour: the address that they name, and what differs from run to run
 ADDRESS, PORTS = "127.0.0.1:6969", re.compile(r"\d+ \d+ (?=Complete$)")
-
-
-def program(name):
-    """The path of a program."""
-    crate = PROGRAMS[name]
-    for path in (ROOT / "crates" / crate / "out" / crate, ROOT / "bin" / name):
-        if path.is_file():
-            return path
-    sys.exit(f"check_documents: there is no {name}: run rt ci or make first")
+# a line of tftp-show that makes its status 1, and one of tftp-play: a client that is not complete
+FAULTS = {"tftp-show": r"fault |not hex$", "tftp-play": r"end \d+ client-.* complete=no "}
 
 
 def shown_in(document):
     """Each command that a document shows, with its line and with the lines that it says are printed."""
-    commands, lines, fenced = [], None, False
+    commands, lines, is_code = [], None, False
+    ends = ("```",) if document.suffix == ".md" else (".Bd", ".Ed", ".Dl")
     for number, line in enumerate(document.read_text().splitlines(), 1):
-        if line.startswith("```"):
-            fenced, lines = not fenced, None
-        elif fenced and line.startswith("$ "):
+        if line.startswith(ends):
+            is_code, lines = not is_code if line != ".Dl" else False, None
+        elif is_code and line.startswith("$ "):
             lines = []
             commands.append((number, line[2:], lines))
-        elif fenced and lines is not None:
+        elif is_code and lines is not None:
             lines.append(line)
-    return commands
+    if document.suffix == ".md":
+        return commands
+    # in a manual `\e` is a backslash, and `\&` nothing; a program is found by its name alone
+    return [(number, of_roff(command), [of_roff(line) for line in lines]) for number, command, lines in commands]
 
 
-def is_compared(command):
-    """Whether a command runs one of the two programs alone."""
-    return re.match(r"bin/(tftp-show|tftp-play)\b|(cat|printf|echo) .*\| *bin/(tftp-show|tftp-play)\b|cat examples/", command)
+def of_roff(text):
+    return text.replace("\\e", "\\").replace("\\&", "").replace("\\-", "-")
+
+
+def program_of(command):
+    """The one of the two programs that a command runs alone, if it does."""
+    run = re.match(r"(?:bin/)?(tftp-show|tftp-play)\b(?!.*\bFILE\b|.*flow\.txt)|(?:cat|printf|echo) .*\| *(?:bin/)?(tftp-show|tftp-play)\b",
+                   command)
+    return run and (run[1] or run[2])
 
 
 def printed_by(command, folder):
-    """What a command prints, with the programs in the folder bin/."""
-    environment = {"PATH": os.environ["PATH"], "LC_ALL": "C"}
+    """What a command prints, with the programs in the folder bin/, what it writes to standard error, and its status."""
+    environment = {"PATH": f"{folder}/bin:{os.environ['PATH']}", "LC_ALL": "C"}
     done = subprocess.run(["sh", "-c", command], cwd=folder, env=environment, stdin=subprocess.DEVNULL,
                           capture_output=True, timeout=SECONDS, check=False)
-    return done.stdout.decode(errors="replace").splitlines()
+    return done.stdout.decode(errors="replace").splitlines(), done.stderr.decode(errors="replace"), done.returncode
+
+
+def status_of(name, command, lines):
+    """The status that a command ends with which prints these lines: that of `head` is 0."""
+    if re.search(r"\| *head\b", command):
+        return 0
+    return int(any(re.match(FAULTS[name], line) for line in lines))
 
 
 def toured(folder, text, address):
@@ -79,11 +89,11 @@ def toured(folder, text, address):
 
 def tour(folder):
     """How many of two runs of the tour in README.md are not as it says, or leave something behind."""
-    text, failures = (ROOT / "README.md").read_text(), 0
-    examples, address = sorted(os.listdir(ROOT / "examples")), f"{own_address()}:6969"
+    text, failures = (TOP / "README.md").read_text(), 0
+    examples, address = sorted(os.listdir(TOP / "examples")), f"{own_address()}:6969"
     for _ in range(2):
         printed, wanted = toured(folder, text, address)
-        left = sorted(os.listdir(folder)), sorted(os.listdir(ROOT / "examples"))
+        left = sorted(os.listdir(folder)), sorted(os.listdir(TOP / "examples"))
         if printed != wanted or left != (["bin", "examples"], examples):
             failures += 1
             print(f"README.md: the tour: prints {printed}; wanted {wanted}; leaves {left}")
@@ -91,34 +101,36 @@ def tour(folder):
 
 
 def main():
-    documents = sorted([ROOT / "README.md", *(ROOT / "docs").glob("*.md"), *(ROOT / "crates").glob("*/README.md")])
-    failures, compared, scripts = 0, 0, {path.name for path in (ROOT / "examples").glob("*.script")}
+    documents = sorted([TOP / "README.md", *TOP.glob("docs/*.md"), *TOP.glob("crates/*/README.md"), *TOP.glob("man/*.[1-8]")])
+    failures, compared, manuals = 0, 0, 0
+    scripts = {path.name for path in TOP.glob("examples/*.script")}
     with tempfile.TemporaryDirectory() as folder:
-        os.symlink(ROOT / "examples", f"{folder}/examples")
+        os.symlink(TOP / "examples", f"{folder}/examples")
         os.mkdir(f"{folder}/bin")
-        for name in PROGRAMS:
+        for name in NAMES:
             os.symlink(program(name), f"{folder}/bin/{name}")
         for document in documents:
             for number, command, wanted in shown_in(document):
-                if not is_compared(command):
+                name = program_of(command)
+                if not name:
                     continue
-                compared += 1
-                printed = printed_by(command, folder)
+                compared, manuals = compared + 1, manuals + (document.suffix != ".md")
+                printed, errors, status = printed_by(command, folder)
                 while wanted and not wanted[-1]:
                     wanted.pop()
-                if command.startswith("bin/tftp-play"):
+                if name == "tftp-play" and document.suffix == ".md":
                     scripts -= {pathlib.Path(word).name for word in shlex.split(command)}
-                if printed != wanted:
+                if (printed, errors, status) != (wanted, "", status_of(name, command, wanted)):
                     failures += 1
-                    print(f"{document.relative_to(ROOT)}:{number}: {command}: prints otherwise")
-                    for line in printed:
+                    print(f"{document.relative_to(TOP)}:{number}: {command}: prints otherwise, with status {status}")
+                    for line in [*printed, *errors.splitlines()]:
                         print(f"    {line}")
         failures += tour(folder)
     for name in sorted(scripts):
         failures += 1
         print(f"examples/{name}: no document shows what it prints")
-    print(f"documents: {compared} commands compared, {failures} failed")
-    return 1 if failures or not compared else 0
+    print(f"documents: {compared} commands compared, {manuals} of them of manuals, {failures} failed")
+    return 1 if failures or not compared or not manuals else 0
 
 
 if __name__ == "__main__":

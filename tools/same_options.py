@@ -3,10 +3,10 @@
 
 What `--help` prints is compared with the program's manual in man/ and its completions for bash, zsh and fish, and for
 tftpd with docs/OPERATING.md. What examples and the units give to a program is among its options, `--version` prints the
-version of the Makefile and the line of `rt version`, and mandoc and systemd-analyze find nothing. The last line says
-what was skipped: either of them where it is not installed, or where systemd is older than the settings of the units.
+version of the Makefile and the line of `rt version`, mandoc finds no error, and systemd-analyze nothing. The last line
+says what was skipped: either of them where it is not installed, or where systemd is older than the settings of the units.
 
-Reads the programs that `rt ci` left in crates/*_main/out, or else those of bin/. A line for each difference, and the
+Reads the programs of bin/, or else those that `rt ci` left in crates/*_main/out. A line for each difference, and the
 status 1 where there is one; 2 where a program is missing.
 """
 import os
@@ -17,7 +17,8 @@ import sys
 import tempfile
 from pathlib import Path
 
-TOP = Path(__file__).resolve().parent.parent
+from lib.programs import TOP, program
+
 OPERATING = "docs/OPERATING.md"
 UNITS = ["packaging/tftpd.service", "packaging/tftpd@.service"]
 # the longest command that a manual shows in 80 columns
@@ -28,17 +29,6 @@ MANUALS = {"tftp-show": "man/tftp-show.1", "tftp-play": "man/tftp-play.1", "tftp
 # the subcommands of each program, each of which has a help text of its own; "" is the program itself
 VERBS = {"tftp-show": [""], "tftp-play": [""], "tftp": ["", "get", "put"], "tftpd": [""]}
 OPTION = re.compile(r"(?<![\w-])--?[A-Za-z][\w-]*")
-
-
-def program_at(name):
-    """The path of a program, as the gate built it, or `make`."""
-    crate = name.replace("-", "_") + "_main"
-    paths = [f"crates/{crate}/out/{crate}", f"bin/{name}"]
-    for path in paths:
-        if (TOP / path).is_file():
-            return TOP / path
-    print(f"{name}: there is neither {' nor '.join(paths)}: run `rt ci` or `make` first", file=sys.stderr)
-    sys.exit(2)
 
 
 def printed(path, *words):
@@ -224,7 +214,8 @@ class Comparison:
             self.differences += [f"{place}: {line}" for line in found_in_unit(TOP / place)]
 
     def check_form(self):
-        """mandoc finds nothing in the manuals, and each manual of ours that they refer to is there."""
+        """mandoc finds no error in the manuals, and each manual of ours that they refer to is there. Remarks below an error
+        differ from one mandoc to the next, and depend on what is installed."""
         manuals = sorted(str(it.relative_to(TOP)) for it in (TOP / "man").glob("*.[1-8]"))
         for manual in manuals:
             for name, section in re.findall(r"^\.Xr (tftp\S*) (\d)", (TOP / manual).read_text(), re.M):
@@ -233,9 +224,9 @@ class Comparison:
         if not shutil.which("mandoc"):
             self.skipped.append("the form of the manuals (no mandoc)")
             return
-        done = subprocess.run(["mandoc", "-Tlint", "-Wstyle", *manuals], cwd=TOP, capture_output=True, text=True)
-        # whether a manual of another program is there depends on the host
-        self.differences += [it for it in done.stdout.splitlines() if "referenced manual not found" not in it]
+        done = subprocess.run(["mandoc", "-Tlint", "-Werror", *manuals], cwd=TOP, capture_output=True, text=True, timeout=600)
+        errors = [line for line in done.stdout.splitlines() if re.search(r": (ERROR|UNSUPP|FATAL): ", line)]
+        self.differences += errors or [f"mandoc ends with {done.returncode}: {done.stdout}{done.stderr}"] * (done.returncode > 2)
 
 
 def missing_systemd():
@@ -272,7 +263,7 @@ def found_in_unit(place):
 
 
 def main():
-    it = Comparison({name: program_at(name) for name in VERBS})
+    it = Comparison({name: program(name) for name in VERBS})
     version = re.search(r"^VERSION := (\S+)$", (TOP / "Makefile").read_text(), re.M)[1]
     for name in VERBS:
         it.check_program(name, version)

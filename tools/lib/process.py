@@ -6,7 +6,7 @@ import subprocess
 import time
 from contextlib import suppress
 from pathlib import Path
-from typing import Any, Optional, Sequence, Union
+from typing import Any, Optional, Sequence, TypeVar, Union
 
 # The longest wait for a line or for an end, in seconds
 PATIENCE = 120
@@ -14,6 +14,7 @@ PATIENCE = 120
 LIMITED = "trap '' XFSZ; ulimit $0; exec \"$@\""
 
 Words = Sequence[Union[str, Path]]
+Own = TypeVar("Own", bound="Program")
 
 
 class Failure(Exception):
@@ -41,7 +42,7 @@ class Program:
         how = {"stdin": subprocess.DEVNULL, "stdout": subprocess.PIPE, "stderr": subprocess.PIPE, **how}
         self.process = subprocess.Popen(["timeout", "--foreground", "-s", "KILL", str(life), *command], cwd=folder, **how)
         self.name = Path(words[0]).name
-        self.output = self.process.stdout
+        self.output: Any = self.process.stdout
         self.texts = {pipe: b"" for pipe in (self.process.stdout, self.process.stderr) if pipe}
         for pipe in self.texts:
             os.set_blocking(pipe.fileno(), False)
@@ -98,9 +99,11 @@ class Program:
             status = self.process.wait(max(end - time.monotonic(), 0.1))
         except subprocess.TimeoutExpired as late:
             raise Failure(f"{self.name} has not ended after {seconds} seconds") from late
-        texts = [self.texts[pipe].decode(errors="replace") if pipe else "" for pipe in
-                 (self.process.stdout, self.process.stderr)]
-        return status, texts[0], texts[1]
+        return status, self.text(self.process.stdout), self.text(self.process.stderr)
+
+    def text(self, pipe: Any) -> str:
+        """What it has written to one of its streams that no call took before."""
+        return self.texts[pipe].decode(errors="replace") if pipe else ""
 
     def end(self) -> None:
         if self.process.poll() is None:
@@ -111,7 +114,7 @@ class Program:
         for pipe in self.texts:
             pipe.close()
 
-    def __enter__(self) -> "Program":
+    def __enter__(self: Own) -> Own:
         return self
 
     def __exit__(self, *_: object) -> None:

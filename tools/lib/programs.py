@@ -35,7 +35,7 @@ def program(name: str) -> Path:
 
 def programs(names: Sequence[str], given: Sequence[str] = ()) -> dict[str, str]:
     """The absolute paths of programs by their names: those that a command line gives in this order, or those found."""
-    paths = {name: os.path.abspath(path) for name, path in zip(names, given or map(program, names))}
+    paths = {name: os.path.abspath(path) for name, path in zip(names, given or [str(program(name)) for name in names])}
     for path in paths.values():
         if not os.path.isfile(path):
             sys.exit(f"{path} is not there")

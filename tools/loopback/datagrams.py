@@ -5,7 +5,11 @@ import time
 from pathlib import Path
 
 sys.path.append(str(Path(__file__).resolve().parent.parent))
-from lib.packets import ack, data, error, oack, rrq, wrq  # (the tests have them from here)
+from lib.packets import ack, data, error, oack, rrq, wrq
+
+# (the tests have the packets from here, too)
+__all__ = ["PATIENCE", "PATIENT", "End", "Port", "ack", "data", "error", "expect", "free_ports", "is_bound", "oack", "rrq",
+           "text_of", "wrq"]
 
 # The longest wait for a datagram or a line, in seconds
 PATIENCE = 60

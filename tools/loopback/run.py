@@ -26,7 +26,8 @@ import options
 import served_folder
 import server_alone
 import server_loop
-from scene import Scene, own_network
+from scene import Scene
+from lib.addresses import own_network
 from lib.programs import programs
 from lib.stalls import LIMIT as STALL, Stalls
 

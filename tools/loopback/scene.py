@@ -13,7 +13,6 @@ from proxy import Proxy
 
 HERE = Path(__file__).resolve().parent
 sys.path.append(str(HERE.parent))
-from lib.addresses import own_network
 from lib.preload import compiled
 
 # The longest life of a program, in seconds: it ends before a timeout of a patient transfer is due

@@ -12,6 +12,8 @@ from lib import process
 from lib.addresses import own_network
 from lib.process import PATIENCE, Failure, Program
 
+# (the trials have those of lib/ from here, too)
+__all__ = ["ELSEWHERE", "HOST", "LAST", "PATIENCE", "Failure", "Port", "Program", "Sent", "Server", "Stalled", "wait_for"]
 # How long a server may go on after the time of its trial, in seconds
 LAST = 1_800
 NETWORK = own_network()
