@@ -406,6 +406,9 @@ def test_usage(check):
         check.is_usage_fault("tftp", *words)
     for words in [["served", "more"], ["served", "--fast"], ["served", "--listen", "127.0.0.1"]]:
         check.is_usage_fault("tftpd", *words)
+    # a word that is not UTF-8, as a file's name may be
+    for program, words in [("tftp-show", []), ("tftp-play", []), ("tftp", get), ("tftpd", ["served"])]:
+        check.is_usage_fault(program, *words, b"caf\xe9")
 
 
 def main():

@@ -5,7 +5,7 @@
 use std::alloc::Global;
 use std::process::ExitCode;
 use std::time::Clock;
-use tftp_arguments::own_words;
+use tftp_arguments::{WordsFault, own_words};
 use tftp_file::{Path, StoreFault, path_of};
 use tftp_loop::{Ending, LoopConfig, LoopFault, ServerUdp, serve};
 use tftp_server::{Config, Server};
@@ -33,8 +33,10 @@ fn main(rt: HostRuntime) -> ExitCode {
 
 /// Serves by the program's words.
 fn run(rt: &HostRuntime) -> Result<(), &'static str> {
-    let Ok(words) = own_words(rt) else {
-        return Err(NO_MEMORY);
+    let words = match own_words(rt) {
+        Ok(words) => words,
+        Err(WordsFault::NotText) => return Err(USAGE),
+        Err(WordsFault::Memory) => return Err(NO_MEMORY),
     };
     let Some(config) = config_of(words.as_slice()) else {
         return Err(USAGE);

@@ -1,3 +1,4 @@
+pub mod Fault
 pub mod Read
 pub mod Rules
 pub mod Commands

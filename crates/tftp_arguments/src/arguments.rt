@@ -1,32 +1,81 @@
 //! The words of a command line, and the messages for faulty ones.
 
 ghost use Rattle.std.specs.Prelude.{◌≡◌, ◌≤◌};
+ghost use Rattle.clap.specs.Values.{kind_of};
+ghost use Rattle.tftp_arguments.specs.Fault.{HasStatus, IsZeroForText};
 ghost use Rattle.tftp_arguments.specs.Read.{IsFlag, text_of};
 ghost use Rattle.tftp_arguments.specs.Rules.{HasRule, flag_rule, number_rule, word_rule};
 
-use anyhow::Result;
 use clap::builder::ValueParser;
 use clap::{Arg, ArgAction, ArgMatches};
 use std::alloc::Global;
 use std::env;
+use std::io::{self, ErrorKind};
 use std::rt::Runtime;
 
 /// The text that `--version` prints after a program's name: the version, and the toolchain that
 /// proves and builds it, as `rt version` prints it.
 pub const VERSION: &str = "0.1.0 (rattle-kit-13f logic dac8208d650f15bf)";
 
+/// What is printed of a command line with a word that is not UTF-8, as `clap` prints its faults.
+const NOT_TEXT: &str = "\
+error: a word of the command line is not UTF-8
+
+For more information, try '--help'.";
+
+/// Why a program's own command line was not read.
+#[derive(Clone, Copy, Debug, PartialEq, Eq)]
+pub enum WordsFault {
+    /// A word is not UTF-8.
+    NotText,
+    /// Out of memory.
+    Memory,
+}
+
 /// The words of the program's own command line.
-pub fn own_words<R: Runtime + AllocGlobal>(rt: &R) -> Result<Vec<String>> {
+pub fn own_words<R: Runtime + AllocGlobal>(rt: &R) -> Result<Vec<String>, WordsFault> {
+    let args = match env::args(rt) {
+        Ok(args) => args,
+        Err(error) => return Err(words_fault(&error)),
+    };
     let mut words = Vec::new(rt.alloc());
-    for word in env::args(rt)? {
-        words.push(word)?;
+    for word in args {
+        if words.push(word).is_err() {
+            return Err(WordsFault::Memory);
+        }
     }
     Ok(words)
 }
 
-/// Prints the help, the version or the fault of a command line, and returns the status for it.
+/// The fault for an error at the reading of the words.
+fn words_fault(error: &io::Error) -> WordsFault {
+    if error.kind() == ErrorKind::InvalidData {
+        WordsFault::NotText
+    } else {
+        WordsFault::Memory
+    }
+}
+
+/// Reports on standard error why a program's own command line was not read, and returns the status
+/// for it. A word that is not UTF-8 is a usage fault.
+pub fn print_words_fault<R: Eprint>(rt: &R, program: &str, fault: WordsFault) -> u8
+    ensures { result ≡ 2 }
+{
+    match fault {
+        WordsFault::NotText => {
+            let _ = rt.eprintln(NOT_TEXT);
+            2
+        }
+        WordsFault::Memory => print_no_memory(rt, program),
+    }
+}
+
+/// Prints the help, the version or the fault of a command line, and returns the status for it: 2
+/// for a fault, and if standard output or error cannot be written.
 pub fn print_usage<R: Print + Eprint>(rt: &R, error: &clap::Error) -> u8
-    ensures { result ≤ 2 }
+    ensures status { result ≤ 2 }
+    ensures fault { HasStatus (kind_of error.now) result }
+    ensures text { IsZeroForText error.now result }
 {
     if error.print(rt).is_err() || error.use_stderr() {
         2

@@ -8,5 +8,8 @@ mod arguments;
 pub mod laws;
 mod standard_streams;
 
-pub use arguments::{VERSION, flag, is_set, number, own_words, print_no_memory, print_usage, word};
+pub use arguments::{
+    VERSION, WordsFault, flag, is_set, number, own_words, print_no_memory, print_usage,
+    print_words_fault, word,
+};
 pub use standard_streams::{StandardStreams, open_streams};

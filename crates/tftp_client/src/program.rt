@@ -18,7 +18,7 @@ use std::io::{self, IsTerminal};
 use std::net::Net;
 use std::rt::{Files, Runtime};
 use std::time::Clock;
-use tftp_arguments::{own_words, print_no_memory};
+use tftp_arguments::{own_words, print_no_memory, print_words_fault};
 use tftp_file::{Sink, Source};
 use tftp_sockets::{Journal, print_end};
 
@@ -29,7 +29,7 @@ pub fn tftp_command<R: Runtime + AllocGlobal + Net, E: IsTerminal>(rt: &R, error
 {
     match own_words(rt) {
         Ok(words) => tftp_words(rt, words.as_slice(), errors),
-        Err(_) => print_no_memory(rt, "tftp"),
+        Err(fault) => print_words_fault(rt, "tftp", fault),
     }
 }
 

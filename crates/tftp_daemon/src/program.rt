@@ -13,7 +13,7 @@ use std::net::Net;
 use std::random::RandomSource;
 use std::rt::{Files, Runtime};
 use std::time::Clock;
-use tftp_arguments::{own_words, print_no_memory};
+use tftp_arguments::{own_words, print_no_memory, print_words_fault};
 use tftp_file::Source;
 use tftp_folder::{FolderSource, FolderStore};
 use tftp_loop::{LoopConfig, LoopFault, ServerUdp};
@@ -28,7 +28,7 @@ pub fn tftpd_command<R: Runtime + AllocGlobal + Net + RandomSource>(rt: &R) -> u
 {
     match own_words(rt) {
         Ok(words) => tftpd_words(rt, words.as_slice()),
-        Err(_) => print_no_memory(rt, "tftpd"),
+        Err(fault) => print_words_fault(rt, "tftpd", fault),
     }
 }
 

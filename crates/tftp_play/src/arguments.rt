@@ -9,18 +9,18 @@ use std::convert::AsStr;
 use std::io::{Read, Write};
 use std::rt::Runtime;
 use std::{fs, io};
-use tftp_arguments::{VERSION, own_words, print_usage};
+use tftp_arguments::{VERSION, own_words, print_usage, print_words_fault};
 
 /// Runs `tftp-play` with the program's own command line, and returns its status. `errors` is
 /// standard error.
 ///
 /// See [`play_words`].
-pub fn play_command<R: Runtime + AllocGlobal, E: Write + Drop>(rt: &R, mut errors: E) -> u8
+pub fn play_command<R: Runtime + AllocGlobal, E: Write + Drop>(rt: &R, errors: E) -> u8
     ensures { result ≤ 2 }
 {
     match own_words(rt) {
         Ok(words) => play_words(rt, words.as_slice(), errors),
-        Err(_) => PlayFault::Memory.report(&mut errors),
+        Err(fault) => print_words_fault(rt, "tftp-play", fault),
     }
 }
 

@@ -10,7 +10,7 @@ use std::convert::AsStr;
 use std::fs;
 use std::io::{self, Write};
 use std::rt::Runtime;
-use tftp_arguments::{VERSION, flag, number, own_words, print_usage};
+use tftp_arguments::{VERSION, flag, number, own_words, print_usage, print_words_fault};
 
 const EXAMPLES: &str = "\
 The packets of a capture, a line each:
@@ -23,12 +23,12 @@ What happened in each transfer of a capture:
 /// standard error.
 ///
 /// See [`show_words`].
-pub fn show_command<R: Runtime + AllocGlobal, E: Write + Drop>(rt: &R, mut errors: E) -> u8
+pub fn show_command<R: Runtime + AllocGlobal, E: Write + Drop>(rt: &R, errors: E) -> u8
     ensures { result ≤ 2 }
 {
     match own_words(rt) {
         Ok(words) => show_words(rt, words.as_slice(), errors),
-        Err(_) => ShowFault::Memory.report(&mut errors),
+        Err(fault) => print_words_fault(rt, "tftp-show", fault),
     }
 }
 
