@@ -10,6 +10,7 @@
 # make dist: an archive of what is installed, with a script that installs it on hosts without the kit
 # make deb: a package for Debian
 # make soak SECONDS=3600 SEED=2: trials of bin/tftp and bin/tftpd against a model, a bad network and a bad host
+# make mutants SECONDS=3600 SEED=2: mutated lines, captures, scripts and command lines for the programs of bin/
 # make bench: the benchmarks of bench/, which are no tests
 # make bench-udp: tftpd and tftp beside the other servers and clients that are installed
 
@@ -28,10 +29,10 @@ SOURCES := $(shell find crates -path '*/out' -prune -o \( -name '*.rt' -o -name 
 # limit, whatever the others come to: tools/gate.py says what was skipped and what failed
 CHECKS := tools/same_options.py tools/check_install.py tools/check_documents.py tools/statement.py tools/definitions.py \
 	tools/one_journal.py tools/same_pictures.sh tools/lint.py tools/processors.py '$(MAKE) --no-print-directory run' \
-	tools/statuses.py tools/memory_in_turn.py tools/lost_requests.py 'python3 -m unittest' \
-	tools/loopback/run.py 'tools/network.py bin/tftp bin/tftpd' tools/soak/run.py
+	tools/statuses.py tools/memory_in_turn.py tools/lost_requests.py tools/out_of_memory.py 'python3 -m unittest' \
+	tools/mutants.py tools/loopback/run.py 'tools/network.py bin/tftp bin/tftpd' tools/soak/run.py
 
-.PHONY: build run sample tftp-show tftp-play tftp tftpd test quick slips install uninstall dist deb soak bench \
+.PHONY: build run sample tftp-show tftp-play tftp tftpd test quick slips install uninstall dist deb soak mutants bench \
 	bench-udp clean
 # one after another: each crate is proved by as many processors as there are
 .NOTPARALLEL:
@@ -59,6 +60,9 @@ sample:
 	bin/tftp-show < examples/packets.hex; test $$? -le 1 # 1: some lines of the sample are faults
 	bin/tftp-play examples/lossy.script
 	examples/loopback.sh bin/tftpd bin/tftp
+
+mutants: $(PROGRAMS)
+	tools/mutants.py $(SECONDS) $(SEED)
 
 test:
 	@tools/gate.py $(CHECKS)

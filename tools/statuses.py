@@ -297,15 +297,22 @@ def test_client_faults(check):
     (check.folder / "long").touch()
     os.truncate(check.folder / "long", 65_535 * 8)
     (check.folder / "link").symlink_to("abc")
-    # LOCAL: one that is there, one in a folder that is missing, a folder and a link that cannot be replaced; one that
-    # is missing, a folder, and one of no length that has bytes
+    (check.folder / "dangling").symlink_to("nowhere")
+    os.mkfifo(check.folder / "fifo")
+    # LOCAL: one that is there, a link to nothing, one in a folder that is missing, a folder and links that cannot be
+    # replaced; one that is missing, a folder, a FIFO that nobody writes to, and one of no length that has bytes
     for words in [
         ["get", nowhere, "a", "abc"],
+        ["get", nowhere, "a", "dangling"],
+        ["get", nowhere, "a", "fifo"],
         ["get", nowhere, "a", "missing/local"],
         ["get", nowhere, "a", ".", "--replace"],
         ["get", nowhere, "a", "link", "--replace"],
+        ["get", nowhere, "a", "dangling", "--replace"],
         ["put", nowhere, "missing", "a"],
         ["put", nowhere, ".", "a"],
+        ["put", nowhere, "fifo", "a"],
+        ["put", nowhere, "fifo", "a", "--netascii"],
         ["put", nowhere, "/proc/cpuinfo", "a"],
         ["put", nowhere, "/proc/cpuinfo", "a", "--netascii"],
     ]:

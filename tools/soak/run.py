@@ -27,7 +27,8 @@ import raw
 import vectors
 from ports import LAST
 from lib.process import Failure
-from lib.programs import TOP, programs
+from lib.programs import programs
+from lib.seeds import commit_seed
 from lib.stalls import LIMIT, Stalls
 
 # From this time on a file of 65,535 blocks is fetched over the bad network, too, in seconds
@@ -48,12 +49,6 @@ TRIALS = {
     "faults of the host": faults.run,
 }
 LONG = {"65,535 blocks": lambda *it: lossy.run(*it, is_long=True)}
-
-
-def commit_seed():
-    """The number of the commit's first digits: another with each commit, and the same for one."""
-    done = subprocess.run(["git", "rev-parse", "--short=8", "HEAD"], cwd=TOP, capture_output=True, text=True)
-    return int(done.stdout.strip() or "1", 16) if done.returncode == 0 else 1
 
 
 def run_one(name, number, seed, seconds, paths, place):
