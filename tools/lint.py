@@ -15,7 +15,7 @@ from lib.programs import TOP
 
 COLUMNS = 120
 SHELL = ["tools/*.sh", ".ci/*", "debian/*.sh", "bench/*/*.sh", "examples/*.sh", "examples/*/*.sh"]
-RUFF = ["ruff", "check", "--quiet", "--select", "E4,E7,E9,F", "--ignore", "E402,E731", "tools", "bench"]
+RUFF = ["ruff", "check", "--quiet", "--select", "E9,F", "tools", "bench"]
 # the typed files: lib/ and the newer tools; types of what they import from others are not looked at
 MYPY = ["mypy", "--explicit-package-bases", "--ignore-missing-imports", "--follow-imports=silent", "--no-error-summary",
         "--disallow-incomplete-defs", "--cache-dir=/dev/null"]
@@ -59,7 +59,7 @@ def wide_lines() -> list[str]:
 def main() -> int:
     found, skipped, looked = wide_lines(), [], ["documents"]
     typed = sorted(str(path.relative_to(TOP / "tools")) for pattern in TYPED for path in TOP.glob(f"tools/{pattern}"))
-    for words, folder in [(RUFF, TOP), ([*MYPY, *typed], TOP / "tools"), (["shellcheck", "-x", *scripts()], TOP)]:
+    for words, folder in [(RUFF, TOP), ([*MYPY, *typed], TOP / "tools"), (["shellcheck", "-x", "-S", "warning", *scripts()], TOP)]:
         if not shutil.which(words[0]):
             skipped.append(words[0])
             continue

@@ -13,10 +13,11 @@ fi
 # the crates of tests that use it
 tests() { sed 's/#.*//' crates.txt | awk -v crate="$crate" '/^tests_/ { for (i = 2; i <= NF; i++) if ($i == crate) print substr($1, 1, length($1) - 1) }'; }
 
+failed=''
 step() {
     echo "== $*"
     began=$SECONDS
-    "$@"
+    "$@" || failed="$failed; $*"
     echo "   $((SECONDS - began)) s"
 }
 
@@ -37,4 +38,5 @@ for name in $(tests); do
     *) step in_crate "$name" rt try --test < /dev/null ;;
     esac
 done
-echo "quick: $crate, in $((SECONDS / 60)) min $((SECONDS % 60)) s. The gate is make test"
+echo "quick: $crate, in $((SECONDS / 60)) min $((SECONDS % 60)) s${failed:+, failed: ${failed#; }}. The gate is make test"
+test -z "$failed"

@@ -111,7 +111,7 @@ class Trial:
         self.port = model.RequestPort(dict(self.files), [b"sub"], **limits)
         self.server = Server(program, folder, [*words_of(limits), "--forever"], life)
         self.probe, self.stranger = Port(), Port()
-        self.live, self.commits = [], set()
+        self.live, self.commits, self.is_near = [], set(), False
         # the server reads its clock once a round, and handles what came since in that round, too: what is sent now is
         # handled in a round that began after this time
         self.round = time.time()
@@ -160,8 +160,8 @@ class Trial:
     def ask(self):
         """A burst at the request port. A request may come twice, and other datagrams with it. Where a client may be told
         that the server is busy, no transfer closes meanwhile."""
-        is_near = len(self.port.held) + MOST_ASKED > self.port.cap
-        if is_near and any(each.may_close(STALL) for each in self.live):
+        self.is_near = len(self.port.held) + MOST_ASKED > self.port.cap
+        if self.is_near and any(each.may_close(STALL) for each in self.live):
             return
         for _ in range(self.rng.randrange(1, 4)):
             live, datagram = Live(Port()), self.request()
@@ -171,7 +171,11 @@ class Trial:
             for _ in range(self.rng.choice([1, 1, 2])):
                 self.ask_once(live, datagram)
             live.was_in_time()
-        if is_near and any(each.may_close(EARLY) for each in self.live):
+        self.was_near_in_time()
+
+    def was_near_in_time(self):
+        """No transfer has closed by itself since the last requests, where one more or less decides about the answers."""
+        if self.is_near and any(each.may_close(EARLY) for each in self.live):
             raise Stalled
 
     def ask_once(self, live, datagram):
@@ -293,10 +297,12 @@ class Trial:
     def take_of(self, live, datagram, sender, when):
         if sender == self.server.address:
             if not live.refusals or datagram != live.refusals.pop(0):
+                self.was_near_in_time()
                 raise Failure(f"the request port answers {datagram[:60]}", live.port.seen)
             return
         live.transfer = live.transfer or sender
         if sender != live.transfer or not live.end:
+            self.was_near_in_time()
             raise Failure(f"{datagram[:60]} from {sender} in place of {live.transfer}", live.port.seen)
         if live.expected and datagram == live.expected[0]:
             live.expected.pop(0)
