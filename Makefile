@@ -25,11 +25,13 @@ UNITDIR := $(PREFIX)/lib/systemd/system
 PROGRAMS := bin/tftp-show bin/tftp-play bin/tftp bin/tftpd
 SOURCES := $(shell find crates -path '*/out' -prune -o \( -name '*.rt' -o -name '*.antt' \) -print) crates.txt
 
+# the tests of the tools; `python3 -m unittest` runs the checks, too
+TESTS := tools.tests.test_gate tools.tests.test_stand_ins tools.tests.test_programs
 # what is run behind `rt ci`, over bin/, which holds by then what `make` builds (tools/shipped.py). Each is run once, with a
 # limit, whatever the others come to: tools/gate.py says what was skipped and what failed
 CHECKS := tools/same_options.py tools/check_install.py tools/check_documents.py tools/statement.py tools/definitions.py \
 	tools/one_journal.py tools/same_pictures.sh tools/lint.py tools/processors.py '$(MAKE) --no-print-directory run' \
-	tools/statuses.py tools/memory_in_turn.py tools/lost_requests.py tools/out_of_memory.py 'python3 -m unittest' \
+	tools/statuses.py tools/memory_in_turn.py tools/lost_requests.py tools/out_of_memory.py 'python3 -m unittest $(TESTS)' \
 	tools/mutants.py tools/loopback/run.py 'tools/network.py bin/tftp bin/tftpd' tools/soak/run.py
 
 .PHONY: build run sample tftp-show tftp-play tftp tftpd test quick slips install uninstall dist deb soak mutants bench \

@@ -23,6 +23,8 @@ TOP = Path(__file__).resolve().parent.parent
 # The longest time of a check, in seconds, and of those that take longer; `rt ci` has as long as it takes
 LIMIT = 900
 LIMITS = {"tools/soak/run.py": 2_400, "tools/shipped.py": 3_600, "tools/loopback/run.py": 1_500}
+# (each line is shown as it comes)
+UNBUFFERED = {**os.environ, "PYTHONUNBUFFERED": "1"}
 
 
 class Run:
@@ -32,7 +34,7 @@ class Run:
     def __init__(self, words: Sequence[str], limit: Optional[float] = None) -> None:
         began, self.lines = time.monotonic(), []
         self.is_late = False
-        process = subprocess.Popen(words, cwd=TOP, stdin=subprocess.DEVNULL, stdout=subprocess.PIPE,
+        process = subprocess.Popen(words, cwd=TOP, stdin=subprocess.DEVNULL, stdout=subprocess.PIPE, env=UNBUFFERED,
                                    stderr=subprocess.STDOUT, text=True, errors="replace", start_new_session=True)
         timer = threading.Timer(limit or 10**6, self.end, [process])
         timer.start()
