@@ -1,0 +1,5 @@
+pub mod LooseValues
+pub mod ReplyLemmas
+pub mod SinkLemmas
+pub mod SlotValues
+pub mod StoredLemmas

@@ -1,0 +1,53 @@
+-- A step of a timeout, as an event reports it.
+use Rattle.std.specs.Prelude.{ℕ, ◌≡◌, List, Option, Some, None, option_map}
+use Rattle.std.proofs.Common.{ap, sym, subst, ◌∙◌}
+use Rattle.tftp_ends.specs.declared.endpoint.Endpoint.{Endpoint}
+use Rattle.tftp_ends.specs.declared.outgoing.Outgoing.{Outgoing}
+use Rattle.tftp_ends.specs.declared.record.Step.{Step}
+use Rattle.tftp_ends.specs.End.{EndState, is_progress}
+use Rattle.tftp_ends.specs.Step.{Lends, Reply, lent, reply_bytes, reported, timeout_turn}
+use Rattle.tftp_c.specs.declared.event.TftpEvent.{TftpEvent}
+use Rattle.tftp_c.specs.Handled.{TimedOut}
+use Rattle.tftp_c.specs.Reports.{Reports, Sends, SendsReply}
+
+sends_reply : (reply : Option Reply) (to : Option Endpoint) (bytes buffer : List ℕ)
+    (event : TftpEvent) →
+    to ≡ option_map (λ (r : Reply). r.to) reply →
+    bytes ≡ reply_bytes reply →
+    Sends to bytes buffer event →
+    SendsReply reply buffer event
+sends_reply None to bytes buffer event goes is h =
+    subst (λ (t : Option Endpoint). Sends t bytes buffer event) goes h
+sends_reply (Some reply) to bytes buffer event goes is h =
+    subst (λ (b : List ℕ). Sends (Some reply.to) b buffer event) is
+    (subst (λ (t : Option Endpoint). Sends t bytes buffer event) goes h)
+
+pub timed_out : (before e : EndState) (step : Step) (outgoing : Outgoing) (buffer : List ℕ)
+    (event : TftpEvent) →
+    Lends before (timeout_turn before) e step.to outgoing →
+    step ≡ reported before (timeout_turn before) →
+    Sends step.to (lent outgoing e) buffer event →
+    event.file_len ≡ 0 →
+    event.progress ≡ step.progress →
+    Reports e event →
+    TimedOut before e buffer event
+timed_out before e step outgoing buffer event lends is sends file progress reports =
+    record {
+      file = file;
+      steps =
+          record {
+            state = lends.state;
+            sends =
+                sends_reply (timeout_turn before).reply step.to (lent outgoing e) buffer event
+                lends.goes
+                lends.bytes
+                sends;
+            progress =
+                subst
+                (λ (s : EndState).
+                event.progress ≡ is_progress before.position.phase s.position.phase)
+                (sym lends.state)
+                (progress ∙ ap (λ (s : Step). s.progress) is);
+            reports = reports;
+          };
+    }

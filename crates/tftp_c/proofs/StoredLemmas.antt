@@ -1,0 +1,38 @@
+-- A step over a buffer is a step over an empty sink in memory.
+use Rattle.std.specs.Prelude.{ℕ, ◌≡◌, false, List, length, take}
+use Rattle.std.proofs.Common.{ap, sym, subst}
+use Rattle.tftp_file.specs.Memory.{MemSinkState, memory_sink, new_mem_sink}
+use Rattle.tftp_file.specs.Sink.{sink_through}
+use Rattle.tftp_ends.specs.declared.endpoint.Endpoint.{Endpoint}
+use Rattle.tftp_ends.specs.declared.outgoing.Outgoing.{Outgoing}
+use Rattle.tftp_ends.specs.declared.record.Step.{Step}
+use Rattle.tftp_ends.specs.End.{EndState}
+use Rattle.tftp_ends.specs.OneFile.{ReceiverStep}
+use Rattle.tftp_ends.specs.Step.{Turn, Lends, reported}
+use Rattle.tftp_c.specs.declared.slice_sink.SliceSink.{SliceSink}
+use Rattle.tftp_c.specs.Handled.{Stored}
+use Rattle.tftp_c.specs.Slices.{stored}
+use Rattle.tftp_c.proofs.SinkLemmas.{seen_step}
+
+abbrev seen : SliceSink → MemSinkState
+seen s = stored s.room.now s.used s.is_committed
+
+pub stored_made : (from : Endpoint) (datagram : List ℕ) (before e : EndState) (k k' : SliceSink)
+    (room file : List ℕ) (step : Step) (outgoing : Outgoing) →
+    seen k ≡ new_mem_sink (length room) false →
+    file ≡ k'.room.now →
+    (turn : Turn) × ReceiverStep (sink_through memory_sink seen) from datagram before k turn k'
+    × Lends before turn e step.to outgoing × (step ≡ reported before turn) →
+    Stored from datagram before e room file step outgoing k'.used
+stored_made from datagram before e k k' room file step outgoing empty same h =
+    record {
+      turn = h.0;
+      sink = seen k';
+      makes =
+          subst (λ (s : MemSinkState). ReceiverStep memory_sink from datagram before s h.0 (seen k'))
+          empty
+          (seen_step memory_sink seen from datagram before k h.0 k' h.1);
+      lends = h.2;
+      reports = h.3;
+      stored = ap (take k'.used) same;
+    }

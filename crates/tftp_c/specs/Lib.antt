@@ -1,0 +1,7 @@
+pub mod Handled
+pub mod Modes
+pub mod Opens
+pub mod Owned
+pub mod Reports
+pub mod Shown
+pub mod Slices

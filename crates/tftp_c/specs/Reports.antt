@@ -1,0 +1,50 @@
+-- What an event reports to C: the datagram to send, and the state of the end.
+use Rattle.std.specs.Prelude.{ℕ, ◌≡◌, ◌≤◌, List, length, take, Option, Some, None}
+use Rattle.tftp_ends.specs.declared.endpoint.Endpoint.{Endpoint}
+use Rattle.tftp_ends.specs.declared.outcome.Outcome.{Outcome}
+use Rattle.tftp_ends.specs.declared.outcome.Outcome.TheVariants.{PeerError}
+use Rattle.tftp_ends.specs.End.{EndState, is_complete, outcome_of, interval_of, terms_of, number_of}
+use Rattle.tftp_ends.specs.End.{size_of}
+use Rattle.tftp_ends.specs.Outcome as outcomes
+use Rattle.tftp_ends.specs.Step.{Reply}
+use Rattle.tftp_c.specs.declared.event.TftpEndpoint.{TftpEndpoint}
+use Rattle.tftp_c.specs.declared.event.TftpEvent.{TftpEvent}
+
+-- an endpoint of C
+abbrev pub endpoint_of : TftpEndpoint → Endpoint
+endpoint_of at = record { ip = at.ip; port = at.port }
+
+-- the length of the datagram to send, and its bytes if they fit the buffer
+abbrev pub Sends : Option Endpoint → List ℕ → List ℕ → TftpEvent → Type 0
+Sends None datagram buffer event = event.send_len ≡ 0
+Sends (Some to) datagram buffer event =
+    (endpoint_of event.to ≡ to) × (event.send_len ≡ length datagram)
+    × (length datagram ≤ length buffer → take (length datagram) buffer ≡ datagram)
+
+-- the answer of a step
+abbrev pub SendsReply : Option Reply → List ℕ → TftpEvent → Type 0
+SendsReply None buffer event = event.send_len ≡ 0
+SendsReply (Some reply) buffer event = Sends (Some reply.to) reply.bytes buffer event
+
+-- how an end closed, or 0
+abbrev pub outcome_number : Option Outcome → ℕ
+outcome_number None = 0
+outcome_number (Some outcome) = outcomes.number_of outcome
+
+-- the code of the ERROR of the peer that closed an end, or 0
+abbrev pub error_code : Outcome → ℕ
+error_code (PeerError code) = code
+error_code _ = 0
+
+abbrev pub peer_code : Option Outcome → ℕ
+peer_code None = 0
+peer_code (Some outcome) = error_code outcome
+
+-- the state of an end, as an event reports it
+pub record Reports (e : EndState) (event : TftpEvent) : Type 0 where
+  pub complete : event.complete ≡ is_complete e.position.phase
+  pub outcome : event.outcome ≡ outcome_number (outcome_of e.position.phase)
+  pub code : event.peer_code ≡ peer_code (outcome_of e.position.phase)
+  pub interval : event.interval ≡ interval_of (terms_of e.position.phase)
+  pub number : event.number ≡ number_of e.position.phase
+  pub size : event.block_size ≡ size_of (terms_of e.position.phase)

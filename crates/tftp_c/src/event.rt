@@ -1,0 +1,63 @@
+//! What crosses to C by value.
+
+/// The numbers that the calls return: 0 is success.
+pub(crate) const NOT_OPEN: u8 = 1;
+
+pub(crate) const BAD_REQUEST: u8 = 2;
+
+pub(crate) const MEMORY: u8 = 3;
+
+pub(crate) const CLOSED: u8 = 4;
+
+pub(crate) const WRONG_SIDE: u8 = 5;
+
+pub(crate) const TOO_LARGE: u8 = 6;
+
+/// An IPv4 address, in network order, and a UDP port.
+#[repr(C)]
+#[derive(Clone, Copy)]
+pub struct TftpEndpoint {
+    pub ip: [u8; 4],
+    pub port: u16,
+}
+
+/// What a request asks.
+#[repr(C)]
+#[derive(Clone, Copy)]
+pub struct TftpOptions {
+    /// The longest file that is accepted, where the server states its length.
+    pub max_file: u64,
+    /// The block size, or 0 for none.
+    pub blksize: u16,
+    /// The timeout in seconds, or 0 for none.
+    pub timeout: u8,
+    /// How many times in a row a datagram is sent again.
+    pub retries: u8,
+    pub asks_tsize: bool,
+    pub is_netascii: bool,
+}
+
+/// What a call did, and the state of the end after it.
+#[repr(C)]
+#[derive(Drop)]
+pub struct TftpEvent {
+    /// The length of the datagram to send, or 0.
+    pub send_len: usize,
+    /// How many bytes of the file were stored, or taken to be sent.
+    pub file_len: usize,
+    /// The destination of the datagram.
+    pub to: TftpEndpoint,
+    /// The code of the peer's ERROR, if that closed the end.
+    pub peer_code: u16,
+    /// A sender's newest DATA number, or how many blocks a receiver has stored.
+    pub number: u16,
+    /// The block size in bytes; 512 while there is no peer.
+    pub block_size: u16,
+    /// How the end closed, 1 to 9, or 0.
+    pub outcome: u8,
+    /// The timeout interval in seconds.
+    pub interval: u8,
+    pub progress: bool,
+    /// Whether the whole file was stored, or acknowledged.
+    pub complete: bool,
+}

@@ -1,0 +1,66 @@
+//! The handle of C: a client, or none.
+
+ghost use Rattle.std.specs.Prelude.{◌≡◌, Some, None, is_some, option_map};
+ghost use Rattle.std.specs.declared.option.Option.{Option};
+
+use crate::client::Client;
+use crate::slot::Slot;
+use std::alloc::Global;
+use std::mem;
+
+/// A client, or none. All bits zero is none.
+#[repr(C)]
+#[derive(Drop)]
+pub struct TftpEnd {
+    is_open: bool,
+    pub slot: Slot,
+    ghost agrees: { is_open ≡ is_some slot.value },
+}
+
+impl TftpEnd {
+    fn closed() -> TftpEnd
+        ensures { result.slot.value ≡ None }
+    {
+        TftpEnd {
+            is_open: false,
+            slot: Slot::empty(),
+        }
+    }
+
+    fn of(client: Box<Client>) -> TftpEnd
+        ensures { result.slot.value ≡ Some client.value }
+    {
+        TftpEnd {
+            is_open: true,
+            slot: Slot::of(client),
+        }
+    }
+
+    /// Takes the client, and leaves none.
+    pub(crate) fn take(&mut self, alloc: Global) -> Option<Box<Client>>
+        ensures taken { option_map (λ b. b.value) result ≡ self.old.slot.value }
+        ensures left { self.new.slot.value ≡ None }
+    {
+        let held = mem::replace(self, TftpEnd::closed());
+        if held.is_open {
+            Some(held.slot.into_box(alloc))
+        } else {
+            None
+        }
+    }
+
+    /// Puts a client where there is none.
+    pub(crate) fn put(&mut self, client: Box<Client>)
+        requires { self.old.slot.value ≡ None }
+        ensures { self.new.slot.value ≡ Some client.value }
+    {
+        mem::replace(self, TftpEnd::of(client));
+    }
+
+    pub(crate) fn close(&mut self, alloc: Global)
+        ensures { self.new.slot.value ≡ None }
+    {
+        let held = self.take(alloc);
+        drop(held);
+    }
+}

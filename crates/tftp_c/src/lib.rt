@@ -1,0 +1,194 @@
+//! TFTP for C: the ends of `tftp_ends` behind an opaque handle, and the packets of `tftp_wire`.
+//!
+//! It opens no socket, reads no clock and keeps no file: the caller of a handle passes datagrams
+//! and timeouts in, sends what a call writes to its buffer, and stores or reads the bytes of the
+//! file. `include/tftp.h` declares the calls, with what a caller in C owes.
+#![tactic(auto)]
+
+mod client;
+mod event;
+mod handle;
+mod loose;
+mod opening;
+mod packet;
+mod report;
+mod slice_sink;
+mod slice_source;
+mod slot;
+mod stepping;
+
+ghost use Rattle.std.specs.Prelude.{◌≡◌, Some, None};
+ghost use Rattle.tftp_wire.specs.Reading.{first_fault};
+ghost use Rattle.tftp_wire.specs.Faults.{kind_number};
+ghost use Rattle.tftp_wire.specs.Spelling.{Spells};
+ghost use Rattle.tftp_wire.specs.declared.packet.Packet.{Packet};
+ghost use Rattle.tftp_wire.specs.declared.fault.PacketFault.{PacketFault};
+ghost use Rattle.tftp_c.specs.Handled.{OnEnd, Received, Sent, TimedOut};
+ghost use Rattle.tftp_c.specs.Opens.{gets, puts, Opens};
+ghost use Rattle.tftp_c.specs.Shown.{Shows};
+
+use crate::event::{TftpEndpoint, TftpEvent, TftpOptions};
+use crate::handle::TftpEnd;
+use crate::packet::{TftpPacket, decode};
+use std::alloc::Global;
+
+/// Reads a datagram, and returns 0 or the number of its first fault.
+#[unsafe(no_mangle)]
+pub extern "C" fn tftp_decode(datagram: &[u8], packet: &mut TftpPacket) -> u8
+    ensures spelled { (p : Packet) → Spells p datagram.now
+        → (result ≡ 0) × Shows p datagram.now packet.new }
+    ensures fault { (e : PacketFault) → first_fault datagram.now ≡ Some e
+        → (result ≡ kind_number e.kind) × (packet.new.fault_at ≡ e.at) }
+{
+    decode(datagram, packet)
+}
+
+/// Opens a client that gets a file, after closing what `end` held. The request to send is written
+/// to `request`. After a fault `end` is closed.
+#[unsafe(no_mangle)]
+pub extern "C" fn tftp_get(
+    alloc: Global,
+    end: &mut TftpEnd,
+    server: &TftpEndpoint,
+    name: &[u8],
+    options: &TftpOptions,
+    request: &mut [u8],
+    event: &mut TftpEvent,
+) -> u8
+    ensures ok { result ≡ 0 → Opens end.new.slot.value (gets server.now name.now options.now)
+        server.now request.new event.new }
+    ensures err { (result ≡ 0 → ⊥) → end.new.slot.value ≡ None }
+{
+    end.close(alloc);
+    match opening::get(alloc, server, name, options, request, event) {
+        Ok(opened) => match Box::new(alloc, opened) {
+            Ok(opened) => {
+                end.put(opened);
+                0
+            }
+            Err(_) => event::MEMORY,
+        },
+        Err(fault) => fault,
+    }
+}
+
+/// Opens a client that puts a file of `length` bytes, after closing what `end` held. The request to
+/// send is written to `request`. After a fault `end` is closed.
+#[unsafe(no_mangle)]
+pub extern "C" fn tftp_put(
+    alloc: Global,
+    end: &mut TftpEnd,
+    server: &TftpEndpoint,
+    name: &[u8],
+    length: u64,
+    options: &TftpOptions,
+    request: &mut [u8],
+    event: &mut TftpEvent,
+) -> u8
+    ensures ok { result ≡ 0 → Opens end.new.slot.value
+        (puts server.now name.now length options.now) server.now request.new event.new }
+    ensures err { (result ≡ 0 → ⊥) → end.new.slot.value ≡ None }
+{
+    end.close(alloc);
+    match opening::put(alloc, server, name, length, options, request, event) {
+        Ok(opened) => match Box::new(alloc, opened) {
+            Ok(opened) => {
+                end.put(opened);
+                0
+            }
+            Err(_) => event::MEMORY,
+        },
+        Err(fault) => fault,
+    }
+}
+
+/// Handles a datagram at a receiver: the bytes of the file that it brings are written to `file`,
+/// and the datagram to send to `reply`.
+#[unsafe(no_mangle)]
+pub extern "C" fn tftp_receive(
+    alloc: Global,
+    end: &mut TftpEnd,
+    from: &TftpEndpoint,
+    datagram: &[u8],
+    file: &mut [u8],
+    reply: &mut [u8],
+    event: &mut TftpEvent,
+) -> u8
+    ensures ok { OnEnd end.old.slot.value end.new.slot.value (λ before e. result ≡ 0
+        → Received from.now datagram.now before e file.old file.new reply.new event.new) }
+    ensures err { (result ≡ 0 → ⊥)
+        → OnEnd end.old.slot.value end.new.slot.value (λ before e. e ≡ before) }
+    ensures unmoved { (result ≡ 0 → ⊥) → event.new ≡ event.old }
+    ensures none { end.old.slot.value ≡ None → result ≡ 1 }
+{
+    match end.take(alloc) {
+        Some(mut held) => {
+            let answer = stepping::receive(&mut held.end, from, datagram, file, reply, event);
+            end.put(held);
+            answer
+        }
+        None => event::NOT_OPEN,
+    }
+}
+
+/// Handles a datagram at a sender: it takes what it sends from the start of `next`, the next bytes
+/// of the file, and writes the datagram to send to `reply`.
+#[unsafe(no_mangle)]
+pub extern "C" fn tftp_send(
+    alloc: Global,
+    end: &mut TftpEnd,
+    from: &TftpEndpoint,
+    datagram: &[u8],
+    next: &[u8],
+    reply: &mut [u8],
+    event: &mut TftpEvent,
+) -> u8
+    ensures ok { OnEnd end.old.slot.value end.new.slot.value (λ before e. result ≡ 0
+        → Sent from.now datagram.now before e next.now reply.new event.new) }
+    ensures err { (result ≡ 0 → ⊥)
+        → OnEnd end.old.slot.value end.new.slot.value (λ before e. e ≡ before) }
+    ensures unmoved { (result ≡ 0 → ⊥) → event.new ≡ event.old }
+    ensures none { end.old.slot.value ≡ None → result ≡ 1 }
+{
+    match end.take(alloc) {
+        Some(mut held) => {
+            let answer = stepping::send(&mut held.end, from, datagram, next, reply, event);
+            end.put(held);
+            answer
+        }
+        None => event::NOT_OPEN,
+    }
+}
+
+/// Delivers a timeout.
+#[unsafe(no_mangle)]
+pub extern "C" fn tftp_timeout(
+    alloc: Global,
+    end: &mut TftpEnd,
+    reply: &mut [u8],
+    event: &mut TftpEvent,
+) -> u8
+    ensures ok { OnEnd end.old.slot.value end.new.slot.value (λ before e. result ≡ 0
+        → TimedOut before e reply.new event.new) }
+    ensures err { (result ≡ 0 → ⊥)
+        → OnEnd end.old.slot.value end.new.slot.value (λ before e. e ≡ before) }
+    ensures unmoved { (result ≡ 0 → ⊥) → event.new ≡ event.old }
+    ensures none { end.old.slot.value ≡ None → result ≡ 1 }
+{
+    match end.take(alloc) {
+        Some(mut held) => {
+            let answer = stepping::time_out(&mut held.end, reply, event);
+            end.put(held);
+            answer
+        }
+        None => event::NOT_OPEN,
+    }
+}
+
+/// Closes the end and frees its memory, if there is one.
+#[unsafe(no_mangle)]
+pub extern "C" fn tftp_close(alloc: Global, end: &mut TftpEnd)
+    ensures { end.new.slot.value ≡ None }
+{
+    end.close(alloc);
+}

@@ -1,0 +1,87 @@
+//! What the calls report to C.
+
+ghost use Rattle.std.specs.Prelude.{◌≡◌, ◌≤◌, length, take, option_map};
+ghost use Rattle.tftp_ends.specs.End.{outcome_of};
+ghost use Rattle.tftp_ends.specs.Step.{lent};
+ghost use Rattle.tftp_c.specs.Reports.{endpoint_of, outcome_number, peer_code, Reports, Sends};
+
+use crate::event::{TftpEndpoint, TftpEvent};
+use tftp_ends::{End, Endpoint, Outcome, Outgoing, Step};
+
+pub(crate) fn endpoint(at: &TftpEndpoint) -> Endpoint
+    ensures { result ≡ endpoint_of at.now }
+{
+    let ip = at.ip;
+    Endpoint { ip, port: at.port }
+}
+
+fn address(at: Endpoint) -> TftpEndpoint
+    ensures { endpoint_of result ≡ at }
+{
+    let ip = at.ip;
+    TftpEndpoint { ip, port: at.port }
+}
+
+/// Copies the bytes if they fit, and returns their number.
+pub(crate) fn copy(bytes: &[u8], to: &mut [u8]) -> usize
+    ensures count { result ≡ length bytes.now }
+    ensures copied { length bytes.now ≤ length to.old
+        → take (length bytes.now) to.new ≡ bytes.now }
+    ensures len { length to.new ≡ length to.old }
+{
+    let count = bytes.len();
+    if count <= to.len() {
+        to[..count].copy_from_slice(bytes);
+    }
+    count
+}
+
+fn outcome_number(outcome: Option<Outcome>) -> u8
+    ensures { result ≡ outcome_number outcome }
+{
+    match outcome {
+        Some(outcome) => outcome.number(),
+        None => 0,
+    }
+}
+
+fn peer_code(outcome: Option<Outcome>) -> u16
+    ensures { result ≡ peer_code outcome }
+{
+    match outcome {
+        Some(Outcome::PeerError(code)) => code,
+        Some(_) => 0,
+        None => 0,
+    }
+}
+
+/// Reports a step of an end, and copies the datagram to send.
+pub(crate) fn report(
+    end: &End,
+    step: Step,
+    outgoing: Outgoing,
+    reply: &mut [u8],
+    file_len: usize,
+    event: &mut TftpEvent,
+)
+    ensures sends { Sends step.to (lent outgoing end.now) reply.new event.new }
+    ensures file { event.new.file_len ≡ file_len }
+    ensures progress { event.new.progress ≡ step.progress }
+    ensures reports { Reports end.now event.new }
+{
+    event.send_len = 0;
+    if let Some(to) = step.to {
+        let at = address(to);
+        event.to = at;
+        event.send_len = copy(end.bytes_of(outgoing), reply);
+    }
+    let record = end.record();
+    event.file_len = file_len;
+    event.progress = step.progress;
+    event.interval = end.interval();
+    event.complete = record.complete;
+    event.number = record.number;
+    event.block_size = record.size;
+    event.outcome = outcome_number(record.outcome);
+    event.peer_code = peer_code(record.outcome);
+}

@@ -1,0 +1,130 @@
+//! The steps of an end for C.
+
+ghost use Rattle.std.specs.Prelude.{◌≡◌, true, false, IfOk, OnErr};
+ghost use Rattle.tftp_ends.specs.End.{is_sender};
+ghost use Rattle.tftp_c.specs.Handled.{Received, Sent, Stored, Taken, TimedOut};
+
+use crate::event::{self, TftpEndpoint, TftpEvent};
+use crate::report::{endpoint, report};
+use crate::slice_sink::SliceSink;
+use crate::slice_source::SliceSource;
+use tftp_ends::{End, EndFault, Endpoint, Outgoing, Step};
+
+fn number(fault: EndFault) -> u8
+    ensures { result ≡ 0 → ⊥ }
+{
+    match fault {
+        EndFault::Closed => event::CLOSED,
+        EndFault::Memory => event::MEMORY,
+    }
+}
+
+/// A receiver's step over a buffer, with the number of bytes that it stored.
+fn store(
+    end: &mut End,
+    from: Endpoint,
+    datagram: &[u8],
+    file: &mut [u8],
+) -> Result<(Step, Outgoing, usize), EndFault>
+    requires { is_sender end.old.role.side ≡ false }
+    ensures ok { IfOk result (λ made. Stored from datagram.now end.old end.new file.old file.new
+        made.0 made.1 made.2) }
+    ensures err { OnErr result (end.new ≡ end.old) }
+{
+    let mut sink = SliceSink {
+        room: file,
+        used: 0,
+        is_committed: false,
+    };
+    match end.handle_datagram_as_receiver(&mut sink, from, datagram) {
+        Ok((step, outgoing)) => Ok((step, outgoing, sink.used)),
+        Err(fault) => Err(fault),
+    }
+}
+
+/// A sender's step over the next bytes of its file, with the number of bytes that it took.
+fn take(
+    end: &mut End,
+    from: Endpoint,
+    datagram: &[u8],
+    next: &[u8],
+) -> Result<(Step, Outgoing, usize), EndFault>
+    requires { is_sender end.old.role.side ≡ true }
+    ensures ok { IfOk result (λ made. Taken from datagram.now end.old end.new next.now
+        made.0 made.1 made.2) }
+    ensures err { OnErr result (end.new ≡ end.old) }
+{
+    let mut source = SliceSource::of(next);
+    match end.handle_datagram_as_sender(&mut source, from, datagram) {
+        Ok((step, outgoing)) => {
+            let count = next.len().saturating_sub(source.rest().len());
+            Ok((step, outgoing, count))
+        }
+        Err(fault) => Err(fault),
+    }
+}
+
+/// Handles a datagram at a receiver.
+pub(crate) fn receive(
+    end: &mut End,
+    from: &TftpEndpoint,
+    datagram: &[u8],
+    file: &mut [u8],
+    reply: &mut [u8],
+    event: &mut TftpEvent,
+) -> u8
+    ensures ok { result ≡ 0 → Received from.now datagram.now end.old end.new file.old file.new
+        reply.new event.new }
+    ensures err { (result ≡ 0 → ⊥) → (end.new ≡ end.old) × (event.new ≡ event.old) }
+{
+    if end.record().side.is_sender() {
+        return event::WRONG_SIDE;
+    }
+    match store(end, endpoint(from), datagram, file) {
+        Ok((step, outgoing, count)) => {
+            report(end, step, outgoing, reply, count, event);
+            0
+        }
+        Err(fault) => number(fault),
+    }
+}
+
+/// Handles a datagram at a sender.
+pub(crate) fn send(
+    end: &mut End,
+    from: &TftpEndpoint,
+    datagram: &[u8],
+    next: &[u8],
+    reply: &mut [u8],
+    event: &mut TftpEvent,
+) -> u8
+    ensures ok { result ≡ 0 → Sent from.now datagram.now end.old end.new next.now reply.new
+        event.new }
+    ensures err { (result ≡ 0 → ⊥) → (end.new ≡ end.old) × (event.new ≡ event.old) }
+{
+    if end.record().side.is_sender() {
+        match take(end, endpoint(from), datagram, next) {
+            Ok((step, outgoing, count)) => {
+                report(end, step, outgoing, reply, count, event);
+                0
+            }
+            Err(fault) => number(fault),
+        }
+    } else {
+        event::WRONG_SIDE
+    }
+}
+
+/// Delivers a timeout.
+pub(crate) fn time_out(end: &mut End, reply: &mut [u8], event: &mut TftpEvent) -> u8
+    ensures ok { result ≡ 0 → TimedOut end.old end.new reply.new event.new }
+    ensures err { (result ≡ 0 → ⊥) → (end.new ≡ end.old) × (event.new ≡ event.old) }
+{
+    match end.handle_timeout() {
+        Ok((step, outgoing)) => {
+            report(end, step, outgoing, reply, 0, event);
+            0
+        }
+        Err(fault) => number(fault),
+    }
+}

@@ -1,0 +1,76 @@
+/* What the examples share: a UDP socket, a clock and the arguments. */
+#ifndef UDP_H
+#define UDP_H
+#define _POSIX_C_SOURCE 200809L
+#include "tftp.h"
+#include <arpa/inet.h>
+#include <poll.h>
+#include <stdio.h>
+#include <stdlib.h>
+#include <string.h>
+#include <sys/socket.h>
+#include <time.h>
+#include <unistd.h>
+
+static inline double now(void) {
+    struct timespec t;
+    clock_gettime(CLOCK_MONOTONIC, &t);
+    return (double)t.tv_sec + (double)t.tv_nsec / 1e9;
+}
+
+/* A socket at this port, or at any for 0. */
+static inline int udp_socket(uint16_t port) {
+    int fd = socket(AF_INET, SOCK_DGRAM, 0);
+    struct sockaddr_in at = {.sin_family = AF_INET, .sin_port = htons(port)};
+    if (fd < 0 || bind(fd, (struct sockaddr *)&at, sizeof at)) {
+        perror("socket");
+        exit(2);
+    }
+    return fd;
+}
+
+static inline void udp_send(int fd, const struct tftp_endpoint *to, const uint8_t *bytes, size_t len) {
+    struct sockaddr_in at = {.sin_family = AF_INET, .sin_port = htons(to->port)};
+    memcpy(&at.sin_addr, to->ip, 4);
+    if (len && sendto(fd, bytes, len, 0, (struct sockaddr *)&at, sizeof at) < 0)
+        perror("sendto"); /* as a datagram that was lost */
+}
+
+/* Waits for a datagram until `due`, and returns its length, or -1 for a timeout. */
+static inline ssize_t udp_receive(int fd, double due, struct tftp_endpoint *from, uint8_t *bytes, size_t room) {
+    for (;;) {
+        double left = due - now();
+        struct pollfd ready = {.fd = fd, .events = POLLIN};
+        int some = poll(&ready, 1, left > 0 ? (int)(left * 1000) + 1 : 0);
+        if (some == 0) return -1;
+        struct sockaddr_in source = {0};
+        socklen_t size = sizeof source;
+        ssize_t len = some < 0 ? -1 : recvfrom(fd, bytes, room, 0, (struct sockaddr *)&source, &size);
+        if (len < 0) continue; /* an ICMP error, or a signal */
+        memset(from, 0, sizeof *from);
+        memcpy(from->ip, &source.sin_addr, 4);
+        from->port = ntohs(source.sin_port);
+        return len;
+    }
+}
+
+static inline struct tftp_endpoint udp_endpoint(const char *ip, const char *port) {
+    struct tftp_endpoint at = {.port = (uint16_t)atoi(port)};
+    if (inet_pton(AF_INET, ip, at.ip) != 1) {
+        fprintf(stderr, "no IPv4 address: %s\n", ip);
+        exit(2);
+    }
+    return at;
+}
+
+/* The text of the peer's ERROR, which is the last datagram that a call handled. */
+static inline void print_outcome(const struct tftp_event *event, const uint8_t *datagram, size_t len) {
+    static const char *const words[] = {"open", "complete", "timed out", "peer's error", "illegal packet",
+        "options refused", "too large", "store fault", "source fault", "not netascii"};
+    printf("%s", words[event->outcome]);
+    struct tftp_packet packet = {0};
+    if (event->outcome == TFTP_PEER_ERROR && tftp_decode(datagram, len, &packet) == 0)
+        printf(" %d (%.*s)", event->peer_code, (int)packet.body_len, (const char *)datagram + packet.body_at);
+    printf(", block %d of %d bytes\n", event->number, event->block_size);
+}
+#endif
