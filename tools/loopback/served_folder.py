@@ -117,6 +117,21 @@ def test_uploads(scene):
                      "served/incoming/n": b"new", "served/incoming/sub/n": b"new"})
 
 
+def test_a_group_is_that_of_the_drafts_folder(scene):
+    """A file that is put into a folder below has the group of the folder where its draft was made, though both give
+    theirs to new files."""
+    groups = [4242, 4343] if os.geteuid() == 0 else sorted({os.getgid(), *os.getgroups()})[:2]
+    if len(groups) < 2:
+        return
+    scene.make("served/sub/old", b"old")
+    for name, group in zip(["served", "served/sub"], groups):
+        os.chown(scene.folder / name, -1, group)
+        (scene.folder / name).chmod(0o2755)
+    server = scene.serve(root="served")
+    writing(scene, server, "sub/n").is_answered(LAST, ack(1))
+    expect((scene.folder / "served/sub/n").stat().st_gid, groups[0], "the group of a new file in a folder below")
+
+
 def test_uploads_and_other_options(scene):
     """`--read-only` refuses writes there too, and `--overwrite` replaces there alone."""
     scene.make("served/a", b"old")
