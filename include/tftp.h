@@ -40,11 +40,14 @@ enum {
 enum {
     TFTP_OK = 0,
     TFTP_NOT_OPEN = 1,         /* the handle is closed */
-    TFTP_BAD_REQUEST = 2,      /* the name is empty, has a zero byte or is too long, or an option is out of range */
+    TFTP_BAD_REQUEST = 2,      /* the name is empty, has a zero byte or is too long, or an option is out of
+                                  range; or the request to serve is none */
     TFTP_MEMORY = 3,           /* out of memory */
     TFTP_CLOSED = 4,           /* the transfer is over: event.outcome of an earlier call says how */
     TFTP_WRONG_SIDE = 5,       /* tftp_receive at an end that sends, or the other way round */
-    TFTP_TOO_LARGE_FILE = 6    /* the file has more than 65,535 blocks */
+    TFTP_TOO_LARGE_FILE = 6,   /* the file has more than 65,535 blocks */
+    TFTP_REFUSED_OPTIONS = 7,  /* the options of the request are refused: answer ERROR 8 (RFC 2347) */
+    TFTP_NO_SOURCE = 8         /* `next` had fewer bytes than the first block */
 };
 
 /* tftp_event.outcome: 0 while the transfer goes on. */
@@ -110,6 +113,24 @@ uint8_t tftp_put(struct tftp_end *end, const struct tftp_endpoint *server, const
                  size_t name_len, uint64_t length, const struct tftp_options *options,
                  uint8_t *request, size_t request_len, struct tftp_event *event);
 
+/* Opens a server's end that sends the file of a read request, after closing what `end` held. The caller
+ * has read the request by tftp_decode, which says the name, and has found the file: `length` bytes, of
+ * which `next` has the first block of the file or more, or all. The options of the request are answered
+ * up to options->blksize (0: any) and options->max_file; options->retries counts, and no other of its
+ * fields. The first datagram is written to `reply`: send it to `client` from a port of its own, and pass
+ * all datagrams that arrive there to tftp_send. After a fault `end` is closed. */
+uint8_t tftp_serve_get(struct tftp_end *end, const struct tftp_endpoint *client,
+                       const uint8_t *request, size_t request_len, uint64_t length,
+                       const uint8_t *next, size_t next_len, const struct tftp_options *options,
+                       uint8_t *reply, size_t reply_len, struct tftp_event *event);
+
+/* Opens a server's end that receives the file of a write request, as above. Pass all datagrams to
+ * tftp_receive. */
+uint8_t tftp_serve_put(struct tftp_end *end, const struct tftp_endpoint *client,
+                       const uint8_t *request, size_t request_len,
+                       const struct tftp_options *options, uint8_t *reply, size_t reply_len,
+                       struct tftp_event *event);
+
 /* Handles a datagram at an end that receives. The next event.file_len bytes of the file are written to
  * `file`, which has a block's length or more: else the transfer closes as TFTP_STORE_FAULT. The
  * datagram to send is written to `reply`, of TFTP_MAX_REQUEST bytes or more. Store the bytes of the
@@ -138,7 +159,8 @@ void tftp_close(struct tftp_end *end);
 struct tftp_packet {
     size_t fault_at;           /* of the first fault */
     size_t name_len;           /* of a request's file name, whose offset is 2 */
-    size_t body_at, body_len;  /* the data, the text of an ERROR, or the options */
+    size_t body_at, body_len;  /* the data, the text of an ERROR, or the options: pairs of a name and a
+                                  value, each ended by a zero byte */
     uint16_t opcode;           /* 1 to 6, or 0 for a fault */
     uint16_t number;           /* the block, or the code of an ERROR */
     uint8_t mode;              /* of a request: 1 octet, 2 netascii */
@@ -147,6 +169,18 @@ struct tftp_packet {
 
 /* Reads a datagram, and returns 0 or the number of its first fault. */
 uint8_t tftp_decode(const uint8_t *datagram, size_t datagram_len, struct tftp_packet *packet);
+
+/* Writes an ERROR, as a server answers a request that it does not serve, and returns its length; or 0 if
+ * `text` has a zero byte, or the ERROR is longer than TFTP_MAX_REQUEST or the buffer, or without memory. */
+size_t tftp_error(uint16_t code, const uint8_t *text, size_t text_len, uint8_t *datagram,
+                  size_t datagram_len);
+
+/* For a test of this header alone: the size of each struct, and a different number in each field. */
+struct tftp_sizes {
+    uint8_t endpoint, options, event, packet, end;
+};
+void tftp_samples(struct tftp_endpoint *endpoint, struct tftp_options *options,
+                  struct tftp_event *event, struct tftp_packet *packet, struct tftp_sizes *sizes);
 
 #ifdef __cplusplus
 }

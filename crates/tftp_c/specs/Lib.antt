@@ -3,5 +3,6 @@ pub mod Modes
 pub mod Opens
 pub mod Owned
 pub mod Reports
+pub mod Serves
 pub mod Shown
 pub mod Slices

@@ -13,6 +13,10 @@ pub(crate) const WRONG_SIDE: u8 = 5;
 
 pub(crate) const TOO_LARGE: u8 = 6;
 
+pub(crate) const REFUSED_OPTIONS: u8 = 7;
+
+pub(crate) const NO_SOURCE: u8 = 8;
+
 /// An IPv4 address, in network order, and a UDP port.
 #[repr(C)]
 #[derive(Clone, Copy)]

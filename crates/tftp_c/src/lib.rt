@@ -6,30 +6,37 @@
 #![tactic(auto)]
 
 mod client;
+mod error;
 mod event;
 mod handle;
 mod loose;
 mod opening;
 mod packet;
 mod report;
+mod samples;
+mod serving;
 mod slice_sink;
 mod slice_source;
 mod slot;
 mod stepping;
 
-ghost use Rattle.std.specs.Prelude.{◌≡◌, Some, None};
+ghost use Rattle.std.specs.Prelude.{◌≡◌, Some, None, length, take};
 ghost use Rattle.tftp_wire.specs.Reading.{first_fault};
 ghost use Rattle.tftp_wire.specs.Faults.{kind_number};
-ghost use Rattle.tftp_wire.specs.Spelling.{Spells};
+ghost use Rattle.tftp_wire.specs.Spelling.{Spells, canonical};
+ghost use Rattle.tftp_wire.specs.declared.packet.Packet.TheVariants.{Error};
 ghost use Rattle.tftp_wire.specs.declared.packet.Packet.{Packet};
 ghost use Rattle.tftp_wire.specs.declared.fault.PacketFault.{PacketFault};
 ghost use Rattle.tftp_c.specs.Handled.{OnEnd, Received, Sent, TimedOut};
 ghost use Rattle.tftp_c.specs.Opens.{gets, puts, Opens};
+ghost use Rattle.tftp_c.specs.Serves.{HoldsSuch, ServesGet, ServesPut};
 ghost use Rattle.tftp_c.specs.Shown.{Shows};
 
+use crate::error::write_error;
 use crate::event::{TftpEndpoint, TftpEvent, TftpOptions};
 use crate::handle::TftpEnd;
 use crate::packet::{TftpPacket, decode};
+use crate::samples::TftpSizes;
 use std::alloc::Global;
 
 /// Reads a datagram, and returns 0 or the number of its first fault.
@@ -191,4 +198,90 @@ pub extern "C" fn tftp_close(alloc: Global, end: &mut TftpEnd)
     ensures { end.new.slot.value ≡ None }
 {
     end.close(alloc);
+}
+
+/// Opens a server's end that sends the file of a read request from `client`: `length` bytes, of which
+/// `next` are the first. After a fault `end` is closed.
+#[unsafe(no_mangle)]
+pub extern "C" fn tftp_serve_get(
+    alloc: Global,
+    end: &mut TftpEnd,
+    client: &TftpEndpoint,
+    request: &[u8],
+    length: u64,
+    next: &[u8],
+    options: &TftpOptions,
+    reply: &mut [u8],
+    event: &mut TftpEvent,
+) -> u8
+    ensures ok { result ≡ 0 → HoldsSuch end.new.slot.value (λ e. ServesGet client.now request.now
+        length next.now options.now e reply.new event.new) }
+    ensures err { (result ≡ 0 → ⊥) → end.new.slot.value ≡ None }
+{
+    end.close(alloc);
+    match serving::serve_get(alloc, client, request, length, next, options, reply, event) {
+        Ok(opened) => match Box::new(alloc, opened) {
+            Ok(opened) => {
+                end.put(opened);
+                0
+            }
+            Err(_) => event::MEMORY,
+        },
+        Err(fault) => fault,
+    }
+}
+
+/// Opens a server's end that receives the file of a write request from `client`. After a fault `end`
+/// is closed.
+#[unsafe(no_mangle)]
+pub extern "C" fn tftp_serve_put(
+    alloc: Global,
+    end: &mut TftpEnd,
+    client: &TftpEndpoint,
+    request: &[u8],
+    options: &TftpOptions,
+    reply: &mut [u8],
+    event: &mut TftpEvent,
+) -> u8
+    ensures ok { result ≡ 0 → HoldsSuch end.new.slot.value (λ e. ServesPut client.now request.now
+        options.now e reply.new event.new) }
+    ensures err { (result ≡ 0 → ⊥) → end.new.slot.value ≡ None }
+{
+    end.close(alloc);
+    match serving::serve_put(alloc, client, request, options, reply, event) {
+        Ok(opened) => match Box::new(alloc, opened) {
+            Ok(opened) => {
+                end.put(opened);
+                0
+            }
+            Err(_) => event::MEMORY,
+        },
+        Err(fault) => fault,
+    }
+}
+
+/// Writes an ERROR, and returns its length, or 0.
+#[unsafe(no_mangle)]
+pub extern "C" fn tftp_error(alloc: Global, code: u16, text: &[u8], datagram: &mut [u8]) -> usize
+    ensures error { (result ≡ 0 → ⊥) → take result datagram.new ≡ canonical (Error code text.now) }
+    ensures len { (result ≡ 0 → ⊥) → result ≡ length (canonical (Error code text.now)) }
+{
+    write_error(alloc, code, text, datagram)
+}
+
+/// Writes a different number to each field of each struct, and the size of each, for a test of
+/// `tftp.h`.
+#[unsafe(no_mangle)]
+pub extern "C" fn tftp_samples(
+    endpoint: &mut TftpEndpoint,
+    options: &mut TftpOptions,
+    event: &mut TftpEvent,
+    packet: &mut TftpPacket,
+    sizes: &mut TftpSizes,
+) {
+    *endpoint = samples::endpoint();
+    *options = samples::options();
+    *event = samples::event(samples::endpoint());
+    *packet = samples::packet();
+    *sizes = samples::sizes();
 }

@@ -57,13 +57,13 @@ fn config(options: &TftpOptions) -> EndConfig
     }
 }
 
-fn number(fault: OpenFault) -> u8
+pub(crate) fn number(fault: OpenFault) -> u8
     ensures { result ≡ 0 → ⊥ }
 {
     match fault {
         OpenFault::BadRequest => event::BAD_REQUEST,
         OpenFault::TooLarge => event::TOO_LARGE,
-        OpenFault::SourceFault => event::BAD_REQUEST,
+        OpenFault::SourceFault => event::NO_SOURCE,
         OpenFault::Memory => event::MEMORY,
     }
 }

@@ -1,0 +1,64 @@
+-- How a server's end opens for C.
+use Rattle.std.specs.Prelude.{ℕ, ◌≡◌, ◌-◌, if◌then◌else◌, List, length, Option, Some, None, Ok}
+use Rattle.tftp_wire.specs.Spelling.{Spells}
+use Rattle.tftp_wire.specs.declared.limits.TheConstants.{MAX_BLOCK}
+use Rattle.tftp_wire.specs.declared.packet.Packet.TheVariants.{Read, Write}
+use Rattle.tftp_wire.specs.declared.packet.Request.{Request}
+use Rattle.tftp_negotiate.specs.Answer.{answer}
+use Rattle.tftp_negotiate.specs.Ranges.{block_sizes, is_in}
+use Rattle.tftp_negotiate.specs.declared.known.Kind.TheVariants as kinds
+use Rattle.tftp_negotiate.specs.declared.known.Known.{Known}
+use Rattle.tftp_negotiate.specs.declared.limits.Limits.{Limits}
+use Rattle.tftp_file.specs.Memory.{memory_source}
+use Rattle.tftp_ends.specs.declared.endpoint.Endpoint.{Endpoint}
+use Rattle.tftp_ends.specs.End.{EndState}
+use Rattle.tftp_ends.specs.Opening.{ServesRead, serving_write}
+use Rattle.tftp_c.specs.declared.client.Client.{Client}
+use Rattle.tftp_c.specs.declared.event.TftpEndpoint.{TftpEndpoint}
+use Rattle.tftp_c.specs.declared.event.TftpEvent.{TftpEvent}
+use Rattle.tftp_c.specs.declared.event.TftpOptions.{TftpOptions}
+use Rattle.tftp_c.specs.Reports.{endpoint_of, Sends, Reports}
+
+-- the limits of a server: the block size that C gives is the largest, if it is one
+abbrev pub limits_of : TftpOptions → Limits
+limits_of options =
+    record {
+      max_block = if is_in block_sizes options.blksize then options.blksize else MAX_BLOCK;
+      max_file = options.max_file;
+    }
+
+-- an end that opened sends its first datagram
+pub record FirstSent (e : EndState) (peer : Endpoint) (reply : List ℕ) (event : TftpEvent) : Type 0
+  where
+    pub sends : Sends (Some peer) e.position.last_sent reply event
+    pub reports : Reports e event
+
+-- a read request is served: its options are answered, and what is sent comes from `next`, of which
+-- `rest` is left
+pub record ServesGet (client : TftpEndpoint) (datagram : List ℕ) (size : ℕ) (next : List ℕ)
+    (options : TftpOptions) (e : EndState) (reply : List ℕ) (event : TftpEvent) : Type 0 where
+  pub request : Request
+  pub asked : Spells (Read request) datagram
+  pub agreed : List Known
+  pub answers : answer request.options kinds.Read request.mode size (limits_of options) ≡ Ok agreed
+  pub rest : List ℕ
+  pub serves : ServesRead memory_source agreed (endpoint_of client) request.mode size
+      options.retries next rest e
+  pub taken : event.file_len ≡ length next - length rest
+  pub sent : FirstSent e (endpoint_of client) reply event
+
+-- a write request is served: its options are answered
+pub record ServesPut (client : TftpEndpoint) (datagram : List ℕ) (options : TftpOptions)
+    (e : EndState) (reply : List ℕ) (event : TftpEvent) : Type 0 where
+  pub request : Request
+  pub asked : Spells (Write request) datagram
+  pub agreed : List Known
+  pub answers : answer request.options kinds.Write request.mode 0 (limits_of options) ≡ Ok agreed
+  pub state : e ≡ serving_write agreed (endpoint_of client) request.mode options.retries
+  pub file : event.file_len ≡ 0
+  pub sent : FirstSent e (endpoint_of client) reply event
+
+-- a handle holds an end of which this holds
+abbrev pub HoldsSuch : Option Client → (EndState → Type 0) → Type 0
+HoldsSuch None holds = ⊥
+HoldsSuch (Some c) holds = holds c.end

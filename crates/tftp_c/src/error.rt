@@ -1,0 +1,44 @@
+//! An ERROR of a caller in C, which no end sends.
+
+ghost use Rattle.std.specs.Prelude.{◌≡◌, ◌≤◌, length, take};
+ghost use Rattle.tftp_wire.specs.Spelling.{canonical};
+ghost use Rattle.tftp_wire.specs.Texts.{IsText};
+ghost use Rattle.tftp_wire.specs.declared.packet.Packet.TheVariants.{Error};
+
+use crate::report::copy;
+use std::alloc::Global;
+use tftp_wire::{MAX_REQUEST, append_error, is_text};
+
+/// The bytes of an ERROR besides its text: the opcode, the code and the zero byte.
+const AROUND: usize = 5;
+
+/// Copies the bytes, or none of them if they do not fit, and returns how many.
+fn copy_whole(bytes: &[u8], to: &mut [u8]) -> usize
+    ensures copied { (result ≡ 0 → ⊥) → take result to.new ≡ bytes.now }
+    ensures len { (result ≡ 0 → ⊥) → result ≡ length bytes.now }
+{
+    if bytes.len() > to.len() {
+        return 0;
+    }
+    copy(bytes, to)
+}
+
+/// Writes an ERROR, and returns its length; or 0 if the text has a zero byte, or the ERROR has more
+/// than 512 bytes or does not fit, or without memory.
+pub(crate) fn write_error(alloc: Global, code: u16, text: &[u8], datagram: &mut [u8]) -> usize
+    ensures error { (result ≡ 0 → ⊥) → take result datagram.new ≡ canonical (Error code text.now) }
+    ensures len { (result ≡ 0 → ⊥) → result ≡ length (canonical (Error code text.now)) }
+    ensures text { (result ≡ 0 → ⊥) → IsText text.now }
+{
+    if !is_text(text) {
+        return 0;
+    }
+    if text.len() > MAX_REQUEST - AROUND {
+        return 0;
+    }
+    let mut out = Vec::new(alloc);
+    match append_error(&mut out, code, text) {
+        Ok(()) => copy_whole(out.as_slice(), datagram),
+        Err(_) => 0,
+    }
+}
