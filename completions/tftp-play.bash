@@ -3,7 +3,7 @@
 _tftp_play() {
     local options
     COMPREPLY=()
-    options='--svg --help -h --version -V'
+    options='--events --svg --help -h --version -V'
     if [[ $2 = -* && $3 != --svg ]]; then
         mapfile -t COMPREPLY < <(compgen -W "$options" -- "$2")
     else

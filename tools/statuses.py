@@ -54,7 +54,7 @@ class Check:
             return ""
         told = done.stderr.decode(errors="replace")
         wrote = (done.stdout or b"").decode(errors="replace")
-        is_told = told.startswith(errors) if at_start else told == errors
+        is_told = told.startswith(errors) if at_start is True else told == errors
         is_written = output is None or (wrote.startswith(output) if at_start else wrote == output)
         if done.returncode != status or not is_told or not is_written:
             wanted = f"status {status}, {output!r}, {errors!r}"
@@ -234,9 +234,19 @@ def test_play(check):
     check.ends("tftp-play", ["read.script"], 0, "", "#0 10.0.0.2:1024 > 10.0.0.1:69 RRQ a octet\n", at_start=True)
     check.ends("tftp-play", [], 1, "", "#0 10.0.0.2:1024 > 10.0.0.1:69 RRQ a octet\n", at_start=True,
                input=b"get a octet\n")
-    check.ends("tftp-play", [], 2, "line 2: fault\n", "", input=b"file a 414243\nget a oct\n")
-    check.ends("tftp-play", ["missing.script"], 2, "script: unreadable\n", "")
-    check.ends("tftp-play", ["."], 2, "script: unreadable\n", "")
+    check.ends("tftp-play", [], 2, "line 2: fault\ntftp-play: no mode: oct\n", "",
+               input=b"file a 414243\nget a oct\n")
+    check.ends("tftp-play", ["missing.script"], 2,
+               "script: unreadable\ntftp-play: missing.script: no such file or directory\n", "")
+    check.ends("tftp-play", ["."], 2, "script: unreadable\ntftp-play: .: is a directory\n", "")
+    check.ends("tftp-play", ["--svg", "missing/a.svg", "read.script"], 2,
+               "svg: unwritable\ntftp-play: missing/a.svg: no such file or directory\n", "#0 ", at_start="output")
+    many = b"".join(b"file f%d 41*100000000\n" % number for number in range(4))
+    check.ends("tftp-play", [], 2, "line 5: fault\ntftp-play: more than 400000000 bytes of content: 41\n", "",
+               input=many + b"file e 41\n")
+    check.ends("tftp-play", ["--events"], 1, "", "#0 10.0.0.2:1024 > 10.0.0.1:69 RRQ a octet\n- refuse 1024\n"
+               "#1 10.0.0.2:1024 > 10.0.0.1:69 RRQ a octet\n", at_start=True,
+               input=b"get a octet\nrefuse 1024\ntimeout 1024\n")
     with open("/dev/full", "wb") as full:
         check.ends("tftp-play", ["read.script"], 2, "output: unwritable\n", stdout=full)
     with closed_pipe() as write:

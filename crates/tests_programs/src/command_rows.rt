@@ -46,15 +46,20 @@ fn play_command_lines(rt: HostRuntime) {
 }
 
 /// A script that does not exist, and a folder.
-const UNREADABLE: [&str; 2] = ["/missing/a.script", "/"];
+const UNREADABLE: [(&str, &str); 2] = [
+    (
+        "/missing/a.script",
+        "script: unreadable\ntftp-play: /missing/a.script: no such file or directory\n",
+    ),
+    ("/", "script: unreadable\ntftp-play: /: is a directory\n"),
+];
 
 #[test]
 fn unreadable_scripts(rt: HostRuntime) {
-    for &path in &UNREADABLE {
+    for &(path, message) in &UNREADABLE {
         let mut errors = Vec::new(rt.alloc());
         let answer = play_words(&rt, &["tftp-play", path], &mut errors);
         expect_equal(&rt, &answer, &2, path);
-        let message = b"script: unreadable\n".as_slice();
-        expect_bytes(&rt, errors.as_slice(), message, path);
+        expect_bytes(&rt, errors.as_slice(), message.as_bytes(), path);
     }
 }

@@ -194,7 +194,7 @@ fn a_script_breaks_off(rt: HostRuntime) {
     let status = play_run(rt.alloc(), broken, &mut output, &mut errors);
     expect_equal(&rt, &status, &2, "the status");
     expect(&rt, output.is_empty(), "nothing is played");
-    let message = b"script: unreadable\n".as_slice();
+    let message = b"script: unreadable\ntftp-play: the script: timed out\n".as_slice();
     expect_bytes(&rt, errors.as_slice(), message, "the message");
 }
 

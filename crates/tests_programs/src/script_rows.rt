@@ -6,107 +6,229 @@ use std::process::Abort;
 use std::test::Fail;
 use tftp_play::play_run;
 
-/// Scripts, and the number of their first faulty line.
-const FAULTS: [(&[u8], usize); 83] = [
+/// Scripts, the number of their first faulty line, and what is wrong there.
+const FAULTS: [(&[u8], usize, &str); 83] = [
     // lines and words
-    (b"#", 1),
-    (b"\n# no end", 2),
-    (b"get a octet", 1),
-    (b" \n", 1),
-    (b" deliver 0\n", 1),
-    (b"deliver 0 \n", 1),
-    (b"deliver  0\n", 1),
-    (b"# a\n\ndeliver\n", 3),
-    (b"Deliver 0\n", 1),
-    (b"deliver 0\r\n", 1),
-    (b"\r\n", 1),
-    (b"deliver 0\nstop\nstop\n", 2),
-    (b"\xff\n", 1),
+    (b"#", 1, "no line feed at the end"),
+    (b"\n# no end", 2, "no line feed at the end"),
+    (b"get a octet", 1, "no line feed at the end"),
+    (
+        b" \n",
+        1,
+        "one space stands between two words, and no other",
+    ),
+    (
+        b" deliver 0\n",
+        1,
+        "one space stands between two words, and no other",
+    ),
+    (
+        b"deliver 0 \n",
+        1,
+        "one space stands between two words, and no other",
+    ),
+    (
+        b"deliver  0\n",
+        1,
+        "one space stands between two words, and no other",
+    ),
+    (b"# a\n\ndeliver\n", 3, "too few or too many words"),
+    (b"Deliver 0\n", 1, "no such line: Deliver"),
+    (b"deliver 0\r\n", 1, "no number in range: 0\\r"),
+    (b"\r\n", 1, "no such line: \\r"),
+    (b"deliver 0\nstop\nstop\n", 2, "no such line: stop"),
+    (b"\xff\n", 1, "not UTF-8: \\xff"),
     // numbers
-    (b"deliver 00\n", 1),
-    (b"deliver 01\n", 1),
-    (b"deliver +1\n", 1),
-    (b"deliver -1\n", 1),
-    (b"deliver 1x\n", 1),
-    (b"deliver 18446744073709551616\n", 1),
-    (b"settle 18446744073709551616\n", 1),
-    (b"timeout 65536\n", 1),
-    (b"timeout 1 2\n", 1),
+    (b"deliver 00\n", 1, "no number in range: 00"),
+    (b"deliver 01\n", 1, "no number in range: 01"),
+    (b"deliver +1\n", 1, "no number in range: +1"),
+    (b"deliver -1\n", 1, "no number in range: -1"),
+    (b"deliver 1x\n", 1, "no number in range: 1x"),
+    (
+        b"deliver 18446744073709551616\n",
+        1,
+        "no number in range: 18446744073709551616",
+    ),
+    (
+        b"settle 18446744073709551616\n",
+        1,
+        "no number in range: 18446744073709551616",
+    ),
+    (b"timeout 65536\n", 1, "no number in range: 65536"),
+    (b"timeout 1 2\n", 1, "too few or too many words"),
     // settings
-    (b"set retries 11\n", 1),
-    (b"set retries\n", 1),
-    (b"set cap 0\n", 1),
-    (b"set cap 65\n", 1),
-    (b"set max-block 7\n", 1),
-    (b"set max-block 65465\n", 1),
-    (b"set max-file 18446744073709551616\n", 1),
-    (b"set overwrite no\n", 1),
-    (b"set overwrite\n", 1),
-    (b"refuse 1\nset overwrite yes\n", 2),
-    (b"settle 0\nset cap 1\n", 2),
-    (b"timeout 1\nset retries 5\n", 2),
+    (b"set retries 11\n", 1, "no number in range: 11"),
+    (b"set retries\n", 1, "too few or too many words"),
+    (b"set cap 0\n", 1, "no number in range: 0"),
+    (b"set cap 65\n", 1, "no number in range: 65"),
+    (b"set max-block 7\n", 1, "no number in range: 7"),
+    (b"set max-block 65465\n", 1, "no number in range: 65465"),
+    (
+        b"set max-file 18446744073709551616\n",
+        1,
+        "no number in range: 18446744073709551616",
+    ),
+    (b"set overwrite no\n", 1, "not yes: no"),
+    (b"set overwrite\n", 1, "too few or too many words"),
+    (
+        b"refuse 1\nset overwrite yes\n",
+        2,
+        "after the first event: set",
+    ),
+    (b"settle 0\nset cap 1\n", 2, "after the first event: set"),
+    (
+        b"timeout 1\nset retries 5\n",
+        2,
+        "after the first event: set",
+    ),
     // files
-    (b"file a\n", 1),
-    (b"file a 4\n", 1),
-    (b"file a 4G\n", 1),
-    (b"file a 41 42\n", 1),
-    (b"file a 41*0\n", 1),
-    (b"file a 41*01\n", 1),
-    (b"file a 41*\n", 1),
-    (b"file a *3\n", 1),
-    (b"file a -*3\n", 1),
-    (b"file a 41*2*2\n", 1),
-    (b"file a 41*100000001\n", 1),
-    (b"file a 4142*9223372036854775808\n", 1),
-    (b"file .a 41\n", 1),
-    (b"file / 41\n", 1),
-    (b"file a 41\nfile /a -\n", 2),
-    (b"deliver 0\nfile a 41\n", 2),
+    (b"file a\n", 1, "too few or too many words"),
+    (b"file a 4\n", 1, "no content: 4"),
+    (b"file a 4G\n", 1, "no content: 4G"),
+    (b"file a 41 42\n", 1, "too few or too many words"),
+    (b"file a 41*0\n", 1, "no content: 41*0"),
+    (b"file a 41*01\n", 1, "no number in range: 41*01"),
+    (b"file a 41*\n", 1, "no number in range: 41*"),
+    (b"file a *3\n", 1, "no content: *3"),
+    (b"file a -*3\n", 1, "no content: -*3"),
+    (b"file a 41*2*2\n", 1, "no number in range: 41*2*2"),
+    (b"file a 41*100000001\n", 1, "no content: 41*100000001"),
+    (
+        b"file a 4142*9223372036854775808\n",
+        1,
+        "no content: 4142*9223372036854775808",
+    ),
+    (b"file .a 41\n", 1, "no name of a file: .a"),
+    (b"file / 41\n", 1, "no name of a file: /"),
+    (b"file a 41\nfile /a -\n", 2, "two files of this name: /a"),
+    (b"deliver 0\nfile a 41\n", 2, "after the first event: file"),
     // reads
-    (b"get a\n", 1),
-    (b"get a mail\n", 1),
-    (b"file a 414243\nget a oct\n", 2),
-    (b"get a OCTET\n", 1),
-    (b"get a octet blksize=7\n", 1),
-    (b"get a octet blksize=512 blksize=512\n", 1),
-    (b"get a octet timeout=0\n", 1),
-    (b"get a octet timeout=256\n", 1),
-    (b"get a octet tsize=0\n", 1),
-    (b"get a octet tsize tsize\n", 1),
+    (b"get a\n", 1, "too few or too many words"),
+    (b"get a mail\n", 1, "no mode: mail"),
+    (b"file a 414243\nget a oct\n", 2, "no mode: oct"),
+    (b"get a OCTET\n", 1, "no mode: OCTET"),
+    (b"get a octet blksize=7\n", 1, "an option out of its range"),
+    (
+        b"get a octet blksize=512 blksize=512\n",
+        1,
+        "no option, or there twice: blksize=512",
+    ),
+    (b"get a octet timeout=0\n", 1, "an option out of its range"),
+    (
+        b"get a octet timeout=256\n",
+        1,
+        "no number in range: timeout=256",
+    ),
+    (
+        b"get a octet tsize=0\n",
+        1,
+        "no option, or there twice: tsize=0",
+    ),
+    (
+        b"get a octet tsize tsize\n",
+        1,
+        "no option, or there twice: tsize",
+    ),
     // writes
-    (b"put a octet\n", 1),
-    (b"put a mail 41\n", 1),
-    (b"put a octet 4\n", 1),
-    (b"put a octet 41*0\n", 1),
-    (b"put a octet 41 blksize=65465\n", 1),
-    (b"put a octet 41 tsize=1\n", 1),
+    (b"put a octet\n", 1, "too few or too many words"),
+    (b"put a mail 41\n", 1, "no mode: mail"),
+    (b"put a octet 4\n", 1, "no content: 4"),
+    (b"put a octet 41*0\n", 1, "no content: 41*0"),
+    (
+        b"put a octet 41 blksize=65465\n",
+        1,
+        "an option out of its range",
+    ),
+    (
+        b"put a octet 41 tsize=1\n",
+        1,
+        "no option, or there twice: tsize=1",
+    ),
     // receivers that refuse
-    (b"refuse\n", 1),
-    (b"refuse 65536\n", 1),
+    (b"refuse\n", 1, "too few or too many words"),
+    (b"refuse 65536\n", 1, "no number in range: 65536"),
     // drawn events
-    (b"random 1\n", 1),
-    (b"random -1 1\n", 1),
-    (b"random 1 18446744073709551616\n", 1),
+    (b"random 1\n", 1, "too few or too many words"),
+    (b"random -1 1\n", 1, "no number in range: -1"),
+    (
+        b"random 1 18446744073709551616\n",
+        1,
+        "no number in range: 18446744073709551616",
+    ),
     // strays, of neither host
-    (b"stray 10.0.0.9:1 10.0.0.1:69\n", 1),
-    (b"stray 10.0.0.9:1 10.0.0.1:69 -\n", 1),
-    (b"stray 10.0.0.9:1 10.0.0.1:69 000\n", 1),
-    (b"stray 10.0.0.9:1 10.0.0.1:69 00*2\n", 1),
-    (b"stray 10.0.0.9 10.0.0.1:69 00\n", 1),
-    (b"stray 10.0.0.9:01 10.0.0.1:69 00\n", 1),
-    (b"stray 10.0.0.9:65536 10.0.0.1:69 00\n", 1),
-    (b"stray 10.0.0.09:1 10.0.0.1:69 00\n", 1),
-    (b"stray 10.0.9:1 10.0.0.1:69 00\n", 1),
-    (b"stray 10.0.0.9:1 host:69 00\n", 1),
-    (b"stray 10.0.0.1:1 10.0.0.1:69 00\n", 1),
-    (b"stray 10.0.0.2:1 10.0.0.1:69 00\n", 1),
+    (
+        b"stray 10.0.0.9:1 10.0.0.1:69\n",
+        1,
+        "too few or too many words",
+    ),
+    (
+        b"stray 10.0.0.9:1 10.0.0.1:69 -\n",
+        1,
+        "no hexadecimal digits: -",
+    ),
+    (
+        b"stray 10.0.0.9:1 10.0.0.1:69 000\n",
+        1,
+        "no hexadecimal digits: 000",
+    ),
+    (
+        b"stray 10.0.0.9:1 10.0.0.1:69 00*2\n",
+        1,
+        "no hexadecimal digits: 00*2",
+    ),
+    (
+        b"stray 10.0.0.9 10.0.0.1:69 00\n",
+        1,
+        "no address with a port: 10.0.0.9",
+    ),
+    (
+        b"stray 10.0.0.9:01 10.0.0.1:69 00\n",
+        1,
+        "no number in range: 10.0.0.9:01",
+    ),
+    (
+        b"stray 10.0.0.9:65536 10.0.0.1:69 00\n",
+        1,
+        "no number in range: 10.0.0.9:65536",
+    ),
+    (
+        b"stray 10.0.0.09:1 10.0.0.1:69 00\n",
+        1,
+        "no address with a port: 10.0.0.09:1",
+    ),
+    (
+        b"stray 10.0.9:1 10.0.0.1:69 00\n",
+        1,
+        "no address with a port: 10.0.9:1",
+    ),
+    (
+        b"stray 10.0.0.9:1 host:69 00\n",
+        1,
+        "no address with a port: host:69",
+    ),
+    (
+        b"stray 10.0.0.1:1 10.0.0.1:69 00\n",
+        1,
+        "no other host: 10.0.0.1:1",
+    ),
+    (
+        b"stray 10.0.0.2:1 10.0.0.1:69 00\n",
+        1,
+        "no other host: 10.0.0.2:1",
+    ),
 ];
 
-fn is_faulty(rt: &impl Abort, alloc: Global, script: &[u8], number: usize) -> Result<(), Fail> {
+fn is_faulty(
+    rt: &impl Abort,
+    alloc: Global,
+    script: &[u8],
+    number: usize,
+    flaw: &str,
+) -> Result<(), Fail> {
     let mut output = Vec::new(alloc);
     let mut errors = Vec::new(alloc);
     let status = play_run(alloc, script, &mut output, &mut errors);
-    let expected = format!(in alloc; "line {number}: fault\n")?;
+    let expected = format!(in alloc; "line {number}: fault\ntftp-play: {flaw}\n")?;
     expect_equal(
         rt,
         &(script, errors.as_slice()),
@@ -125,8 +247,8 @@ fn is_faulty(rt: &impl Abort, alloc: Global, script: &[u8], number: usize) -> Re
 
 #[test]
 fn script_faults(rt: HostRuntime) -> Result<(), Fail> {
-    for &(script, number) in &FAULTS {
-        is_faulty(&rt, rt.alloc(), script, number)?;
+    for &(script, number, flaw) in &FAULTS {
+        is_faulty(&rt, rt.alloc(), script, number, flaw)?;
     }
     Ok(())
 }

@@ -131,7 +131,7 @@ fn no_picture(rt: HostRuntime) {
     expect_bytes(
         &rt,
         errors.as_slice(),
-        b"svg: unwritable\n".as_slice(),
+        b"svg: unwritable\ntftp-play: the picture: no such file or directory\n".as_slice(),
         "the message",
     );
 }
@@ -153,7 +153,7 @@ fn a_full_picture(rt: HostRuntime) {
     expect_bytes(
         &rt,
         errors.as_slice(),
-        b"svg: unwritable\n".as_slice(),
+        b"svg: unwritable\ntftp-play: the picture: no space left on the device\n".as_slice(),
         "the message",
     );
 }

@@ -2,14 +2,14 @@
 
 ghost use Rattle.std.specs.Prelude.{◌≤◌};
 
-use crate::play::{PlayFault, play_drawn, play_run};
+use crate::play::{EventNames, PLAIN, PlayFault, Playing, draw_as, play_as};
 use clap::{Arg, Command};
 use std::alloc::{AllocError, Global};
 use std::convert::AsStr;
 use std::io::{Read, Write};
 use std::rt::Runtime;
 use std::{fs, io};
-use tftp_arguments::{VERSION, own_words, print_usage, print_words_fault};
+use tftp_arguments::{VERSION, flag, own_words, print_usage, print_words_fault};
 
 /// Runs `tftp-play` with the program's own command line, and returns its status. `errors` is
 /// standard error.
@@ -38,15 +38,18 @@ pub fn play_words<R: Runtime + AllocGlobal, S: AsStr, E: Write + Drop>(
     ensures { result ≤ 2 }
 {
     let Ok(command) = play_syntax(rt.alloc()) else {
-        return PlayFault::Memory.report(&mut errors);
+        return PlayFault::Memory.report(PLAIN, &[], &mut errors);
     };
     match command.try_get_matches_from(words) {
-        Ok(matches) => play_script(
-            rt,
-            matches.get_str("SCRIPT"),
-            matches.get_str("svg"),
-            errors,
-        ),
+        Ok(matches) => {
+            let events = if matches.get_flag("events") {
+                EventNames::Shown
+            } else {
+                EventNames::Hidden
+            };
+            let script = matches.get_str("SCRIPT");
+            play_script(rt, script, matches.get_str("svg"), events, errors)
+        }
         Err(error) => print_usage(rt, &error),
     }
 }
@@ -58,11 +61,13 @@ fn play_syntax<'a>(alloc: Global) -> Result<Command<'a>, AllocError> {
         .long("svg")
         .value_name("FILE")
         .help("Draws the run as a sequence diagram into this file");
+    let events = flag(alloc, "events", "Prints the event beside each -");
     Command::new(alloc, "tftp-play")
         .about("Plays a script of TFTP transfers over a lossy network in memory")
         .version(VERSION)
         .arg(script)?
-        .arg(svg)
+        .arg(svg)?
+        .arg(events)
 }
 
 /// Plays the script in the file at the path, or on standard input.
@@ -70,16 +75,22 @@ fn play_script<R: Runtime + AllocGlobal, E: Write + Drop>(
     rt: &R,
     path: Option<&str>,
     svg: Option<&str>,
+    events: EventNames,
     mut errors: E,
 ) -> u8
     ensures { result ≤ 2 }
 {
+    let how = Playing {
+        events,
+        script: path.unwrap_or("standard input"),
+        picture: svg.unwrap_or("the picture"),
+    };
     let Some(path) = path else {
-        return play_source(rt, rt.reader(), svg, errors);
+        return play_source(rt, rt.reader(), svg, how, errors);
     };
     match fs::open(rt, path) {
-        Ok(script) => play_source(rt, script, svg, errors),
-        Err(error) => PlayFault::of_reading(&error).report(&mut errors),
+        Ok(script) => play_source(rt, script, svg, how, errors),
+        Err(error) => PlayFault::of_reading(&error).report(how, &[], &mut errors),
     }
 }
 
@@ -88,13 +99,17 @@ fn play_source<R: Runtime + AllocGlobal, S: Read + Drop, E: Write + Drop>(
     rt: &R,
     script: S,
     svg: Option<&str>,
-    errors: E,
+    how: Playing<'_>,
+    mut errors: E,
 ) -> u8
     ensures { result ≤ 2 }
 {
     let output = io::writer(rt);
     match svg {
-        None => play_run(rt.alloc(), script, output, errors),
-        Some(path) => play_drawn(rt.alloc(), script, output, || fs::create(rt, path), errors),
+        None => play_as(rt.alloc(), script, output, &mut errors, how),
+        Some(path) => {
+            let picture = || fs::create(rt, path);
+            draw_as(rt.alloc(), script, output, picture, &mut errors, how)
+        }
     }
 }

@@ -1,20 +1,29 @@
 //! `tftp-play`: reads a script, and prints a line for each event.
 
-ghost use Rattle.std.specs.Prelude.{◌≡◌, ◌≤◌, ◌⊎◌, false, IfErr, IfOk, IfSome, OnOk};
-ghost use Rattle.tftp_play.specs.declared.play.fault.PlayFault.TheVariants.{Memory, Undrawn};
-ghost use Rattle.tftp_play.specs.declared.play.fault.PlayFault.TheVariants.{Unreadable};
+ghost use Rattle.std.specs.Prelude.{◌≡◌, ◌≤◌, ◌⊎◌, true, false, IfErr, IfOk, IfSome, OnOk};
+ghost use Rattle.tftp_play.specs.Play.{is_undrawn, is_unreadable};
+ghost use Rattle.tftp_play.specs.declared.play.fault.PlayFault.TheVariants.{Memory};
 
 mod datagram_line;
+mod event_name;
 mod fault;
 mod script_run;
 
 use crate::recording::Recording;
-pub(crate) use fault::PlayFault;
+pub(crate) use event_name::EventNames;
+pub(crate) use fault::{PlayFault, Playing};
 use script_run::ScriptRun;
 use std::alloc::Global;
 use std::io::{self, Read, Write};
 use tftp_diagram::{Diagram, svg_text};
 use tftp_script::Script;
+
+/// A run over readers and writers, which have no names, as the specification has it.
+pub(crate) const PLAIN: Playing<'static> = Playing {
+    events: EventNames::Hidden,
+    script: "the script",
+    picture: "the picture",
+};
 
 /// Plays a script in a world of its own, and writes the effect of each event, and at the end the
 /// record of each end.
@@ -30,10 +39,27 @@ pub fn play_run<R: Read + Drop, W: Write + Drop, E: Write + Drop>(
 ) -> u8
     ensures { result ≤ 2 }
 {
-    match play(alloc, script, output, None) {
+    play_as(alloc, script, output, &mut errors, PLAIN)
+}
+
+/// As [`play_run`], as this says.
+pub(crate) fn play_as<R: Read + Drop, W: Write + Drop, E: Write>(
+    alloc: Global,
+    script: R,
+    output: W,
+    errors: &mut E,
+    how: Playing<'_>,
+) -> u8
+    ensures { result ≤ 2 }
+{
+    let text = match read_script(alloc, script) {
+        Ok(text) => text,
+        Err(fault) => return fault.report(how, &[], errors),
+    };
+    match play(alloc, text.as_slice(), output, None, how.events) {
         Ok((true, _)) => 0,
         Ok((false, _)) => 1,
-        Err(fault) => fault.report(&mut errors),
+        Err(fault) => fault.report(how, text.as_slice(), errors),
     }
 }
 
@@ -58,23 +84,59 @@ where
     requires { F.IsAlwaysCallable picture }
     ensures { result ≤ 2 }
 {
-    match draw(alloc, script, output, picture) {
+    draw_as(alloc, script, output, picture, &mut errors, PLAIN)
+}
+
+/// As [`play_drawn`], as this says.
+pub(crate) fn draw_as<R, W, E, P, F>(
+    alloc: Global,
+    script: R,
+    output: W,
+    picture: F,
+    errors: &mut E,
+    how: Playing<'_>,
+) -> u8
+where
+    R: Read + Drop,
+    W: Write + Drop,
+    E: Write,
+    P: Write + Drop,
+    F: FnOnce() -> io::Result<P> + Drop,
+    requires { F.IsAlwaysCallable picture }
+    ensures { result ≤ 2 }
+{
+    let text = match read_script(alloc, script) {
+        Ok(text) => text,
+        Err(fault) => return fault.report(how, &[], errors),
+    };
+    match draw(alloc, text.as_slice(), output, picture, how.events) {
         Ok(true) => 0,
         Ok(false) => 1,
-        Err(fault) => fault.report(&mut errors),
+        Err(fault) => fault.report(how, text.as_slice(), errors),
     }
 }
 
 /// Plays a script and draws the run, and returns whether every client is complete.
-fn draw<R, W, P, F>(alloc: Global, script: R, output: W, picture: F) -> Result<bool, PlayFault>
+fn draw<W, P, F>(
+    alloc: Global,
+    script: &[u8],
+    output: W,
+    picture: F,
+    events: EventNames,
+) -> Result<bool, PlayFault>
 where
-    R: Read + Drop,
     W: Write + Drop,
     P: Write + Drop,
     F: FnOnce() -> io::Result<P> + Drop,
     requires { F.IsAlwaysCallable picture }
 {
-    let (is_complete, recording) = play(alloc, script, output, Some(Recording::new(alloc)))?;
+    let (is_complete, recording) = play(
+        alloc,
+        script,
+        output,
+        Some(Recording::new(alloc)),
+        events,
+    )?;
     if let Some(recording) = recording {
         let svg = picture_of(alloc, recording)?;
         match picture() {
@@ -111,7 +173,7 @@ fn drawn(alloc: Global, diagram: &Diagram) -> Result<String, PlayFault>
 
 /// Writes a picture.
 fn write_picture<P: Write + Drop>(mut file: P, svg: &str) -> Result<(), PlayFault>
-    ensures { IfErr result (λ fault. (fault ≡ Memory) ⊎ (fault ≡ Undrawn)) }
+    ensures { IfErr result (λ fault. (fault ≡ Memory) ⊎ (is_undrawn fault ≡ true)) }
 {
     match file.write_all(svg.as_bytes()) {
         Ok(()) => {}
@@ -124,19 +186,19 @@ fn write_picture<P: Write + Drop>(mut file: P, svg: &str) -> Result<(), PlayFaul
 }
 
 /// Plays a script, and returns whether every client is complete, and the recording.
-fn play<R: Read + Drop, W: Write + Drop>(
+fn play<W: Write + Drop>(
     alloc: Global,
-    script: R,
+    script: &[u8],
     output: W,
     recording: Option<Recording>,
+    events: EventNames,
 ) -> Result<(bool, Option<Recording>), PlayFault> {
-    let text = read_script(alloc, script)?;
     let Script {
         config,
         files,
         statements,
-    } = Script::parse(alloc, text.as_slice())?;
-    let mut run = ScriptRun::new(alloc, files, config, output, recording)?;
+    } = Script::parse(alloc, script)?;
+    let mut run = ScriptRun::new(alloc, files, config, output, recording, events)?;
     for statement in statements {
         run.execute(statement)?;
     }
@@ -146,7 +208,7 @@ fn play<R: Read + Drop, W: Write + Drop>(
 /// All bytes of a script.
 fn read_script<R: Read + Drop>(alloc: Global, mut script: R) -> Result<Vec<u8>, PlayFault>
     ensures whole { IfOk result (λ text. IfSome (R.remaining script) (λ all. text.items ≡ all)) }
-    ensures fault { IfErr result (λ fault. (fault ≡ Memory) ⊎ (fault ≡ Unreadable)) }
+    ensures fault { IfErr result (λ fault. (fault ≡ Memory) ⊎ (is_unreadable fault ≡ true)) }
 {
     let mut text = Vec::new(alloc);
     match script.read_to_end(&mut text) {

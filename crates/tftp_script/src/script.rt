@@ -5,11 +5,13 @@ ghost use Rattle.tftp_script.specs.declared.script.ScriptFault.TheVariants.{Line
 ghost use Rattle.tftp_server.specs.Config.{IsConfig};
 ghost use Rattle.tftp_store.specs.Memory.{contents, has_distinct_paths};
 
+mod flaw;
 mod keyword;
 mod line;
 mod statement;
 mod word;
 
+pub use flaw::{FaultyLine, Flaw};
 use line::LineFault;
 pub use statement::{Statement, StrayDatagram};
 use std::alloc::Global;
@@ -32,29 +34,41 @@ pub struct Script {
 /// Why a script cannot be played.
 #[derive(Clone, Copy)]
 pub enum ScriptFault {
-    /// The first faulty line, counted from 1.
-    Line(usize),
+    /// The first faulty line.
+    Line(FaultyLine),
     /// An allocation failed; no line is at fault.
     Memory,
 }
+
+/// The most bytes of all contents of a script together: they are in memory at once.
+const MAX_TOTAL: usize = 400_000_000;
 
 impl Script {
     /// Parses a whole script: lines that end in LF, each of words that are separated by one space.
     /// Empty lines and lines that begin with `#` are ignored.
     ///
-    /// `Line` names the first line that is not one of the language, or that no LF ends.
+    /// `Line` names the first line that is not one of the language, or that no LF ends; what is wrong in
+    /// it; and in which word.
     pub fn parse(alloc: Global, text: &[u8]) -> Result<Script, ScriptFault>
-        ensures counted { IfErr result (λ fault. fault ≢ Line 0) }
+        ensures counted { IfErr result (λ fault. (line : FaultyLine) → fault ≡ Line line
+            → line.number ≢ 0) }
     {
         let mut script = Script {
             config: Config::default(),
             files: Vec::new(alloc),
             statements: Vec::new(alloc),
         };
+        let mut left = MAX_TOTAL;
         for (index, line) in text.split_inclusive(|byte| *byte == b'\n').enumerate() {
-            match script.parse_line(alloc, line) {
+            match script.parse_line(alloc, line, &mut left) {
                 Ok(()) => {}
-                Err(LineFault::Faulty) => return Err(ScriptFault::Line(index + 1)),
+                Err(LineFault::Faulty(flaw, place)) => {
+                    return Err(ScriptFault::Line(FaultyLine {
+                        number: index + 1,
+                        flaw,
+                        place,
+                    }));
+                }
                 Err(LineFault::Memory) => return Err(ScriptFault::Memory),
             }
         }

@@ -1,31 +1,43 @@
 //! Why a script is not played to its end, and the message for it.
 
-ghost use Rattle.std.specs.Prelude.{◌≡◌, ◌≢◌, ◌⊎◌, IsTrue, ◌↔◌};
+ghost use Rattle.std.specs.Prelude.{◌≡◌, ◌≢◌, ◌⊎◌, IsTrue, ◌↔◌, true};
 ghost use Rattle.std.specs.IoError.{error_kind};
 ghost use Rattle.std.specs.declared.io.ErrorKind.TheVariants as error_kinds;
 ghost use Rattle.tftp_play.specs.declared.play.fault.PlayFault.TheVariants.{Closed, Memory};
 ghost use Rattle.tftp_play.specs.declared.play.fault.PlayFault.TheVariants.{Undrawn, Unreadable};
 ghost use Rattle.tftp_play.specs.declared.play.fault.PlayFault.TheVariants.{Unwritable};
-ghost use Rattle.tftp_play.specs.Play.{play_fault_of};
+ghost use Rattle.tftp_play.specs.Play.{is_undrawn, is_unreadable, play_fault_of};
 
+use crate::play::EventNames;
 use std::alloc::AllocError;
 use std::fmt;
 use std::io::{self, ErrorKind, Write};
-use tftp_script::ScriptFault;
+use tftp_script::{FaultyLine, ScriptFault};
+
+/// How a script is played: whether `-` has its event beside it, and what messages call the files.
+#[derive(Clone, Copy)]
+pub(crate) struct Playing<'a> {
+    pub(crate) events: EventNames,
+    pub(crate) script: &'a str,
+    pub(crate) picture: &'a str,
+}
+
+/// The most bytes of a faulty word that a message shows.
+const MOST_SHOWN: usize = 100;
 
 /// Why a script was not played to its end.
 #[derive(Clone, Copy, PartialEq, Eq)]
 pub(crate) enum PlayFault {
-    /// The script could not be opened or read.
-    Unreadable,
-    /// The first faulty line of the script, counted from 1.
-    Line(usize),
+    /// The script could not be opened or read, for an error of this kind.
+    Unreadable(ErrorKind),
+    /// The first faulty line of the script.
+    Line(FaultyLine),
     /// Writing failed.
     Unwritable,
     /// The output is a pipe that nobody reads any more.
     Closed,
-    /// The picture could not be opened or written.
-    Undrawn,
+    /// The picture could not be opened or written, for an error of this kind.
+    Undrawn(ErrorKind),
     /// An allocation failed.
     Memory,
 }
@@ -34,38 +46,91 @@ impl PlayFault {
     /// The fault for this error of opening or reading a script.
     pub(crate) fn of_reading(error: &io::Error) -> PlayFault
         ensures memory { error_kind error.now ≡ ErrorKind.OutOfMemory → result ≡ Memory }
-        ensures unreadable { error_kind error.now ≢ ErrorKind.OutOfMemory → result ≡ Unreadable }
-        ensures either { (result ≡ Memory) ⊎ (result ≡ Unreadable) }
+        ensures unreadable { error_kind error.now ≢ ErrorKind.OutOfMemory
+            → result ≡ Unreadable (error_kind error.now) }
+        ensures either { (result ≡ Memory) ⊎ (is_unreadable result ≡ true) }
     {
         if is_of(error, ErrorKind::OutOfMemory) {
             PlayFault::Memory
         } else {
-            PlayFault::Unreadable
+            PlayFault::Unreadable(error.kind())
         }
     }
 
     /// The fault for this error of opening or writing a picture.
     pub(crate) fn of_drawing(error: &io::Error) -> PlayFault
         ensures memory { error_kind error.now ≡ ErrorKind.OutOfMemory → result ≡ Memory }
-        ensures undrawn { error_kind error.now ≢ ErrorKind.OutOfMemory → result ≡ Undrawn }
-        ensures either { (result ≡ Memory) ⊎ (result ≡ Undrawn) }
+        ensures undrawn { error_kind error.now ≢ ErrorKind.OutOfMemory
+            → result ≡ Undrawn (error_kind error.now) }
+        ensures either { (result ≡ Memory) ⊎ (is_undrawn result ≡ true) }
     {
         if is_of(error, ErrorKind::OutOfMemory) {
             PlayFault::Memory
         } else {
-            PlayFault::Undrawn
+            PlayFault::Undrawn(error.kind())
         }
     }
 
-    /// Writes the message of the fault, and returns the status of the program. There is none for a
-    /// closed pipe: whoever closed it wants no more, as `head` does after its last line.
-    pub(crate) fn report<E: Write>(self, errors: &mut E) -> u8
+    /// Writes the message of the fault and, on a line of its own, its cause, and returns the status
+    /// of the program. There is none for a closed pipe: whoever closed it wants no more, as `head`
+    /// does after its last line. `script` is the text of the script, as far as it was read.
+    pub(crate) fn report<E: Write>(self, how: Playing<'_>, script: &[u8], errors: &mut E) -> u8
         ensures { result ≡ 2 }
     {
         if self != PlayFault::Closed {
             let _ = writeln!(errors, "{self}");
+            let _ = self.write_cause(how, script, errors);
         }
         2
+    }
+
+    /// Writes what the message leaves open.
+    fn write_cause<E: Write>(
+        self,
+        how: Playing<'_>,
+        script: &[u8],
+        errors: &mut E,
+    ) -> io::Result<()> {
+        match self {
+            PlayFault::Unreadable(kind) => write_error(how.script, kind, errors),
+            PlayFault::Undrawn(kind) => write_error(how.picture, kind, errors),
+            PlayFault::Line(line) => write_flaw(line, script, errors),
+            PlayFault::Unwritable | PlayFault::Closed | PlayFault::Memory => Ok(()),
+        }
+    }
+}
+
+/// Writes which error a file had.
+fn write_error<E: Write>(name: &str, kind: ErrorKind, errors: &mut E) -> io::Result<()> {
+    match error_words(kind) {
+        Some(words) => writeln!(errors, "tftp-play: {name}: {words}"),
+        None => writeln!(errors, "tftp-play: {name}: {kind}"),
+    }
+}
+
+/// The words of the system for the commonest errors of a file.
+fn error_words(kind: ErrorKind) -> Option<&'static str> {
+    if kind == ErrorKind::NotFound {
+        return Some("no such file or directory");
+    }
+    if kind == ErrorKind::PermissionDenied {
+        return Some("permission denied");
+    }
+    if kind == ErrorKind::StorageFull {
+        return Some("no space left on the device");
+    }
+    None
+}
+
+/// Writes what is wrong in a faulty line, and the word that is at fault.
+fn write_flaw<E: Write>(line: FaultyLine, script: &[u8], errors: &mut E) -> io::Result<()> {
+    let flaw = line.flaw;
+    match line.word(script) {
+        None => writeln!(errors, "tftp-play: {flaw}"),
+        Some(word) => {
+            let shown = &word[..word.len().min(MOST_SHOWN)];
+            writeln!(errors, "tftp-play: {flaw}: {}", shown.escape_ascii())
+        }
     }
 }
 
@@ -77,11 +142,11 @@ impl fmt::Display for PlayFault {
 
     fn fmt<W: fmt::Write>(&self, f: &mut fmt::Formatter<W>) -> fmt::Result {
         match self {
-            PlayFault::Unreadable => write!(f, "script: unreadable"),
-            PlayFault::Line(number) => write!(f, "line {number}: fault"),
+            PlayFault::Unreadable(_) => write!(f, "script: unreadable"),
+            PlayFault::Line(FaultyLine { number, .. }) => write!(f, "line {number}: fault"),
             PlayFault::Unwritable => write!(f, "output: unwritable"),
             PlayFault::Closed => write!(f, "output: closed"),
-            PlayFault::Undrawn => write!(f, "svg: unwritable"),
+            PlayFault::Undrawn(_) => write!(f, "svg: unwritable"),
             PlayFault::Memory => write!(f, "out of memory"),
         }
     }
@@ -92,7 +157,7 @@ impl From<ScriptFault> for PlayFault {
 
     fn from(fault: ScriptFault) -> PlayFault {
         match fault {
-            ScriptFault::Line(number) => PlayFault::Line(number),
+            ScriptFault::Line(line) => PlayFault::Line(line),
             ScriptFault::Memory => PlayFault::Memory,
         }
     }

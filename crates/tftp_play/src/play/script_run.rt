@@ -7,6 +7,7 @@ ghost use Rattle.tftp_store.specs.Memory.{contents, has_distinct_paths};
 
 use crate::play::PlayFault;
 use crate::play::datagram_line::DatagramLine;
+use crate::play::event_name::{EventName, EventNames};
 use crate::recording::Recording;
 use rand_core::SeedableRng;
 use rand_pcg::Pcg32;
@@ -29,6 +30,8 @@ pub(crate) struct ScriptRun<W: Write + Drop> {
     output: BufWriter<W>,
     /// The recording for a picture, if there is to be one.
     recording: Option<Recording>,
+    /// Whether `-` has its event beside it.
+    events: EventNames,
 }
 
 impl<W: Write + Drop> ScriptRun<W> {
@@ -39,6 +42,7 @@ impl<W: Write + Drop> ScriptRun<W> {
         config: Config,
         output: W,
         recording: Option<Recording>,
+        events: EventNames,
     ) -> Result<ScriptRun<W>, PlayFault>
         requires distinct { has_distinct_paths (contents files.items) ≡ true }
         requires valid { IsConfig config }
@@ -48,6 +52,7 @@ impl<W: Write + Drop> ScriptRun<W> {
             line: DatagramLine::new(alloc),
             output: BufWriter::new(alloc, output)?,
             recording,
+            events,
         })
     }
 
@@ -81,8 +86,9 @@ impl<W: Write + Drop> ScriptRun<W> {
     fn play(&mut self, event: Event) -> Result<(), PlayFault>
         requires { IsPlayable event }
     {
+        let name = EventName::of(&event);
         let effect = self.apply(event);
-        self.write_effect(effect)
+        self.write_effect(name, effect)
     }
 
     /// Plays an event, and records its effect if there is to be a picture.
@@ -143,22 +149,26 @@ impl<W: Write + Drop> ScriptRun<W> {
     fn settle(&mut self, from: usize) -> Result<(), PlayFault> {
         for index in from..from.saturating_add(MAX_SETTLED) {
             match self.apply(Event::Deliver(index)) {
-                Ok(report) => self.write_report(&report)?,
+                Ok(report) => self.write_report(EventName::Deliver(index), &report)?,
                 Err(WorldFault::NoSuchDatagram) => return Ok(()),
-                Err(fault) => return self.write_effect(Err(fault)),
+                Err(fault) => return Ok(writeln!(self.output, "refused {fault:?}")?),
             }
         }
         Ok(())
     }
 
-    fn write_effect(&mut self, effect: Result<Report, WorldFault>) -> Result<(), PlayFault> {
+    fn write_effect(
+        &mut self,
+        name: EventName,
+        effect: Result<Report, WorldFault>,
+    ) -> Result<(), PlayFault> {
         match effect {
-            Ok(report) => self.write_report(&report),
+            Ok(report) => self.write_report(name, &report),
             Err(fault) => Ok(writeln!(self.output, "refused {fault:?}")?),
         }
     }
 
-    fn write_report(&mut self, report: &Report) -> Result<(), PlayFault> {
+    fn write_report(&mut self, name: EventName, report: &Report) -> Result<(), PlayFault> {
         if let Some(index) = report.added {
             self.write_datagram(index)?;
         }
@@ -166,7 +176,16 @@ impl<W: Write + Drop> ScriptRun<W> {
             writeln!(self.output, "closed {port} {outcome}")?;
         }
         if report.added.is_none() && report.closed.is_none() {
-            writeln!(self.output, "-")?;
+            self.write_silence(name)?;
+        }
+        Ok(())
+    }
+
+    /// Writes that an event sent nothing and closed no end.
+    fn write_silence(&mut self, name: EventName) -> Result<(), PlayFault> {
+        match self.events {
+            EventNames::Hidden => writeln!(self.output, "-")?,
+            EventNames::Shown => writeln!(self.output, "- {name}")?,
         }
         Ok(())
     }

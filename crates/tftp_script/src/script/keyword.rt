@@ -1,7 +1,7 @@
 //! The first words of a script's lines.
 
+use crate::script::flaw::{Flaw, Word};
 use crate::script::line::LineFault;
-use crate::script::word::text;
 
 /// The first word of a line, which decides what its other words mean.
 #[derive(Clone, Copy)]
@@ -30,8 +30,8 @@ pub(crate) enum Keyword {
 
 impl Keyword {
     /// The keyword that the word spells.
-    pub(crate) fn of_word(word: &[u8]) -> Result<Keyword, LineFault> {
-        match text(word)? {
+    pub(crate) fn of_word(word: &Word<'_>) -> Result<Keyword, LineFault> {
+        match word.text()? {
             "set" => Ok(Keyword::Set),
             "file" => Ok(Keyword::File),
             "get" => Ok(Keyword::Get),
@@ -42,7 +42,7 @@ impl Keyword {
             "settle" => Ok(Keyword::Settle),
             "random" => Ok(Keyword::Random),
             "stray" => Ok(Keyword::Stray),
-            _ => Err(LineFault::Faulty),
+            _ => Err(word.fault(Flaw::Keyword)),
         }
     }
 }

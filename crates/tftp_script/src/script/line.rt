@@ -1,56 +1,77 @@
 //! The parser of one line of a script.
 
-ghost use Rattle.std.specs.Prelude.{◌≡◌, ◌≢◌, ◌++◌, ◌∷◌, [], true, false, is_some, IfErr, IsErrOf};
+ghost use Rattle.std.specs.Prelude.{◌≡◌, ◌≢◌, ◌++◌, ◌∷◌, [], true, false, is_some, IfErr};
 ghost use Rattle.std.specs.Prelude.{OnOk, OnErr};
-ghost use Rattle.tftp_script.specs.declared.script.line.LineFault.TheVariants.{Faulty, Memory};
-ghost use Rattle.tftp_file.specs.declared.path.PathFault.TheVariants as path_faults;
+ghost use Rattle.tftp_script.specs.declared.script.line.LineFault.TheVariants.{Memory};
 ghost use Rattle.tftp_store.specs.Memory.{contents};
 ghost use Rattle.tftp_store.specs.Store.{file_at};
 
+use crate::script::flaw::{Flaw, Word};
 use crate::script::keyword::Keyword;
 use crate::script::statement::{get, put, random, stray};
-use crate::script::word::{content, number, text, yes};
+use crate::script::word::{content, number, path, yes};
 use crate::script::{Script, Statement};
 use std::alloc::{AllocError, AllocFailed, Global};
 use std::str::FromStr;
-use tftp_file::{Path, PathFault, path_of};
+use tftp_file::Path;
 
 /// Why a line is refused.
 #[derive(Clone, Copy)]
 pub(crate) enum LineFault {
-    /// It is not a line of the language, or is not allowed here.
-    Faulty,
+    /// It is not a line of the language, or is not allowed here: what is wrong, and the place of the
+    /// word, if it is one.
+    Faulty(Flaw, Option<usize>),
     /// An allocation failed; the line is not at fault.
     Memory,
 }
 
+/// The fault of a line with too few or too many words.
+pub(crate) const WORD_COUNT: LineFault = LineFault::Faulty(Flaw::WordCount, None);
+
 impl Script {
-    /// Parses one line with its line feed, and adds its statement or setting.
-    pub(crate) fn parse_line(&mut self, alloc: Global, line: &[u8]) -> Result<(), LineFault> {
+    /// Parses one line with its line feed, and adds its statement or setting. `left` is how many
+    /// bytes of content the script may have after what came before.
+    pub(crate) fn parse_line(
+        &mut self,
+        alloc: Global,
+        line: &[u8],
+        left: &mut usize,
+    ) -> Result<(), LineFault> {
         match line {
             [b'\n'] | [b'#', .., b'\n'] => Ok(()),
             [line @ .., b'\n'] => {
-                let words: Vec<&[u8]> = line.split(|byte| *byte == b' ').collect(alloc)?;
-                self.parse_words(alloc, words.as_slice())
+                let words: Vec<Word<'_>> = line
+                    .split(|byte| *byte == b' ')
+                    .enumerate()
+                    .map(|(place, bytes)| Word { bytes, place })
+                    .collect(alloc)?;
+                self.parse_words(alloc, words.as_slice(), left)
             }
-            _ => Err(LineFault::Faulty),
+            _ => Err(LineFault::Faulty(Flaw::Unended, None)),
         }
     }
 
     /// Parses the words of a line, none of which may be empty.
-    fn parse_words(&mut self, alloc: Global, words: &[&[u8]]) -> Result<(), LineFault> {
+    fn parse_words(
+        &mut self,
+        alloc: Global,
+        words: &[Word<'_>],
+        left: &mut usize,
+    ) -> Result<(), LineFault> {
         let [first, arguments @ ..] = words else {
-            return Err(LineFault::Faulty);
+            return Err(WORD_COUNT);
         };
-        if words.iter().any(|word| word.is_empty()) {
-            return Err(LineFault::Faulty);
+        if words.iter().any(|word| word.bytes.is_empty()) {
+            return Err(LineFault::Faulty(Flaw::EmptyWord, None));
         }
         match Keyword::of_word(first)? {
-            Keyword::Set | Keyword::File if !self.statements.is_empty() => Err(LineFault::Faulty),
+            Keyword::Set | Keyword::File if !self.statements.is_empty() => {
+                Err(first.fault(Flaw::Late))
+            }
             Keyword::Set => self.parse_setting(arguments),
-            Keyword::File => self.parse_file(alloc, arguments),
+            Keyword::File => self.parse_file(alloc, arguments, left),
             Keyword::Get => self.push(get(alloc, arguments)?),
-            Keyword::Put => self.push(put(alloc, arguments)?),
+            Keyword::Put => self.push(put(alloc, arguments, left)?),
             Keyword::Deliver => self.push(Statement::Deliver(only_number(arguments)?)),
             Keyword::Timeout => self.push(Statement::Timeout(only_number(arguments)?)),
             Keyword::Refuse => self.push(Statement::Refuse(only_number(arguments)?)),
@@ -61,44 +82,50 @@ impl Script {
     }
 
     /// `set NAME N`: sets a number of the configuration.
-    fn parse_setting(&mut self, arguments: &[&[u8]]) -> Result<(), LineFault> {
+    fn parse_setting(&mut self, arguments: &[Word<'_>]) -> Result<(), LineFault> {
         let [name, value] = arguments else {
-            return Err(LineFault::Faulty);
+            return Err(WORD_COUNT);
         };
         let mut config = self.config;
-        match text(name)? {
+        match name.text()? {
             "retries" => config.retries = number(value)?,
             "max-block" => config.limits.max_block = number(value)?,
             "max-file" => config.limits.max_file = number(value)?,
             "cap" => config.cap = number(value)?,
             "overwrite" => config.overwrite = yes(value)?,
-            _ => return Err(LineFault::Faulty),
+            _ => return Err(name.fault(Flaw::Setting)),
         }
         if !config.is_valid() {
-            return Err(LineFault::Faulty);
+            return Err(value.fault(Flaw::Number));
         }
         self.config = config;
         Ok(())
     }
 
     /// `file NAME CONTENT`: adds a file of the server.
-    fn parse_file(&mut self, alloc: Global, arguments: &[&[u8]]) -> Result<(), LineFault> {
+    fn parse_file(
+        &mut self,
+        alloc: Global,
+        arguments: &[Word<'_>],
+        left: &mut usize,
+    ) -> Result<(), LineFault> {
         let [name, bytes] = arguments else {
-            return Err(LineFault::Faulty);
+            return Err(WORD_COUNT);
         };
-        self.add_file(path_of(alloc, name)?, content(alloc, bytes)?)
+        let path = path(alloc, name)?;
+        self.add_file(name, path, content(alloc, bytes, left)?)
     }
 
     /// Adds a file of the server, at a path that no other file has.
-    fn add_file(&mut self, path: Path, bytes: Vec<u8>) -> Result<(), LineFault>
+    fn add_file(&mut self, name: &Word<'_>, path: Path, bytes: Vec<u8>) -> Result<(), LineFault>
         ensures ok { OnOk result
             (self.new.files.items ≡ self.old.files.items ++ (path, bytes) ∷ []) }
-        ensures faulty { IsErrOf result Faulty
-            → is_some (file_at path (contents self.old.files.items)) ≡ true }
+        ensures faulty { IfErr result (λ fault. fault ≢ Memory
+            → is_some (file_at path (contents self.old.files.items)) ≡ true) }
         ensures err { OnErr result (self.new.files.items ≡ self.old.files.items) }
     {
         if has_path(self.files.as_slice(), &path) {
-            return Err(LineFault::Faulty);
+            return Err(name.fault(Flaw::Taken));
         }
         self.push_file(path, bytes)
     }
@@ -121,13 +148,13 @@ impl Script {
 }
 
 /// The number that is the only argument.
-fn only_number<N: FromStr>(arguments: &[&[u8]]) -> Result<N, LineFault>
+fn only_number<N: FromStr>(arguments: &[Word<'_>]) -> Result<N, LineFault>
 where
     N::Err: Drop,
 {
     match arguments {
         [word] => number(word),
-        _ => Err(LineFault::Faulty),
+        _ => Err(WORD_COUNT),
     }
 }
 
@@ -151,18 +178,5 @@ impl<T: Drop> From<AllocFailed<T>> for LineFault {
 
     fn from(_error: AllocFailed<T>) -> LineFault {
         LineFault::Memory
-    }
-}
-
-impl From<PathFault> for LineFault {
-    ghost from_gives = { λ path_fault fault.
-        (path_fault ≡ path_faults.Memory → fault ≡ Memory)
-        × (path_fault ≢ path_faults.Memory → fault ≡ Faulty) };
-
-    fn from(fault: PathFault) -> LineFault {
-        match fault {
-            PathFault::Memory => LineFault::Memory,
-            _ => LineFault::Faulty,
-        }
     }
 }

@@ -4,7 +4,8 @@ ghost use Rattle.std.specs.Prelude.{◌≡◌};
 ghost use Rattle.tftp_rules.specs.Hosts.{host_of};
 ghost use Rattle.tftp_rules.specs.Machine.{Elsewhere};
 
-use crate::script::line::LineFault;
+use crate::script::flaw::{Flaw, Word};
+use crate::script::line::{LineFault, WORD_COUNT};
 use crate::script::word::{asked, bytes, content, endpoint, mode, number};
 use std::alloc::Global;
 use tftp_ends::Endpoint;
@@ -67,25 +68,29 @@ pub struct StrayDatagram {
 }
 
 /// `get NAME MODE OPTIONS`: a client reads a file.
-pub(crate) fn get(alloc: Global, arguments: &[&[u8]]) -> Result<Statement, LineFault> {
+pub(crate) fn get(alloc: Global, arguments: &[Word<'_>]) -> Result<Statement, LineFault> {
     let [name, word, options @ ..] = arguments else {
-        return Err(LineFault::Faulty);
+        return Err(WORD_COUNT);
     };
     let mode = mode(word)?;
     let asked = asked(options, 0)?;
-    let name = Bytes::from_slice(alloc, name)?;
+    let name = Bytes::from_slice(alloc, name.bytes)?;
     Ok(Statement::Get { name, mode, asked })
 }
 
 /// `put NAME MODE CONTENT OPTIONS`: a client writes a file.
-pub(crate) fn put(alloc: Global, arguments: &[&[u8]]) -> Result<Statement, LineFault> {
+pub(crate) fn put(
+    alloc: Global,
+    arguments: &[Word<'_>],
+    left: &mut usize,
+) -> Result<Statement, LineFault> {
     let [name, word, file, options @ ..] = arguments else {
-        return Err(LineFault::Faulty);
+        return Err(WORD_COUNT);
     };
     let mode = mode(word)?;
-    let file = content(alloc, file)?;
+    let file = content(alloc, file, left)?;
     let asked = asked(options, file.len() as u64)?;
-    let name = Bytes::from_slice(alloc, name)?;
+    let name = Bytes::from_slice(alloc, name.bytes)?;
     let bytes = Bytes::from(file);
     Ok(Statement::Put {
         name,
@@ -96,23 +101,27 @@ pub(crate) fn put(alloc: Global, arguments: &[&[u8]]) -> Result<Statement, LineF
 }
 
 /// `stray FROM TO HEX`: a datagram of neither host arrives.
-pub(crate) fn stray(alloc: Global, arguments: &[&[u8]]) -> Result<Statement, LineFault> {
+pub(crate) fn stray(alloc: Global, arguments: &[Word<'_>]) -> Result<Statement, LineFault> {
     let [from, to, digits] = arguments else {
-        return Err(LineFault::Faulty);
+        return Err(WORD_COUNT);
     };
-    let from = endpoint(from)?;
-    if !is_foreign(&from) {
-        return Err(LineFault::Faulty);
+    let sender = endpoint(from)?;
+    if !is_foreign(&sender) {
+        return Err(from.fault(Flaw::OwnHost));
     }
     let to = endpoint(to)?;
     let bytes = bytes(alloc, digits)?;
-    Ok(Statement::Stray(StrayDatagram { from, to, bytes }))
+    Ok(Statement::Stray(StrayDatagram {
+        from: sender,
+        to,
+        bytes,
+    }))
 }
 
 /// `random SEED COUNT`: that many events are drawn.
-pub(crate) fn random(arguments: &[&[u8]]) -> Result<Statement, LineFault> {
+pub(crate) fn random(arguments: &[Word<'_>]) -> Result<Statement, LineFault> {
     let [seed, count] = arguments else {
-        return Err(LineFault::Faulty);
+        return Err(WORD_COUNT);
     };
     Ok(Statement::Random {
         seed: number(seed)?,

@@ -1,17 +1,17 @@
 //! The parsers of single words of a script.
 
-ghost use Rattle.std.specs.Prelude.{◌≡◌, ◌≢◌, ◌≤◌, IfOk, vec_len};
-ghost use Rattle.hex.specs.declared.error.FromHexError.TheVariants as hex_faults;
-ghost use Rattle.tftp_script.specs.declared.script.line.LineFault.TheVariants.{Faulty, Memory};
+ghost use Rattle.std.specs.Prelude.{◌≡◌, ◌≤◌, IfOk, vec_len};
 ghost use Rattle.tftp_negotiate.specs.Asked.{IsAskable};
 ghost use Rattle.tftp_wire.specs.Modes.{mode_word};
 
+use crate::script::flaw::{Flaw, Word};
 use crate::script::line::LineFault;
 use hex::FromHexError;
 use std::alloc::Global;
 use std::net::Ipv4Addr;
 use std::str::FromStr;
 use tftp_ends::Endpoint;
+use tftp_file::{Path, PathFault, path_of};
 use tftp_negotiate::Asked;
 use tftp_wire::{Bytes, Mode};
 
@@ -19,77 +19,107 @@ use tftp_wire::{Bytes, Mode};
 const MAX_CONTENT: usize = 100_000_000;
 
 /// A decimal number without leading zeros that fits its type.
-pub(crate) fn number<N: FromStr>(word: &[u8]) -> Result<N, LineFault>
+pub(crate) fn number<N: FromStr>(word: &Word<'_>) -> Result<N, LineFault>
 where
     N::Err: Drop,
-    ensures { IfOk result (λ number. N.from_str_gives word.now (Ok number)) }
+    ensures { IfOk result (λ number. N.from_str_gives word.now.bytes.now (Ok number)) }
 {
-    match word {
-        [b'0'] | [b'1'..=b'9', ..] => text(word)?.parse().map_err(|_| LineFault::Faulty),
-        _ => Err(LineFault::Faulty),
+    match word.bytes {
+        [b'0'] | [b'1'..=b'9', ..] => match word.text()?.parse() {
+            Ok(number) => Ok(number),
+            Err(_) => Err(word.fault(Flaw::Number)),
+        },
+        _ => Err(word.fault(Flaw::Number)),
+    }
+}
+
+/// The path that a name spells.
+pub(crate) fn path(alloc: Global, word: &Word<'_>) -> Result<Path, LineFault> {
+    match path_of(alloc, word.bytes) {
+        Ok(path) => Ok(path),
+        Err(PathFault::Memory) => Err(LineFault::Memory),
+        Err(_) => Err(word.fault(Flaw::Path)),
     }
 }
 
 /// The mode of a transfer.
-pub(crate) fn mode(word: &[u8]) -> Result<Mode, LineFault>
-    ensures { IfOk result (λ mode. word.now ≡ mode_word mode) }
+pub(crate) fn mode(word: &Word<'_>) -> Result<Mode, LineFault>
+    ensures { IfOk result (λ mode. word.now.bytes.now ≡ mode_word mode) }
 {
-    match word {
+    match word.bytes {
         b"octet" => Ok(Mode::Octet),
         b"netascii" => Ok(Mode::Netascii),
-        _ => Err(LineFault::Faulty),
+        _ => Err(word.fault(Flaw::Mode)),
     }
 }
 
 /// The options of a request: `blksize=N`, `timeout=N` and `tsize`, each at most once and in its
 /// range; the value of `tsize` is this length, in bytes.
-pub(crate) fn asked(options: &[&[u8]], length: u64) -> Result<Asked, LineFault>
+pub(crate) fn asked(options: &[Word<'_>], length: u64) -> Result<Asked, LineFault>
     ensures { IfOk result IsAskable }
 {
     let mut asked = Asked::default();
-    for option in options {
-        let option = text(option)?;
+    for word in options {
+        let option = word.text()?;
         match option.split_once('=') {
             Some(("blksize", size)) if asked.blksize.is_none() => {
-                asked.blksize = Some(number(size.as_bytes())?);
+                asked.blksize = Some(number(&word.part(size.as_bytes()))?);
             }
             Some(("timeout", seconds)) if asked.timeout.is_none() => {
-                asked.timeout = Some(number(seconds.as_bytes())?);
+                asked.timeout = Some(number(&word.part(seconds.as_bytes()))?);
             }
             None if option == "tsize" && asked.tsize.is_none() => asked.tsize = Some(length),
-            _ => return Err(LineFault::Faulty),
+            _ => return Err(word.fault(Flaw::Option)),
         }
     }
     if asked.is_askable() {
         Ok(asked)
     } else {
-        Err(LineFault::Faulty)
+        Err(LineFault::Faulty(Flaw::Range, None))
     }
 }
 
 /// The bytes of a file: `-` for none, hexadecimal digits, or `HEX*K` for K times the same.
-pub(crate) fn content(alloc: Global, word: &[u8]) -> Result<Vec<u8>, LineFault>
+pub(crate) fn content(
+    alloc: Global,
+    word: &Word<'_>,
+    left: &mut usize,
+) -> Result<Vec<u8>, LineFault>
     ensures { IfOk result (λ bytes. vec_len bytes ≤ MAX_CONTENT) }
 {
-    let word = text(word)?;
-    if word == "-" {
+    let text = word.text()?;
+    if text == "-" {
         return Ok(Vec::new(alloc));
     }
-    match word.split_once('*') {
-        Some((digits, count)) => repeated(alloc, digits, number(count.as_bytes())?),
-        None => repeated(alloc, word, 1),
+    match text.split_once('*') {
+        Some((digits, count)) => {
+            let count = number(&word.part(count.as_bytes()))?;
+            repeated(alloc, &word.part(digits.as_bytes()), count, left)
+        }
+        None => repeated(alloc, word, 1, left),
     }
 }
 
 /// The bytes of the digits, this many times: at least one byte.
-fn repeated(alloc: Global, digits: &str, count: usize) -> Result<Vec<u8>, LineFault>
+fn repeated(
+    alloc: Global,
+    digits: &Word<'_>,
+    count: usize,
+    left: &mut usize,
+) -> Result<Vec<u8>, LineFault>
     ensures { IfOk result (λ bytes. vec_len bytes ≤ MAX_CONTENT) }
 {
-    let mut bytes = hex::decode(alloc, digits)?;
-    let length = bytes.len().checked_mul(count).ok_or(LineFault::Faulty)?;
+    let mut bytes = decoded(alloc, digits, Flaw::Content)?;
+    let Some(length) = bytes.len().checked_mul(count) else {
+        return Err(digits.fault(Flaw::Content));
+    };
     if length == 0 || length > MAX_CONTENT {
-        return Err(LineFault::Faulty);
+        return Err(digits.fault(Flaw::Content));
     }
+    let Some(rest) = left.checked_sub(length) else {
+        return Err(digits.fault(Flaw::Total));
+    };
+    *left = rest;
     match bytes.as_slice() {
         // `resize` fills a file of one byte faster.
         [byte] => {
@@ -102,44 +132,37 @@ fn repeated(alloc: Global, digits: &str, count: usize) -> Result<Vec<u8>, LineFa
 }
 
 /// The bytes of hexadecimal digits.
-pub(crate) fn bytes(alloc: Global, word: &[u8]) -> Result<Bytes, LineFault> {
-    Ok(Bytes::from(hex::decode(alloc, text(word)?)?))
+pub(crate) fn bytes(alloc: Global, word: &Word<'_>) -> Result<Bytes, LineFault> {
+    Ok(Bytes::from(decoded(alloc, word, Flaw::Digits)?))
+}
+
+/// The bytes of hexadecimal digits; a word of anything else has this flaw.
+fn decoded(alloc: Global, word: &Word<'_>, flaw: Flaw) -> Result<Vec<u8>, LineFault> {
+    match hex::decode(alloc, word.bytes) {
+        Ok(bytes) => Ok(bytes),
+        Err(FromHexError::OutOfMemory) => Err(LineFault::Memory),
+        Err(_) => Err(word.fault(flaw)),
+    }
 }
 
 /// An IPv4 address and a UDP port, `A.B.C.D:PORT`.
-pub(crate) fn endpoint(word: &[u8]) -> Result<Endpoint, LineFault> {
-    let (address, port) = text(word)?.split_once(':').ok_or(LineFault::Faulty)?;
-    let address: Ipv4Addr = address.parse().map_err(|_| LineFault::Faulty)?;
+pub(crate) fn endpoint(word: &Word<'_>) -> Result<Endpoint, LineFault> {
+    let Some((address, port)) = word.text()?.split_once(':') else {
+        return Err(word.fault(Flaw::Endpoint));
+    };
+    let Ok(address) = address.parse::<Ipv4Addr>() else {
+        return Err(word.fault(Flaw::Endpoint));
+    };
     Ok(Endpoint {
         ip: address.octets(),
-        port: number(port.as_bytes())?,
+        port: number(&word.part(port.as_bytes()))?,
     })
 }
 
 /// The word `yes`, which turns a setting on.
-pub(crate) fn yes(word: &[u8]) -> Result<bool, LineFault> {
-    match text(word)? {
+pub(crate) fn yes(word: &Word<'_>) -> Result<bool, LineFault> {
+    match word.text()? {
         "yes" => Ok(true),
-        _ => Err(LineFault::Faulty),
-    }
-}
-
-/// The word as text.
-pub(crate) fn text(word: &[u8]) -> Result<&str, LineFault>
-    ensures { IfOk result (λ text. text.now ≡ word.now) }
-{
-    str::from_utf8(word).map_err(|_| LineFault::Faulty)
-}
-
-impl From<FromHexError> for LineFault {
-    ghost from_gives = { λ hex_fault fault.
-        (hex_fault ≡ hex_faults.OutOfMemory → fault ≡ Memory)
-        × (hex_fault ≢ hex_faults.OutOfMemory → fault ≡ Faulty) };
-
-    fn from(error: FromHexError) -> LineFault {
-        match error {
-            FromHexError::OutOfMemory => LineFault::Memory,
-            _ => LineFault::Faulty,
-        }
+        _ => Err(word.fault(Flaw::Yes)),
     }
 }
