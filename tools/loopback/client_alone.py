@@ -135,6 +135,93 @@ def test_replaces(scene):
     expect((scene.folder / "local").stat().st_mode & 0o777, 0o600, "the permissions")
 
 
+def begun_get(scene, *words):
+    """Starts a get, and receives its request. Returns the client and the server's end, which has not answered."""
+    requests = scene.port()
+    client = scene.tftp("get", requests.word, "a", "local", *PATIENTLY, *words)
+    return client, asked(scene, requests, rrq("a", **PATIENT))
+
+
+def test_a_refused_get_changes_nothing(scene):
+    """Before the first bytes arrive there is no `local.part`, and what has this name already is not changed: not by the
+    request, an OACK or an ERROR."""
+    for left_over in [{}, {"local.part": b"a file of the user"}]:
+        for name, content in left_over.items():
+            scene.make(name, content)
+        client, end = begun_get(scene)
+        scene.has_files(left_over)
+        end.is_answered(oack(**PATIENT), ack(0))
+        scene.has_files(left_over)
+        end.send(error(0, "stop"))
+        client.fails("PeerError(0)")
+        scene.has_files(left_over)
+
+
+def test_an_empty_file_replaces_a_left_over(scene):
+    scene.make("local.part", b"left over from a transfer")
+    client, end = patient_get(scene, "--no-dally")
+    end.is_answered(data(1, b""), ack(1))
+    client.completes(0)
+    scene.has(local=b"")
+
+
+def test_a_folder_has_the_name_of_the_part(scene):
+    """Then nothing is sent."""
+    scene.make_folder("local.part")
+    requests = scene.port()
+    scene.tftp("get", requests.word, "a", "local").ends(2, "", "tftp: file fault\n")
+    expect(requests.waiting(), [], "the datagrams that were sent")
+
+
+def mode_of(scene, name):
+    return (scene.folder / name).stat().st_mode & 0o7777
+
+
+def test_bytes_from_the_network_get_no_other_user(scene):
+    """With `--replace` neither the file nor `local.part` has the set-user-ID, set-group-ID or sticky bit of the file that
+    is replaced."""
+    scene.make("local", b"old")
+    (scene.folder / "local").chmod(0o7751)
+    client, end = patient_get(scene, "--no-dally", "--replace")
+    end.is_answered(data(1, b"\7" * 512), ack(1))
+    expect(mode_of(scene, "local.part"), 0o751, "the mode of local.part")
+    end.is_answered(data(2, b"ABC"), ack(2))
+    client.completes(515)
+    expect(mode_of(scene, "local"), 0o751, "the mode of local")
+
+
+def test_the_mode_is_that_of_the_commit(scene):
+    """A file that is replaced gives its successor the permissions that it has then."""
+    scene.make("local", b"old")
+    client, end = patient_get(scene, "--no-dally", "--replace")
+    end.is_answered(data(1, b"\7" * 512), ack(1))
+    (scene.folder / "local").chmod(0o440)
+    end.is_answered(data(2, b"ABC"), ack(2))
+    client.completes(515)
+    expect(mode_of(scene, "local"), 0o440, "the mode of local")
+
+
+def test_only_a_regular_file_is_replaced(scene):
+    """What became a FIFO, a folder or a link during the transfer is not replaced by `--replace`."""
+    become = {
+        "FIFO": os.mkfifo,
+        "folder": os.mkdir,
+        "link": lambda path: os.symlink("elsewhere", path),
+    }
+    for kind, make in become.items():
+        scene.make("local", b"old")
+        client, end = patient_get(scene, "--no-dally", "--replace")
+        end.is_answered(data(1, b"\7" * 512), ack(1))
+        (scene.folder / "local").unlink()
+        make(scene.folder / "local")
+        found = os.lstat(scene.folder / "local")
+        end.is_answered(data(2, b"ABC"), error(6, "file exists"))
+        client.fails("StoreFault")
+        is_there = os.path.samestat(os.lstat(scene.folder / "local"), found)
+        expect(is_there, True, f"whether the {kind} is there")
+        (scene.folder / "local").rename(scene.folder / kind)
+
+
 def test_replaces_nothing_after_a_failure(scene):
     """With `--replace` a file stays if the transfer fails."""
     scene.make("local", b"old")
@@ -153,7 +240,7 @@ def test_is_synced_and_then_named(scene):
         told = "".join(f"{call}\n" for call in calls.split())
         if refused:
             end.is_answered(ABC, error(3, "disk full"))
-            client.ends(1, "", f"{told}tftp: StoreFault\ntftp: Input/output error (os error 5)\n")
+            client.ends(1, "", f"{told}tftp: StoreFault\ntftp: input or output error\n")
             scene.has_files({"local.part": b"ABC"})
         else:
             end.is_answered(ABC, ack(1))

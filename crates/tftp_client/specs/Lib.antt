@@ -3,6 +3,7 @@ pub mod CommandLine
 pub mod Conversation
 pub mod Converses
 pub mod Fallback
+pub mod LocalError
 pub mod Ordered
 pub mod Reason
 pub mod Runs

@@ -7,6 +7,8 @@ mod client_udp;
 mod command_line;
 pub mod laws;
 mod local;
+mod local_error;
+mod part_file;
 mod program;
 mod taken;
 mod transfer;

@@ -185,7 +185,7 @@ fn create_local<R: FileSystem + Clone + Drop>(
     let Ok(system) = rt.clone() else {
         return Err(Failure::memory());
     };
-    match LocalFile::create(system, alloc, path, existing) {
+    match LocalFile::new(system, alloc, path, existing) {
         Ok(local) => Ok(local),
         Err(error) => Err(Failure::of_file(error)),
     }
@@ -475,7 +475,7 @@ fn failed<R: FileSystem + Drop>(
     Failure {
         end: ClientOutcome::Failed(outcome),
         reason: match error {
-            Some(error) => Reason::System(error),
+            Some(error) => Reason::File(error),
             None => peer,
         },
     }

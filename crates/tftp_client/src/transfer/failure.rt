@@ -4,6 +4,7 @@ ghost use Rattle.std.specs.Prelude.{◌≡◌, ◌≤◌};
 ghost use Rattle.tftp_lines.specs.ClientOutcome.{status_of};
 ghost use Rattle.tftp_lines.specs.declared.client_outcome.ClientOutcome.TheVariants as ends;
 
+use crate::local_error::LocalError;
 use std::alloc::AllocError;
 use std::{fmt, io};
 use tftp_ends::OpenFault;
@@ -18,6 +19,8 @@ pub(crate) enum Reason {
     Peer(String),
     /// The error of the system.
     System(io::Error),
+    /// Why the local file cannot be used.
+    File(LocalError),
 }
 
 impl fmt::Display for Reason {
@@ -30,6 +33,7 @@ impl fmt::Display for Reason {
             Reason::Unknown => f.write_str("no reason is known"),
             Reason::Peer(line) => f.write_str(line.as_str()),
             Reason::System(error) => write!(f, "{error}"),
+            Reason::File(error) => write!(f, "{error}"),
         }
     }
 }
@@ -56,12 +60,12 @@ impl Failure {
     }
 
     /// The local file exists already, or cannot be opened.
-    pub(crate) fn of_file(error: io::Error) -> Failure
+    pub(crate) fn of_file(error: LocalError) -> Failure
         ensures { result.end ≡ ends.FileFault }
     {
         Failure {
             end: ClientOutcome::FileFault,
-            reason: Reason::System(error),
+            reason: Reason::File(error),
         }
     }
 
