@@ -38,7 +38,7 @@ complete -c tftp -n '__fish_seen_subcommand_from get put' -l tsize -d 'Ask for t
 complete -c tftp -n '__fish_seen_subcommand_from get put' -l retries -x -d 'Send a datagram again, 0 to 10 times'
 complete -c tftp -n '__fish_seen_subcommand_from get put' -l fallback -d 'Try again without refused options'
 complete -c tftp -n '__fish_seen_subcommand_from get put' -l progress -d 'Show how far the transfer came'
-complete -c tftp -n '__fish_seen_subcommand_from get put' -s v -l verbose -d 'Print the reason of a failure'
+complete -c tftp -n '__fish_seen_subcommand_from get put' -s v -l verbose -d 'Accepted; the cause of a failure is always printed'
 complete -c tftp -n '__fish_seen_subcommand_from get' -l replace -d 'Replace LOCAL once the new file is whole'
 complete -c tftp -n '__fish_seen_subcommand_from get' -l no-dally -d 'End once LOCAL has its name'
 complete -c tftp -n '__fish_seen_subcommand_from get put' -s h -l help -d 'Print help'

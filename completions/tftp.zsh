@@ -10,7 +10,7 @@ transfer=(
   '--retries=[how often a datagram is sent again without progress]:times, 0 to 10:'
   '--fallback[try again without options where the server refuses them]'
   '--progress[show how far the transfer came]'
-  '(-v --verbose)'{-v,--verbose}'[print the reason of a failure]'
+  '(-v --verbose)'{-v,--verbose}'[accepted; the cause of a failure is always printed]'
   '(-h --help)'{-h,--help}'[print help]'
 )
 

@@ -162,7 +162,7 @@ def try_unit(scene):
     expect(scene.is_served(), True, "whether the unit's command line serves")
     words = [scene.tftp, "put", f"{SERVER}:69", __file__, "new", "--retries", "10"]
     done = subprocess.run(scene.client.words(*words), capture_output=True, text=True, timeout=PATIENCE)
-    expect(done.stderr, "tftp: PeerError(2)\n", "the answer to a write")
+    expect(done.stderr, "tftp: PeerError(2)\ntftp: the server says: access violation\n", "the answer to a write")
     # (where the host is slow a client asks again, which is ignored, or refused again in the same words)
     lines = [line for line in dict.fromkeys(scene.stop()[0]) if not line.startswith("ignored ")]
     expect([line.split()[0] for line in lines], ["opened", "closed", "refused"], "the lines of the log")

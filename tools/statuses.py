@@ -253,17 +253,27 @@ def test_play(check):
         check.ends("tftp-play", ["read.script"], 2, stdout=write)
 
 
-# Datagrams of a server, and how a client ends that is answered by them: what is no packet, an ACK to a read, an ERROR,
-# OACKs of what was not asked, of a larger block and of one option twice, a CR at the end of a netascii text
+# Datagrams of a server, and how a client ends that is answered by them, with its cause: what is no packet, an ACK to a
+# read, ERRORs, OACKs of what was not asked, of a larger block and of one option twice, a CR at the end of a netascii
+# text
 READ_ANSWERS = [
-    (b"\0\7", [], "Illegal"),
-    (b"\0\4\0\0", [], "Illegal"),
-    (b"\0\5\0\2no\0", [], "PeerError(2)"),
-    (b"\0\6timeout\x003\0", [], "Refused(NotAsked)"),
-    (b"\0\6blksize\x009\0", ["--blksize", "8"], "Refused(BadValue)"),
-    (b"\0\6blksize\x008\0blksize\x008\0", ["--blksize", "8"], "Refused(Repeated)"),
-    (b"\0\3\0\1A\r", ["--netascii"], "NotNetascii"),
+    (b"\0\7", [], "Illegal", "ADDRESS: sent what no server may send"),
+    (b"\0\4\0\0", [], "Illegal", "ADDRESS: sent what no server may send"),
+    (b"\0\5\0\2no\0", [], "PeerError(2)", "the server says: no"),
+    (b"\0\5\0\2\0", [], "PeerError(2)", "the server says: access violation"),
+    (b"\0\5\0\0file too large\0", [], "PeerError(0)", "the server says: file too large; try --blksize 1428"),
+    (b"\0\5\0\0file too large\0", ["--blksize", "8"], "PeerError(0)", "the server says: file too large"),
+    (b"\0\6timeout\x003\0", [], "Refused(NotAsked)", "ADDRESS: agreed to an option that was not requested"),
+    (b"\0\6blksize\x009\0", ["--blksize", "8"], "Refused(BadValue)",
+     "ADDRESS: agreed to a value that was not requested"),
+    (b"\0\6blksize\x008\0blksize\x008\0", ["--blksize", "8"], "Refused(Repeated)",
+     "ADDRESS: agreed to an option twice"),
+    (b"\0\3\0\1A\r", ["--netascii"], "NotNetascii", "a: not netascii"),
 ]
+
+
+# The cause of a file that does not fit its blocks
+TOO_LARGE = "more than 65,535 blocks; try a larger --blksize\n"
 
 
 def test_transfers(check):
@@ -272,33 +282,38 @@ def test_transfers(check):
     with serving(check, "--transfers", "6") as (server, address):
         check.ends("tftp", ["get", address, "a", "copy", *RETRIES], 0, "", "complete 3\n")
         check.ends("tftp", ["put", address, "abc", "new", *RETRIES], 0, "", "complete 3\n")
-        check.ends("tftp", ["get", address, "missing", "none", *RETRIES], 1, "tftp: PeerError(1)\n", "")
-        check.ends("tftp", ["put", address, "abc", "a", *RETRIES], 1, "tftp: PeerError(6)\n", "")
+        errors = "tftp: PeerError(1)\ntftp: the server says: file not found\n"
+        check.ends("tftp", ["get", address, "missing", "none", *RETRIES], 1, errors, "")
+        errors = "tftp: PeerError(6)\ntftp: the server says: file exists\n"
+        check.ends("tftp", ["put", address, "abc", "a", *RETRIES], 1, errors, "")
         with open("/dev/full", "wb") as full, closed_pipe() as write:
             for place, output in enumerate([full, write]):
                 words = ["get", address, "a", f"told{place}", "--no-dally", *RETRIES]
-                check.ends("tftp", words, 2, "tftp: output fault\n", stdout=output)
+                errors = "tftp: output fault\ntftp: standard output: "
+                check.ends("tftp", words, 2, errors, stdout=output, at_start=True)
                 check.has_file(f"told{place}", b"ABC")
-            words = ["get", address, "a", "told", "--no-dally", "--verbose", *RETRIES]
-            reason = "tftp: No space left on device (os error 28)\n"
-            check.ends("tftp", words, 2, f"tftp: output fault\n{reason}", stdout=full)
+            words = ["get", address, "a", "told", "--no-dally", *RETRIES]
+            check.ends("tftp", words, 2, "tftp: output fault\ntftp: standard output: no space\n", stdout=full)
         with answering(None) as silent:
-            check.ends("tftp", ["get", silent, "a", "silence", "--retries", "0"], 1, "tftp: TimedOut\n", "")
+            errors = f"tftp: TimedOut\ntftp: {silent}: no answer\n"
+            check.ends("tftp", ["get", silent, "a", "silence", "--retries", "0"], 1, errors, "")
         check.ends("tftp", ["get", address, "a", "again", "--blksize", "8", *RETRIES], 0, "", "complete 3\n")
         has_ended(check, server, 0, ["Complete"] * 6)
-    for place, (answer, options, outcome) in enumerate(READ_ANSWERS):
+    for place, (answer, options, outcome, cause) in enumerate(READ_ANSWERS):
         with answering(answer) as address:
             words = ["get", address, "a", f"answer{place}", *options, *RETRIES]
-            check.ends("tftp", words, 1, f"tftp: {outcome}\n", "")
+            cause = cause.replace("ADDRESS", address)
+            check.ends("tftp", words, 1, f"tftp: {outcome}\ntftp: {cause}\n", "")
     # LOCAL is there by the time that it would get its name
     with answering(b"\0\3\0\1ABC", (check.folder / "soon").touch) as address:
-        check.ends("tftp", ["get", address, "a", "soon", *RETRIES], 1, "tftp: StoreFault\n", "")
+        errors = "tftp: StoreFault\ntftp: soon: exists (--replace replaces it)\n"
+        check.ends("tftp", ["get", address, "a", "soon", *RETRIES], 1, errors, "")
     # as many blocks of 1428 bytes have numbers, and not of 512
     (check.folder / "longer").touch()
     os.truncate(check.folder / "longer", 65_535 * 512)
     with answering(b"\0\4\0\0") as address:
         words = ["put", address, "longer", "n", "--blksize", "1428", *RETRIES]
-        check.ends("tftp", words, 1, "tftp: TooLarge\n", "")
+        check.ends("tftp", words, 1, f"tftp: TooLarge\ntftp: longer: {TOO_LARGE}", "")
 
 
 def test_client_faults(check):
@@ -311,36 +326,40 @@ def test_client_faults(check):
     os.mkfifo(check.folder / "fifo")
     # LOCAL: one that is there, a link to nothing, one in a folder that is missing, a folder and links that cannot be
     # replaced; one that is missing, a folder, a FIFO that nobody writes to, and one of no length that has bytes
-    for words in [
-        ["get", nowhere, "a", "abc"],
-        ["get", nowhere, "a", "dangling"],
-        ["get", nowhere, "a", "fifo"],
-        ["get", nowhere, "a", "missing/local"],
-        ["get", nowhere, "a", ".", "--replace"],
-        ["get", nowhere, "a", "link", "--replace"],
-        ["get", nowhere, "a", "dangling", "--replace"],
-        ["put", nowhere, "missing", "a"],
-        ["put", nowhere, ".", "a"],
-        ["put", nowhere, "fifo", "a"],
-        ["put", nowhere, "fifo", "a", "--netascii"],
-        ["put", nowhere, "/proc/cpuinfo", "a"],
-        ["put", nowhere, "/proc/cpuinfo", "a", "--netascii"],
+    for words, cause in [
+        (["get", nowhere, "a", "abc"], "abc: exists (--replace replaces it)"),
+        (["get", nowhere, "a", "dangling"], "dangling: not a file"),
+        (["get", nowhere, "a", "fifo"], "fifo: not a file"),
+        (["get", nowhere, "a", "missing/local"], "missing/local: not found"),
+        (["get", nowhere, "a", ".", "--replace"], ".: not a file"),
+        (["get", nowhere, "a", "link", "--replace"], "link: not a file"),
+        (["get", nowhere, "a", "dangling", "--replace"], "dangling: not a file"),
+        (["put", nowhere, "missing", "a"], "missing: not found"),
+        (["put", nowhere, ".", "a"], ".: not a file"),
+        (["put", nowhere, "fifo", "a"], "fifo: not a file"),
+        (["put", nowhere, "fifo", "a", "--netascii"], "fifo: not a file"),
+        (["put", nowhere, "/proc/cpuinfo", "a"], "/proc/cpuinfo: length unknown"),
+        (["put", nowhere, "/proc/cpuinfo", "a", "--netascii"], "/proc/cpuinfo: length unknown"),
     ]:
-        check.ends("tftp", words, 2, "tftp: file fault\n", "")
-        check.ends("tftp", [long if it == "a" else it for it in words], 2, "tftp: file fault\n", "")
-        check.ends("tftp", words, 2, "tftp: file fault\n", "", preexec_fn=few_files(4))
+        errors = f"tftp: file fault\ntftp: {cause}\n"
+        check.ends("tftp", words, 2, errors, "")
+        check.ends("tftp", [long if it == "a" else it for it in words], 2, errors, "")
+        check.ends("tftp", words, 2, errors, "", preexec_fn=few_files(4))
         check.is_usage_fault("tftp", *words, "--blksize", "7")
     # no socket: standard input, output and error and LOCAL are all that may be open
+    errors = "tftp: socket fault\ntftp: no socket: too many open files\n"
     for words in [["get", nowhere, "a", "fresh"], ["put", nowhere, "abc", "a"]]:
-        check.ends("tftp", words, 2, "tftp: socket fault\n", "", preexec_fn=few_files(4))
+        check.ends("tftp", words, 2, errors, "", preexec_fn=few_files(4))
         words = [long if it == "a" else it for it in words]
-        check.ends("tftp", words, 2, "tftp: socket fault\n", "", preexec_fn=few_files(4))
+        check.ends("tftp", words, 2, errors, "", preexec_fn=few_files(4))
         check.is_usage_fault("tftp", *words, "--retries", "11", preexec_fn=few_files(4))
     # opening: no name, one that no request has room for, a file of more blocks than have numbers
-    check.ends("tftp", ["get", nowhere, "", "fresh"], 2, "tftp: BadRequest\n", "")
-    check.ends("tftp", ["get", nowhere, long, "fresh"], 2, "tftp: BadRequest\n", "")
-    check.ends("tftp", ["put", nowhere, "abc", long], 2, "tftp: BadRequest\n", "")
-    check.ends("tftp", ["put", nowhere, "long", "n", "--blksize", "8"], 2, "tftp: TooLarge\n", "")
+    errors = "tftp: BadRequest\ntftp: the name is empty, or the request longer than 512 bytes\n"
+    check.ends("tftp", ["get", nowhere, "", "fresh"], 2, errors, "")
+    check.ends("tftp", ["get", nowhere, long, "fresh"], 2, errors, "")
+    check.ends("tftp", ["put", nowhere, "abc", long], 2, errors, "")
+    words = ["put", nowhere, "long", "n", "--blksize", "8"]
+    check.ends("tftp", words, 2, f"tftp: TooLarge\ntftp: long: {TOO_LARGE}", "")
 
 
 def test_server_faults(check):

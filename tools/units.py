@@ -215,7 +215,7 @@ def try_reading(it):
     it.run("mkdir /srv/tftp /srv/other; cat > /srv/tftp/a", input=it.content)
     it.run("systemctl enable --now tftpd")
     until("port 69 is served", it.is_served)
-    expect(it.put("new"), "tftp: PeerError(2)\n", "the answer to a write")
+    expect(it.put("new"), "tftp: PeerError(2)\ntftp: the server says: access violation\n", "the answer to a write")
     lines = [line.split()[0] for line in it.log("tftpd.service") if re.search("192|198|0[.]0[.]0[.]0", line)]
     expect(lines, ["listening", "opened", "closed", "refused"], "the lines of the journal")
     it.may("tftpd", None)
@@ -250,7 +250,8 @@ def takes_writes(it, unit, template, port, capabilities):
     sent = subprocess.run(it.words("cat", f"/srv/tftp/new{port}"), capture_output=True, check=True).stdout
     expect(sent == it.content, True, "whether the file is what was sent")
     expect(it.run(f"stat --format '%U %a' /srv/tftp/new{port}"), "uploader 644\n", "its owner and its mode")
-    expect(it.put(f"new{port}", port), "tftp: PeerError(6)\n", "the answer to a second write")
+    exists = "tftp: PeerError(6)\ntftp: the server says: file exists\n"
+    expect(it.put(f"new{port}", port), exists, "the answer to a second write")
     it.may(unit, "uploader", capabilities)
     it.sees(unit, True)
     it.revert(unit)

@@ -10,6 +10,8 @@ MODES = {"octet": [], "netascii": ["--netascii"]}
 # The timeout of transfers of which many run at once, in seconds: once it is agreed, with the most retries, an end waits
 # for its turn almost two minutes. A server goes on for two timeouts after a put
 UNHURRIED = 10
+# The cause where LOCAL is there
+EXISTS = "tftp: local: exists (--replace replaces it)\n"
 SERVE_MEMORY = of_crate("serve_memory")
 
 
@@ -30,7 +32,7 @@ def test_failures_are_reported(scene):
     scene.tftp("get", server.word, "b", "local").fails("PeerError(1)")
     scene.tftp("put", server.word, "a", "a").fails("PeerError(6)")
     scene.tftp("get", server.word, "a", "local").completes(3)
-    scene.tftp("get", server.word, "a", "local").ends(2, "", "tftp: file fault\n")
+    scene.tftp("get", server.word, "a", "local").ends(2, "", f"tftp: file fault\n{EXISTS}")
     server.has_closed("Complete")
     scene.has(a=b"ABC", local=b"ABC")
 
@@ -187,8 +189,7 @@ def test_the_disk_is_full(scene):
     for limit, length in [("-f 8", 20_000), ("-f 8", 200_000), ("-f 384", 200_000)]:
         scene.make("local", bytes_of(length))
         server = scene.serve("--max-block", "8192", limit=limit)
-        client = scene.tftp("put", server.word, "local", "n", "--verbose")
-        client.ends(1, "", "tftp: PeerError(3)\ntftp: ERROR 3 (disk full)\n")
+        scene.tftp("put", server.word, "local", "n").fails("PeerError(3)", "the server says: disk full")
         server.has_closed("StoreFault")
         scene.lacks("n")
 
@@ -200,8 +201,8 @@ def test_closed_streams_of_a_client(scene):
     for number in range(3):
         words = ["get", server.word, "a", f"got{number}", "--no-dally"]
         scene.tftp(*words, closed=number).ends(0, "" if number == 1 else "complete 3\n")
-        client = scene.tftp("get", server.word, "b", f"none{number}", "--verbose", closed=number)
-        client.ends(1, "", "" if number == 2 else "tftp: PeerError(1)\ntftp: ERROR 1 (file not found)\n")
+        client = scene.tftp("get", server.word, "b", f"none{number}", closed=number)
+        client.ends(1, "", "" if number == 2 else "tftp: PeerError(1)\ntftp: the server says: file not found\n")
     server.has_closed("Complete", "Complete", "Complete")
     scene.has_files({"served/a": b"ABC", **{f"got{number}": b"ABC" for number in range(3)}})
 

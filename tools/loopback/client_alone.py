@@ -3,6 +3,7 @@ import os
 import pty
 import re
 import signal
+import time
 from contextlib import suppress
 
 from both_programs import bytes_of
@@ -72,7 +73,7 @@ def patient_get(scene, *words, **how):
 
 def test_complete_is_printed_at_once(scene):
     """The line is printed while the client still acknowledges the last block again (RFC 1350, section 6)."""
-    client, end = patient_get(scene, "--verbose")
+    client, end = patient_get(scene)
     end.is_answered(ABC, ack(1))
     expect(first_line(client.process), "complete 3\n", "the line")
     scene.has(local=b"ABC")
@@ -169,7 +170,8 @@ def test_a_folder_has_the_name_of_the_part(scene):
     """Then nothing is sent."""
     scene.make_folder("local.part")
     requests = scene.port()
-    scene.tftp("get", requests.word, "a", "local").ends(2, "", "tftp: file fault\n")
+    client = scene.tftp("get", requests.word, "a", "local")
+    client.ends(2, "", "tftp: file fault\ntftp: local: a folder has this name with .part\n")
     expect(requests.waiting(), [], "the datagrams that were sent")
 
 
@@ -178,8 +180,8 @@ def mode_of(scene, name):
 
 
 def test_bytes_from_the_network_get_no_other_user(scene):
-    """With `--replace` neither the file nor `local.part` has the set-user-ID, set-group-ID or sticky bit of the file that
-    is replaced."""
+    """With `--replace` neither the file nor `local.part` has the set-user-ID, set-group-ID or sticky bit of the file
+    that is replaced."""
     scene.make("local", b"old")
     (scene.folder / "local").chmod(0o7751)
     client, end = patient_get(scene, "--no-dally", "--replace")
@@ -236,11 +238,11 @@ def test_is_synced_and_then_named(scene):
     """The file is synced before it gets its name, and the folder after that. If either sync is refused, the transfer
     fails, and `local.part` stays alone."""
     for refused, calls in [(0, "fsync link fsync"), (1, "fsync"), (2, "fsync link fsync")]:
-        client, end = patient_get(scene, "--no-dally", "--verbose", env=preloaded(scene, "refuse_sync.c", refused))
+        client, end = patient_get(scene, "--no-dally", env=preloaded(scene, "refuse_sync.c", REFUSED=refused))
         told = "".join(f"{call}\n" for call in calls.split())
         if refused:
             end.is_answered(ABC, error(3, "disk full"))
-            client.ends(1, "", f"{told}tftp: StoreFault\ntftp: input or output error\n")
+            client.ends(1, "", f"{told}tftp: StoreFault\ntftp: local: input or output error\n")
             scene.has_files({"local.part": b"ABC"})
         else:
             end.is_answered(ABC, ack(1))
@@ -249,10 +251,25 @@ def test_is_synced_and_then_named(scene):
             (scene.folder / "local").unlink()
 
 
+def test_a_slow_commit_does_not_shorten_the_dally(scene):
+    """The first deadline of a dally counts from the end of the commit, also where the block was sent twice meanwhile:
+    the client stays for two whole timeouts (RFC 1350, section 6)."""
+    requests = scene.port()
+    client = scene.tftp("get", requests.word, "a", "local", env=preloaded(scene, "slow_sync.c", SLOWED=450))
+    end = asked(scene, requests, rrq("a"))
+    began = time.monotonic()
+    end.send(ABC)
+    end.is_answered(ABC, ack(1))
+    client.completes(3)
+    lasted = time.monotonic() - began
+    # two syncs, and two timeouts of a second
+    expect(lasted >= 2.8, True, f"whether {lasted} seconds are enough")
+
+
 def test_is_ended_by_signals(scene):
     """A client that is ended leaves `local.part` alone."""
     for number in [signal.SIGHUP, signal.SIGINT, signal.SIGTERM]:
-        client, end = patient_get(scene, "--verbose")
+        client, end = patient_get(scene)
         end.is_answered(data(1, b"\7" * 512), ack(1))
         client.process.send_signal(number)
         client.ends(-number)
@@ -264,7 +281,7 @@ def test_short_options(scene):
     requests = scene.port()
     client = scene.tftp("get", requests.word, "a", "local", "-vb", "8")
     asked(scene, requests, rrq("a", blksize=8)).send(error(0, "stop"))
-    client.ends(1, "", "tftp: PeerError(0)\ntftp: ERROR 0 (stop)\n")
+    client.ends(1, "", "tftp: PeerError(0)\ntftp: the server says: stop\n")
 
 
 def written_to(terminal):

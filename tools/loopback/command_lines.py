@@ -1,5 +1,10 @@
 """Help texts, and invalid command lines: each fault names the option and its range."""
+from pathlib import Path
+
 from datagrams import PATIENCE, expect
+
+# Whole help texts, each in a file that is named for its command
+TEXTS = Path(__file__).resolve().parent / "help"
 
 GET, PUT = (("tftp", way, "127.0.0.1:69", "a", "b") for way in ("get", "put"))
 
@@ -26,7 +31,10 @@ FAULTS = [
      "'--forever' cannot be used with '--transfers <1..4294967295>'"),
     (("tftpd", ".", "--rounds", "2", "--forever"), "cannot be used with '--forever'"),
     (("tftpd", ".", "--listen", "localhost:69"), "'--listen <ADDR:PORT>'"),
-    (("tftp", "get", "a:69", "a", "b"), "'<ADDR:PORT>'"),
+    (("tftp", "get", "a:69", "a", "b"), "invalid value 'a:69' for '<ADDR:PORT>'"),
+    (("tftp", "get", "127.0.0.1:0", "a", "b"), "invalid value '127.0.0.1:0' for '<ADDR:PORT>'"),
+    (("tftp", "get", "a:69", "a", "b"), "Usage: tftp get [OPTIONS] <ADDR:PORT> <NAME> <LOCAL>\n"),
+    (("tftp", "put", "a:69", "a", "b"), "Usage: tftp put [OPTIONS] <ADDR:PORT> <LOCAL> <NAME>\n"),
     ((*GET, "--blksize", "65465"), "'--blksize <8..65464>'"),
     ((*PUT, "--timeout", "0"), "'--timeout <1..255>'"),
     ((*PUT, "--retries", "11"), "'--retries <0..10>'"),
@@ -47,3 +55,12 @@ def test_help_and_faults(scene):
         writes(scene, words, 0, (part, ""))
     for words, part in FAULTS:
         writes(scene, words, 2, ("", part))
+
+
+def test_help_texts(scene):
+    """The help of each subcommand is the text that was read, whole. `rt ci` compares those of `tftp` and `tftpd`."""
+    for path in sorted(TEXTS.iterdir()):
+        program, *verb = path.stem.split("-", 1)
+        process = scene.start(program, [*verb, "--help"])
+        wrote = [text.decode() for text in process.communicate(timeout=PATIENCE)]
+        expect((process.returncode, *wrote), (0, path.read_text(), ""), f"the help of {path.stem}")

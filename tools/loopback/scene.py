@@ -36,10 +36,10 @@ def first_line(process):
     return next_line(process.stdout)
 
 
-def preloaded(scene, source, refused):
-    """The environment of a program with a library of this source, which refuses the call of this number."""
+def preloaded(scene, source, **values):
+    """The environment of a program with a library of this source, which reads these variables."""
     library = compiled(scene.folder.parent, HERE / source)
-    return {**os.environ, "LD_PRELOAD": str(library), "REFUSED": str(refused)}
+    return {**os.environ, "LD_PRELOAD": str(library), **{name: str(value) for name, value in values.items()}}
 
 
 def patiently(words):
@@ -62,6 +62,15 @@ class Client:
         """It reports a complete transfer of a file of this length."""
         self.ends(0, f"complete {length}\n")
 
+    def fails(self, outcome, cause=None):
+        """It reports a transfer that failed with this outcome, and then its cause, in a line on standard error each."""
+        printed, errors = [text.decode() for text in self.process.communicate(timeout=LIFE)]
+        lines = errors.splitlines()
+        expect((self.process.returncode, printed, lines[:1]), (1, "", [f"tftp: {outcome}"]), "the client")
+        expect([line[:6] for line in lines[1:]], ["tftp: "], f"how the cause begins in {lines}")
+        if cause:
+            expect(lines[1], f"tftp: {cause}", "the cause")
+
     def completes_or_times_out(self, length):
         """It reports either. Returns whether the transfer is complete."""
         if self.process.wait(LIFE) == 0:
@@ -69,10 +78,6 @@ class Client:
         else:
             self.fails("TimedOut")
         return self.process.returncode == 0
-
-    def fails(self, outcome):
-        """It reports a transfer that failed with this outcome."""
-        self.ends(1, "", f"tftp: {outcome}\n")
 
 
 class Server:

@@ -218,7 +218,8 @@ def full_disk(programs, folder, rng):
         put = Program([programs["tftp"], "put", server.word, "local", "new", *PATIENTLY], folder, LIFE)
         status, _, errors = put.ended(LIFE)
         put.end()
-        if (status, errors) != (1, "tftp: PeerError(3)\n") or (root / "new").exists():
+        full = "tftp: PeerError(3)\ntftp: the server says: disk full\n"
+        if (status, errors) != (1, full) or (root / "new").exists():
             raise Failure(f"a put to a full disk: status {status}: {errors!r}")
         serves(programs, folder, server)
         server.end()

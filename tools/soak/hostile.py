@@ -248,7 +248,8 @@ class Trial:
             expected = (0, f"complete {len(content)}\n", "")
         else:
             expected = (1, "", f"tftp: {outcome}\n")
-        if (status, printed, errors) != expected:
+        # the cause stands behind that
+        if (status, printed, errors.partition("\n")[0] + "\n" * bool(errors)) != expected:
             raise Failure(f"{self.local}: {(status, printed, errors)}; expected {expected}", self.first.seen)
         if self.kind == "RRQ":
             self.has_file(content if is_whole else None)

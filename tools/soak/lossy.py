@@ -127,7 +127,7 @@ class Trial:
         if (status, errors) == (0, ""):
             if printed != f"complete {len(self.content)}\n" or path.read_bytes() != self.content:
                 raise Failure(f"{self.name}: {printed!r}, and the file differs")
-        elif (status, printed, errors) != (1, "", "tftp: TimedOut\n"):
+        elif (status, printed, errors.split("\n")[0]) != (1, "", "tftp: TimedOut"):
             raise Failure(f"{self.name}: status {status}: {printed!r} {errors!r}")
         elif path.exists() and path.read_bytes() != self.content:
             raise Failure(f"{self.name}: a file that is not whole")

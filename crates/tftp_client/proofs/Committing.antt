@@ -402,7 +402,9 @@ module _ {S K : Type 0} (sources : SourceMeaning S) (sinks : SinkMeaning K)
       → Converses sources sinks port first file s files
       → Committing first.end file → Committing s.end files
   converses Begins h = h
-  converses (Receives run may time handled) h = handles handled (converses run h)
+  converses (Receives {files' = files'} run may time answers) h =
+      let Ends : State → Type 0 = λ s. Committing s.end files' in
+      subst Ends (sym answers.is) (handles answers.handles (converses run h))
   converses (Waits run may is time) h = converses run h
   converses (Times {s} {next} {files} run elapsed) h = elapses files elapsed (converses run h)
   converses (Rests {s} {files} {files'} run work) h = works files files' s.end work (converses run h)
@@ -422,7 +424,7 @@ module _ {S K : Type 0} (sources : SourceMeaning S) (sinks : SinkMeaning K)
       ends s.end files (converses r.runs.converses (begins kind job r.length r.runs.file)) done
 
   -- a job's file
-  pub is_committed : {port : ℕ} {job : Job} {before : List Event} {s : State} {files : Files S K} {count : ℕ}
-      → Transfers sources sinks port job before s files count → is_complete s.end.position.phase ≡ true → Kept files
+  pub is_committed : {most port : ℕ} {job : Job} {before : List Event} {s : State} {files : Files S K} {count : ℕ}
+      → Transfers sources sinks most port job before s files count → is_complete s.end.position.phase ≡ true → Kept files
   is_committed (inl r) done = runs_as r done
   is_committed (inr r) done = runs_as r.2 done

@@ -26,7 +26,7 @@ use Rattle.tftp_ends.specs.declared.phase.Phase.TheVariants as phases
 use Rattle.tftp_ends.specs.declared.phase.Terms.{Terms}
 use Rattle.tftp_sockets.specs.Watch.{deadline_of}
 use Rattle.tftp_client.specs.declared.transfer.Job.{Job}
-use Rattle.tftp_client.specs.Converses.{Converses, HandlesReceived, IsLost, IsOpen, MayElapse}
+use Rattle.tftp_client.specs.Converses.{AnswersReceived, Converses, HandlesReceived, IsLost, IsOpen, MayElapse}
 use Rattle.tftp_client.specs.Converses.{State, deadline_at}
 use Rattle.tftp_client.specs.Converses.HandlesReceived.{Answers, Loses}
 use Rattle.tftp_client.specs.Converses.MayElapse.{Stays, Elapses}
@@ -147,7 +147,7 @@ module _ {S K : Type 0} {sources : SourceMeaning S} {sinks : SinkMeaning K} wher
       → Converses sources sinks port first file s files → Converses sources sinks port s files next files'
       → Converses sources sinks port first file next files'
   onward before Begins = before
-  onward before (Receives run may time handles) = Receives (onward before run) may time handles
+  onward before (Receives run may time answers) = Receives (onward before run) may time answers
   onward before (Waits run may is time) = Waits (onward before run) may is time
   onward before (Times run elapses) = Times (onward before run) elapses
   onward before (Rests run works) = Rests (onward before run) works
@@ -167,3 +167,9 @@ module _ {S K : Type 0} {sources : SourceMeaning S} {sinks : SinkMeaning K} wher
       → HandlesReceived sources sinks port from bytes s files next files' → waits next.events ≡ waits s.events
   waits_handled {port} {s = s} (Answers {turn} is_open step) = waits_answered port turn.reply s.events
   waits_handled (Loses lost keeps) = refl
+
+  -- nor is a reading of the clock
+  pub waits_received : {port : ℕ} {from : Endpoint} {bytes : List ℕ} {s : State} {files : Files S K} {after : State}
+      {files' : Files S K}
+      → AnswersReceived sources sinks port from bytes s files after files' → waits after.events ≡ waits s.events
+  waits_received answers = ap (λ (t : State). waits t.events) answers.is ∙ waits_handled answers.handles

@@ -1,5 +1,6 @@
 -- The result of a job, from the facts of its calls.
-use Rattle.std.proofs.Common.{Result, Ok, Err, IfOk, IfErr, inl, inr, ◌≡◌, ℕ, List, sym, subst}
+use Rattle.std.proofs.Common.{Result, Ok, Err, IfOk, IfErr, inl, inr, ◌≡◌, ℕ, List, ap, sym, subst}
+use Rattle.std.specs.Prelude.{◌+◌}
 use Rattle.tftp_negotiate.specs.declared.known.Kind.{Kind}
 use Rattle.tftp_file.specs.Sink.{SinkMeaning}
 use Rattle.tftp_file.specs.Source.{SourceMeaning}
@@ -10,6 +11,7 @@ use Rattle.tftp_lines.specs.ClientOutcome.{status_of}
 use Rattle.tftp_lines.specs.declared.client_outcome.ClientOutcome.{ClientOutcome}
 use Rattle.tftp_lines.specs.declared.client_outcome.ClientOutcome.TheVariants as ends
 use Rattle.tftp_sockets.specs.Journal.{Event}
+use Rattle.tftp_sockets.specs.Quiet.{waits}
 use Rattle.tftp_client.specs.declared.command_line.Order.{Order}
 use Rattle.tftp_client.specs.declared.transfer.Job.{Job}
 use Rattle.tftp_client.specs.Converses.{Converses, EndsBy, State}
@@ -25,38 +27,48 @@ if_err (Err error) P Q weaker p = weaker error p
 
 module _ {S K : Type 0} (sources : SourceMeaning S) (sinks : SinkMeaning K) where
   -- a run stopped with this outcome
-  pub stops : {port : ℕ} {first last : State} {file files : Files S K} {after : List Event} {outcome : Outcome}
+  pub stops : {most port : ℕ} {first last : State} {file files : Files S K} {after : List Event} {outcome : Outcome}
       {end : ClientOutcome}
-      → Converses sources sinks port first file last files → last.events ≡ after → EndsBy first last outcome
+      → Converses sources sinks port first file last files → last.events ≡ after → EndsBy most last outcome
       → end ≡ ends.Failed outcome
-      → Stops sources sinks port first file after end
-  stops {port} {first} {last} {file} {files} {after} {outcome} {end} converses events by is =
-      let At : ClientOutcome → Type 0 = λ e. Stops sources sinks port first file after e in
+      → Stops sources sinks most port first file after end
+  stops {most} {port} {first} {last} {file} {files} {after} {outcome} {end} converses events by is =
+      let At : ClientOutcome → Type 0 = λ e. Stops sources sinks most port first file after e in
       subst At (sym is) (record { last = last; files = files; converses = converses; events = events; ends = by })
 
   -- nothing was opened, and nothing was sent
-  pub unsent : (end : ClientOutcome) (e : EndState) (before after : List Event) → status_of end ≡ 2 → after ≡ before
-      → FailsEnd sources sinks e before after end
-  unsent (ends.Complete count) e before after two same = same
-  unsent (ends.Failed outcome) e before after two same = absurd (cc)
-  unsent ends.FileFault e before after two same = same
-  unsent ends.SocketFault e before after two same = same
-  unsent (ends.NotOpened fault) e before after two same = same
-  unsent ends.Memory e before after two same = same
+  pub unsent : (most : ℕ) (end : ClientOutcome) (e : EndState) (before after : List Event) → status_of end ≡ 2
+      → after ≡ before → FailsEnd sources sinks most e before after end
+  unsent most (ends.Complete count) e before after two same = same
+  unsent most (ends.Failed outcome) e before after two same = absurd (cc)
+  unsent most ends.FileFault e before after two same = same
+  unsent most ends.SocketFault e before after two same = same
+  unsent most (ends.NotOpened fault) e before after two same = same
+  unsent most ends.Memory e before after two same = same
 
   -- a run that began by its request stopped
-  pub fails : (end : ClientOutcome) (e : EndState) (before after : List Event) {port : ℕ} {first : State}
+  fails_from : (most : ℕ) (end : ClientOutcome) (e : EndState) (before after : List Event) {port : ℕ} {first : State}
       (file : Files S K)
-      → first ≡ begun port e before → Stops sources sinks port first file after end
-      → FailsEnd sources sinks e before after end
-  fails (ends.Complete count) e before after file is stopped = absurd stopped
-  fails (ends.Failed outcome) e before after {port} {first} file is stopped =
-      let From : State → Type 0 = λ s. Stops sources sinks port s file after (ends.Failed outcome) in
+      → first ≡ begun port e before → Stops sources sinks most port first file after end
+      → FailsEnd sources sinks most e before after end
+  fails_from most (ends.Complete count) e before after file is stopped = absurd stopped
+  fails_from most (ends.Failed outcome) e before after {port} {first} file is stopped =
+      let From : State → Type 0 = λ s. Stops sources sinks most port s file after (ends.Failed outcome) in
       record { port = port; file = file; stops = subst From is stopped }
-  fails ends.FileFault e before after file is stopped = absurd stopped
-  fails ends.SocketFault e before after file is stopped = absurd stopped
-  fails (ends.NotOpened fault) e before after file is stopped = absurd stopped
-  fails ends.Memory e before after file is stopped = absurd stopped
+  fails_from most ends.FileFault e before after file is stopped = absurd stopped
+  fails_from most ends.SocketFault e before after file is stopped = absurd stopped
+  fails_from most (ends.NotOpened fault) e before after file is stopped = absurd stopped
+  fails_from most ends.Memory e before after file is stopped = absurd stopped
+
+  -- the same; a request is no wait
+  pub fails : (left : ℕ) (end : ClientOutcome) (e : EndState) (before after : List Event) {port : ℕ} {first : State}
+      (file : Files S K)
+      → first ≡ begun port e before → Stops sources sinks (left + waits first.events) port first file after end
+      → FailsEnd sources sinks (left + waits before) e before after end
+  fails left end e before after {port} {first} file is stopped =
+      let Within : ℕ → Type 0 = λ m. Stops sources sinks m port first file after end in
+      fails_from (left + waits before) end e before after file is
+      (subst Within (ap (λ (s : State). left + waits s.events) is) stopped)
 
   -- a run that began by its request
   pub runs : {e : EndState} {before : List Event} {port port' : ℕ} {first last : State} {file files : Files S K}
@@ -77,28 +89,31 @@ module _ {S K : Type 0} (sources : SourceMeaning S) (sinks : SinkMeaning K) wher
       let Of : Kind → Type 0 = λ k. RunsAs sources sinks port k job before last files count in subst Of (sym is) run
 
   -- a job of this kind failed
-  pub fails_job : (job : Job) {kind : Kind} (length : ℕ) (before after : List Event) (end : ClientOutcome)
+  pub fails_job : (most : ℕ) (job : Job) {kind : Kind} (length : ℕ) (before after : List Event) (end : ClientOutcome)
       → job.kind ≡ kind
-      → FailsEnd sources sinks (opens kind job length) before after end → FailsBy sources sinks job before after end
-  fails_job job {kind} length before after end is failed =
-      let Of : Kind → Type 0 = λ k. FailsEnd sources sinks (opens k job length) before after end in
+      → FailsEnd sources sinks most (opens kind job length) before after end
+      → FailsBy sources sinks most job before after end
+  fails_job most job {kind} length before after end is failed =
+      let Of : Kind → Type 0 = λ k. FailsEnd sources sinks most (opens k job length) before after end in
       (length, subst Of (sym is) failed)
 
   -- a job ran, or failed, without the options that were refused
-  pub runs_again : (port : ℕ) (job other : Job) (before middle : List Event) (last : State) (files : Files S K)
-      (count : ℕ) → Refused sources sinks job before middle
+  pub runs_again : {most : ℕ} (port : ℕ) (job other : Job) (before middle : List Event) (last : State)
+      (files : Files S K) (count : ℕ) → Refused sources sinks most job before middle
       → other ≡ plain job → RunsJob sources sinks port other middle last files count
-      → Transfers sources sinks port job before last files count
+      → Transfers sources sinks most port job before last files count
   runs_again port job other before middle last files count refused is run =
       let Of : Job → Type 0 = λ j. RunsJob sources sinks port j middle last files count in
       inr (middle, refused, subst Of is run)
 
-  pub fails_again : (job other : Job) (before middle after : List Event) (end : ClientOutcome)
-      → Refused sources sinks job before middle
-      → other ≡ plain job → FailsBy sources sinks other middle after end
-      → FailsTransfer sources sinks job before after end
-  fails_again job other before middle after end refused is failed =
-      let Of : Job → Type 0 = λ j. FailsBy sources sinks j middle after end in inr (middle, refused, subst Of is failed)
+  pub fails_again : {most most' : ℕ} (job other : Job) (before middle after : List Event) (end : ClientOutcome)
+      → Refused sources sinks most job before middle
+      → other ≡ plain job → most' ≡ most → FailsBy sources sinks most' other middle after end
+      → FailsTransfer sources sinks most job before after end
+  fails_again {most} job other before middle after end refused is same failed =
+      let Of : Job → Type 0 = λ j. FailsBy sources sinks most j middle after end in
+      let Within : ℕ → Type 0 = λ m. FailsBy sources sinks m other middle after end in
+      inr (middle, refused, subst Of is (subst Within same failed))
 
   -- a client continued from this state, which is that one
   pub goes_on : {port : ℕ} {first first' : State} {file : Files S K} {after : List Event} → first ≡ first'

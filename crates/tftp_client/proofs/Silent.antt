@@ -145,7 +145,7 @@ module _ {S K : Type 0} {sources : SourceMeaning S} {sinks : SinkMeaning K} wher
       (run : Converses sources sinks port first file s files)
       → IsSilent run → Silent most first → s.now < last_moment → Silent most s
   silent most Begins quiet h ends = h
-  silent most (Receives run may time handles) quiet h ends = absurd quiet
+  silent most (Receives run may time answers) quiet h ends = absurd quiet
   silent most (Waits {s} {event = event} {time = time} run may nothing later) quiet h ends =
       elim (silent most run quiet.0 h (omega (arith, later, ends))) [
         | inl closed ↦ absurd (closed_not s.end TimedOut closed may.not_closed)

@@ -1,5 +1,5 @@
 -- The job that the words of a command line name, as they were read (own).
-use Rattle.std.specs.Prelude.{ℕ, ◌≡◌, if◌then◌else◌, List, codes, Some, None}
+use Rattle.std.specs.Prelude.{ℕ, ◌≡◌, ◌≢◌, if◌then◌else◌, List, codes, Some, None}
 use Rattle.std.specs.Str.{bytes_eq}
 use Rattle.tftp_wire.specs.declared.mode.Mode.TheVariants.{Octet, Netascii}
 use Rattle.tftp_negotiate.specs.declared.asked.Asked.{Asked}
@@ -27,7 +27,7 @@ pub record NamesJob (kind : Kind) (read : Reads) (job : Job) : Type 0 where
   pub name : read.word (codes "NAME") ≡ Some job.name.now
   pub local : read.word (codes "LOCAL") ≡ Some job.local.now
   pub server : (word : List ℕ) × (read.word (codes "ADDR:PORT") ≡ Some word)
-      × Names word (Some job.server)
+      × Names word (Some job.server) × (job.server.port ≢ 0)
   pub existing : IsChosen (read.text (codes "replace")) Replaced Refused job.existing
   pub mode : IsChosen (read.text (codes "netascii")) Netascii Octet job.mode
   pub asked : AsksAs read job.asked

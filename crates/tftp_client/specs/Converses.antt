@@ -35,11 +35,16 @@ pub record State : Type 0 where
 abbrev pub IsOpen : EndState → Type 0
 IsOpen end = IsSome (outcome_of end.position.phase) → ⊥
 
--- how a run from a state that is not complete ended: as the end closed, or after too many waits
-abbrev pub EndsBy : State → State → Outcome → Type 0
-EndsBy first last outcome =
+-- how a run that is not complete ended: as the end closed, or after so many waits as its command
+-- may make, with those before it
+abbrev pub EndsBy : ℕ → State → Outcome → Type 0
+EndsBy most last outcome =
     (outcome_of last.end.position.phase ≡ Some outcome)
-    ⊎ ((outcome ≡ TimedOut) × (waits last.events ≡ MAX_WAITS + waits first.events))
+    ⊎ ((outcome ≡ TimedOut) × (waits last.events ≡ most))
+
+-- the waits that a command may make, with those before it
+abbrev pub most_waits : List Event → ℕ
+most_waits before = MAX_WAITS + waits before
 
 -- the deadline at this time, after as many seconds as the end agreed on
 -- (RFC 2349, "Timeout Interval Option Specification")
@@ -84,10 +89,19 @@ turned port turn s =
     record {
       end = after_turn s.end turn;
       now = s.now;
-      due =
-          due_after (reported s.end turn).progress s.now
-          (interval_of (terms_of (after_turn s.end turn).position.phase)) s.due;
+      due = s.due;
       events = answered port turn.reply s.events;
+    }
+
+-- once a datagram was handled, which may have used the file, the clock was read again: after
+-- progress the deadline counts from then
+abbrev pub renewed : Bool → ℕ → State → State
+renewed progress time s =
+    record {
+      end = s.end;
+      now = time;
+      due = due_after progress time (interval_of (terms_of s.end.position.phase)) s.due;
+      events = Watched time ∷ s.events;
     }
 
 -- the end handled a timeout, and its answer was sent
@@ -132,17 +146,40 @@ module _ {S K : Type 0} (sources : SourceMeaning S) (sinks : SinkMeaning K) wher
     Loses : {files' : Files S K} → IsLost from bytes s.end → KeepsFiles sources sinks files files'
         → HandlesReceived port from bytes s files s files'
 
+  -- whether a datagram was progress
+  abbrev pub progress_of : {port : ℕ} {from : Endpoint} {bytes : List ℕ} {s : State}
+      {files : Files S K} {next : State} {files' : Files S K}
+      → HandlesReceived port from bytes s files next files' → Bool
+  progress_of {s = s} (Answers {turn} is_open step) = (reported s.end turn).progress
+  progress_of (Loses lost keeps) = false
+
+  -- the same handling, which was progress or not
+  abbrev pub HandlesAs : ℕ → Endpoint → List ℕ → State → Files S K → State → Files S K → Bool
+      → Type 0
+  HandlesAs port from bytes s files next files' progress =
+      (handles : HandlesReceived port from bytes s files next files')
+      × (progress ≡ progress_of handles)
+
+  -- a datagram was handled, and then the clock was read again
+  pub record AnswersReceived (port : ℕ) (from : Endpoint) (bytes : List ℕ) (s : State)
+      (files : Files S K) (after : State) (files' : Files S K) : Type 0 where
+    pub next : State
+    pub again : ℕ
+    pub handles : HandlesReceived port from bytes s files next files'
+    pub later : next.now ≤ again
+    pub is : after ≡ renewed (progress_of handles) again next
+
   -- what a client did from one state to another: nothing is sent but the answers of the steps of
   -- its end
   pub data Converses (port : ℕ) (first : State) (file : Files S K)
       : State → Files S K → Type 0 where
     Begins : Converses port first file first file
-    -- a datagram was received
-    Receives : {s next : State} {files files' : Files S K}
+    -- a datagram was received and handled, and then the clock was read again
+    Receives : {s after : State} {files files' : Files S K}
         {from : Endpoint} {bytes : List ℕ} {time : ℕ}
         → Converses port first file s files → MayWait s → s.now ≤ time
-        → HandlesReceived port from bytes (received port from bytes time s) files next files'
-        → Converses port first file next files'
+        → AnswersReceived port from bytes (received port from bytes time s) files after files'
+        → Converses port first file after files'
     -- none was received until this time: the port was empty, or the receive failed
     Waits : {s : State} {files : Files S K} {event : QuietEvent} {time : ℕ}
         → Converses port first file s files → MayWait s

@@ -1,3 +1,4 @@
+pub mod Cause
 pub mod Changed
 pub mod CommandLine
 pub mod Conversation
@@ -5,7 +6,6 @@ pub mod Converses
 pub mod Fallback
 pub mod LocalError
 pub mod Ordered
-pub mod Reason
 pub mod Runs
 pub mod Silence
 pub mod Stored

@@ -5,6 +5,7 @@ use Rattle.tftp_file.specs.Source.{SourceMeaning}
 use Rattle.tftp_lines.specs.ClientOutcome.{status_of}
 use Rattle.tftp_lines.specs.declared.client_outcome.ClientOutcome.{ClientOutcome}
 use Rattle.tftp_sockets.specs.Journal.{Event}
+use Rattle.tftp_client.specs.Converses.{most_waits}
 use Rattle.tftp_client.specs.Runs.{Completes, FailsTransfer}
 use Rattle.tftp_client.specs.declared.transfer.Job.{Job}
 use Rattle.tftp_client.specs.Words.{WordsName}
@@ -16,7 +17,7 @@ module _ {S K : Type 0} (sources : SourceMeaning S) (sinks : SinkMeaning K) wher
   RunsOrder job status before after =
       (((status ≡ 0) ⊎ (status ≡ 2)) × Completes sources sinks job before after)
       ⊎ ((1 ≤ status) × (end : ClientOutcome) × ((status ≡ status_of end) ⊎ (status ≡ 2))
-      × FailsTransfer sources sinks job before after end)
+      × FailsTransfer sources sinks (most_waits before) job before after end)
 
   -- nothing was done over UDP, as for a help text; or the job that the words name was run, whatever
   -- the status

@@ -23,7 +23,7 @@ use Rattle.tftp_lines.specs.declared.client_outcome.ClientOutcome.TheVariants as
 use Rattle.tftp_sockets.specs.Journal.{Event}
 use Rattle.tftp_sockets.specs.Journal.Event.{Printed, Sent}
 use Rattle.tftp_client.specs.declared.transfer.Job.{Job}
-use Rattle.tftp_client.specs.Converses.{Converses, EndsBy, State, deadline_at}
+use Rattle.tftp_client.specs.Converses.{Converses, EndsBy, State, deadline_at, most_waits}
 use Rattle.tftp_client.specs.Taken.{nothing}
 
 -- a client whose end opened, once its request was sent from the port (RFC 1350, section 4)
@@ -77,35 +77,37 @@ module _ {S K : Type 0} (sources : SourceMeaning S) (sinks : SinkMeaning K) wher
     pub new : IsNew file
     pub converses : Converses sources sinks port (begun port end before) file s files
 
-  -- the run of an end from that state stopped, and is not complete
-  pub record StopsBy (port : ℕ) (first : State) (file : Files S K) (after : List Event)
+  -- the run of an end from that state stopped, and is not complete; there may be so many waits
+  pub record StopsBy (most port : ℕ) (first : State) (file : Files S K) (after : List Event)
       (outcome : Outcome) : Type 0 where
     pub last : State
     pub files : Files S K
     pub converses : Converses sources sinks port first file last files
     pub events : last.events ≡ after
-    pub ends : EndsBy first last outcome
+    pub ends : EndsBy most last outcome
 
   -- the same, of how the program ends
-  abbrev pub Stops : ℕ → State → Files S K → List Event → ClientOutcome → Type 0
-  Stops port first file after (ends.Failed outcome) = StopsBy port first file after outcome
-  Stops port first file after _ = ⊥
+  abbrev pub Stops : ℕ → ℕ → State → Files S K → List Event → ClientOutcome → Type 0
+  Stops most port first file after (ends.Failed outcome) =
+      StopsBy most port first file after outcome
+  Stops most port first file after _ = ⊥
 
   -- the run of an end from its request on stopped, and is not complete
-  pub record Fails (end : EndState) (before after : List Event) (outcome : Outcome) : Type 0 where
+  pub record Fails (most : ℕ) (end : EndState) (before after : List Event)
+      (outcome : Outcome) : Type 0 where
     pub port : ℕ
     pub file : Files S K
-    pub stops : StopsBy port (begun port end before) file after outcome
+    pub stops : StopsBy most port (begun port end before) file after outcome
 
   -- the same, of how the program ends; where no transfer was opened nothing was sent
-  abbrev pub FailsEnd : EndState → List Event → List Event → ClientOutcome → Type 0
-  FailsEnd end before after (ends.Failed outcome) = Fails end before after outcome
-  FailsEnd end before after _ = after ≡ before
+  abbrev pub FailsEnd : ℕ → EndState → List Event → List Event → ClientOutcome → Type 0
+  FailsEnd most end before after (ends.Failed outcome) = Fails most end before after outcome
+  FailsEnd most end before after _ = after ≡ before
 
   -- a job failed so
-  abbrev pub FailsBy : Job → List Event → List Event → ClientOutcome → Type 0
-  FailsBy job before after end =
-      (length : ℕ) × FailsEnd (opens job.kind job length) before after end
+  abbrev pub FailsBy : ℕ → Job → List Event → List Event → ClientOutcome → Type 0
+  FailsBy most job before after end =
+      (length : ℕ) × FailsEnd most (opens job.kind job length) before after end
 
   -- N of a file: how many bytes a received one holds; of one that is sent in octet, the length on
   -- the wire. In netascii only the system states the length of a file that is sent
@@ -135,24 +137,25 @@ module _ {S K : Type 0} (sources : SourceMeaning S) (sinks : SinkMeaning K) wher
 
   -- a job failed by the run of its end, since its options were refused by ERROR 8, and may be tried
   -- without (RFC 2347)
-  pub record Refused (job : Job) (before after : List Event) : Type 0 where
+  pub record Refused (most : ℕ) (job : Job) (before after : List Event) : Type 0 where
     pub end : ClientOutcome
-    pub fails : FailsBy job before after end
+    pub fails : FailsBy most job before after end
     pub allowed : MayFallBack job end
 
   -- a job ran to that state, at once or without its options, once these were refused
-  abbrev pub Transfers : ℕ → Job → List Event → State → Files S K → ℕ → Type 0
-  Transfers port job before s files count =
+  abbrev pub Transfers : ℕ → ℕ → Job → List Event → State → Files S K → ℕ → Type 0
+  Transfers most port job before s files count =
       RunsJob port job before s files count
-      ⊎ ((middle : List Event) × Refused job before middle
+      ⊎ ((middle : List Event) × Refused most job before middle
       × RunsJob port (plain job) middle s files count)
 
-  -- a job failed, at once or without its options, once these were refused
-  abbrev pub FailsTransfer : Job → List Event → List Event → ClientOutcome → Type 0
-  FailsTransfer job before after end =
-      FailsBy job before after end
-      ⊎ ((middle : List Event) × Refused job before middle
-      × FailsBy (plain job) middle after end)
+  -- a job failed, at once or without its options, once these were refused: both runs make so many
+  -- waits at most
+  abbrev pub FailsTransfer : ℕ → Job → List Event → List Event → ClientOutcome → Type 0
+  FailsTransfer most job before after end =
+      FailsBy most job before after end
+      ⊎ ((middle : List Event) × Refused most job before middle
+      × FailsBy most (plain job) middle after end)
 
   -- the client went on from that state
   pub record StaysOn (port : ℕ) (first : State) (file : Files S K)
@@ -169,7 +172,7 @@ module _ {S K : Type 0} (sources : SourceMeaning S) (sinks : SinkMeaning K) wher
     pub last : State
     pub files : Files S K
     pub count : ℕ
-    pub transfers : Transfers port job before last files count
+    pub transfers : Transfers (most_waits before) port job before last files count
     pub complete : is_complete last.end.position.phase ≡ true
     pub committed : IsCommitted files
     pub stays : StaysOn port (printed count last) files after

@@ -20,7 +20,7 @@ module _ {S K : Type 0} {sources : SourceMeaning S} {sinks : SinkMeaning K} wher
   abbrev pub IsSilent : {port : ℕ} {first : State} {file : Files S K} {s : State}
       {files : Files S K} → Converses sources sinks port first file s files → Type 0
   IsSilent Begins = Unit {0}
-  IsSilent (Receives run may time handles) = ⊥
+  IsSilent (Receives run may time answers) = ⊥
   IsSilent (Waits {s} {time = time} run may event later) = IsSilent run × (s.now + wait_at s ≤ time)
   IsSilent (Times run elapses) = IsSilent run
   IsSilent (Rests run works) = IsSilent run

@@ -1,12 +1,13 @@
 //! The command line of `tftp`, and the job that its words name.
 
-ghost use Rattle.std.specs.Prelude.{◌≡◌, ◌≤◌, codes, Some, None, map};
+ghost use Rattle.std.specs.Prelude.{◌≡◌, ◌≢◌, ◌≤◌, codes, Some, None, map};
 ghost use Rattle.std.specs.Prelude.{IfOk, IfErr, IfSome};
 ghost use Rattle.clap.specs.Simple.{App, subcommand_rows_of};
 ghost use Rattle.tftp_wire.specs.declared.mode.Mode.TheVariants.{Octet, Netascii};
 ghost use Rattle.tftp_disk.specs.declared.existing.Existing.TheVariants.{Refused, Replaced};
 ghost use Rattle.tftp_arguments.specs.Read.{IsChosen, read_of, text_of};
 ghost use Rattle.tftp_arguments.specs.Rules.{HasRule, IsApp, by_default, within, word_rule};
+ghost use Rattle.tftp_sockets.specs.Address.{Names};
 ghost use Rattle.tftp_client.specs.CommandLine.{AsksAs, NamesJob, kind_named};
 ghost use Rattle.tftp_client.specs.Words.{NamesBy, WordsName, bare_app, get_app, put_app, tftp_app};
 ghost use Rattle.tftp_client.specs.Words.{with_asked, with_options, with_reports};
@@ -19,6 +20,7 @@ use std::convert::AsStr;
 use std::io::IsTerminal;
 use tftp_arguments::{VERSION, flag, is_set, number, print_usage, word};
 use tftp_disk::Existing;
+use tftp_ends::Endpoint;
 use tftp_negotiate::{Asked, DEFAULT_BLOCK, Kind, MAX_BLOCK, MIN_BLOCK};
 use tftp_sockets::endpoint_in;
 use tftp_wire::Mode;
@@ -57,8 +59,6 @@ pub(crate) struct Order<'a> {
     pub(crate) job: Job<'a>,
     /// Whether a receiver dallies to repeat its last acknowledgement.
     pub(crate) dallies: bool,
-    /// Whether the reason of a failure is printed.
-    pub(crate) is_verbose: bool,
 }
 
 /// An order, or the exit status of a command line that orders no transfer.
@@ -77,7 +77,7 @@ pub(crate) fn read_words<'a, P: Print + Eprint, S: AsStr>(
         WordsName (map S.text words.now) order.job)) }
 {
     match command(alloc, texts) {
-        Ok(mut command) => match_words(rt, &mut command, words, errors),
+        Ok(mut command) => match_words(rt, alloc, texts, &mut command, words, errors),
         Err(error) => Err(error),
     }
 }
@@ -85,6 +85,8 @@ pub(crate) fn read_words<'a, P: Print + Eprint, S: AsStr>(
 /// Parses the words with the command.
 fn match_words<'a, P: Print + Eprint, S: AsStr>(
     rt: &P,
+    alloc: Global,
+    texts: &'a BlockTexts,
     command: &mut Command<'a>,
     words: &'a [S],
     errors: ErrorOutput,
@@ -95,7 +97,7 @@ fn match_words<'a, P: Print + Eprint, S: AsStr>(
         WordsName (map S.text words.now) order.job)) }
 {
     match command.try_get_matches_from_mut(words) {
-        Ok(matches) => read_matches(rt, command, &matches, errors),
+        Ok(matches) => read_matches(rt, alloc, texts, &matches, errors),
         Err(error) => Ok(Err(print_usage(rt, &error))),
     }
 }
@@ -103,7 +105,8 @@ fn match_words<'a, P: Print + Eprint, S: AsStr>(
 /// The order of a valid command line, if its address is valid too.
 fn read_matches<'a, P: Print + Eprint>(
     rt: &P,
-    command: &mut Command<'a>,
+    alloc: Global,
+    texts: &'a BlockTexts,
     matches: &ArgMatches<'a>,
     errors: ErrorOutput,
 ) -> anyhow::Result<Ordered<'a>>
@@ -118,9 +121,8 @@ fn read_matches<'a, P: Print + Eprint>(
         Some(job) => Ok(Ok(Order {
             job,
             dallies: !matches.get_flag("no-dally"),
-            is_verbose: matches.get_flag("verbose"),
         })),
-        None => Ok(Err(report_address(rt, command)?)),
+        None => Ok(Err(report_address(rt, alloc, texts, word, matches)?)),
     }
 }
 
@@ -135,12 +137,27 @@ fn kind_of(word: &str) -> Kind
     }
 }
 
-/// Reports an invalid address of the server, and returns the status.
-fn report_address<P: Print + Eprint>(rt: &P, command: &mut Command<'_>) -> anyhow::Result<u8>
+/// Reports an invalid address of the server, with the usage of the subcommand, and returns the
+/// status.
+fn report_address<'a, P: Print + Eprint>(
+    rt: &P,
+    alloc: Global,
+    texts: &'a BlockTexts,
+    word: &str,
+    matches: &ArgMatches<'a>,
+) -> anyhow::Result<u8>
     ensures { IfOk result (λ status. status ≤ 2) }
 {
-    let message = "invalid value for '<ADDR:PORT>': not an IPv4 address and a port";
-    let error = command.error(ErrorKind::InvalidValue, message)?;
+    let address = matches.get_str("ADDR:PORT").unwrap_or("");
+    let message = format!(in alloc;
+        "invalid value '{address}' for '<ADDR:PORT>': \
+         not an IPv4 address and a port of 1 to 65535"
+    )?;
+    let mut command = match kind_of(word) {
+        Kind::Read => get_command(alloc, texts)?.bin_name("tftp get")?,
+        Kind::Write => put_command(alloc, texts)?.bin_name("tftp put")?,
+    };
+    let error = command.error(ErrorKind::InvalidValue, message.as_str())?;
     Ok(print_usage(rt, &error))
 }
 
@@ -150,7 +167,7 @@ fn job_of<'a>(kind: Kind, matches: &ArgMatches<'a>, errors: ErrorOutput) -> Opti
 {
     Some(Job {
         kind,
-        server: endpoint_in(matches.get_str("ADDR:PORT")?)?,
+        server: server_in(matches.get_str("ADDR:PORT")?)?,
         name: matches.get_str("NAME")?,
         local: matches.get_str("LOCAL")?,
         existing: existing(matches),
@@ -160,6 +177,16 @@ fn job_of<'a>(kind: Kind, matches: &ArgMatches<'a>, errors: ErrorOutput) -> Opti
         falls_back: is_set(matches, "fallback"),
         progress: progress(matches, errors),
     })
+}
+
+/// The endpoint of the server that a word names. No request is sent to port 0.
+fn server_in(word: &str) -> Option<Endpoint>
+    ensures { IfSome result (λ server. Names word.now (Some server) × (server.port ≢ 0)) }
+{
+    match endpoint_in(word) {
+        Some(server) => { if server.port == 0 { None } else { Some(server) } }
+        None => None,
+    }
 }
 
 /// What becomes of a LOCAL that exists.
@@ -344,7 +371,11 @@ fn with_reports<'a>(alloc: Global, command: Command<'a>) -> anyhow::Result<Comma
         "Shows how far the transfer came, where standard error is a terminal",
     );
     let command = command.arg(progress)?;
-    let verbose = flag(alloc, "verbose", "Prints the reason of a failure in words");
+    let verbose = flag(
+        alloc,
+        "verbose",
+        "Accepted; the cause of a failure is printed without it",
+    );
     Ok(command.arg(verbose.short('v'))?)
 }
 

@@ -3,6 +3,7 @@
 //! Begin with [`tftp_words`].
 #![tactic(auto)]
 
+mod cause;
 mod client_udp;
 mod command_line;
 pub mod laws;

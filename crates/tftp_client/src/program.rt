@@ -1,17 +1,20 @@
 //! Runs `tftp` by a command line.
 
-ghost use Rattle.std.specs.Prelude.{◌≡◌, ◌≤◌, ◌⊎◌, ◌∷◌, IfOk, IfErr, map};
+ghost use Rattle.std.specs.Prelude.{◌≡◌, ◌≤◌, ◌+◌, ◌⊎◌, ◌∷◌, IfOk, IfErr, map};
 ghost use Rattle.tftp_lines.specs.ClientOutcome.{end_text, status_of};
 ghost use Rattle.tftp_lines.specs.declared.client_outcome.ClientOutcome.TheVariants as ends;
 ghost use Rattle.tftp_sockets.specs.Journal.Event.{Printed as Line};
+ghost use Rattle.tftp_sockets.specs.Quiet.{waits as waits_in};
 ghost use Rattle.tftp_client.specs.Conversation.{state_of};
+ghost use Rattle.tftp_client.specs.Converses.{most_waits};
 ghost use Rattle.tftp_client.specs.Ordered.{RunsOrder, RunsWords};
 ghost use Rattle.tftp_client.specs.Runs.{StaysOn, printed};
 
+use crate::cause::CauseLine;
 use crate::client_udp::ClientUdp;
 use crate::command_line::{BlockTexts, ErrorOutput, Order, Ordered, read_words};
 use crate::local::{LocalFile, LocalSource};
-use crate::transfer::{Completed, Failure, transfer};
+use crate::transfer::{Completed, Failure, Job, MAX_WAITS, transfer};
 use std::alloc::Global;
 use std::convert::AsStr;
 use std::io::{self, IsTerminal};
@@ -20,6 +23,7 @@ use std::rt::{Files, Runtime};
 use std::time::Clock;
 use tftp_arguments::{own_words, print_no_memory, print_words_fault};
 use tftp_file::{Sink, Source};
+use tftp_lines::reason_of;
 use tftp_sockets::{Journal, print_end};
 
 /// Runs `tftp` with the program's own command line, as [`tftp_words`] does, and returns its exit
@@ -52,7 +56,7 @@ pub fn tftp_words<R: Runtime + AllocGlobal + Net, S: AsStr, E: IsTerminal>(
 /// As [`tftp_words`], with a journal of what it does over UDP: nothing, as for `--help`, or the job
 /// that the words name: its direction, its endpoint, its names, its mode and its options.
 /// With a status of 0 that job is complete; with another one it failed, or its line could not be
-/// printed.
+/// printed. All its runs and its dally make 1,000,000 waits at most.
 pub fn tftp_with_journal<R: Runtime + AllocGlobal + Net, S: AsStr, E: IsTerminal>(
     rt: &R,
     words: &[S],
@@ -63,6 +67,7 @@ pub fn tftp_with_journal<R: Runtime + AllocGlobal + Net, S: AsStr, E: IsTerminal
     ensures runs { RunsWords ⟦<LocalSource<R::File> as Source>⟧.meaning
         ⟦<LocalFile<R> as Sink>⟧.meaning (map S.text words.now) result
         journal.old.events journal.new.events }
+    ensures waits { waits_in journal.new.events ≤ most_waits journal.old.events }
 {
     match transfer_words(rt, words, ErrorOutput::of(errors), journal) {
         Ok(status) => status,
@@ -82,6 +87,7 @@ fn transfer_words<'a, R: Runtime + AllocGlobal + Net, S: AsStr>(
         ⟦<LocalFile<R> as Sink>⟧.meaning (map S.text words.now) status
         journal.old.events journal.new.events) }
     ensures memory { IfErr result (λ _. journal.new.events ≡ journal.old.events) }
+    ensures waits { waits_in journal.new.events ≤ most_waits journal.old.events }
 {
     let texts = BlockTexts::new(rt.alloc())?;
     transfer_texts(rt, rt.alloc(), &texts, words, errors, journal)
@@ -101,6 +107,7 @@ fn transfer_texts<'a, R: Files + Clone + Drop + ClientUdp + Clock + Print + Epri
         ⟦<LocalFile<R> as Sink>⟧.meaning (map S.text words.now) status
         journal.old.events journal.new.events) }
     ensures memory { IfErr result (λ _. journal.new.events ≡ journal.old.events) }
+    ensures waits { waits_in journal.new.events ≤ most_waits journal.old.events }
 {
     match read_words(rt, alloc, texts, words, errors) {
         Ok(ordered) => Ok(run_ordered(rt, alloc, &ordered, journal)),
@@ -121,6 +128,7 @@ fn run_ordered<R: Files + Clone + Drop + ClientUdp + Clock + Print + Eprint>(
         ⟦<LocalSource<R::File> as Source>⟧.meaning ⟦<LocalFile<R> as Sink>⟧.meaning
         order.job result journal.old.events journal.new.events) }
     ensures none { IfErr ordered.now (λ _. journal.new.events ≡ journal.old.events) }
+    ensures waits { waits_in journal.new.events ≤ most_waits journal.old.events }
 {
     match ordered {
         Ok(order) => run_order(rt, alloc, order, journal),
@@ -139,18 +147,22 @@ fn run_order<R: Files + Clone + Drop + ClientUdp + Clock + Print + Eprint>(
     ensures runs { RunsOrder ⟦<LocalSource<R::File> as Source>⟧.meaning
         ⟦<LocalFile<R> as Sink>⟧.meaning order.now.job result
         journal.old.events journal.new.events }
+    ensures waits { waits_in journal.new.events ≤ most_waits journal.old.events }
 {
-    match transfer(rt, alloc, &order.job, journal) {
-        Ok(completed) => conclude(rt, completed, order, journal),
-        Err(failure) => report(rt, &failure, order),
+    let mut waits = MAX_WAITS;
+    match transfer(rt, alloc, &order.job, &mut waits, journal) {
+        Ok(completed) => conclude(rt, completed, order, waits, journal),
+        Err(failure) => report(rt, &failure, &order.job),
     }
 }
 
-/// Prints that a transfer is complete, then dallies if ordered, and returns the status.
+/// Prints that a transfer is complete, then dallies if ordered, at most for so many waits, and
+/// returns the status.
 fn conclude<N: Clock + Print + Eprint, R: Files + Drop>(
     rt: &N,
     completed: Completed<R>,
     order: &Order<'_>,
+    waits: u32,
     journal: &mut Journal,
 ) -> u8
     ensures status { result ≤ 2 }
@@ -159,12 +171,13 @@ fn conclude<N: Clock + Print + Eprint, R: Files + Drop>(
         ⟦<LocalFile<R> as Sink>⟧.meaning completed.conversation.socket.port
         (printed completed.count (state_of completed.conversation journal.old.events))
         completed.files journal.new.events }
+    ensures waits { waits_in journal.new.events ≤ waits + waits_in journal.old.events }
 {
-    let status = print_complete(rt, &completed, order, journal);
+    let status = print_complete(rt, &completed, journal);
     if !order.dallies {
         return status;
     }
-    completed.dally(rt, journal);
+    completed.dally(rt, waits, journal);
     status
 }
 
@@ -172,7 +185,6 @@ fn conclude<N: Clock + Print + Eprint, R: Files + Drop>(
 fn print_complete<P: Print + Eprint, R: Files + Drop>(
     rt: &P,
     completed: &Completed<R>,
-    order: &Order<'_>,
     journal: &mut Journal,
 ) -> u8
     ensures status { result ≤ 2 }
@@ -182,39 +194,36 @@ fn print_complete<P: Print + Eprint, R: Files + Drop>(
 {
     match print_end(rt, journal, completed.client_end()) {
         Ok(()) => 0,
-        Err(error) => report_output(rt, &error, order),
+        Err(error) => report_output(rt, &error),
     }
 }
 
-/// Reports that standard output cannot be written, with the system's reason if the order is
-/// verbose. Returns the status.
-fn report_output<R: Eprint>(rt: &R, error: &io::Error, order: &Order<'_>) -> u8
+/// Reports that standard output cannot be written, and why. Returns the status.
+fn report_output<R: Eprint>(rt: &R, error: &io::Error) -> u8
     ensures { result ≡ 2 }
 {
+    let reason = reason_of(error);
     let _ = rt.eprintln("tftp: output fault");
-    if order.is_verbose {
-        let _ = eprintln!(rt; "tftp: {error}");
-    }
+    let _ = eprintln!(rt; "tftp: standard output: {reason}");
     2
 }
 
 /// Reports a failure, and returns the status: 2 if standard error cannot be written.
-fn report<R: Eprint>(rt: &R, failure: &Failure, order: &Order<'_>) -> u8
+fn report<R: Eprint>(rt: &R, failure: &Failure, job: &Job<'_>) -> u8
     ensures status { (result ≡ status_of failure.now.end) ⊎ (result ≡ 2) }
     ensures fails { (1 ≤ result) × (result ≤ 2) }
 {
-    match print_failure(rt, failure, order) {
+    match print_failure(rt, failure, job) {
         Ok(()) => failure.end.status(),
         Err(_) => 2,
     }
 }
 
-/// Prints how a transfer failed, and its reason if the order is verbose.
-fn print_failure<R: Eprint>(rt: &R, failure: &Failure, order: &Order<'_>) -> io::Result<()> {
+/// Prints how a transfer failed, and its cause.
+fn print_failure<R: Eprint>(rt: &R, failure: &Failure, job: &Job<'_>) -> io::Result<()> {
     rt.eprintln(failure.end)?;
-    if order.is_verbose {
-        let reason = &failure.reason;
-        eprintln!(rt; "tftp: {reason}")?;
+    match &failure.cause {
+        Some(cause) => rt.eprintln(CauseLine { job, cause }),
+        None => Ok(()),
     }
-    Ok(())
 }

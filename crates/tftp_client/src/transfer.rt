@@ -4,11 +4,12 @@ mod completed;
 mod conversation;
 mod failure;
 
-ghost use Rattle.std.specs.Prelude.{ℕ, ◌≡◌, ◌≤◌, IfOk, IfErr, OnOk, IsTrue};
+ghost use Rattle.std.specs.Prelude.{ℕ, ◌≡◌, ◌≤◌, ◌+◌, IfOk, IfErr, OnOk, IsTrue};
 ghost use Rattle.tftp_negotiate.specs.declared.known.Kind.TheVariants.{Read, Write};
 ghost use Rattle.tftp_ends.specs.Files.{AreFilesOf};
 ghost use Rattle.tftp_lines.specs.ClientOutcome.{status_of};
 ghost use Rattle.tftp_lines.specs.declared.client_outcome.ClientOutcome.TheVariants as ends;
+ghost use Rattle.tftp_sockets.specs.Quiet.{waits as waits_in};
 ghost use Rattle.tftp_client.specs.Conversation.{IsReady, state_of};
 ghost use Rattle.tftp_client.specs.Converses.{Converses, IsOpen, deadline_at};
 ghost use Rattle.tftp_client.specs.Stored.{count_of, stored};
@@ -17,13 +18,13 @@ ghost use Rattle.tftp_client.specs.Runs.{FailsBy, FailsEnd, FailsTransfer, MayFa
 ghost use Rattle.tftp_client.specs.Runs.{RunsAs, RunsJob, Stops, Transfers};
 ghost use Rattle.tftp_client.specs.Runs.{begun, measured, opens, plain, sent_from};
 
+use crate::cause::Cause;
 use crate::client_udp::ClientUdp;
 use crate::local::{LocalFile, LocalSource, Outbound, read_error};
 pub(crate) use crate::transfer::completed::Completed;
 use crate::transfer::conversation::Conversation;
-pub(crate) use crate::transfer::conversation::Progress;
+pub(crate) use crate::transfer::conversation::{MAX_WAITS, Progress};
 pub(crate) use crate::transfer::failure::Failure;
-use crate::transfer::failure::Reason;
 use crate::without_options::fallback;
 use std::alloc::Global;
 use std::io::Read;
@@ -79,30 +80,34 @@ impl Job<'_> {
     }
 }
 
-/// Transfers a file.
+/// Transfers a file. It makes so many waits at most, and counts those that are left.
 pub(crate) fn transfer<R: FileSystem + Clone + Drop + ClientUdp + Clock + Eprint>(
     rt: &R,
     alloc: Global,
     job: &Job<'_>,
+    waits: &mut u32,
     journal: &mut Journal,
 ) -> Result<Completed<R>, Failure>
     ensures ok { IfOk result (λ completed. Transfers
         ⟦<LocalSource<R::File> as Source>⟧.meaning ⟦<LocalFile<R> as Sink>⟧.meaning
-        completed.conversation.socket.port job.now
+        (waits.old + waits_in journal.old.events) completed.conversation.socket.port job.now
         journal.old.events (state_of completed.conversation journal.new.events) completed.files
         completed.count) }
     ensures err { IfErr result (λ failure. FailsTransfer
-        ⟦<LocalSource<R::File> as Source>⟧.meaning ⟦<LocalFile<R> as Sink>⟧.meaning job.now
+        ⟦<LocalSource<R::File> as Source>⟧.meaning ⟦<LocalFile<R> as Sink>⟧.meaning
+        (waits.old + waits_in journal.old.events) job.now
         journal.old.events journal.new.events failure.end) }
+    ensures counted { waits.new + waits_in journal.new.events
+        ≡ waits.old + waits_in journal.old.events }
 {
-    let failure = match transfer_once(rt, alloc, job, journal) {
+    let failure = match transfer_once(rt, alloc, job, waits, journal) {
         Ok(completed) => return Ok(completed),
         Err(failure) => failure,
     };
     if !falls_back(job, failure.end) {
         return Err(failure);
     }
-    transfer_once(rt, alloc, &plain(job), journal)
+    transfer_once(rt, alloc, &plain(job), waits, journal)
 }
 
 /// Whether to try a job with this outcome again without options.
@@ -134,6 +139,7 @@ fn transfer_once<R: FileSystem + Clone + Drop + ClientUdp + Clock + Eprint>(
     rt: &R,
     alloc: Global,
     job: &Job<'_>,
+    waits: &mut u32,
     journal: &mut Journal,
 ) -> Result<Completed<R>, Failure>
     ensures ok { IfOk result (λ completed. RunsJob
@@ -142,12 +148,15 @@ fn transfer_once<R: FileSystem + Clone + Drop + ClientUdp + Clock + Eprint>(
         journal.old.events (state_of completed.conversation journal.new.events) completed.files
         completed.count) }
     ensures err { IfErr result (λ failure. FailsBy
-        ⟦<LocalSource<R::File> as Source>⟧.meaning ⟦<LocalFile<R> as Sink>⟧.meaning job.now
+        ⟦<LocalSource<R::File> as Source>⟧.meaning ⟦<LocalFile<R> as Sink>⟧.meaning
+        (waits.old + waits_in journal.old.events) job.now
         journal.old.events journal.new.events failure.end) }
+    ensures counted { waits.new + waits_in journal.new.events
+        ≡ waits.old + waits_in journal.old.events }
 {
     match job.kind {
-        Kind::Read => get(rt, alloc, job, journal),
-        Kind::Write => put(rt, alloc, job, journal),
+        Kind::Read => get(rt, alloc, job, waits, journal),
+        Kind::Write => put(rt, alloc, job, waits, journal),
     }
 }
 
@@ -156,6 +165,7 @@ fn get<R: FileSystem + Clone + Drop + ClientUdp + Clock + Eprint>(
     rt: &R,
     alloc: Global,
     job: &Job<'_>,
+    waits: &mut u32,
     journal: &mut Journal,
 ) -> Result<Completed<R>, Failure>
     ensures ok { IfOk result (λ completed. RunsAs
@@ -164,10 +174,13 @@ fn get<R: FileSystem + Clone + Drop + ClientUdp + Clock + Eprint>(
         (state_of completed.conversation journal.new.events) completed.files completed.count) }
     ensures err { IfErr result (λ failure. FailsEnd
         ⟦<LocalSource<R::File> as Source>⟧.meaning ⟦<LocalFile<R> as Sink>⟧.meaning
-        (opens Read job.now 0) journal.old.events journal.new.events failure.end) }
+        (waits.old + waits_in journal.old.events) (opens Read job.now 0)
+        journal.old.events journal.new.events failure.end) }
+    ensures counted { waits.new + waits_in journal.new.events
+        ≡ waits.old + waits_in journal.old.events }
 {
     match create_local(rt, alloc, job.local, job.existing) {
-        Ok(local) => get_into(rt, alloc, job, local, journal),
+        Ok(local) => get_into(rt, alloc, job, local, waits, journal),
         Err(failure) => Err(failure),
     }
 }
@@ -197,6 +210,7 @@ fn get_into<N: ClientUdp + Clock + Eprint, R: FileSystem + Drop>(
     alloc: Global,
     job: &Job<'_>,
     local: LocalFile<R>,
+    waits: &mut u32,
     journal: &mut Journal,
 ) -> Result<Completed<R>, Failure>
     requires { local.taken.holding ≡ nothing }
@@ -206,10 +220,13 @@ fn get_into<N: ClientUdp + Clock + Eprint, R: FileSystem + Drop>(
         (state_of completed.conversation journal.new.events) completed.files completed.count) }
     ensures err { IfErr result (λ failure. FailsEnd
         ⟦<LocalSource<R::File> as Source>⟧.meaning ⟦<LocalFile<R> as Sink>⟧.meaning
-        (opens Read job.now 0) journal.old.events journal.new.events failure.end) }
+        (waits.old + waits_in journal.old.events) (opens Read job.now 0)
+        journal.old.events journal.new.events failure.end) }
+    ensures counted { waits.new + waits_in journal.new.events
+        ≡ waits.old + waits_in journal.old.events }
 {
     match ask_to_get(rt, alloc, job, journal) {
-        Ok(conversation) => converse(rt, conversation, Files::Sink(local), 0, journal),
+        Ok(conversation) => converse(rt, conversation, Files::Sink(local), 0, waits, journal),
         Err(failure) => Err(failure),
     }
 }
@@ -248,7 +265,7 @@ fn ask_to_get<N: ClientUdp + Clock>(
             };
             begin(rt, alloc, journal, job, opened)
         }
-        Err(fault) => Err(Failure::of_opening(fault)),
+        Err(fault) => Err(Failure::of_opening(fault, job.kind)),
     }
 }
 
@@ -292,7 +309,7 @@ fn begin<C: Clock>(
         request,
         total,
     } = opened;
-    match Conversation::new(clock, alloc, socket, end, job.progress, total) {
+    match Conversation::new(clock, alloc, socket, end, (job.kind, job.progress), total) {
         Ok(conversation) => {
             conversation.socket.send(journal, job.server, request);
             Ok(conversation)
@@ -306,6 +323,7 @@ fn put<R: FileSystem + Clone + Drop + ClientUdp + Clock + Eprint>(
     rt: &R,
     alloc: Global,
     job: &Job<'_>,
+    waits: &mut u32,
     journal: &mut Journal,
 ) -> Result<Completed<R>, Failure>
     ensures ok { IfOk result (λ completed. RunsAs
@@ -314,10 +332,13 @@ fn put<R: FileSystem + Clone + Drop + ClientUdp + Clock + Eprint>(
         (state_of completed.conversation journal.new.events) completed.files completed.count) }
     ensures err { IfErr result (λ failure. (length : ℕ) × FailsEnd
         ⟦<LocalSource<R::File> as Source>⟧.meaning ⟦<LocalFile<R> as Sink>⟧.meaning
-        (opens Write job.now length) journal.old.events journal.new.events failure.end) }
+        (waits.old + waits_in journal.old.events) (opens Write job.now length)
+        journal.old.events journal.new.events failure.end) }
+    ensures counted { waits.new + waits_in journal.new.events
+        ≡ waits.old + waits_in journal.old.events }
 {
     match Outbound::open(rt, alloc, job.local, job.mode) {
-        Ok(outbound) => put_from(rt, alloc, job, outbound, journal),
+        Ok(outbound) => put_from(rt, alloc, job, outbound, waits, journal),
         Err(error) => Err(Failure::of_file(error)),
     }
 }
@@ -328,6 +349,7 @@ fn put_from<R: FileSystem + Drop + ClientUdp + Clock + Eprint>(
     alloc: Global,
     job: &Job<'_>,
     outbound: Outbound<R::File>,
+    waits: &mut u32,
     journal: &mut Journal,
 ) -> Result<Completed<R>, Failure>
     ensures ok { IfOk result (λ completed. Runs
@@ -338,13 +360,15 @@ fn put_from<R: FileSystem + Drop + ClientUdp + Clock + Eprint>(
         × (outbound.wire_bytes ≤ MAX_WIRE)) }
     ensures err { IfErr result (λ failure. FailsEnd
         ⟦<LocalSource<R::File> as Source>⟧.meaning ⟦<LocalFile<R> as Sink>⟧.meaning
-        (opens Write job.now outbound.wire_bytes) journal.old.events journal.new.events
-        failure.end) }
+        (waits.old + waits_in journal.old.events) (opens Write job.now outbound.wire_bytes)
+        journal.old.events journal.new.events failure.end) }
+    ensures counted { waits.new + waits_in journal.new.events
+        ≡ waits.old + waits_in journal.old.events }
 {
     match ask_to_put(rt, alloc, job, outbound.wire_bytes, journal) {
         Ok(conversation) => {
             let files: Files<LocalSource<R::File>, LocalFile<R>> = Files::Source(outbound.source);
-            converse(rt, conversation, files, outbound.host_bytes, journal)
+            converse(rt, conversation, files, outbound.host_bytes, waits, journal)
         }
         Err(failure) => Err(failure),
     }
@@ -388,7 +412,7 @@ fn ask_to_put<N: ClientUdp + Clock>(
             };
             begin(rt, alloc, journal, job, opened)
         }
-        Err(fault) => Err(Failure::of_opening(fault)),
+        Err(fault) => Err(Failure::of_opening(fault, job.kind)),
     }
 }
 
@@ -409,6 +433,7 @@ fn converse<C: Clock + Eprint, R: FileSystem + Drop>(
     mut conversation: Conversation,
     mut files: Files<LocalSource<R::File>, LocalFile<R>>,
     sent: u64,
+    waits: &mut u32,
     journal: &mut Journal,
 ) -> Result<Completed<R>, Failure>
     requires files { AreFilesOf conversation.end.role.side files }
@@ -422,10 +447,12 @@ fn converse<C: Clock + Eprint, R: FileSystem + Drop>(
         × (completed.count ≡ count_of sent completed.files)) }
     ensures err { IfErr result (λ failure. Stops
         ⟦<LocalSource<R::File> as Source>⟧.meaning ⟦<LocalFile<R> as Sink>⟧.meaning
-        conversation.socket.port (state_of conversation journal.old.events) files
+        (waits.old + waits_in journal.old.events) conversation.socket.port (state_of conversation journal.old.events) files
         journal.new.events failure.end) }
+    ensures counted { waits.new + waits_in journal.new.events
+        ≡ waits.old + waits_in journal.old.events }
 {
-    let ended = conversation.run(rt, journal, &mut files);
+    let ended = conversation.run(rt, journal, &mut files, waits);
     conversation.finish(rt, stored(&files));
     match ended {
         Ok(()) => {
@@ -436,7 +463,7 @@ fn converse<C: Clock + Eprint, R: FileSystem + Drop>(
                 count,
             })
         }
-        Err(outcome) => Err(failed(outcome, files, conversation.into_peer_reason())),
+        Err(outcome) => Err(failed(outcome, files, conversation.into_cause(outcome))),
     }
 }
 
@@ -460,11 +487,12 @@ fn count_of<S, R: FileSystem + Drop>(files: &Files<S, LocalFile<R>>, sent: u64) 
     }
 }
 
-/// A transfer that failed with this outcome, with the reason if known.
+/// A transfer that failed with this outcome. Its cause is an error of the local file, if there was
+/// one.
 fn failed<R: FileSystem + Drop>(
     outcome: Outcome,
     files: Files<LocalSource<R::File>, LocalFile<R>>,
-    peer: Reason,
+    cause: Cause,
 ) -> Failure
     ensures { result.end ≡ ends.Failed outcome }
 {
@@ -474,9 +502,9 @@ fn failed<R: FileSystem + Drop>(
     };
     Failure {
         end: ClientOutcome::Failed(outcome),
-        reason: match error {
-            Some(error) => Reason::File(error),
-            None => peer,
-        },
+        cause: Some(match error {
+            Some(error) => Cause::File(error),
+            None => cause,
+        }),
     }
 }

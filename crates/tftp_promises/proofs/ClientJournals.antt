@@ -16,7 +16,7 @@ use Rattle.tftp_sockets.specs.Journal.QuietEvent.{Empty, Failed, Slept}
 use Rattle.tftp_client.specs.Converses.{State, HandlesReceived, MayElapse, wait_at}
 use Rattle.tftp_client.specs.Converses.HandlesReceived.{Answers, Loses}
 use Rattle.tftp_client.specs.Converses.MayElapse.{Stays, Elapses}
-use Rattle.tftp_promises.specs.ClientRuns.{ClientDoes, ClientRun, Starts, Goes_on, Receives_one, Waits_until, Times_out}
+use Rattle.tftp_promises.specs.ClientRuns.{ClientDoes, ClientRun, Starts, Goes_on, Receives_one, Reads_clock, Waits_until, Times_out}
 use Rattle.tftp_promises.specs.ClientRuns.{File_works, Prints_line}
 use Rattle.tftp_promises.specs.Journals.{IsOfPort, IsQuietAt, AsksFirst}
 use Rattle.tftp_promises.specs.Programs.{ClientProgram, ClientOpens, To_read, To_write}
@@ -60,6 +60,7 @@ module _ {G K : Type 0} {inputs : SourceMeaning G} {outputs : SinkMeaning K} whe
   does_since {port = port} {s = s} (Receives_one {from = from} {bytes = bytes} {time = time} may later handles) since =
       handle handles (one_more (Watched time) tt
       (one_more (Received port from bytes) refl (one_more (Quiet (Slept (wait_at s))) tt since)))
+  does_since (Reads_clock progress {time} later) since = one_more (Watched time) tt since
   does_since {port = port} {s = s} (Waits_until {event = event} {time = time} may which later) since =
       one_more (Watched time) tt (one_more (Quiet event) (at_port port event which)
       (one_more (Quiet (Slept (wait_at s))) tt since))

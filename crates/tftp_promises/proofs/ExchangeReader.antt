@@ -121,7 +121,7 @@ abbrev s1 : State
 s1 = record {
   end = receiving;
   now = 10;
-  due = 1010;
+  due = 1000;
   events =
       Sent 5000 read_port (ack_bytes 0) ∷ Watched 10 ∷ Received 5000 read_port (oack_bytes agreed) ∷ Quiet
       (Slept 1000) ∷ s0.events;
@@ -131,10 +131,10 @@ abbrev s2 : State
 s2 = record {
   end = dallying;
   now = 20;
-  due = 1020;
+  due = 1000;
   events =
       Sent 5000 read_port (ack_bytes 1) ∷ Watched 20 ∷ Received 5000 read_port (data_bytes 1 read_file) ∷ Quiet
-      (Slept 1000) ∷ s1.events;
+      (Slept 990) ∷ s1.events;
 }
 
 abbrev s3 : State
@@ -144,10 +144,10 @@ abbrev s4 : State
 s4 = record {
   end = dallying;
   now = 1010;
-  due = 1020;
+  due = 1000;
   events =
       Sent 5000 read_port (ack_bytes 1) ∷ Watched 1010 ∷ Received 5000 read_port (data_bytes 1 read_file) ∷ Quiet
-      (Slept 1000) ∷ s3.events;
+      (Slept 980) ∷ s3.events;
 }
 
 abbrev Does : State → Files (List ℕ) MemSinkState → State → Files (List ℕ) MemSinkState → Type 0

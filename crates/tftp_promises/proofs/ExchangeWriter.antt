@@ -76,7 +76,7 @@ abbrev s2 : State
 s2 = record {
   end = sending;
   now = 10;
-  due = 1010;
+  due = 1000;
   events =
       Sent 5001 write_port (data_bytes 1 written_file) ∷ Watched 10 ∷ Received 5001 write_port (ack_bytes 0) ∷ Quiet
       (Slept 995) ∷ s1.events;
@@ -86,8 +86,8 @@ abbrev s3 : State
 s3 = record {
   end = after_turn sending completes;
   now = 20;
-  due = 1020;
-  events = Watched 20 ∷ Received 5001 write_port (ack_bytes 1) ∷ Quiet (Slept 1000) ∷ s2.events;
+  due = 1000;
+  events = Watched 20 ∷ Received 5001 write_port (ack_bytes 1) ∷ Quiet (Slept 990) ∷ s2.events;
 }
 
 abbrev s4 : State

@@ -1,5 +1,5 @@
 -- Each step of a client keeps the invariant.
-use Rattle.std.proofs.Common.{◌≡◌, ℕ, List, [], ◌∷◌, ◌++◌, Option, Some, None, refl, sym, ap, ◌∙◌, subst}
+use Rattle.std.proofs.Common.{◌≡◌, ℕ, Bool, List, [], ◌∷◌, ◌++◌, Option, Some, None, refl, sym, ap, ◌∙◌, subst}
 use Rattle.std.specs.Prelude.{slice_get, is_some, IsSome}
 use Rattle.std.specs.List.{Contains}
 use Rattle.std.proofs.lemmas.List.Elements.{Contains-append_left, Contains-push}
@@ -15,7 +15,7 @@ use Rattle.tftp_store.specs.Store.{StoreMeaning}
 use Rattle.tftp_sockets.specs.Journal.{Event, QuietEvent, answered}
 use Rattle.tftp_sockets.specs.Journal.Event.{Received, Sent, Watched, Elapsed, Printed, Quiet}
 use Rattle.tftp_sockets.specs.Journal.QuietEvent.{Slept}
-use Rattle.tftp_client.specs.Converses.{State, IsOpen, HandlesReceived, MayElapse, WorksOnFile, received, turned}
+use Rattle.tftp_client.specs.Converses.{State, IsOpen, HandlesReceived, MayElapse, WorksOnFile, received, renewed, turned}
 use Rattle.tftp_client.specs.Converses.{wait_at, waited, elapsed}
 use Rattle.tftp_client.specs.Converses.HandlesReceived.{Answers, Loses}
 use Rattle.tftp_client.specs.Converses.MayElapse.{Stays, Elapses}
@@ -26,7 +26,7 @@ use Rattle.tftp_rules.specs.OpenEnds.{OpenEnd, files_of, open_view}
 use Rattle.tftp_rules.proofs.Indices.{slice_get-set_same}
 use Rattle.tftp_rules.proofs.PhaseMoves.{same_ips}
 use Rattle.tftp_rules.proofs.EndTurns.{datagram_goes, timeout_goes}
-use Rattle.tftp_promises.specs.ClientRuns.{ClientDoes, Receives_one, Waits_until, Times_out, File_works, Prints_line}
+use Rattle.tftp_promises.specs.ClientRuns.{ClientDoes, Receives_one, Reads_clock, Waits_until, Times_out, File_works, Prints_line}
 use Rattle.tftp_promises.specs.ClientRuns.{client_moves, line_printed, moved_in}
 use Rattle.tftp_promises.specs.Joint.{CanTake}
 use Rattle.tftp_promises.specs.Moved.{Moved, handling_moves, step_moves}
@@ -207,6 +207,16 @@ module _ {S F D G K : Type 0} {stores : StoreMeaning S D} {sources : SourceMeani
       (subst (λ (es : List Event). IsSilent es) (added_by client.port None wait s.events added events)
       (unsent_silent wait (tt, (tt, (tt, tt)))))
 
+  -- ---- a reading of the clock
+  pub reads : (progress : Bool) (time : ℕ) (added : List Event) → Watched time ∷ s.events ≡ added ++ s.events →
+      Then_keeps (renewed progress time s) files added moved
+  reads progress time added events =
+      let o = own programs old kept fresh k client found s files noted moved is_stage in
+      stays_keeps programs old kept fresh k client found s files noted moved is_stage (renewed progress time s) refl
+      files moved o.has added
+      (subst (λ (es : List Event). IsSilent es) (added_by client.port None (Watched time ∷ []) s.events added events)
+      (unsent_silent (Watched time ∷ []) (tt, tt)))
+
   -- ---- a line
   pub prints : (line : List ℕ) (added : List Event) → Printed line ∷ s.events ≡ added ++ s.events →
       Then_keeps (line_printed line s) files added moved
@@ -272,6 +282,8 @@ module _ {S F D G K : Type 0} {stores : StoreMeaning S D} {sources : SourceMeani
       take =
       handles from bytes time s' files' added handled (told_now programs old kept fresh k client found s files noted
       moved is_stage s' files' (added ++ noted) (handling_moves handled moved) now) events take
+  does_keeps s' files' added (Reads_clock progress {time} later) now events take =
+      reads programs old kept fresh k client found s files noted moved is_stage progress time added events
   does_keeps s' files' added (Waits_until {event = event} {time = time} may which later) now events take =
       waits programs old kept fresh k client found s files noted moved is_stage event time added events
   does_keeps s' files' added (Times_out may) now events take =

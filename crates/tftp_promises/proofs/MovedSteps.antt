@@ -29,7 +29,7 @@ use Rattle.tftp_client.specs.Converses.{State, HandlesReceived}
 use Rattle.tftp_client.specs.Converses.HandlesReceived.{Answers, Loses}
 use Rattle.tftp_rules.specs.Machine.{is_same}
 use Rattle.tftp_rules.proofs.Endpoints.{cases_same, same_other, same_self}
-use Rattle.tftp_promises.specs.ClientRuns.{ClientDoes, Receives_one, Waits_until, Times_out, File_works, Prints_line}
+use Rattle.tftp_promises.specs.ClientRuns.{ClientDoes, Receives_one, Reads_clock, Waits_until, Times_out, File_works, Prints_line}
 use Rattle.tftp_promises.specs.ClientRuns.{client_moves}
 use Rattle.tftp_promises.specs.Moved.{Moved, acts_move, came_if, handling_moves, opening_moves, port_moves}
 use Rattle.tftp_promises.specs.Openings.{does_move, opens_at, or_place, place, place_at}
@@ -60,6 +60,7 @@ module _ {G K : Type 0} {inputs : SourceMeaning G} {outputs : SinkMeaning K} {po
   pub client_more : {s s' : State} {files files' : Files G K} (does : ClientDoes inputs outputs port s files s' files')
       (moved : Moved) → IsPrefixOf moved.bytes (client_moves does moved).bytes
   client_more (Receives_one may later handles) moved = handling_more handles moved
+  client_more (Reads_clock progress later) moved = begins_itself moved.bytes
   client_more (Waits_until may which later) moved = begins_itself moved.bytes
   client_more (Times_out elapses) moved = begins_itself moved.bytes
   client_more (File_works works) moved = begins_itself moved.bytes

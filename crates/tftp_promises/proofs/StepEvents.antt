@@ -18,7 +18,7 @@ use Rattle.tftp_loop.specs.Serves.{answering_port}
 use Rattle.tftp_client.specs.Converses.{State, HandlesReceived, MayElapse, wait_at}
 use Rattle.tftp_client.specs.Converses.HandlesReceived.{Answers, Loses}
 use Rattle.tftp_client.specs.Converses.MayElapse.{Stays, Elapses}
-use Rattle.tftp_promises.specs.ClientRuns.{ClientDoes, Receives_one, Waits_until, Times_out, File_works, Prints_line}
+use Rattle.tftp_promises.specs.ClientRuns.{ClientDoes, Receives_one, Reads_clock, Waits_until, Times_out, File_works, Prints_line}
 use Rattle.tftp_promises.specs.Snapshots.{}
 
 -- no datagram received
@@ -129,6 +129,7 @@ module _ {G K : Type 0} {inputs : SourceMeaning G} {outputs : SinkMeaning K} whe
   client_adds {port = port} {s = s} (Receives_one {from = from} {bytes = bytes} {time = time} may later handles) =
       after_wait (Quiet (Slept (wait_at s)) ∷ []) (tt, tt)
       (handle_adds handles (Watched time) (Received port from bytes ∷ []) (tt, tt) refl)
+  client_adds (Reads_clock progress {time} later) = Acts (Watched time) [] [] tt tt refl
   client_adds {s = s} (Waits_until {event = event} {time = time} may which later) =
       Acts (Watched time) [] (Quiet event ∷ Quiet (Slept (wait_at s)) ∷ []) tt (tt, (tt, tt)) refl
   client_adds (Times_out elapses) = after_wait [] tt (elapse_adds elapses)

@@ -1,6 +1,6 @@
 -- The run of a client, step by step: what its end does over its socket, and the lines that it
 -- prints.
-use Rattle.std.specs.Prelude.{ℕ, ◌≡◌, ◌≤◌, ◌⊎◌, List, ◌∷◌}
+use Rattle.std.specs.Prelude.{ℕ, ◌≡◌, ◌≤◌, ◌⊎◌, Bool, List, ◌∷◌}
 use Rattle.tftp_file.specs.Sink.{SinkMeaning}
 use Rattle.tftp_file.specs.Source.{SourceMeaning}
 use Rattle.tftp_file.specs.declared.files.Files.{Files}
@@ -10,7 +10,7 @@ use Rattle.tftp_sockets.specs.Journal.{Event, QuietEvent}
 use Rattle.tftp_sockets.specs.Journal.Event.{Printed}
 use Rattle.tftp_sockets.specs.Journal.QuietEvent.{Empty, Failed}
 use Rattle.tftp_client.specs.Converses.{State, HandlesReceived, MayElapse, MayWait, WorksOnFile}
-use Rattle.tftp_client.specs.Converses.{received, waited}
+use Rattle.tftp_client.specs.Converses.{received, renewed, waited}
 use Rattle.tftp_client.specs.Runs.{Runs, StaysOn, begun, printed}
 use Rattle.tftp_promises.specs.Moved.{Moved, nothing_moved, handling_moves}
 
@@ -27,6 +27,9 @@ pub data ClientDoes {G K : Type 0} (inputs : SourceMeaning G) (outputs : SinkMea
       → HandlesReceived inputs outputs port from bytes (received port from bytes time s) files next
       files'
       → ClientDoes inputs outputs port s files next files'
+  -- the clock was read again, once a datagram was handled
+  Reads_clock : (progress : Bool) {time : ℕ} → s.now ≤ time
+      → ClientDoes inputs outputs port s files (renewed progress time s) files
   -- none was received until this time: the port was empty, or the receive failed
   Waits_until : {event : QuietEvent} {time : ℕ} → MayWait s
       → (event ≡ Empty port) ⊎ (event ≡ Failed port) → s.now ≤ time
@@ -45,6 +48,7 @@ abbrev pub client_moves : {G K : Type 0} {inputs : SourceMeaning G} {outputs : S
     {port : ℕ} {s s' : State} {files files' : Files G K}
     → ClientDoes inputs outputs port s files s' files' → Moved → Moved
 client_moves (Receives_one may later handles) moved = handling_moves handles moved
+client_moves (Reads_clock progress later) moved = moved
 client_moves (Waits_until may event later) moved = moved
 client_moves (Times_out elapses) moved = moved
 client_moves (File_works works) moved = moved

@@ -1,9 +1,10 @@
 //! A transfer that is complete.
 
-ghost use Rattle.std.specs.Prelude.{◌≡◌, true};
+ghost use Rattle.std.specs.Prelude.{◌≡◌, ◌≤◌, ◌+◌, true};
 ghost use Rattle.tftp_ends.specs.End.{is_complete};
 ghost use Rattle.tftp_ends.specs.Files.{AreFilesOf};
 ghost use Rattle.tftp_lines.specs.declared.client_outcome.ClientOutcome.TheVariants as ends;
+ghost use Rattle.tftp_sockets.specs.Quiet.{waits as waits_in};
 ghost use Rattle.tftp_client.specs.Conversation.{IsReady};
 
 use crate::local::{LocalFile, LocalSource};
@@ -38,17 +39,19 @@ impl<R: FileSystem + Drop> Completed<R> {
         ClientOutcome::Complete(self.count)
     }
 
-    /// Waits until the end is closed: a receiver's after two timeouts, a sender's at once.
-    pub(crate) fn dally<C: Clock>(self, clock: &C, journal: &mut Journal)
-        ensures { StaysOn ⟦<LocalSource<R::File> as Source>⟧.meaning
+    /// Waits until the end is closed, but so many times at most: a receiver's end after two
+    /// timeouts, a sender's at once.
+    pub(crate) fn dally<C: Clock>(self, clock: &C, waits: u32, journal: &mut Journal)
+        ensures stays { StaysOn ⟦<LocalSource<R::File> as Source>⟧.meaning
             ⟦<LocalFile<R> as Sink>⟧.meaning self.conversation.socket.port
             (state_of self.conversation journal.old.events) self.files journal.new.events }
+        ensures waits { waits_in journal.new.events ≤ waits + waits_in journal.old.events }
     {
         let Completed {
             mut conversation,
             mut files,
             ..
         } = self;
-        conversation.dally(clock, journal, &mut files);
+        conversation.dally(clock, journal, &mut files, waits);
     }
 }

@@ -9,26 +9,27 @@ ghost use Rattle.tftp_ends.specs.Files.{AreFilesOf};
 ghost use Rattle.tftp_sockets.specs.Journal.Event.{Quiet};
 ghost use Rattle.tftp_sockets.specs.Journal.QuietEvent.{Slept};
 ghost use Rattle.tftp_sockets.specs.Journal.{replied};
-ghost use Rattle.tftp_sockets.specs.Quiet.{waits};
+ghost use Rattle.tftp_sockets.specs.Quiet.{waits as waits_in};
 ghost use Rattle.tftp_sockets.specs.Receipt.{Fits, receive_event};
-ghost use Rattle.tftp_client.specs.Converses.{Converses, HandlesReceived, MayElapse, WorksOnFile};
+ghost use Rattle.tftp_client.specs.Converses.{Converses, MayElapse, WorksOnFile, renewed};
+ghost use Rattle.tftp_client.specs.Converses.{AnswersReceived, HandlesAs};
 ghost use Rattle.tftp_client.specs.Converses.{EndsBy, IsOpen, deadline_at, due_after};
 
-use crate::transfer::failure::Reason;
+use crate::cause::Cause;
 use std::alloc::{AllocError, Global};
 use std::time::Clock;
 use tftp_ends::{End, Endpoint, Outcome, Step, decode_packet};
 use tftp_file::{Files, Sink, Source};
 use tftp_lines::{LineClock, ProgressLine};
-use tftp_negotiate::stated_tsize;
+use tftp_negotiate::{Kind, stated_tsize};
 use tftp_sockets::{
     ClientSocket, DATAGRAM_BUFFER, Journal, LONGEST_WAIT, Receipt, Watch, deadline, is_due,
     read_clock, read_watch,
 };
 use tftp_wire::{PacketRef, show_ref};
 
-/// The limit of waits in a run.
-const MAX_WAITS: u32 = 1_000_000;
+/// The limit of waits of a command: in all its runs, and in its dally.
+pub(crate) const MAX_WAITS: u32 = 1_000_000;
 
 const _: () = prove!(MAX_WAITS == 1_000_000);
 
@@ -64,7 +65,10 @@ pub(crate) struct Conversation {
     lines: Option<LineClock>,
     /// The length of the file in bytes, if known.
     total: Option<u64>,
-    peer_reason: Reason,
+    /// The direction of the transfer.
+    kind: Kind,
+    /// The words of the ERROR by which the peer ended the transfer, if it did.
+    peer_words: Option<String>,
 }
 
 impl Conversation {
@@ -76,7 +80,7 @@ impl Conversation {
         alloc: Global,
         socket: ClientSocket,
         end: End,
-        progress: Progress,
+        how: (Kind, Progress),
         total: Option<u64>,
     ) -> Result<Conversation, AllocError>
         ensures { IfOk result (λ conversation. (conversation.end ≡ end)
@@ -85,6 +89,7 @@ impl Conversation {
     {
         let watch = Watch::new(read_clock(clock, 0));
         let due = deadline(0, end.interval());
+        let (kind, progress) = how;
         Ok(Conversation {
             alloc,
             socket,
@@ -98,17 +103,19 @@ impl Conversation {
                 Progress::Hidden => None,
             },
             total,
-            peer_reason: Reason::Unknown,
+            kind,
+            peer_words: None,
         })
     }
 
     /// Runs the transfer until it is complete. Fails with the outcome of a closed end, or with
-    /// `TimedOut` after [`MAX_WAITS`] waits.
+    /// `TimedOut` after so many waits. Counts those that are left.
     pub(crate) fn run<C: Clock + Eprint, S: Source, K: Sink>(
         &mut self,
         rt: &C,
         journal: &mut Journal,
         files: &mut Files<S, K>,
+        waits: &mut u32,
     ) -> Result<(), Outcome>
         requires files { AreFilesOf self.old.end.role.side files.old }
         requires not_closed { IsOpen self.old.end }
@@ -118,12 +125,16 @@ impl Conversation {
             (state_of self.new journal.new.events) files.new }
         ensures port { self.new.socket.port ≡ self.old.socket.port }
         ensures complete { OnOk result (is_complete self.new.end.position.phase ≡ true) }
-        ensures failed { IfErr result (λ outcome. EndsBy (state_of self.old journal.old.events)
+        ensures failed { IfErr result (λ outcome. EndsBy (waits.old + waits_in journal.old.events)
             (state_of self.new journal.new.events) outcome) }
         ensures files { AreFilesOf self.new.end.role.side files.new }
         ensures ready { OnOk result (IsReady self.new) }
+        ensures counted { waits.new + waits_in journal.new.events
+            ≡ waits.old + waits_in journal.old.events }
     {
-        for _ in 0..MAX_WAITS {
+        let most = *waits;
+        for made in 0..most {
+            *waits = most - made - 1;
             self.turn(rt, journal, files);
             if let Some(ended) = ended(&self.end) {
                 return ended;
@@ -133,13 +144,14 @@ impl Conversation {
         Err(Outcome::TimedOut)
     }
 
-    /// Runs the end of a complete transfer until it closes. For two timeouts a receiver
-    /// acknowledges its last block again whenever that is repeated (RFC 1350, section 6).
+    /// Runs the end of a complete transfer until it closes, or for so many waits. For two timeouts a
+    /// receiver acknowledges its last block again whenever that is repeated (RFC 1350, section 6).
     pub(crate) fn dally<C: Clock, S: Source, K: Sink>(
         &mut self,
         clock: &C,
         journal: &mut Journal,
         files: &mut Files<S, K>,
+        waits: u32,
     )
         requires files { AreFilesOf self.old.end.role.side files.old }
         requires ready { IsReady self.old }
@@ -147,8 +159,9 @@ impl Conversation {
             (state_of self.old journal.old.events) files.old
             (state_of self.new journal.new.events) files.new }
         ensures port { self.new.socket.port ≡ self.old.socket.port }
+        ensures waits { waits_in journal.new.events ≤ waits + waits_in journal.old.events }
     {
-        for _ in 0..MAX_WAITS {
+        for _ in 0..waits {
             if self.end.outcome().is_some() {
                 return;
             }
@@ -173,7 +186,7 @@ impl Conversation {
         ensures port { self.new.socket.port ≡ self.old.socket.port }
         ensures files { AreFilesOf self.new.end.role.side files.new }
         ensures ready { IsReady self.new }
-        ensures waits { waits journal.new.events ≡ 1 + waits journal.old.events }
+        ensures waits { waits_in journal.new.events ≡ 1 + waits_in journal.old.events }
     {
         let step = self.take_received(clock, journal, files);
         if self.end.outcome().is_some() {
@@ -205,7 +218,7 @@ impl Conversation {
         ensures files { AreFilesOf self.new.end.role.side files.new }
         ensures advanced { result.progress ≡ true
             → self.new.due ≡ deadline_at self.new.watch.now self.new.end }
-        ensures waits { waits journal.new.events ≡ 1 + waits journal.old.events }
+        ensures waits { waits_in journal.new.events ≡ 1 + waits_in journal.old.events }
     {
         let received = receive_until(
             &mut self.socket,
@@ -216,10 +229,53 @@ impl Conversation {
         );
         read_watch(clock, journal, &mut self.watch);
         match received {
-            Receipt::Datagram(from, count) => self.take_datagram(journal, files, from, count),
+            Receipt::Datagram(from, count) => {
+                self.answer_datagram(clock, journal, files, from, count)
+            }
             Receipt::Nothing => NO_STEP,
             Receipt::Failed => NO_STEP,
         }
+    }
+
+    /// Handles the datagram in the buffer, and reads the clock again: the step may have used the
+    /// file. After progress the deadline counts from then.
+    fn answer_datagram<C: Clock, S: Source, K: Sink>(
+        &mut self,
+        clock: &C,
+        journal: &mut Journal,
+        files: &mut Files<S, K>,
+        from: Endpoint,
+        count: usize,
+    ) -> Step
+        requires files { AreFilesOf self.old.end.role.side files.old }
+        requires count { count ≤ length self.old.buffer.items }
+        ensures answers { AnswersReceived S.meaning K.meaning self.old.socket.port
+            from (take count self.old.buffer.items)
+            (state_of self.old journal.old.events) files.old
+            (state_of self.new journal.new.events) files.new }
+        ensures port { self.new.socket.port ≡ self.old.socket.port }
+        ensures files { AreFilesOf self.new.end.role.side files.new }
+        ensures advanced { result.progress ≡ true
+            → self.new.due ≡ deadline_at self.new.watch.now self.new.end }
+    {
+        let step = self.take_datagram(journal, files, from, count);
+        self.renew(clock, journal, &step);
+        step
+    }
+
+    /// Reads the clock. After a step with progress the deadline counts from then.
+    fn renew<C: Clock>(&mut self, clock: &C, journal: &mut Journal, step: &Step)
+        ensures renewed { state_of self.new journal.new.events
+            ≡ renewed step.now.progress self.new.watch.now
+            (state_of self.old journal.old.events) }
+        ensures forward { self.old.watch.now ≤ self.new.watch.now }
+        ensures port { self.new.socket.port ≡ self.old.socket.port }
+        ensures end { self.new.end ≡ self.old.end }
+        ensures advanced { step.now.progress ≡ true
+            → self.new.due ≡ deadline_at self.new.watch.now self.new.end }
+    {
+        let now = read_watch(clock, journal, &mut self.watch);
+        self.due = due_after(step, now, self.end.interval(), self.due);
     }
 
     /// Handles the datagram in the buffer, and sends the answer. Out of memory, it loses the
@@ -233,22 +289,19 @@ impl Conversation {
     ) -> Step
         requires files { AreFilesOf self.old.end.role.side files.old }
         requires count { count ≤ length self.old.buffer.items }
-        ensures handles { HandlesReceived S.meaning K.meaning self.old.socket.port
+        ensures handles { HandlesAs S.meaning K.meaning self.old.socket.port
             from (take count self.old.buffer.items)
             (state_of self.old journal.old.events) files.old
-            (state_of self.new journal.new.events) files.new }
+            (state_of self.new journal.new.events) files.new result.progress }
         ensures port { self.new.socket.port ≡ self.old.socket.port }
         ensures files { AreFilesOf self.new.end.role.side files.new }
-        ensures advanced { result.progress ≡ true
-            → self.new.due ≡ deadline_at self.new.watch.now self.new.end }
     {
         let bytes = datagram_in(self.buffer.as_slice(), count);
         let Ok((step, outgoing)) = self.end.handle_datagram(files, from, bytes) else {
             return NO_STEP;
         };
         reply(&self.socket, journal, step.to, self.end.bytes_of(outgoing));
-        self.due = due_after(&step, self.watch.now, self.end.interval(), self.due);
-        note_peer_reason(&mut self.peer_reason, self.alloc, &step, bytes);
+        note_peer_words(&mut self.peer_words, self.alloc, &step, bytes);
         note_total(&mut self.total, &self.lines, &step, bytes);
         step
     }
@@ -341,9 +394,21 @@ impl Conversation {
         let _ = eprintln!(rt; "\r{line}{ERASE_REST}");
     }
 
-    /// The ERROR by which the peer ended the transfer, if it did.
-    pub(crate) fn into_peer_reason(self) -> Reason {
-        self.peer_reason
+    /// Why the transfer failed with this outcome, as far as the end knows it.
+    pub(crate) fn into_cause(self, outcome: Outcome) -> Cause {
+        let Conversation {
+            end,
+            kind,
+            peer_words,
+            ..
+        } = self;
+        if outcome == Outcome::TimedOut && end.record().peer.is_some() {
+            return Cause::Peer("no answer any more");
+        }
+        match peer_words {
+            Some(words) => Cause::Server(words),
+            None => Cause::of(outcome, kind),
+        }
     }
 }
 
@@ -410,10 +475,10 @@ fn due_after(step: &Step, now: u64, seconds: u8, due: u64) -> u64
     }
 }
 
-/// Stores the ERROR by which the peer ended the transfer, if it did in this step.
-fn note_peer_reason(reason: &mut Reason, alloc: Global, step: &Step, bytes: &[u8]) {
-    if let Some(Outcome::PeerError(_)) = step.closed {
-        *reason = error_line(alloc, bytes);
+/// Stores the words of the ERROR by which the peer ended the transfer, if it did in this step.
+fn note_peer_words(words: &mut Option<String>, alloc: Global, step: &Step, bytes: &[u8]) {
+    if let Some(Outcome::PeerError(code)) = step.closed {
+        *words = error_words(alloc, code, bytes);
     }
 }
 
@@ -424,15 +489,32 @@ fn note_total(total: &mut Option<u64>, lines: &Option<LineClock>, step: &Step, b
     }
 }
 
-/// An ERROR as a line of text.
-fn error_line(alloc: Global, bytes: &[u8]) -> Reason {
-    let Some(packet) = decode_packet(bytes) else {
-        return Reason::Unknown;
-    };
+/// The words of an ERROR of this code, which its line has in parentheses; without any, those of
+/// the code. `None` when out of memory.
+fn error_words(alloc: Global, code: u16, bytes: &[u8]) -> Option<String> {
+    let packet = decode_packet(bytes)?;
     let mut line = String::new(alloc);
-    match show_ref(&packet, &mut line) {
-        Ok(()) => Reason::Peer(line),
-        Err(_) => Reason::Unknown,
+    show_ref(&packet, &mut line).ok()?;
+    let (_, text) = line.as_str().split_once('(')?;
+    let words = match text.strip_suffix(')')? {
+        "" => code_words(code),
+        words => words,
+    };
+    String::from_str(alloc, words).ok()
+}
+
+/// The words for the code of an ERROR (RFC 1350, appendix I; RFC 2347).
+fn code_words(code: u16) -> &'static str {
+    match code {
+        1 => "file not found",
+        2 => "access violation",
+        3 => "disk full",
+        4 => "illegal operation",
+        5 => "unknown transfer id",
+        6 => "file exists",
+        7 => "no such user",
+        8 => "option refused",
+        _ => "an error that it does not name",
     }
 }
 

@@ -17,4 +17,5 @@ returns-then-not-order-clause-goes g c =
     }
 
 pub returns-clause-goes : goal.returns-clause-goes
-returns-clause-goes g c = goes_on _ _ (state_is refl refl refl c.print_complete-status.ensures.noted) c.dally.ensures
+returns-clause-goes g c = goes_on _ _ (state_is refl refl refl c.print_complete-status.ensures.noted)
+    c.dally.ensures.stays

@@ -18,7 +18,7 @@ returns-in-Ok-clause-ok g c =
 
 pub returns-in-Ok-clause-err : goal.returns-in-Ok-clause-err
 returns-in-Ok-clause-err g c =
-    if_err c.converse.result _ _ (λ failure stopped. fails _ _ failure.end _ _ _ _ c.in-Ok.ensures.begins stopped)
+    if_err c.converse.result _ _ (λ failure stopped. fails _ _ c.args.waits.now failure.end _ _ _ _ c.in-Ok.ensures.begins stopped)
     c.converse.ensures.err
 
 pub converse-requires-clause-not_closed : goal.converse-requires-clause-not_closed

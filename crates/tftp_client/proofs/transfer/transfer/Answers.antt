@@ -25,5 +25,5 @@ returns-clause-err g c =
       fails = c.in-Err.ensures.err;
       allowed = c.falls_back.ensures c.if-not-falls_back.false;
     })
-    c.plain.ensures failed)
+    c.plain.ensures c.transfer_once.ensures.counted failed)
     c.transfer_once-2.ensures.err

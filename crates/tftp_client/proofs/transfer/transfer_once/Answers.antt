@@ -9,7 +9,7 @@ returns-in-Read-clause-ok g c = IfOk-weaker c.get.result _ _ (λ completed run.
 
 pub returns-in-Read-clause-err : goal.returns-in-Read-clause-err
 returns-in-Read-clause-err g c =
-    if_err c.get.result _ _ (λ failure failed. fails_job _ _ c.args.job.now 0 _ _ failure.end c.in-Read.is failed)
+    if_err c.get.result _ _ (λ failure failed. fails_job _ _ _ c.args.job.now 0 _ _ failure.end c.in-Read.is failed)
     c.get.ensures.err
 
 pub returns-in-Write-clause-ok : goal.returns-in-Write-clause-ok
@@ -18,5 +18,5 @@ returns-in-Write-clause-ok g c =
 
 pub returns-in-Write-clause-err : goal.returns-in-Write-clause-err
 returns-in-Write-clause-err g c =
-    if_err c.put.result _ _ (λ failure failed. fails_job _ _ c.args.job.now failed.0 _ _ failure.end c.in-Write.is
+    if_err c.put.result _ _ (λ failure failed. fails_job _ _ _ c.args.job.now failed.0 _ _ failure.end c.in-Write.is
     failed.1) c.put.ensures.err

@@ -1,7 +1,8 @@
 -- The file stays one of the end's side, the port the same, an open end may wait, and the client has
 -- done nothing but the steps of its end.
-use Rattle.std.specs.Prelude.{◌≡◌}
+use Rattle.std.specs.Prelude.{◌≡◌, ◌+◌}
 use Rattle.tftp_ends.specs.Files.{AreFilesOf}
+use Rattle.tftp_sockets.specs.Quiet.{waits}
 use Rattle.tftp_client.specs.Conversation.{IsReady, state_of}
 use Rattle.tftp_client.specs.Converses.{Converses}
 use Rattle.tftp_client.proofs.transfer.conversation.Conversation.dally.Given as goal
@@ -12,6 +13,7 @@ invariant-loop g l =
       fit : AreFilesOf l.self.end.role.side l.files;
       port : l.self.socket.port ≡ l.initial.self.socket.port;
       ready : IsReady l.self;
+      waits : waits l.journal.events ≡ l.counter + waits l.initial.journal.events;
       converses : Converses g.S.Source.meaning g.K.Sink.meaning l.initial.self.socket.port
           (state_of l.initial.self l.initial.journal.events) l.initial.files (state_of l.self l.journal.events) l.files;
     }

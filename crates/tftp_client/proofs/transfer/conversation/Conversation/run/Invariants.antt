@@ -7,14 +7,15 @@ use Rattle.tftp_client.specs.Conversation.{IsReady, state_of}
 use Rattle.tftp_client.specs.Converses.{Converses, IsOpen}
 use Rattle.tftp_client.proofs.transfer.conversation.Conversation.run.Given as goal
 
-abbrev pub invariant-loop : goal.invariant-loop
-invariant-loop g l =
+abbrev pub invariant-loop-made : goal.invariant-loop-made
+invariant-loop-made g l =
     record {
       fit : AreFilesOf l.self.end.role.side l.files;
       port : l.self.socket.port ≡ l.initial.self.socket.port;
       not_closed : IsOpen l.self.end;
       ready : IsReady l.self;
-      waits : waits l.journal.events ≡ l.counter + waits l.initial.journal.events;
+      waits : waits l.journal.events ≡ l.made + waits l.initial.journal.events;
+      left : l.waits + l.made ≡ l.initial.waits;
       converses : Converses g.S.Source.meaning g.K.Sink.meaning l.initial.self.socket.port
           (state_of l.initial.self l.initial.journal.events) l.initial.files (state_of l.self l.journal.events) l.files;
     }

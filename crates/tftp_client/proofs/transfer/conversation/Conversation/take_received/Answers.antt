@@ -2,7 +2,7 @@
 use Rattle.std.proofs.Common.{rules, ◌∙◌, ap, refl, ◌∷◌, ℕ, List, take, sym, subst, inl, inr}
 use Rattle.std.proofs.lemmas.List.{with_items_is, places}
 use Rattle.tftp_client.specs.Conversation.{state_of}
-use Rattle.tftp_client.specs.Converses.{Converses, HandlesReceived, MayWait, State}
+use Rattle.tftp_client.specs.Converses.{Converses, AnswersReceived, MayWait, State}
 use Rattle.tftp_client.specs.Converses.Converses.{Begins, Receives, Waits}
 use Rattle.tftp_sockets.specs.Journal.{Event, QuietEvent}
 use Rattle.tftp_sockets.specs.Journal.Event.{Watched}
@@ -16,10 +16,10 @@ returns-in-Datagram-clause-converses g c =
     let s : State = state_of c.args.self.now c.args.journal.now.events in
     let from = c.in-Datagram.from in
     let time = c.read_watch.result in
-    let next : State = state_of c.take_datagram.new.self c.take_datagram.new.journal.events in
+    let next : State = state_of c.answer_datagram.new.self c.answer_datagram.new.journal.events in
     let handles : List ℕ → ℕ → State → Type 0 = λ b p t.
-    HandlesReceived g.S.Source.meaning g.K.Sink.meaning p from (take c.in-Datagram.count b) t c.args.files.now
-    next c.take_datagram.new.files in
+    AnswersReceived g.S.Source.meaning g.K.Sink.meaning p from (take c.in-Datagram.count b) t c.args.files.now
+    next c.answer_datagram.new.files in
     let t : State = record {
       end = s.end;
       now = c.read_watch.new.watch.now;
@@ -34,7 +34,7 @@ returns-in-Datagram-clause-converses g c =
     let may : MayWait s = record { not_closed = c.requires.not_closed; due = c.requires.ready c.requires.not_closed } in
     Receives Begins may c.read_watch.ensures.forward
     (subst At (state_is refl c.read_watch.ensures.time refl noted)
-    (subst Of c.receive_until-received.ensures.port (subst Over whole c.take_datagram.ensures.handles)))
+    (subst Of c.receive_until-received.ensures.port (subst Over whole c.answer_datagram.ensures.answers)))
 
 pub returns-in-Nothing-clause-converses : goal.returns-in-Nothing-clause-converses
 returns-in-Nothing-clause-converses g c =

@@ -1,0 +1,17 @@
+-- A datagram was handled, and then the clock was read.
+use Rattle.std.proofs.Common.{◌∙◌, ap, Bool}
+use Rattle.tftp_client.specs.Conversation.{state_of}
+use Rattle.tftp_client.specs.Converses.{State, renewed}
+use Rattle.tftp_client.proofs.transfer.conversation.Conversation.answer_datagram.Goals as goal
+
+pub returns-clause-answers : goal.returns-clause-answers
+returns-clause-answers g c =
+    let next : State = state_of c.take_datagram-step.new.self c.take_datagram-step.new.journal.events in
+    let again = c.renew.new.self.watch.now in
+    record {
+      next = next;
+      again = again;
+      handles = c.take_datagram-step.ensures.handles.0;
+      later = c.renew.ensures.forward;
+      is = c.renew.ensures.renewed ∙ ap (λ (p : Bool). renewed p again next) c.take_datagram-step.ensures.handles.1;
+    }
