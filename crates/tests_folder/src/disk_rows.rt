@@ -250,8 +250,10 @@ fn another_device(rt: HostRuntime) {
 }
 
 /// Error numbers of Linux, the fault of a write, and the reason.
-const ERRORS: [(i32, StoreFault, Reason); 4] = [
+const ERRORS: [(i32, StoreFault, Reason); 6] = [
     (28, StoreFault::Full, Reason::NoSpace),
+    (122, StoreFault::Full, Reason::QuotaExceeded),
+    (30, StoreFault::Io, Reason::ReadOnlyFileSystem),
     (24, StoreFault::Io, Reason::TooManyOpenFiles),
     (13, StoreFault::Io, Reason::PermissionDenied),
     (5, StoreFault::Io, Reason::InputOutput),
@@ -288,7 +290,8 @@ fn exchange<R: AllocGlobal + Abort>(
     });
 }
 
-/// A folder that is exchanged for a link out, before its file is looked at, gives no file.
+/// A folder that is exchanged for a link out, before its file is looked at, gives no file: the path
+/// is looked up again, and leads out.
 #[test]
 fn a_read_stays_in_the_folder(rt: HostRuntime) {
     let alloc = rt.alloc();
@@ -302,7 +305,7 @@ fn a_read_stays_in_the_folder(rt: HostRuntime) {
     let opened = store
         .open(alloc, &path(&rt, alloc, "sub/secret"), Mode::Octet)
         .err();
-    refused(&rt, &store, opened, StoreFault::Io, Reason::FileReplaced);
+    refused(&rt, &store, opened, StoreFault::Io, Reason::LeadsOut);
     remove_folder(&rt, scratch);
 }
 

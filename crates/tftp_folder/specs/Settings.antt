@@ -1,8 +1,17 @@
 -- The settings of a store over a folder (ours).
-use Rattle.std.specs.Prelude.{◌≡◌}
+use Rattle.std.specs.Prelude.{◌≡◌, true, Option, Some}
+use Rattle.tftp_file.specs.declared.fault.StoreFault.{StoreFault}
+use Rattle.tftp_file.specs.declared.fault.StoreFault.TheVariants.{Io}
 use Rattle.tftp_folder.specs.declared.folder_store.FolderStore.{FolderStore}
 
--- the store refuses all writes if it did, and takes them below the same folder as before
-pub record SameSettings {R G H : Type 0} (before after : FolderStore R G H) : Type 0 where
-  pub read_only : after.is_read_only ≡ before.is_read_only
-  pub uploads : after.uploads ≡ before.uploads
+module _ {R G H : Type 0} where
+  -- the store refuses all writes if it did, and takes them below the same folder as before
+  pub record SameSettings (before after : FolderStore R G H) : Type 0 where
+    pub read_only : after.is_read_only ≡ before.is_read_only
+    pub uploads : after.uploads ≡ before.uploads
+
+  -- a draft was begun, or refused with this fault: the settings stay, and a store that refuses all
+  -- writes has refused it
+  pub record HasBegun (before after : FolderStore R G H) (fault : Option StoreFault) : Type 0 where
+    pub settings : SameSettings before after
+    pub read_only : before.is_read_only ≡ true → fault ≡ Some Io

@@ -4,18 +4,19 @@ ghost use Rattle.std.specs.Prelude.{◌≡◌, IfErr, IfOk};
 ghost use Rattle.tftp_disk.specs.DiskFault.{MayNotOpen, MayNotStore, MayNotBegin, is_replaced};
 
 use crate::folder_store::FolderStore;
-use crate::naming::{FileId, has_no_link};
+use crate::naming::{FileId, NameFault, has_no_link};
+use crate::replacing::{check_replaced, take_permissions};
 use std::alloc::Global;
-use std::fs::{self, Metadata, OpenFile, OpenOptions, Permissions};
-use std::io::{self, ErrorKind};
-use std::os::unix::fs::{MetadataExt, PermissionsExt};
+use std::fs::{self, Metadata, OpenFile, OpenOptions};
+use std::io::ErrorKind;
 use std::rt::Files;
 use tftp_disk::{Existing, folder_of, folder_or_root};
 use tftp_file::{Path, StoreFault};
 use tftp_lines::Reason;
 
-/// The bits of a file's mode that say who may read, write and run it.
-const PERMISSIONS: u32 = 0o777;
+/// How often a path is looked up for a read whose file is replaced between the look and the opening,
+/// as by a rename over it.
+const MOST_LOOKS: u32 = 4;
 
 /// A path of the store, resolved on the system.
 #[derive(Drop)]
@@ -108,13 +109,29 @@ impl<R: Files + Drop> FolderStore<R> {
     }
 
     /// Opens the regular file at the path, and returns it with its metadata. A folder is `Missing`,
-    /// and any other file that is not regular is `Io`. The type is checked before the open, because
-    /// opening a FIFO blocks.
+    /// and any other file that is not regular is `Io`, as is one that is replaced again and again.
     pub(crate) fn open_file(
         &self,
         alloc: Global,
         path: &Path,
     ) -> Result<(R::File, Metadata), StoreFault>
+        ensures { IfErr result MayNotOpen }
+    {
+        for _ in 0..MOST_LOOKS {
+            if let Some(opened) = self.open_found(alloc, path)? {
+                return Ok(opened);
+            }
+        }
+        Err(self.refused(Reason::FileReplaced))
+    }
+
+    /// Looks the path up once, and opens its file; `None` if that was replaced meanwhile. The type
+    /// is checked before the open, because opening a FIFO blocks.
+    fn open_found(
+        &self,
+        alloc: Global,
+        path: &Path,
+    ) -> Result<Option<(R::File, Metadata)>, StoreFault>
         ensures { IfErr result MayNotOpen }
     {
         let mut location = self.walk(alloc, path)?;
@@ -136,9 +153,9 @@ impl<R: Files + Drop> FolderStore<R> {
         };
         match file.metadata() {
             Ok(opened) if self.is_still(location.path.as_str(), &found, &opened) => {
-                Ok((file, opened))
+                Ok(Some((file, opened)))
             }
-            Ok(_) => Err(self.refused(Reason::FileReplaced)),
+            Ok(_) => Ok(None),
             Err(error) => Err(self.open_refused(&error)),
         }
     }
@@ -184,7 +201,7 @@ impl<R: Files + Drop> FolderStore<R> {
             return Err(self.refused(Reason::ThroughLink));
         }
         if let Some(found) = &location.found {
-            self.check_replaced(location.path.as_str(), found)?;
+            self.may_replace(location.path.as_str(), found)?;
         }
         let folder = self.folder_to_write(location.folder)?;
         Ok(Place {
@@ -195,15 +212,13 @@ impl<R: Files + Drop> FolderStore<R> {
     }
 
     /// Refuses to replace what is no regular file, or what the server's user may not write.
-    fn check_replaced(&self, path: &str, found: &Metadata) -> Result<(), StoreFault>
+    fn may_replace(&self, path: &str, found: &Metadata) -> Result<(), StoreFault>
         ensures { IfErr result MayNotStore }
     {
-        if !found.is_file() {
-            return Err(self.refused(Reason::NotAFile));
-        }
-        match OpenOptions::new().write(true).open(&self.files, path) {
-            Ok(_) => Ok(()),
-            Err(error) => Err(self.write_refused(&error)),
+        match check_replaced(&self.files, path, found) {
+            Ok(()) => Ok(()),
+            Err(NameFault::System(error)) => Err(self.write_refused(&error)),
+            Err(NameFault::Rule(reason)) => Err(self.refused(reason)),
         }
     }
 
@@ -252,21 +267,12 @@ impl<R: Files + Drop> FolderStore<R> {
             Ok(file) => file,
             Err(error) => return Err(self.write_refused(&error)),
         };
-        match keep_permissions(&file, replaced) {
-            Ok(()) => Ok(file),
+        let Some(replaced) = replaced else {
+            return Ok(file);
+        };
+        match take_permissions(&file, replaced) {
+            Ok(_) => Ok(file),
             Err(error) => Err(self.write_refused(&error)),
         }
     }
-}
-
-/// Gives a file the permissions of another, unless it has these.
-fn keep_permissions<F: OpenFile>(file: &F, replaced: Option<&Metadata>) -> io::Result<()> {
-    let Some(replaced) = replaced else {
-        return Ok(());
-    };
-    let wanted = replaced.mode() & PERMISSIONS;
-    if file.metadata()?.mode() & PERMISSIONS == wanted {
-        return Ok(());
-    }
-    file.set_permissions(Permissions::from_mode(wanted))
 }

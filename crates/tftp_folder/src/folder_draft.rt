@@ -131,7 +131,8 @@ impl<F: Write + OpenFile + Drop> FolderDraft<F> {
         }
     }
 
-    fn file(&self) -> &F {
+    /// The open file.
+    pub(crate) fn file(&self) -> &F {
         self.writer.file()
     }
 }

@@ -263,7 +263,8 @@ impl<R: Files + Drop> ServedStore<Reason> for FolderStore<R> {
 impl<R: Files + Drop> Store for FolderStore<R> {
     ghost use Rattle.std.specs.Prelude.{◌≡◌, refl, None, true, Err, IfOk, IfErr, IfSome, IsErrOf};
     ghost use Rattle.tftp_disk.specs.DiskFault.{MayNotOpen, MayNotStore, MayNotBegin, MayNotName};
-    ghost use Rattle.tftp_folder.specs.Settings.{SameSettings};
+    ghost use Rattle.std.specs.Result.{result_err};
+    ghost use Rattle.tftp_folder.specs.Settings.{HasBegun, SameSettings};
     ghost use Rattle.tftp_folder.specs.Uploads.{IsBelow};
 
     type Source = FolderSource<R::File>;
@@ -277,7 +278,7 @@ impl<R: Files + Drop> Store for FolderStore<R> {
       may_refuse_begin = λ _ _ replace fault. MayNotBegin replace fault;
       must_refuse_open = λ _ _ _. ⊥;
       must_fail = λ _ _ _. ⊥;
-      begun = λ before after _. SameSettings before after;
+      begun = λ before after fault. HasBegun before after fault;
       after_append = λ before after _. SameSettings before after;
       after_commit = λ before after _. SameSettings before after;
       after_write_behind = λ before after. SameSettings before after;
@@ -314,7 +315,7 @@ impl<R: Files + Drop> Store for FolderStore<R> {
         replace: bool,
     ) -> Result<FolderDraft<R::File>, StoreFault>
         ensures refused { IfErr result (MayNotBegin replace) }
-        ensures settings { SameSettings self.old self.new }
+        ensures begun { HasBegun self.old self.new (result_err result) }
         ensures memory { IsErrOf result StoreFault.Memory → self.new ≡ self.old }
         ensures read_only { self.old.is_read_only ≡ true → result ≡ Err StoreFault.Io }
         ensures uploads { IfOk result (λ _. IfSome self.old.uploads (λ folder.
@@ -343,8 +344,10 @@ impl<R: Files + Drop> Store for FolderStore<R> {
     /// The draft is synced before it gets its name, and the folder before this returns. A new name
     /// is a hard link, which never replaces a file. If the system refuses the link, the draft is
     /// renamed once no file was found. To replace a file the draft is renamed, which leaves the old
-    /// file or the new one. `Io` if the path of the draft names another file, or the path of its
-    /// folder another folder: before the name is given, or when it is looked at again.
+    /// file or the new one; what has the name by then is looked at once more, as at the request,
+    /// and the new file has its permissions. `Io` if the path of the draft names another file, or
+    /// the path of its folder another folder: before the name is given, or when it is looked at
+    /// again.
     fn commit(
         &mut self,
         _path: &Path,
@@ -358,7 +361,7 @@ impl<R: Files + Drop> Store for FolderStore<R> {
         match give_name(&self.files, self.root.as_str(), draft, existing) {
             Ok(()) => Ok(()),
             Err(NameFault::System(error)) => Err(self.name_refused(&error, existing)),
-            Err(NameFault::Replaced(reason)) => Err(self.refused(reason)),
+            Err(NameFault::Rule(reason)) => Err(self.refused(reason)),
         }
     }
 

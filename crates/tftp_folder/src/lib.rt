@@ -11,6 +11,7 @@ mod folder_draft;
 mod folder_source;
 mod folder_store;
 mod naming;
+mod replacing;
 mod wire_lengths;
 
 pub use folder_draft::FolderDraft;

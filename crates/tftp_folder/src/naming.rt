@@ -1,6 +1,7 @@
 //! Gives a draft its name on the disk, in the folder that its request named.
 
 use crate::folder_draft::FolderDraft;
+use crate::replacing::rename_over;
 use std::fs::{self, Metadata};
 use std::io::{self, ErrorKind};
 use std::os::unix::fs::MetadataExt;
@@ -38,15 +39,22 @@ impl FileId {
 pub(crate) enum NameFault {
     /// The system refused a call.
     System(io::Error),
-    /// The draft or its folder was replaced.
-    Replaced(Reason),
+    /// A rule of the folder: the draft, its folder or the file at its name is not as it must be.
+    Rule(Reason),
+}
+
+impl From<io::Error> for NameFault {
+    fn from(error: io::Error) -> NameFault {
+        NameFault::System(error)
+    }
 }
 
 /// Gives a draft its name, looks at the name again, and syncs the folder.
 ///
-/// `Replaced` if another file has the path of the draft, or another folder that of its folder. A
-/// name that was given is removed again if it leads out of the root, or is new and is not that of
-/// the draft's file, or if the sync fails and it is new.
+/// `Rule` if another file has the path of the draft, or another folder that of its folder, or if the
+/// file that has the name by now may not be replaced. A name that was given is removed again if it
+/// leads out of the root, or is new and is not that of the draft's file, or if the sync fails and it
+/// is new.
 pub(crate) fn give_name<R: Files>(
     files: &R,
     root: &str,
@@ -54,17 +62,15 @@ pub(crate) fn give_name<R: Files>(
     existing: Existing,
 ) -> Result<(), NameFault> {
     if !draft.is_at(files, draft.draft.as_str()) {
-        return Err(NameFault::Replaced(Reason::DraftReplaced));
+        return Err(NameFault::Rule(Reason::DraftReplaced));
     }
     let folder = folder_of(draft.target.as_str());
     if !leads_to(files, root, folder, draft.folder) {
-        return Err(NameFault::Replaced(Reason::FolderReplaced));
+        return Err(NameFault::Rule(Reason::FolderReplaced));
     }
     // The folder is opened first: if that fails, no name is given.
-    match Folder::of(files, draft.target.as_str()) {
-        Ok(folder) => name_in(files, &folder, root, draft, existing),
-        Err(error) => Err(NameFault::System(error)),
-    }
+    let folder = Folder::of(files, draft.target.as_str())?;
+    name_in(files, &folder, root, draft, existing)
 }
 
 /// Gives a draft its name, looks at the name again, and syncs the open folder.
@@ -75,30 +81,32 @@ fn name_in<R: Files>(
     draft: &FolderDraft<R::File>,
     existing: Existing,
 ) -> Result<(), NameFault> {
-    let (path, target) = (draft.draft.as_str(), draft.target.as_str());
-    if let Err(error) = put_name(files, path, target, existing) {
-        return Err(NameFault::System(error));
-    }
+    put_name(files, draft, existing)?;
     if let Err(reason) = look_again(files, root, draft, existing) {
-        return Err(NameFault::Replaced(reason));
+        return Err(NameFault::Rule(reason));
     }
     match folder.sync() {
         Ok(()) => Ok(()),
         Err(error) => {
             if existing == Existing::Refused {
-                let _ = fs::remove_file(files, target);
+                let _ = fs::remove_file(files, draft.target.as_str());
             }
             Err(NameFault::System(error))
         }
     }
 }
 
-/// Names the file at a path, by a rename if it may replace one.
-fn put_name<R: Files>(files: &R, path: &str, target: &str, existing: Existing) -> io::Result<()> {
+/// Names the file of a draft, by a rename if it may replace one.
+fn put_name<R: Files>(
+    files: &R,
+    draft: &FolderDraft<R::File>,
+    existing: Existing,
+) -> Result<(), NameFault> {
     match existing {
-        Existing::Refused => name_new(files, path, target),
-        Existing::Replaced => fs::rename(files, path, target),
+        Existing::Refused => name_new(files, draft.draft.as_str(), draft.target.as_str())?,
+        Existing::Replaced => rename_over(files, draft)?,
     }
+    Ok(())
 }
 
 /// Looks at the name that a draft was given, and removes a wrong one. One that replaced a file
