@@ -9,8 +9,8 @@ _arguments \
   '--retries=[how often a datagram is sent again without progress]:times, 0 to 10:' \
   '--cap=[transfers that are open at once]:transfers, 1 to 64:' \
   '(--read-only)--overwrite[a write replaces a file that is there]' \
-  '(--overwrite)--read-only[refuse every write]' \
-  '--uploads=[folder of ROOT that takes all writes]:folder below ROOT:' \
+  '(--overwrite --uploads)--read-only[refuse every write]' \
+  '(--read-only)--uploads=[folder of ROOT that takes all writes]:folder below ROOT:' \
   '(--forever)--transfers=[end after so many closed transfers]:transfers:' \
   '(--forever)--rounds=[end after so many waits]:waits:' \
   '(--transfers --rounds)--forever[end by no count of transfers or waits]' \

@@ -367,16 +367,19 @@ def test_server_faults(check):
     with socket.socket(socket.AF_INET, socket.SOCK_DGRAM) as used:
         used.bind((HOST, 0))
         taken = ["--listen", f"{HOST}:{used.getsockname()[1]}"]
-        for root in ["missing", "abc"]:
-            check.ends("tftpd", [root, "--listen", f"{HOST}:0"], 2, "tftpd: file fault\n", "")
-            check.ends("tftpd", [root, *taken], 2, "tftpd: file fault\n", "")
+        for root, reason in [("missing", "not found"), ("abc", "not a folder")]:
+            fault = f"tftpd: file fault\ntftpd: {root}: {reason}\n"
+            check.ends("tftpd", [root, "--listen", f"{HOST}:0"], 2, fault, "")
+            check.ends("tftpd", [root, *taken], 2, fault, "")
             check.is_usage_fault("tftpd", root, *taken, "--cap", "0")
-        check.ends("tftpd", ["served", *taken], 2, "tftpd: socket fault\n", "")
+        check.ends("tftpd", ["served", *taken], 2, f"tftpd: socket fault\ntftpd: {taken[1]}: address in use\n", "")
         check.is_usage_fault("tftpd", "served", *taken, "--rounds", "0")
     # an address that is of no interface here (RFC 5737)
-    check.ends("tftpd", ["served", "--listen", "192.0.2.1:0"], 2, "tftpd: socket fault\n", "")
+    fault = "tftpd: socket fault\ntftpd: 192.0.2.1:0: address not available\n"
+    check.ends("tftpd", ["served", "--listen", "192.0.2.1:0"], 2, fault, "")
     words = ["served", "--listen", f"{HOST}:0", "--rounds", "1"]
-    check.ends("tftpd", words, 2, "tftpd: socket fault\n", "", preexec_fn=few_files(4))
+    fault = f"tftpd: socket fault\ntftpd: {HOST}:0: too many open files\n"
+    check.ends("tftpd", words, 2, fault, "", preexec_fn=few_files(4))
     with open("/dev/full", "wb") as full:
         check.ends("tftpd", words, 2, "tftpd: output fault\n", stdout=full)
     # a server that nobody asks ends after its waits

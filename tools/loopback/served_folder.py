@@ -2,11 +2,16 @@
 import os
 import re
 import stat
+import subprocess
+import threading
+import time
+from contextlib import contextmanager
 from pathlib import Path
 
 from both_programs import logs
-from datagrams import PATIENCE, PATIENT, ack, data, error, expect, oack, rrq, wrq
-from server_alone import ACCESS_VIOLATION, DISK_FULL, FILE_EXISTS, first_block_of, is_refused, opened
+from datagrams import PATIENCE, PATIENT, ack, data, error, expect, free_ports, oack, rrq, wrq
+from scene import Server
+from server_alone import ACCESS_VIOLATION, DISK_FULL, FILE_EXISTS, FILE_NOT_FOUND, first_block_of, is_refused, opened
 
 LAST = data(1, b"new")
 TOO_LARGE = error(0, "file too large")
@@ -132,13 +137,10 @@ def test_a_group_is_that_of_the_drafts_folder(scene):
     expect((scene.folder / "served/sub/n").stat().st_gid, groups[0], "the group of a new file in a folder below")
 
 
-def test_uploads_and_other_options(scene):
-    """`--read-only` refuses writes there too, and `--overwrite` replaces there alone."""
+def test_uploads_and_overwrite(scene):
+    """`--overwrite` replaces in the folder of uploads alone."""
     scene.make("served/a", b"old")
     scene.make("served/in/deep/a", b"old")
-    server = scene.serve("--uploads", "in/deep", "--read-only", root="served")
-    is_refused(scene, server, wrq("in/deep/n"), ACCESS_VIOLATION)
-    server.kill()
     server = scene.serve("--uploads", "/in/deep", "--overwrite", root="served")
     is_refused(scene, server, wrq("a"), ACCESS_VIOLATION)
     writing(scene, server, "in/deep/a").is_answered(LAST, ack(1))
@@ -186,28 +188,208 @@ def test_the_log_says_that_a_file_was_cut(scene):
     expect(log[-1].endswith("SourceFault, file cut short"), True, f"the log {log}")
 
 
-def ends_with(scene, words, status, errors):
+# What runs a program without the privileges by which root passes over the modes of files, and has low ports
+COMMONER = ["setpriv", "--inh-caps", "-all", "--bounding-set", "-dac_override,-dac_read_search,-net_bind_service"]
+
+
+def start_as_commoner(scene, words):
+    """Starts a tftpd without privileges."""
+    program, *rest = [*(COMMONER if os.geteuid() == 0 else []), scene.programs["tftpd"], *words]
+    return scene.start(program, rest)
+
+
+def ends_with(process, words, status, errors):
     """A server ends at once with this status, and has written exactly this on standard error."""
-    process = scene.start("tftpd", words)
     printed, wrote = (text.decode() for text in process.communicate(timeout=PATIENCE))
     expect((process.returncode, printed, wrote), (status, "", errors), f"tftpd {words}")
 
 
 def test_a_server_that_does_not_start(scene):
-    """With `--log` a second line says why; the first is as ever."""
+    """A second line says what was refused, and why."""
     scene.make("a", b"ABC")
     scene.make_folder("sub")
     (scene.folder / "link").symlink_to("sub")
-    taken = scene.port().word
+    taken, absolute = scene.port().word, str(scene.folder / "sub")
     for words, fault, reason in [
-        (["none"], "file", "not found"),
-        (["a"], "file", "not a folder"),
-        ([".", "--uploads", "none"], "file", "not found"),
-        ([".", "--uploads", "a"], "file", "not a folder"),
-        ([".", "--uploads", "link"], "file", "not a folder"),
-        ([".", "--uploads", "../sub"], "file", "not found"),
-        ([".", "--listen", taken], "socket", "address in use"),
-        ([".", "--listen", "192.0.2.1:6969"], "socket", "address not available"),
+        (["none"], "file", "none: not found"),
+        (["a"], "file", "a: not a folder"),
+        ([".", "--uploads", "none"], "file", "--uploads none: not found"),
+        ([".", "--uploads", "a"], "file", "--uploads a: not a folder"),
+        ([".", "--uploads", "link"], "file", "--uploads link: not a folder"),
+        ([".", "--uploads", "../sub"], "file", "--uploads ../sub: not found"),
+        ([".", "--uploads", absolute], "file",
+         f"--uploads {absolute}: not found (an absolute FOLDER is below ROOT, too)"),
+        ([".", "--listen", taken], "socket", f"{taken}: address in use"),
+        ([".", "--listen", "192.0.2.1:6969"], "socket", "192.0.2.1:6969: address not available"),
     ]:
-        ends_with(scene, words, 2, f"tftpd: {fault} fault\n")
-        ends_with(scene, [*words, "--log"], 2, f"tftpd: {fault} fault\ntftpd: {reason}\n")
+        ends_with(scene.start("tftpd", words), words, 2, f"tftpd: {fault} fault\ntftpd: {reason}\n")
+    if int(Path("/proc/sys/net/ipv4/ip_unprivileged_port_start").read_text()) > 69:
+        words = [".", "--listen", f"{scene.address}:69"]
+        ends_with(start_as_commoner(scene, words), words, 2,
+                  f"tftpd: socket fault\ntftpd: {scene.address}:69: permission denied\n")
+
+
+def as_commoner(scene, *words, root="."):
+    """Starts a server of a folder, which the modes of files bind."""
+    return Server(start_as_commoner(scene, scene.server_words(root, scene.address, words)))
+
+
+def fifo_at(path):
+    path.unlink()
+    os.mkfifo(path)
+
+
+def link_at(path):
+    path.unlink()
+    path.symlink_to("other")
+
+
+def folder_at(path):
+    path.unlink()
+    path.mkdir()
+
+
+# What a file may become during a put that is to replace it, and why it is not replaced
+CHANGES = [
+    (fifo_at, "not a file"),
+    (link_at, "through a link"),
+    (folder_at, "not a file"),
+    (lambda path: path.chmod(0o444), "permission denied"),
+]
+
+
+def test_what_is_replaced_is_looked_at_again(scene):
+    """With `--overwrite` the file at the name is looked at again at the commit: what is no regular file by then, or one
+    that the server's user may not write, stays."""
+    for place, (change, reason) in enumerate(CHANGES):
+        scene.make(f"served/{place}", b"old")
+        server = as_commoner(scene, "--overwrite", "--log", root="served")
+        end = writing(scene, server, str(place))
+        path = scene.folder / f"served/{place}"
+        change(path)
+        before = path.lstat()
+        end.is_answered(LAST, DISK_FULL)
+        log = server.has_closed("StoreFault")
+        expect(log[-1].endswith(f"StoreFault, {reason}"), True, f"the log {log} has {reason}")
+        found = path.lstat()
+        expect((found.st_ino, found.st_mode), (before.st_ino, before.st_mode), f"what was there, {reason}")
+
+
+def test_the_mode_at_the_commit(scene):
+    """With `--overwrite` the new file has the mode of the file that it replaces, as that is at the commit, without the
+    bits that let it run as another user; it is made too where the file has gone."""
+    for name, at_commit in [("narrower", 0o600), ("wider", 0o646), ("set", 0o4755)]:
+        scene.make(name, b"old")
+        (scene.folder / name).chmod(0o644)
+        server = scene.serve("--overwrite")
+        end = writing(scene, server, name)
+        (scene.folder / name).chmod(at_commit)
+        end.is_answered(LAST, ack(1))
+        expect(mode_of(scene, name), at_commit & 0o777, f"the mode of {name}")
+    server = scene.serve("--overwrite")
+    end = writing(scene, server, "wider")
+    (scene.folder / "wider").unlink()
+    end.is_answered(LAST, ack(1))
+    scene.has(narrower=b"new", wider=b"new", set=b"new")
+
+
+@contextmanager
+def renamed_again_and_again(path, content):
+    """A file that is replaced by a rename all the time, as by an atomic update."""
+    is_over = threading.Event()
+
+    def rename():
+        while not is_over.is_set():
+            path.with_name("update").write_bytes(content)
+            os.rename(path.with_name("update"), path)
+            time.sleep(0.001)
+
+    thread = threading.Thread(target=rename)
+    thread.start()
+    try:
+        yield
+    finally:
+        is_over.set()
+        thread.join()
+
+
+def test_reads_meet_renames(scene):
+    """A read finds a file at each moment at which another is renamed over it: none is refused."""
+    scene.make("served/a", b"ABC")
+    server = scene.serve("--transfers", "400", root="served")
+    with renamed_again_and_again(scene.folder / "served/a", b"ABC"):
+        for _ in range(400):
+            opened(scene, server, rrq("a"), data(1, b"ABC")).send(ack(1))
+    server.has_closed(*["Complete"] * 400)
+
+
+def test_the_system_says_why(scene):
+    """The log has the system's reason: a file, a folder on the path, and a folder of drafts that its mode forbids."""
+    scene.make("served/a", b"ABC")
+    scene.make("served/sub/a", b"ABC")
+    server = as_commoner(scene, "--log", root="served")
+    for name, mode in [("a", 0o000), ("sub", 0o000), ("", 0o555)]:
+        (scene.folder / "served" / name).chmod(mode)
+    for request in [rrq("a"), rrq("sub/a"), wrq("sub/n"), wrq("n")]:
+        is_refused(scene, server, request, ACCESS_VIOLATION)
+    for name in ["", "sub"]:
+        (scene.folder / "served" / name).chmod(0o755)
+    log = server.has_logged(4)
+    expect([line.rpartition(", ")[2] for line in log], ["permission denied"] * 4, f"the reasons in {log}")
+
+
+# A shell script that makes a folder read-only for the program that it runs, in a namespace of its own
+READ_ONLY = 'mount --bind "$1" "$1" && mount -o remount,ro,bind "$1" && shift && exec "$@"'
+
+
+def test_a_read_only_file_system(scene):
+    """A write to a file system that is mounted read-only is refused, and a read is not."""
+    apart = ["unshare", "--mount", *([] if os.geteuid() == 0 else ["--map-root-user"])]
+    if subprocess.run([*apart, "true"], capture_output=True, check=False).returncode != 0:
+        print("test_a_read_only_file_system: skipped, no namespace of mounts")
+        return
+    scene.make("served/a", b"ABC")
+    words = scene.server_words("served", scene.address, ["--log"])
+    shell = ["sh", "-c", READ_ONLY, "sh", str(scene.folder / "served")]
+    server = Server(scene.start(apart[0], [*apart[1:], *shell, scene.programs["tftpd"], *words]))
+    is_refused(scene, server, wrq("n"), ACCESS_VIOLATION)
+    logs([next_log_line(server)],
+         [rf"refused {scene.address}:\d+ WRQ n octet: ERROR 2 \(access violation\), read-only file system"])
+    opened(scene, server, rrq("a"), data(1, b"ABC")).send(ack(1))
+    server.has_closed("Complete")
+
+
+def next_log_line(server):
+    return server.process.stderr.readline().decode().strip()
+
+
+def test_a_draft_of_a_failed_transfer(scene):
+    """It stays under its name, and the next server that has its port makes another in its place."""
+    port = free_ports(1)
+    words = ["--ports", f"{port}:{port}"]
+    server = scene.serve(*words)
+    end = writing(scene, server, "n")
+    end.is_answered(data(1, bytes(512)), ack(1))
+    end.send(error(0, "no more"))
+    server.has_closed("PeerError(0)")
+    expect(drafts(scene), [f".tftp-{port}"], "the drafts")
+    (scene.folder / f".tftp-{port}").write_bytes(b"what was left" * 100)
+    server = scene.serve(*words)
+    writing(scene, server, "n").is_answered(LAST, ack(1))
+    server.kill()
+    scene.has(n=b"new")
+
+
+def test_links(scene):
+    """A ROOT that is a link is the folder that it leads to; a link that leads nowhere is a file that is missing, and is
+    in the way of a write."""
+    scene.make("served/a", b"ABC")
+    (scene.folder / "root").symlink_to("served")
+    (scene.folder / "served/dangling").symlink_to("nowhere")
+    server = scene.serve("--transfers", "2", root="root")
+    is_refused(scene, server, rrq("dangling"), FILE_NOT_FOUND)
+    is_refused(scene, server, wrq("dangling"), FILE_EXISTS)
+    opened(scene, server, rrq("a"), data(1, b"ABC")).send(ack(1))
+    writing(scene, server, "n").is_answered(LAST, ack(1))
+    scene.has_files({"served/a": b"ABC", "served/n": b"new"})
+    server.kill()

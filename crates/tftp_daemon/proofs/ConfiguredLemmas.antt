@@ -1,11 +1,12 @@
 -- What a status says, and what was done for words.
-use Rattle.std.proofs.Common.{◌≡◌, ℕ, List, arith, inl, inr, subst}
+use Rattle.std.proofs.Common.{◌≡◌, ◌∙◌, ℕ, List, arith, inl, inr, sym, subst}
 use Rattle.std.specs.Prelude.{Result, Ok, Err, IfOk, IfErr, OnOk}
 use Rattle.tftp_file.specs.Source.{SourceMeaning}
 use Rattle.tftp_store.specs.Store.{StoreMeaning}
 use Rattle.tftp_sockets.specs.Journal.{Event}
 use Rattle.tftp_daemon.specs.Configured.{MayServe, ServesWords, status_of}
-use Rattle.tftp_daemon.specs.Words.{WordsConfigure}
+use Rattle.tftp_arguments.specs.Fault.{AskForText}
+use Rattle.tftp_daemon.specs.Words.{WordsConfigure, tftpd_app}
 use Rattle.tftp_daemon.specs.declared.daemon.DaemonConfig.{DaemonConfig}
 use Rattle.tftp_folder.specs.declared.folder_store.FolderStore.{FolderStore}
 
@@ -22,11 +23,18 @@ module _ {R G H F D : Type 0} {meaning : StoreMeaning (FolderStore R G H) D} {so
       → MayServe meaning sources config other before after
   with_status {config} same serves = subst (λ (n : ℕ). MayServe meaning sources config n before after) same serves
 
-  -- a server ran with the configuration that the words name, or without one nothing was done
+  -- a server ran with the configuration that the words name, or without one nothing was done, with
+  -- a status of 0 only if they ask for a text
   pub serves_words : (words : List (List ℕ)) {status : ℕ} (asked : Result DaemonConfig ℕ)
-      → IfOk asked (WordsConfigure words)
+      → IfOk asked (WordsConfigure words) → IfErr asked (λ n. n ≡ 0 → AskForText tftpd_app words)
       → IfOk asked (λ config. MayServe meaning sources config status before after) → IfErr asked (λ _. after ≡ before)
+      → IfErr asked (λ n. status ≡ n) → ServesWords meaning sources words status before after
+  serves_words words (Ok config) names asks (inl none) same is =
+      inl (none.0, λ zero. absurd (let two = none.1 in omega arith))
+  serves_words words (Ok config) names asks (inr serves) same is = inr (config, names, serves)
+  serves_words words (Err n) names asks runs same is = inl (same, λ zero. asks (sym is ∙ zero))
+
+  -- nothing was done, with a status of 2
+  pub done_nothing : (words : List (List ℕ)) {status : ℕ} → after ≡ before → status ≡ 2
       → ServesWords meaning sources words status before after
-  serves_words words (Ok config) names (inl same) none = inl same
-  serves_words words (Ok config) names (inr serves) none = inr (config, names, serves)
-  serves_words words (Err status) names runs none = inl none
+  done_nothing words same two = inl (same, λ zero. absurd (omega arith))

@@ -1,3 +1,4 @@
 mod ConfiguredLemmas
 mod Commands
 mod Keeping
+mod NoneStores

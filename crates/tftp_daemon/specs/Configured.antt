@@ -4,10 +4,12 @@ use Rattle.std.specs.Prelude.{option_map}
 use Rattle.tftp_file.specs.Path.{path_of_name}
 use Rattle.tftp_file.specs.Source.{SourceMeaning}
 use Rattle.tftp_store.specs.Store.{StoreMeaning}
+use Rattle.tftp_server.specs.Config.{IsConfig}
 use Rattle.tftp_server.specs.State.{ServerState}
 use Rattle.tftp_sockets.specs.Journal.{Event}
 use Rattle.tftp_loop.specs.WholeRun.{Serves, ServesIn, ServesToEnd, listening}
-use Rattle.tftp_daemon.specs.Words.{WordsConfigure}
+use Rattle.tftp_arguments.specs.Fault.{AskForText}
+use Rattle.tftp_daemon.specs.Words.{WordsConfigure, tftpd_app}
 use Rattle.tftp_daemon.specs.declared.daemon.DaemonConfig.{DaemonConfig}
 use Rattle.tftp_folder.specs.declared.folder_store.FolderStore.{FolderStore}
 
@@ -23,10 +25,11 @@ IsUploads (Some folder) uploads =
     (path : List ℕ) × (path_of_name folder ≡ Ok path) × (uploads ≡ Some path)
 
 module _ {R G H F D : Type 0} where
-  -- the server of a configuration, without transfers: its limits, and a store that refuses writes,
-  -- or takes them below one folder alone, as it says
+  -- the server of a configuration, which is valid, without transfers: its limits, and a store that
+  -- refuses writes, or takes them below one folder alone, as it says
   pub record IsServerOf (config : DaemonConfig) (server : ServerState (FolderStore R G H) F D)
       : Type 0 where
+    pub valid : IsConfig config.config
     pub limits : server.config ≡ config.config
     pub empty : server.held ≡ []
     pub read_only : server.store.is_read_only ≡ config.read_only
@@ -46,15 +49,16 @@ module _ {R G H F D : Type 0} where
       pub ends : status ≡ 0 → (port : ℕ) × ServesToEnd meaning sources port
           config.service.ending server (listening config.service.listen.ip port before) after
 
-    -- nothing was done over UDP, as without the folder, or a server of the configuration ran
+    -- nothing was done over UDP, as without the folder, with a status of 2; or a server of the
+    -- configuration ran
     abbrev pub MayServe : DaemonConfig → ℕ → List Event → List Event → Type 0
     MayServe config status before after =
-        (after ≡ before) ⊎ ServesConfig config status before after
+        ((after ≡ before) × (status ≡ 2)) ⊎ ServesConfig config status before after
 
-    -- nothing was done over UDP, as for a help text; or a server ran with the configuration that
-    -- the words name, whatever the status
+    -- nothing was done over UDP, with a status of 0 only if the words ask for the help or the
+    -- version; or a server ran with the configuration that the words name, whatever the status
     abbrev pub ServesWords : List (List ℕ) → ℕ → List Event → List Event → Type 0
     ServesWords words status before after =
-        (after ≡ before)
+        ((after ≡ before) × (status ≡ 0 → AskForText tftpd_app words))
         ⊎ ((config : DaemonConfig) × WordsConfigure words config
         × ServesConfig config status before after)

@@ -1,5 +1,8 @@
 -- What a run leaves of its store, by what the calls of the store leave of it (ours).
+use Rattle.std.specs.Prelude.{ℕ, ◌≡◌, true, List, All, None}
+use Rattle.std.specs.Map.{values_of}
 use Rattle.tftp_file.specs.Source.{SourceMeaning}
+use Rattle.tftp_server.specs.State.{TransferState, draft_of}
 use Rattle.tftp_store.specs.Store.{StoreMeaning}
 use Rattle.tftp_loop.specs.Run.{Run}
 use Rattle.tftp_loop.specs.Serves.{Does, LoopState}
@@ -18,3 +21,22 @@ module _ {S F D : Type 0} (Same : S → S → Type 0) (meaning : StoreMeaning S 
 abbrev pub RunKeepsSettings : {R G H F D : Type 0} → StoreMeaning (FolderStore R G H) D
     → SourceMeaning F → Type 0
 RunKeepsSettings meaning sources = RunLeaves SameSettings meaning sources
+
+-- none of the held transfers stores
+abbrev pub NoneStores : {F D : Type 0} → List (ℕ × TransferState F D) → Type 0
+NoneStores {F} {D} held =
+    All (λ (transfer : TransferState F D). draft_of transfer.files ≡ None) (values_of held)
+
+module _ {S F D : Type 0} (Refuses : S → Type 0) (meaning : StoreMeaning S D)
+    (sources : SourceMeaning F) where
+  -- a run over a store that refuses so has no transfer that stores, if it began with none
+  abbrev pub RunStoresNothing : Type 0
+  RunStoresNothing =
+      (old new : LoopState S F D) → Run (Does meaning sources) old new
+      → Refuses old.server.store → NoneStores old.server.held → NoneStores new.server.held
+
+-- a run over a store that refuses writes never has a transfer that stores
+abbrev pub ReadOnlyRunStoresNothing : {R G H F D : Type 0} → StoreMeaning (FolderStore R G H) D
+    → SourceMeaning F → Type 0
+ReadOnlyRunStoresNothing meaning sources =
+    RunStoresNothing (λ store. store.is_read_only ≡ true) meaning sources

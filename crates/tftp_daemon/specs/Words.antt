@@ -48,14 +48,14 @@ with_writes app =
     (with_rule (with_rule app (flag_rule (codes "overwrite"))) (flag_rule (codes "read-only")))
     (option_rule (codes "uploads"))
 
--- with the end of the server: `--forever` is not used beside a count
+-- with the end of the server
 abbrev pub with_ending : App → App
 with_ending app =
     with_rule
     (with_rule
     (with_rule app (by_default (codes "1") (within (codes "transfers") 1 4294967295)))
     (by_default (codes "1000000") (within (codes "rounds") 1 4294967295)))
-    (record (flag_rule (codes "forever")) { is_free = false })
+    (flag_rule (codes "forever"))
 
 -- `tftpd` without arguments
 abbrev pub bare_app : App

@@ -8,6 +8,7 @@ ghost use Rattle.clap.specs.Matches.{first_value, found_of};
 ghost use Rattle.clap.specs.Simple.{App};
 ghost use Rattle.clap.specs.Walk.{rows_of};
 ghost use Rattle.tftp_server.specs.Config.{IsConfig, default_config};
+ghost use Rattle.tftp_arguments.specs.Fault.{AskForText};
 ghost use Rattle.tftp_arguments.specs.Read.{IsNumber, read_in, read_of};
 ghost use Rattle.tftp_arguments.specs.Rules.{HasRule, IsApp, by_default, flag_rule, within};
 ghost use Rattle.tftp_daemon.specs.CommandLine.{ConfiguresAs, EndsAs, NamesPorts, NamesServer};
@@ -19,6 +20,7 @@ ghost use Rattle.tftp_daemon.specs.Words.{with_places, with_writes};
 use crate::daemon::DaemonConfig;
 use anyhow::Result;
 use clap::error::ErrorKind;
+use clap::parser::ValueSource;
 use clap::{Arg, ArgMatches, Command, value_parser};
 use std::alloc::{AllocError, Global};
 use std::convert::AsStr;
@@ -36,10 +38,26 @@ Examples:
 
 const PORTS: &str = "ports";
 
-const NO_ADDRESS: &str = "invalid value for '--listen <ADDR:PORT>': not an IPv4 address and a port";
+/// Two options that are not used together.
+const FOREVER_TRANSFERS: &str =
+    "the argument '--forever' cannot be used with '--transfers <1..4294967295>'";
 
-const NO_PORTS: &str =
-    "invalid value for '--ports <A:B>': not two ports from 1 to 65535, the lower first";
+const FOREVER_ROUNDS: &str =
+    "the argument '--forever' cannot be used with '--rounds <1..4294967295>'";
+
+const READ_ONLY_UPLOADS: &str =
+    "the argument '--read-only' cannot be used with '--uploads <FOLDER>'";
+
+/// Why an option's word is no value of it.
+const NO_ADDRESS: &str = "for '--listen <ADDR:PORT>': not an IPv4 address and a port";
+
+const NO_PORTS: &str = "for '--ports <A:B>': not two ports from 1 to 65535, the lower first";
+
+const LISTEN: &str = "listen";
+
+const READ_ONLY: &str = "read-only";
+
+const UPLOADS: &str = "uploads";
 
 const TRANSFERS: &str = "transfers";
 
@@ -60,9 +78,11 @@ pub(crate) fn read_words<'a, P: Print + Eprint, S: AsStr>(
     ensures valid { IfOk result (λ asked. IfOk asked (λ config. IsConfig config.config)) }
     ensures names { IfOk result (λ asked. IfOk asked (WordsConfigure (map S.text words.now))) }
     ensures status { IfOk result (λ asked. IfErr asked (λ status. status ≤ 2)) }
+    ensures text { IfOk result (λ asked. IfErr asked (λ status. status ≡ 0
+        → AskForText tftpd_app (map S.text words.now))) }
 {
     match command(alloc, texts) {
-        Ok(mut command) => match_words(rt, &mut command, words),
+        Ok(mut command) => match_words(rt, alloc, &mut command, words),
         Err(error) => Err(error),
     }
 }
@@ -70,6 +90,7 @@ pub(crate) fn read_words<'a, P: Print + Eprint, S: AsStr>(
 /// Reads the words by the command.
 fn match_words<'a, P: Print + Eprint, S: AsStr>(
     rt: &P,
+    alloc: Global,
     command: &mut Command<'a>,
     words: &'a [S],
 ) -> Result<Asked<'a>>
@@ -77,9 +98,11 @@ fn match_words<'a, P: Print + Eprint, S: AsStr>(
     ensures valid { IfOk result (λ asked. IfOk asked (λ config. IsConfig config.config)) }
     ensures names { IfOk result (λ asked. IfOk asked (WordsConfigure (map S.text words.now))) }
     ensures status { IfOk result (λ asked. IfErr asked (λ status. status ≤ 2)) }
+    ensures text { IfOk result (λ asked. IfErr asked (λ status. status ≡ 0
+        → AskForText tftpd_app (map S.text words.now))) }
 {
     match command.try_get_matches_from_mut(words) {
-        Ok(matches) => read_matches(rt, command, &matches),
+        Ok(matches) => read_matches(rt, alloc, command, &matches),
         Err(error) => Ok(Err(print_usage(rt, &error))),
     }
 }
@@ -87,28 +110,78 @@ fn match_words<'a, P: Print + Eprint, S: AsStr>(
 /// The configuration of the matched words.
 fn read_matches<'a, P: Print + Eprint>(
     rt: &P,
+    alloc: Global,
     command: &mut Command<'a>,
     matches: &ArgMatches<'a>,
 ) -> Result<Asked<'a>>
     ensures valid { IfOk result (λ asked. IfOk asked (λ config. IsConfig config.config)) }
     ensures names { IfOk result (λ asked. IfOk asked
         (NamesServer (read_in (rows_of (found_of matches.now))))) }
-    ensures status { IfOk result (λ asked. IfErr asked (λ status. status ≤ 2)) }
+    ensures status { IfOk result (λ asked. IfErr asked (λ status. status ≡ 2)) }
 {
+    if let Some(message) = excluded(matches) {
+        return Ok(Err(report_conflict(rt, command, message)?));
+    }
     let Ok(ports) = port_range(matches) else {
-        return Ok(Err(report_invalid(rt, command, NO_PORTS)?));
+        let word = matches.get_str(PORTS);
+        return Ok(Err(report_invalid(rt, alloc, command, word, NO_PORTS)?));
     };
     match service(matches, ports) {
         Some(service) => Ok(Ok(service)),
-        None => Ok(Err(report_invalid(rt, command, NO_ADDRESS)?)),
+        None => {
+            let word = matches.get_str(LISTEN);
+            Ok(Err(report_invalid(rt, alloc, command, word, NO_ADDRESS)?))
+        }
     }
 }
 
-/// Reports an invalid value.
-fn report_invalid<P: Print + Eprint>(rt: &P, command: &mut Command<'_>, message: &str) -> Result<u8>
-    ensures { IfOk result (λ status. status ≤ 2) }
+/// Two options that were given and are not used together, if there are any. `clap` would look at
+/// this too, but then its contract would say nothing of the words that it refuses.
+fn excluded(matches: &ArgMatches<'_>) -> Option<&'static str> {
+    if is_set(matches, FOREVER) {
+        if is_given(matches, TRANSFERS) {
+            return Some(FOREVER_TRANSFERS);
+        }
+        if is_given(matches, ROUNDS) {
+            return Some(FOREVER_ROUNDS);
+        }
+    }
+    if is_set(matches, READ_ONLY) && matches.get_str(UPLOADS).is_some() {
+        return Some(READ_ONLY_UPLOADS);
+    }
+    None
+}
+
+/// Whether an option is among the words, and has not its default.
+fn is_given(matches: &ArgMatches<'_>, name: &str) -> bool {
+    matches.value_source(name) == Some(ValueSource::CommandLine)
+}
+
+/// Reports two options that are not used together.
+fn report_conflict<P: Print + Eprint>(
+    rt: &P,
+    command: &mut Command<'_>,
+    message: &str,
+) -> Result<u8>
+    ensures { IfOk result (λ status. status ≡ 2) }
 {
-    let error = command.error(ErrorKind::InvalidValue, message)?;
+    let error = command.error(ErrorKind::ArgumentConflict, message)?;
+    Ok(print_usage(rt, &error))
+}
+
+/// Reports that this word is no value of an option, and why.
+fn report_invalid<P: Print + Eprint>(
+    rt: &P,
+    alloc: Global,
+    command: &mut Command<'_>,
+    word: Option<&str>,
+    why: &str,
+) -> Result<u8>
+    ensures { IfOk result (λ status. status ≡ 2) }
+{
+    let word = word.unwrap_or("");
+    let message = format!(in alloc; "invalid value '{word}' {why}")?;
+    let error = command.error(ErrorKind::InvalidValue, message.as_str())?;
     Ok(print_usage(rt, &error))
 }
 
@@ -167,7 +240,7 @@ fn service<'a>(matches: &ArgMatches<'a>, ports: Option<PortRange>) -> Option<Dae
     ensures names { IfSome result (NamesServer (read_of matches.now)) }
 {
     let root = matches.get_str("ROOT")?;
-    let listen = endpoint_in(matches.get_str("listen")?)?;
+    let listen = endpoint_in(matches.get_str(LISTEN)?)?;
     let config = config(matches)?;
     let service = LoopConfig {
         listen,
@@ -178,8 +251,8 @@ fn service<'a>(matches: &ArgMatches<'a>, ports: Option<PortRange>) -> Option<Dae
     Some(DaemonConfig {
         root,
         config,
-        read_only: is_set(matches, "read-only"),
-        uploads: matches.get_str("uploads"),
+        read_only: is_set(matches, READ_ONLY),
+        uploads: matches.get_str(UPLOADS),
         service,
     })
 }
@@ -313,7 +386,7 @@ fn listen<'a>(alloc: Global) -> Arg<'a>
 {
     let listen = option(
         alloc,
-        "listen",
+        LISTEN,
         "ADDR:PORT",
         "IPv4 address and UDP port of the requests; port 0 lets the system choose",
     );
@@ -398,13 +471,13 @@ fn with_writes<'a>(alloc: Global, command: Command<'a>) -> Result<Command<'a>>
     let command = command.arg(overwrite)?;
     let read_only = flag(
         alloc,
-        "read-only",
+        READ_ONLY,
         "Refuses every write as an access violation (ERROR 2), and touches no file for it",
     );
     let command = command.arg(read_only)?;
     let uploads = option(
         alloc,
-        "uploads",
+        UPLOADS,
         "FOLDER",
         "Takes writes below this folder of ROOT alone, and makes the drafts there",
     );
@@ -417,7 +490,11 @@ fn with_ending<'a>(alloc: Global, command: Command<'a>) -> Result<Command<'a>>
 {
     let command = command.arg(transfers(alloc))?;
     let command = command.arg(rounds(alloc))?;
-    let forever = forever(alloc)?;
+    let forever = flag(
+        alloc,
+        FOREVER,
+        "Ends by no count of transfers or waits; not beside --transfers or --rounds",
+    );
     Ok(command.arg(forever)?)
 }
 
@@ -449,17 +526,4 @@ fn rounds<'a>(alloc: Global) -> Arg<'a>
         "Ends after so many waits, each of a second at most, 1 to 4294967295",
     );
     rounds.default_value("1000000")
-}
-
-/// The flag of a server that does not end.
-fn forever<'a>(alloc: Global) -> Result<Arg<'a>>
-    ensures { IfOk result (HasRule (record (flag_rule (codes "forever")) { is_free = false })) }
-{
-    let forever = flag(
-        alloc,
-        FOREVER,
-        "Ends by no count of transfers or waits; not beside --transfers or --rounds",
-    );
-    let forever = forever.conflicts_with(TRANSFERS)?;
-    Ok(forever.conflicts_with(ROUNDS)?)
 }

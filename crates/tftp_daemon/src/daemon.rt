@@ -35,8 +35,10 @@ pub(crate) struct DaemonConfig<'a> {
 /// Why `tftpd` did not serve, or stopped.
 #[derive(Clone, Copy)]
 pub(crate) enum DaemonFault {
-    /// The store over the root could not be opened, for this reason.
-    File(Reason),
+    /// The root is no folder that can be served, for this reason.
+    Root(Reason),
+    /// The folder of uploads cannot take writes, for this reason.
+    Uploads(Reason),
     /// Out of memory.
     Memory,
     /// Serving failed.
@@ -74,13 +76,12 @@ fn open_server<R: Files + Clone + Drop>(
     let Ok(files) = rt.clone() else {
         return Err(DaemonFault::Memory);
     };
-    let store = match open_store(files, alloc, config) {
-        Ok(store) => store,
-        Err(error) => return Err(store_fault(&error)),
-    };
-    match Server::new(alloc, config.config, store) {
-        Ok(server) => Ok(server),
-        Err(_) => Err(DaemonFault::Memory),
+    match open_store(files, alloc, config) {
+        Ok(store) => match Server::new(alloc, config.config, store) {
+            Ok(server) => Ok(server),
+            Err(_) => Err(DaemonFault::Memory),
+        },
+        Err(fault) => Err(fault),
     }
 }
 
@@ -89,27 +90,32 @@ fn open_store<R: Files + Drop>(
     files: R,
     alloc: Global,
     config: &DaemonConfig<'_>,
-) -> io::Result<FolderStore<R>>
+) -> Result<FolderStore<R>, DaemonFault>
     ensures read_only { IfOk result (λ store. store.is_read_only ≡ config.now.read_only) }
     ensures uploads { IfOk result (λ store.
         IsUploads (option_map (λ folder. folder.now) config.now.uploads) store.uploads) }
 {
-    let mut store = FolderStore::new(files, alloc, config.root)?;
+    let mut store = match FolderStore::new(files, alloc, config.root) {
+        Ok(store) => store,
+        Err(error) => return Err(fault_of(&error, DaemonFault::Root(reason_of(&error)))),
+    };
     if config.read_only {
         store.refuse_writes();
     }
     if let Some(folder) = config.uploads {
-        store.admit_uploads(alloc, folder)?;
+        if let Err(error) = store.admit_uploads(alloc, folder) {
+            return Err(fault_of(&error, DaemonFault::Uploads(reason_of(&error))));
+        }
     }
     Ok(store)
 }
 
-/// The fault if the store could not be opened.
-fn store_fault(error: &io::Error) -> DaemonFault {
+/// The fault of a folder that could not be opened: out of memory, or else this one.
+fn fault_of(error: &io::Error, other: DaemonFault) -> DaemonFault {
     if error.kind() == ErrorKind::OutOfMemory {
         DaemonFault::Memory
     } else {
-        DaemonFault::File(reason_of(error))
+        other
     }
 }
 

@@ -1,6 +1,6 @@
 //! Laws of the runs of `tftpd`, over the definitions alone.
 
-ghost use Rattle.tftp_daemon.specs.Kept.{RunKeepsSettings};
+ghost use Rattle.tftp_daemon.specs.Kept.{ReadOnlyRunStoresNothing, RunKeepsSettings};
 
 use std::rt::Files;
 use tftp_file::Source;
@@ -13,3 +13,12 @@ pub fn a_run_keeps_the_settings<R: Files + Drop>()
     ensures { RunKeepsSettings ⟦<FolderStore<R> as Store>⟧.meaning
         ⟦<FolderSource<R::File> as Source>⟧.meaning }
 {}
+
+/// A run whose store refuses writes never holds a transfer that stores, if it begins with none: no
+/// request opens one.
+pub fn a_read_only_run_stores_nothing<R: Files + Drop>()
+    ensures { ReadOnlyRunStoresNothing ⟦<FolderStore<R> as Store>⟧.meaning
+        ⟦<FolderSource<R::File> as Source>⟧.meaning }
+{
+    a_run_keeps_the_settings::<R>();
+}

@@ -16,7 +16,8 @@ use std::time::Clock;
 use tftp_arguments::{own_words, print_no_memory, print_words_fault};
 use tftp_file::Source;
 use tftp_folder::{FolderSource, FolderStore};
-use tftp_loop::{LoopConfig, LoopFault, ServerUdp};
+use tftp_lines::Reason;
+use tftp_loop::{LoopFault, ServerUdp};
 use tftp_server::Store;
 use tftp_sockets::Journal;
 
@@ -36,8 +37,8 @@ pub fn tftpd_command<R: Runtime + AllocGlobal + Net + RandomSource>(rt: &R) -> u
 ///
 /// `--help` and `--version` print and return 0. The status is 2 for a command line that is not
 /// understood, a root or an `--uploads` that is no folder, a port that cannot be bound and output
-/// that cannot be written, each reported on standard error, and when out of memory. With `--log` a
-/// second line has the reason for a folder or a port that is refused.
+/// that cannot be written, each reported on standard error, and when out of memory. A second line
+/// names the folder or the address that was refused, and why.
 pub fn tftpd_words<R: Runtime + AllocGlobal + Net + RandomSource, S: AsStr>(
     rt: &R,
     words: &[S],
@@ -49,8 +50,8 @@ pub fn tftpd_words<R: Runtime + AllocGlobal + Net + RandomSource, S: AsStr>(
 }
 
 /// As [`tftpd_words`], with a journal of what it does over UDP: nothing, as for `--help`, or a run
-/// of one server with the configuration that the words name. With a status of 0 after anything was
-/// done, that server served to its end.
+/// of one server with the configuration that the words name. With a status of 0 that server served
+/// to its end, or the words ask for the help or the version.
 pub fn tftpd_with_journal<R: Runtime + AllocGlobal + Net + RandomSource, S: AsStr>(
     rt: &R,
     words: &[S],
@@ -96,6 +97,7 @@ fn serve_asked<R: Files + Clone + Drop + ServerUdp + Clock + Print + Eprint>(
     requires config { IfOk asked.now (λ config. IsConfig config.config) }
     requires status { IfErr asked.now (λ status. status ≤ 2) }
     ensures status { result.0 ≤ 2 }
+    ensures same { IfErr asked.now (λ status. result.0 ≡ status) }
     ensures runs { IfOk asked.now (λ config. MayServe ⟦<FolderStore<R> as Store>⟧.meaning
         ⟦<FolderSource<R::File> as Source>⟧.meaning config result.0 journal.events
         result.1.events) }
@@ -121,14 +123,13 @@ fn serve_config<R: Files + Clone + Drop + ServerUdp + Clock + Print + Eprint>(
         result.1.events }
 {
     let (served, journal) = serve(rt, alloc, config, journal);
-    (report(rt, &config.service, served), journal)
+    (report(rt, config, served), journal)
 }
 
-/// Prints the fault, if there is one, and returns the status. With a log, a second line has the
-/// reason, if the system or a rule refused a folder or the port.
+/// Prints the fault, if there is one, and returns the status.
 fn report<R: Eprint>(
     rt: &R,
-    service: &LoopConfig,
+    config: &DaemonConfig<'_>,
     served: std::result::Result<(), DaemonFault>,
 ) -> u8
     ensures { result ≡ status_of served }
@@ -136,27 +137,41 @@ fn report<R: Eprint>(
     match served {
         Ok(()) => 0,
         Err(fault) => {
-            let _ = print_fault(rt, service, fault);
+            let _ = print_fault(rt, config, fault);
             2
         }
     }
 }
 
-/// Prints a fault, and with a log its reason.
-fn print_fault<R: Eprint>(rt: &R, service: &LoopConfig, fault: DaemonFault) -> io::Result<()> {
-    let (message, reason) = match fault {
-        DaemonFault::File(reason) => ("tftpd: file fault", Some(reason)),
-        DaemonFault::Loop(LoopFault::Socket(reason)) => ("tftpd: socket fault", Some(reason)),
-        DaemonFault::Loop(LoopFault::Output) => ("tftpd: output fault", None),
-        DaemonFault::Memory | DaemonFault::Loop(LoopFault::Memory) => {
-            ("tftpd: out of memory", None)
+/// Prints a fault. A second line has what was refused, and why, if that is known.
+fn print_fault<R: Eprint>(rt: &R, config: &DaemonConfig<'_>, fault: DaemonFault) -> io::Result<()> {
+    rt.eprintln(first_line(fault))?;
+    match fault {
+        DaemonFault::Root(reason) => eprintln!(rt; "tftpd: {}: {reason}", config.root),
+        DaemonFault::Uploads(reason) => print_uploads(rt, config.uploads.unwrap_or(""), reason),
+        DaemonFault::Loop(LoopFault::Socket(reason)) => {
+            eprintln!(rt; "tftpd: {}: {reason}", config.service.listen)
         }
-    };
-    rt.eprintln(message)?;
-    if let Some(reason) = reason {
-        if service.logs {
-            eprintln!(rt; "tftpd: {reason}")?;
-        }
+        _ => Ok(()),
     }
-    Ok(())
+}
+
+/// The line of a fault.
+fn first_line(fault: DaemonFault) -> &'static str {
+    match fault {
+        DaemonFault::Root(_) | DaemonFault::Uploads(_) => "tftpd: file fault",
+        DaemonFault::Loop(LoopFault::Socket(_)) => "tftpd: socket fault",
+        DaemonFault::Loop(LoopFault::Output) => "tftpd: output fault",
+        DaemonFault::Memory | DaemonFault::Loop(LoopFault::Memory) => "tftpd: out of memory",
+    }
+}
+
+/// Prints why a folder takes no uploads. An absolute one is named below ROOT, as clients name files.
+fn print_uploads<R: Eprint>(rt: &R, folder: &str, reason: Reason) -> io::Result<()> {
+    let note = if folder.starts_with('/') {
+        " (an absolute FOLDER is below ROOT, too)"
+    } else {
+        ""
+    };
+    eprintln!(rt; "tftpd: --uploads {folder}: {reason}{note}")
 }

@@ -1,10 +1,13 @@
--- The matches are those of the words.
-use Rattle.std.proofs.Common.{IfOk, List, map, subst}
+-- The matches are those of the words, and so is what the parse fails by.
+use Rattle.std.proofs.Common.{◌≡◌, IfOk, List, map, subst, true}
+use Rattle.clap.specs.Faults.{fault_of, is_simple_and_free}
+use Rattle.clap.specs.Kinds.{HasKind}
 use Rattle.clap.specs.Simple.{App, HasMatchesOf}
 use Rattle.clap.specs.Walk.{Row}
 use Rattle.tftp_arguments.specs.Read.{read_in}
 use Rattle.tftp_daemon.specs.CommandLine.{NamesServer}
-use Rattle.tftp_daemon.proofs.Commands.{simple}
+use Rattle.tftp_daemon.specs.Words.{tftpd_app}
+use Rattle.tftp_daemon.proofs.Commands.{free, simple}
 use Rattle.tftp_daemon.proofs.command_line.match_words.Goals as goal
 
 pub returns-in-Ok-clause-names : goal.returns-in-Ok-clause-names
@@ -14,3 +17,10 @@ returns-in-Ok-clause-names g c =
     let Names : List Row → Type 0 = λ rows. IfOk c.read_matches.result
     (λ asked. IfOk asked (NamesServer (read_in rows))) in
     subst Names (known simple).0 c.read_matches.ensures.names
+
+pub returns-in-Err-clause-text : goal.returns-in-Err-clause-text
+returns-in-Err-clause-text g c =
+    let At : App → Type 0 = λ a. is_simple_and_free a ≡ true
+    → HasKind (fault_of a (map g.S.AsStr.text c.args.words.now)) c.in-Err.error in
+    let known = subst At c.requires.app_is c.in-Err.ensures.kinds in
+    c.print_usage.ensures.text (fault_of tftpd_app (map g.S.AsStr.text c.args.words.now)) (known free)

@@ -2,5 +2,5 @@
 use Rattle.tftp_daemon.proofs.Commands.{by_rows}
 use Rattle.tftp_daemon.proofs.command_line.read_matches.Goals as goal
 
-pub returns-in-Some-clause-names : goal.returns-in-Some-clause-names
-returns-in-Some-clause-names g c = by_rows c.args.matches.now c.in-Some.ensures.names
+pub returns-in-Some-service-clause-names : goal.returns-in-Some-service-clause-names
+returns-in-Some-service-clause-names g c = by_rows c.args.matches.now c.in-Some-service.ensures.names
