@@ -146,7 +146,10 @@ class Trial:
 
     def request(self):
         rng = self.rng
-        mode = rng.choice([b"octet", b"octet", b"netascii", b"OcTeT", b"mail"])
+        mode = rng.choice([b"octet", b"octet", b"netascii", b"NetASCII", b"OcTeT", b"mail"])
+        if rng.random() < 0.06:
+            size = rng.choice([512, 1_428, 8_192, 65_464])
+            return model.request("RRQ", rng.choice(CUT).encode(), b"octet", [(b"blksize", b"%d" % size)])
         if rng.random() < 0.03:
             return model.request("RRQ", f"f{LENGTHS[-1]}".encode(), mode, [(b"blksize", rng.choice([b"8", b"9", b"10"]))])
         names = [*self.files, *self.files, b"none", b"sub", b"../a", b"a//b", b"/f512", b"a+b", b""]
@@ -194,8 +197,9 @@ class Trial:
             self.counts[answer[4:-1].decode()] += 1
 
     def text_to_send(self, end):
-        content = self.rng.randbytes(self.rng.choice([0, 1, 10, end.size, 3 * end.size + 5]))
-        is_wrong = end.mode == b"netascii" and self.rng.random() < 0.2
+        # (of random bytes most are not netascii)
+        content = self.rng.randbytes(self.rng.choice([0, 1, 10, 100, end.size, 3 * end.size + 5]))
+        is_wrong = end.mode == b"netascii" and self.rng.random() < 0.5
         return content if is_wrong else model.wire_text(end.mode, content)
 
     def sent(self, port, datagram, to):
@@ -205,7 +209,7 @@ class Trial:
     def datagram_for(self, live):
         rng, right = self.rng, live.next_datagram()
         dice = rng.random()
-        if dice < 0.85:
+        if dice < 0.85 or live.is_cut:
             return right
         if dice < 0.9:
             return right[:2] + (max(live.end.number - 1, 0)).to_bytes(2, "big") + right[4:]
@@ -243,16 +247,18 @@ class Trial:
             self.note(answer)
 
     def cut_file(self):
-        """A served file is cut short. Who reads it gets what was read before, and then an ERROR: no short block, which
-        would be mistaken for the last (RFC 1350, section 6)."""
-        readers = [live.end.path for live in self.live if isinstance(live.end, model.Sender) and not live.is_cut]
-        name = self.rng.choice([name for name in readers if name.decode() in CUT] or [each.encode() for each in CUT])
-        length = self.rng.randrange(len(self.port.files[name]) // 2, len(self.port.files[name]) + 1)
-        os.truncate(self.folder / name.decode(), length)
-        if length < len(self.port.files[name]):
-            self.port.files[name] = self.port.files[name][:length]
-            for live in self.live:
-                live.is_cut = live.is_cut or (isinstance(live.end, model.Sender) and live.end.path == name)
+        """A file is cut short behind what its reader has, and another takes its name. The reader gets what was read before,
+        and then an ERROR: no short block, which would be mistaken for the last (RFC 1350, section 6)."""
+        readers = [live for live in self.live if live.is_open() and isinstance(live.end, model.Sender)
+                   and live.end.path.decode() in CUT and live.end.number and not live.is_cut]
+        if readers:
+            live = self.rng.choice(readers)
+            path, content = self.folder / live.end.path.decode(), self.files[live.end.path]
+            os.truncate(path, self.rng.randrange(live.end.number * live.end.size // 2 + 1))
+            (self.folder / "next").write_bytes(content)
+            os.replace(self.folder / "next", path)
+            for each in self.live:
+                each.is_cut = each.is_cut or (isinstance(each.end, model.Sender) and each.end.path == live.end.path)
 
     def from_stranger(self, live):
         datagram = self.rng.choice([live.next_datagram(), b"\0\5\0\0\0", b"\0\5", b"x"])
@@ -374,12 +380,13 @@ class Trial:
         self.is_quiet()
         while time.monotonic() < end:
             dice = self.rng.random()
-            if dice < 0.02:
+            if dice < 0.05:
                 self.cut_file()
             elif dice < 0.3:
                 self.ask()
             else:
-                for live in self.rng.sample(self.live, min(len(self.live), self.rng.randrange(1, 12))):
+                chosen = self.rng.sample(self.live, min(len(self.live), self.rng.randrange(1, 12)))
+                for live in dict.fromkeys([*chosen, *(each for each in self.live if each.is_cut)]):
                     if live.is_open():
                         self.converse(live)
             self.take(PATIENCE)

@@ -33,8 +33,8 @@ from lib.stalls import LIMIT, Stalls
 
 # From this time on a file of 65,535 blocks is fetched over the bad network, too, in seconds
 LONG_TRIAL = 120
-# Where so many datagrams were sent to servers, each of their ERRORs has to have been seen
-MANY = 20_000
+# Where so many transfers were opened, each ERROR of a server has to have been seen
+MANY = 300
 
 TRIALS = {
     "raw clients": lambda *it: raw.run(*it, retries=3),
@@ -103,10 +103,10 @@ def counts_of(printed):
 
 
 def unseen(printed):
-    """The ERRORs of a server that no trial has seen, where so many datagrams were sent that each had to come."""
+    """The ERRORs of a server that no trial has seen, where so many transfers were opened that each had to come."""
     counts = counts_of(printed)
     missing = sorted(raw.ERRORS - {name for name, count in counts.items() if count})
-    return missing if counts["datagrams"] >= MANY else []
+    return missing if counts["transfers"] >= MANY else []
 
 
 def main():
