@@ -11,6 +11,7 @@ import shutil
 import subprocess
 import sys
 import tempfile
+from concurrent.futures import ThreadPoolExecutor
 from pathlib import Path
 
 from lib.programs import NAMES, TOP, of_crate
@@ -42,24 +43,31 @@ def compiled(crate, room):
     linked = ["--target", "x86_64-unknown-linux-gnu", "--toolchain", toolchain, "-o", to, made,
               f"{KIT}/c/libos_c.a", f"{KIT}/c/liblibc_c.a"]
     for command in [[rtlib.RATTLE, "build", *words, "-o", made], [f"{KIT}/bin/rattle-link", *linked]]:
-        done = subprocess.run(command, cwd=crate.folder, stdin=subprocess.DEVNULL, capture_output=True, text=True)
+        done = subprocess.run(command, cwd=crate.folder, stdin=subprocess.DEVNULL, stdout=subprocess.PIPE,
+                              stderr=subprocess.STDOUT, text=True)
         if done.returncode or (command[1] == "build" and "logic=proved " not in done.stdout):
-            sys.exit(f"shipped: {crate.name}: {done.stdout[-2000:]}{done.stderr[-2000:]}")
+            sys.exit(f"shipped: {crate.name}: status {done.returncode}: {done.stdout[-2000:]}")
     return to
+
+
+def built(name, room):
+    """Where a program is, and how it was built."""
+    crate = crate_of(name)
+    if name not in PLAIN:
+        return of_crate(crate.name), "as rt ci built it"
+    if has_libraries(crate):
+        return compiled(crate, room), f"{FLAG}, over the libraries of rt ci"
+    subprocess.run([TOP / "tools/build.sh", crate.name], check=True)
+    return of_crate(crate.name), "by tools/build.sh"
 
 
 def main():
     folder = Path(sys.argv[1] if sys.argv[1:] else TOP / "bin")
     folder.mkdir(exist_ok=True)
-    with tempfile.TemporaryDirectory(prefix="shipped-") as room:
-        for name in NAMES:
-            crate = crate_of(name)
-            place, how = of_crate(crate.name), "as rt ci built it"
-            if name in PLAIN and has_libraries(crate):
-                place, how = compiled(crate, room), f"{FLAG}, over the libraries of rt ci"
-            elif name in PLAIN:
-                subprocess.run([TOP / "tools/build.sh", crate.name], check=True)
-                how = "by tools/build.sh"
+    # (tools/build.sh lets in one run at a time)
+    workers = 2 if all(has_libraries(crate_of(name)) for name in PLAIN) else 1
+    with tempfile.TemporaryDirectory(prefix="shipped-") as room, ThreadPoolExecutor(workers) as pool:
+        for name, (place, how) in zip(NAMES, pool.map(lambda name: built(name, room), NAMES)):
             # (a program that runs is not written to)
             shutil.copy2(place, folder / f"{name}.new")
             (folder / f"{name}.new").replace(folder / name)
