@@ -411,7 +411,7 @@ def test_unprinted_close(check):
         # (where the host is slow the client asks again, which is ignored)
         lines = [line.split()[0] for line in told.decode().splitlines()[:-1] if not line.startswith("ignored ")]
         last = told.decode().splitlines(True)[-1]
-        if (server.returncode, lines, last) != (2, ["opened", "opened", "closed"], "tftpd: output fault\n"):
+        if (server.returncode, lines, last) != (2, ["listening", "opened", "opened", "closed"], "tftpd: output fault\n"):
             check.wrong.append(f"tftpd, close {place} unprinted: status {server.returncode}, {told!r}")
         # of the file's second line there is as much as it may hold
         if not is_pipe and (len(printed.read_bytes()) > 40 or not printed.read_bytes().startswith(listening)):

@@ -89,6 +89,8 @@ class Server:
         found = re.fullmatch(r"listening ((\d+\.\d+\.\d+\.\d+):(\d+))\n", line)
         expect(bool(found), True, f"the first line of the server, {line!r}")
         self.word, self.address = found[1], (found[2], int(found[3]))
+        if "--log" in process.args:
+            expect(next_line(process.stderr), line, "the first line of the log")
 
     def has_closed(self, *outcomes):
         """It ends with status 0, and has printed a line for each closed transfer, with these outcomes. Returns the

@@ -6,13 +6,20 @@ ghost use Rattle.tftp_loop.specs.Served.{FailsToPrint, close_reported};
 
 use crate::datagram::Datagram;
 use crate::log_entry::shown;
-use crate::serving::LoopFault;
+use crate::serving::{LoopConfig, LoopFault};
 use crate::transfer_port::TransferPort;
 use std::alloc::Global;
 use tftp_ends::{Outcome, Record};
 use tftp_lines::{LogLine, Lost, Printed, Reason, RequestLine};
 use tftp_server::{Server, Store};
 use tftp_sockets::{Journal, print_line};
+
+/// Logs the line of the request port, if there is a log: what standard output has may go nowhere.
+pub(crate) fn log_listening<E: Eprint>(rt: &E, config: &LoopConfig, line: Printed) {
+    if config.logs {
+        let _ = eprintln!(rt; "{line}");
+    }
+}
 
 /// Logs a datagram that opened no transfer. `reason` is the system's reason for refusing a file
 /// call, if it refused one.

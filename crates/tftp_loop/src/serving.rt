@@ -6,6 +6,7 @@ ghost use Rattle.tftp_loop.specs.WholeRun.{Serves, ServesFromIn, ServesIn, Serve
 ghost use Rattle.tftp_loop.specs.WholeRun.{ServesToEndIn, listening};
 
 use crate::port_order::PortRange;
+use crate::report::log_listening;
 use crate::server_loop::{Buffers, ServerLoop};
 use crate::server_udp::ServerUdp;
 use crate::sockets::Sockets;
@@ -26,7 +27,7 @@ pub struct LoopConfig {
     pub ports: Option<PortRange>,
     /// When the loop ends.
     pub ending: Ending,
-    /// Whether each request and each close is logged as a line on standard error.
+    /// Whether the start, each request and each close is logged as a line on standard error.
     pub logs: bool,
 }
 
@@ -111,7 +112,10 @@ fn listen<N: ServerUdp + Clock + Print + Eprint, S: ServedStore<Reason> + Drop>(
     let mut journal = journal;
     let line = Printed::Listening(sockets.listening());
     match print_line(rt, &mut journal, line) {
-        Ok(()) => run(rt, alloc, server, sockets, config, journal),
+        Ok(()) => {
+            log_listening(rt, config, line);
+            run(rt, alloc, server, sockets, config, journal)
+        }
         Err(_) => (Err(LoopFault::Output), journal),
     }
 }
