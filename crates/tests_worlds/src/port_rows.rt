@@ -154,9 +154,10 @@ fn a_file_in_a_folder_is_read(rt: HostRuntime) {
     opens(&rt, rt.alloc(), store, request, data, Some(1025));
 }
 
-/// Reads of `boot.img` with two options, and the OACKs: the options in the order of the request,
-/// their names in lower case (RFC 2347, "Negotiation Protocol").
-const TWO_OPTIONS: [(&[u8], &[u8]); 2] = [
+/// Reads of `boot.img`, and the answers: the options in the order of the request, their names in
+/// lower case (RFC 2347, "Negotiation Protocol"); blocks of at most `max_block`; and for a size
+/// below 8 bytes, or with a zero before its digits, no option (RFC 2348).
+const OPTIONS: [(&[u8], &[u8]); 5] = [
     (
         b"\x00\x01boot.img\x00octet\x00BLKSIZE\x001428\x00timeout\x003\x00",
         b"\x00\x06blksize\x001428\x00timeout\x003\x00",
@@ -165,14 +166,32 @@ const TWO_OPTIONS: [(&[u8], &[u8]); 2] = [
         b"\x00\x01boot.img\x00octet\x00timeout\x003\x00BLKSIZE\x001428\x00",
         b"\x00\x06timeout\x003\x00blksize\x001428\x00",
     ),
+    (
+        b"\x00\x01boot.img\x00octet\x00blksize\x0065464\x00",
+        b"\x00\x06blksize\x001428\x00",
+    ),
+    (
+        b"\x00\x01boot.img\x00octet\x00blksize\x007\x00",
+        b"\x00\x03\x00\x01ABC",
+    ),
+    (
+        b"\x00\x01boot.img\x00octet\x00blksize\x0008\x00",
+        b"\x00\x03\x00\x01ABC",
+    ),
 ];
 
+/// One option twice, in other letters, is refused by an ERROR (RFC 2347: "an option may only be
+/// specified once").
 #[test]
-fn two_options_are_answered_in_their_order(rt: HostRuntime) {
-    for &(request, answer) in &TWO_OPTIONS {
+fn option_rows(rt: HostRuntime) {
+    for &(request, answer) in &OPTIONS {
         let store = store_of(&rt, rt.alloc(), b"boot.img", b"ABC");
         opens(&rt, rt.alloc(), store, request, answer, Some(1025));
     }
+    let twice = b"\x00\x01boot.img\x00octet\x00blksize\x00512\x00BLKSIZE\x00512\x00";
+    let refused = b"\x00\x05\x00\x08option refused\x00";
+    let store = store_of(&rt, rt.alloc(), b"boot.img", b"ABC");
+    opens(&rt, rt.alloc(), store, twice, refused, None);
 }
 
 /// 65,535 blocks of 8 bytes are the most, and the last of them is short (RFC 1350, section 6): a

@@ -273,30 +273,34 @@ fn has_come(rt: &impl Abort, world: &World, index: usize, expected: (u16, u16, b
 
 /// 65,534 blocks of 8 bytes and a last one of 7 are as many as have numbers: a request, its OACK
 /// and the ACK of that, DATA and ACK of each block.
-#[test]
-fn a_world_plays_65535_blocks(rt: HostRuntime) {
-    let file = many(&rt, rt.alloc(), 524_279);
-    let mut world = world_with(&rt, rt.alloc(), &file, Config::default());
-    get_in_eights(&rt, rt.alloc(), &mut world);
-    let delivered = world.settle(0, 1_000_000).expect(&rt, "all that is sent");
+fn plays_65535_blocks(rt: &impl Abort, alloc: Global) {
+    let file = many(rt, alloc, 524_279);
+    let mut world = world_with(rt, alloc, &file, Config::default());
+    get_in_eights(rt, alloc, &mut world);
+    let delivered = world.settle(0, 1_000_000).expect(rt, "all that is sent");
     let found = (delivered, world.sent().len());
-    expect_equal(&rt, &found, &(131_073, 131_073), "datagrams");
-    has_come(&rt, &world, 0, (65_535, 8, true));
-    has_come(&rt, &world, 1, (65_535, 8, true));
-    let stored = world.stored(1024).expect(&rt, "a receiver");
-    expect(&rt, stored == file.as_slice(), "the file, whole");
+    expect_equal(rt, &found, &(131_073, 131_073), "datagrams");
+    has_come(rt, &world, 0, (65_535, 8, true));
+    has_come(rt, &world, 1, (65_535, 8, true));
+    let stored = world.stored(1024).expect(rt, "a receiver");
+    expect(rt, stored == file.as_slice(), "the file, whole");
 }
 
 /// One byte more is too much for 65,535 blocks, and is refused from the request port.
+fn refuses_more_blocks(rt: &impl Abort, alloc: Global) {
+    let file = many(rt, alloc, 524_280);
+    let mut world = world_with(rt, alloc, &file, Config::default());
+    get_in_eights(rt, alloc, &mut world);
+    let delivered = world.settle(0, 1_000).expect(rt, "all that is sent");
+    expect_equal(rt, &delivered, &2, "a request and its ERROR");
+    has_sent(rt, &world, 1, b"\x00\x05\x00\x00file too large\x00");
+    has_gone(rt, &world, 1, at_server(69), at_client(1024));
+}
+
 #[test]
-fn a_world_refuses_more_blocks(rt: HostRuntime) {
-    let file = many(&rt, rt.alloc(), 524_280);
-    let mut world = world_with(&rt, rt.alloc(), &file, Config::default());
-    get_in_eights(&rt, rt.alloc(), &mut world);
-    let delivered = world.settle(0, 1_000).expect(&rt, "all that is sent");
-    expect_equal(&rt, &delivered, &2, "a request and its ERROR");
-    has_sent(&rt, &world, 1, b"\x00\x05\x00\x00file too large\x00");
-    has_gone(&rt, &world, 1, at_server(69), at_client(1024));
+fn option_rows(rt: HostRuntime) {
+    plays_65535_blocks(&rt, rt.alloc());
+    refuses_more_blocks(&rt, rt.alloc());
 }
 
 /// A client reads the file, and its first block is to be delivered.
