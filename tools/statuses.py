@@ -32,6 +32,8 @@ LIMITS = ["--rounds", "2000", *RETRIES]
 RUNS_AT_LEAST = 150
 # What a program writes of a command line that it does not understand
 USAGE = "error: "
+# Whole help texts, each in a file that is named for its command; `rt ci` and tools/loopback/ compare those of the others
+HELP = Path(__file__).resolve().parent / "help"
 
 
 class Check:
@@ -70,8 +72,10 @@ class Check:
         self.ends(program, words, 2, USAGE, "", at_start=True, **how)
 
     def has_help(self, program, *words):
-        """Help and version end with 0, and write on standard output alone."""
-        if "Usage:" not in self.ends(program, [*words, "--help"], 0):
+        """Help and version end with 0, and write on standard output alone. Where a text was read, the help is that."""
+        text = HELP / f"{'-'.join([program, *words])}.txt"
+        told = self.ends(program, [*words, "--help"], 0, "", text.read_text() if text.exists() else None)
+        if "Usage:" not in told:
             self.wrong.append(f"{program} {words} --help: no usage")
         if not words:
             self.ends(program, ["--version"], 0, "", program + " ", at_start=True)
