@@ -93,7 +93,8 @@ def rows(definitions, names):
 
 def in_order(files):
     """The files of definitions, by the order of their crates in crates.txt."""
-    crates = [line.split(":")[0] for line in (TOP / "crates.txt").read_text().splitlines()]
+    # (a line may have a word on its crate before the colon)
+    crates = [line.split(":")[0].split(" ")[0] for line in (TOP / "crates.txt").read_text().splitlines()]
     return sorted(files.items(), key=lambda item: (crates.index(item[0][0]), item[0][1]))
 
 
