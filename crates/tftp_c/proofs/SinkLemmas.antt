@@ -1,5 +1,5 @@
 -- A receiver's step over a value that contains a sink is its step over that sink.
-use Rattle.std.specs.Prelude.{ℕ, ◌≡◌, Bool, true, false, List, [], ◌∷◌, Result, Ok, Err}
+use Rattle.std.specs.Prelude.{ℕ, Bool, true, false, List, [], ◌∷◌, Result, Ok, Err}
 use Rattle.std.proofs.Common.{ap}
 use Rattle.tftp_file.specs.Sink.{SinkMeaning, sink_through}
 use Rattle.tftp_file.specs.declared.fault.StoreFault.{StoreFault}

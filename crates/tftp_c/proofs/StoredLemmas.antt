@@ -1,6 +1,6 @@
 -- A step over a buffer is a step over an empty sink in memory.
 use Rattle.std.specs.Prelude.{ℕ, ◌≡◌, false, List, length, take}
-use Rattle.std.proofs.Common.{ap, sym, subst}
+use Rattle.std.proofs.Common.{ap, subst}
 use Rattle.tftp_file.specs.Memory.{MemSinkState, memory_sink, new_mem_sink}
 use Rattle.tftp_file.specs.Sink.{sink_through}
 use Rattle.tftp_ends.specs.declared.endpoint.Endpoint.{Endpoint}
