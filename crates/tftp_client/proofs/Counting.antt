@@ -14,7 +14,7 @@ use Rattle.tftp_sockets.specs.Journal.{Event}
 use Rattle.tftp_client.specs.declared.local.LocalFile.{LocalFile}
 use Rattle.tftp_client.specs.declared.transfer.Job.{Job}
 use Rattle.tftp_client.specs.Converses.{State}
-use Rattle.tftp_client.specs.Runs.{IsCountOf, Runs, RunsAs, opens}
+use Rattle.tftp_client.specs.Runs.{IsCountOf, IsFileOf, MayOpen, Runs, RunsAs, opens}
 use Rattle.tftp_client.specs.Stored.{count_of}
 
 module _ {S R F D : Type 0} {reads : read.Ghosts F} {writes : write.Ghosts F} {seeks : seek.Ghosts F}
@@ -35,13 +35,16 @@ module _ {S R F D : Type 0} {reads : read.Ghosts F} {writes : write.Ghosts F} {s
       → ((local : LocalFile R F D reads writes seeks lists) → sinks.held local ≡ Some local.taken.holding)
       → (job : Job) (kind : Kind) (sent length : ℕ) {port : ℕ} {before : List Event} {last : State}
       {files : Files S (LocalFile R F D reads writes seeks lists)} {count : ℕ}
-      → Runs sources sinks port (opens kind job length) before last files → (job.mode ≡ Octet → sent ≡ length)
-      → count ≡ count_of sent files
+      → MayOpen kind job length
+      → (run : Runs sources sinks port (opens kind job length) before last files) → IsFileOf sources sinks kind run.file
+      → (job.mode ≡ Octet → sent ≡ length) → count ≡ count_of sent files
       → RunsAs sources sinks port kind job before last files count
-  runs_as sources sinks known job kind sent length {port} {before} {last} {files} {count} run same is =
+  runs_as sources sinks known job kind sent length {port} {before} {last} {files} {count} may run side same is =
       record {
         length = length;
+        may = may;
         runs = run;
+        side = side;
         counts =
             counts sources sinks known job.mode sent length files count same is;
       }

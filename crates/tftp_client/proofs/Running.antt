@@ -18,7 +18,7 @@ use Rattle.tftp_client.specs.Converses.{Converses, EndsBy, State}
 use Rattle.tftp_client.specs.Ordered.{RunsOrder, RunsWords}
 use Rattle.tftp_client.specs.Words.{WordsName}
 use Rattle.tftp_client.specs.Runs.{FailsBy, FailsEnd, FailsTransfer, StaysOn, IsNew, Refused, Runs}
-use Rattle.tftp_client.specs.Runs.{RunsAs, RunsJob, Stops, Transfers, begun, opens, plain}
+use Rattle.tftp_client.specs.Runs.{IsFileOf, MayOpen, RunsAs, RunsJob, Stops, Transfers, begun, opens, plain}
 
 -- for a last call whose result is returned as it is
 pub if_err : {T E : Type 0} (r : Result T E) (P Q : E → Type 0) → ((e : E) → P e → Q e) → IfErr r P → IfErr r Q
@@ -37,48 +37,54 @@ module _ {S K : Type 0} (sources : SourceMeaning S) (sinks : SinkMeaning K) wher
       subst At (sym is) (record { last = last; files = files; converses = converses; events = events; ends = by })
 
   -- nothing was opened, and nothing was sent
-  pub unsent : (most : ℕ) (end : ClientOutcome) (e : EndState) (before after : List Event) → status_of end ≡ 2
-      → after ≡ before → FailsEnd sources sinks most e before after end
-  unsent most (ends.Complete count) e before after two same = same
-  unsent most (ends.Failed outcome) e before after two same = absurd (cc)
-  unsent most ends.FileFault e before after two same = same
-  unsent most ends.SocketFault e before after two same = same
-  unsent most (ends.NotOpened fault) e before after two same = same
-  unsent most ends.Memory e before after two same = same
+  pub unsent : (most : ℕ) (end : ClientOutcome) (kind : Kind) (job : Job) (length : ℕ) (before after : List Event)
+      → status_of end ≡ 2 → after ≡ before → FailsEnd sources sinks most kind job length before after end
+  unsent most (ends.Complete count) kind job length before after two same = same
+  unsent most (ends.Failed outcome) kind job length before after two same = absurd (cc)
+  unsent most ends.FileFault kind job length before after two same = same
+  unsent most ends.SocketFault kind job length before after two same = same
+  unsent most (ends.NotOpened fault) kind job length before after two same = same
+  unsent most ends.Memory kind job length before after two same = same
 
   -- a run that began by its request stopped
-  fails_from : (most : ℕ) (end : ClientOutcome) (e : EndState) (before after : List Event) {port : ℕ} {first : State}
-      (file : Files S K)
-      → first ≡ begun port e before → Stops sources sinks most port first file after end
-      → FailsEnd sources sinks most e before after end
-  fails_from most (ends.Complete count) e before after file is stopped = absurd stopped
-  fails_from most (ends.Failed outcome) e before after {port} {first} file is stopped =
+  fails_from : (most : ℕ) (end : ClientOutcome) (kind : Kind) (job : Job) (length : ℕ) (before after : List Event)
+      {port : ℕ} {first : State} (file : Files S K)
+      → MayOpen kind job length → first ≡ begun port (opens kind job length) before
+      → Stops sources sinks most port first file after end → IsFileOf sources sinks kind file
+      → FailsEnd sources sinks most kind job length before after end
+  fails_from most (ends.Complete count) kind job length before after file may is stopped side = absurd stopped
+  fails_from most (ends.Failed outcome) kind job length before after {port} {first} file may is stopped side =
       let From : State → Type 0 = λ s. Stops sources sinks most port s file after (ends.Failed outcome) in
-      record { port = port; file = file; stops = subst From is stopped }
-  fails_from most ends.FileFault e before after file is stopped = absurd stopped
-  fails_from most ends.SocketFault e before after file is stopped = absurd stopped
-  fails_from most (ends.NotOpened fault) e before after file is stopped = absurd stopped
-  fails_from most ends.Memory e before after file is stopped = absurd stopped
+      record {
+        may = may;
+        fails = record { port = port; file = file; stops = subst From is stopped };
+        side = side;
+      }
+  fails_from most ends.FileFault kind job length before after file may is stopped side = absurd stopped
+  fails_from most ends.SocketFault kind job length before after file may is stopped side = absurd stopped
+  fails_from most (ends.NotOpened fault) kind job length before after file may is stopped side = absurd stopped
+  fails_from most ends.Memory kind job length before after file may is stopped side = absurd stopped
 
   -- the same; a request is no wait
-  pub fails : (left : ℕ) (end : ClientOutcome) (e : EndState) (before after : List Event) {port : ℕ} {first : State}
-      (file : Files S K)
-      → first ≡ begun port e before → Stops sources sinks (left + waits first.events) port first file after end
-      → FailsEnd sources sinks (left + waits before) e before after end
-  fails left end e before after {port} {first} file is stopped =
+  pub fails : (left : ℕ) (end : ClientOutcome) (kind : Kind) (job : Job) (length : ℕ) (before after : List Event)
+      {port : ℕ} {first : State} (file : Files S K)
+      → MayOpen kind job length → first ≡ begun port (opens kind job length) before
+      → Stops sources sinks (left + waits first.events) port first file after end → IsFileOf sources sinks kind file
+      → FailsEnd sources sinks (left + waits before) kind job length before after end
+  fails left end kind job length before after {port} {first} file may is stopped side =
       let Within : ℕ → Type 0 = λ m. Stops sources sinks m port first file after end in
-      fails_from (left + waits before) end e before after file is
-      (subst Within (ap (λ (s : State). left + waits s.events) is) stopped)
+      fails_from (left + waits before) end kind job length before after file may is
+      (subst Within (ap (λ (s : State). left + waits s.events) is) stopped) side
 
   -- a run that began by its request
-  pub runs : {e : EndState} {before : List Event} {port port' : ℕ} {first last : State} {file files : Files S K}
+  abbrev pub runs : {e : EndState} {before : List Event} {port port' : ℕ} {first last : State} {file files : Files S K}
       → first ≡ begun port e before → IsNew sources sinks file → (port' ≡ port)
       × Converses sources sinks port first file last files
       → Runs sources sinks port' e before last files
   runs {e} {before} {port} {port'} {first} {last} {file} {files} is new run =
       let From : State → Type 0 = λ s. Converses sources sinks port s file last files in
-      let Of : ℕ → Type 0 = λ p. Runs sources sinks p e before last files in
-      subst Of (sym run.0) (record { file = file; new = new; converses = subst From is run.1 })
+      let At : ℕ → Type 0 = λ p. Converses sources sinks p (begun p e before) file last files in
+      record { file = file; new = new; converses = subst At (sym run.0) (subst From is run.1) }
 
   -- the run of a job of this kind
   pub runs_job : (job : Job) {kind : Kind} {port : ℕ} {before : List Event} {last : State} {files : Files S K}
@@ -91,10 +97,9 @@ module _ {S K : Type 0} (sources : SourceMeaning S) (sinks : SinkMeaning K) wher
   -- a job of this kind failed
   pub fails_job : (most : ℕ) (job : Job) {kind : Kind} (length : ℕ) (before after : List Event) (end : ClientOutcome)
       → job.kind ≡ kind
-      → FailsEnd sources sinks most (opens kind job length) before after end
-      → FailsBy sources sinks most job before after end
+      → FailsEnd sources sinks most kind job length before after end → FailsBy sources sinks most job before after end
   fails_job most job {kind} length before after end is failed =
-      let Of : Kind → Type 0 = λ k. FailsEnd sources sinks most (opens k job length) before after end in
+      let Of : Kind → Type 0 = λ k. FailsEnd sources sinks most k job length before after end in
       (length, subst Of (sym is) failed)
 
   -- a job ran, or failed, without the options that were refused

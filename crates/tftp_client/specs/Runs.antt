@@ -13,7 +13,7 @@ use Rattle.tftp_file.specs.declared.files.Files.{Files}
 use Rattle.tftp_file.specs.declared.files.Files.TheVariants.{Source, Sink}
 use Rattle.tftp_file.specs.declared.length.TheConstants.{MAX_WIRE}
 use Rattle.tftp_ends.specs.End.{EndState, is_complete}
-use Rattle.tftp_ends.specs.Opening.{getting, putting}
+use Rattle.tftp_ends.specs.Opening.{MayGet, MayPut, getting, putting}
 use Rattle.tftp_ends.specs.declared.endpoint.Endpoint.{Endpoint}
 use Rattle.tftp_ends.specs.declared.outcome.Outcome.{Outcome}
 use Rattle.tftp_lines.specs.ClientOutcome.{end_text}
@@ -50,6 +50,11 @@ opens Read job length = getting job.server job.name.now job.mode job.asked MAX_W
 opens Write job length =
     putting job.server job.name.now job.mode (measured job.asked length) length MAX_WIRE job.retries
 
+-- the request of a job's end may be sent: of one that writes, for a file of that length
+abbrev pub MayOpen : Kind → Job → ℕ → Type 0
+MayOpen Read job length = MayGet job.name.now job.mode job.asked
+MayOpen Write job length = MayPut job.name.now job.mode (measured job.asked length) length
+
 -- the line of a complete transfer was printed
 abbrev pub printed : ℕ → State → State
 printed count s = record s { events = Printed (end_text (ends.Complete count)) ∷ s.events }
@@ -69,6 +74,13 @@ module _ {S K : Type 0} (sources : SourceMeaning S) (sinks : SinkMeaning K) wher
   abbrev pub IsNew : Files S K → Type 0
   IsNew (Source source) = Unit {0}
   IsNew (Sink sink) = sinks.held sink ≡ Some nothing
+
+  -- a job that reads has a file to be stored, and one that writes a file to be sent
+  abbrev pub IsFileOf : Kind → Files S K → Type 0
+  IsFileOf Read (Source source) = ⊥
+  IsFileOf Read (Sink sink) = Unit {0}
+  IsFileOf Write (Source source) = Unit {0}
+  IsFileOf Write (Sink sink) = ⊥
 
   -- the program did this for an end at the port, from its request on; a received file is new then
   pub record Runs (port : ℕ) (end : EndState) (before : List Event) (s : State)
@@ -99,15 +111,23 @@ module _ {S K : Type 0} (sources : SourceMeaning S) (sinks : SinkMeaning K) wher
     pub file : Files S K
     pub stops : StopsBy most port (begun port end before) file after outcome
 
+  -- the run of an end of this kind, as a job opens it, stopped
+  pub record FailsAs (most : ℕ) (kind : Kind) (job : Job) (length : ℕ) (before after : List Event)
+      (outcome : Outcome) : Type 0 where
+    pub may : MayOpen kind job length
+    pub fails : Fails most (opens kind job length) before after outcome
+    pub side : IsFileOf kind fails.file
+
   -- the same, of how the program ends; where no transfer was opened nothing was sent
-  abbrev pub FailsEnd : ℕ → EndState → List Event → List Event → ClientOutcome → Type 0
-  FailsEnd most end before after (ends.Failed outcome) = Fails most end before after outcome
-  FailsEnd most end before after _ = after ≡ before
+  abbrev pub FailsEnd : ℕ → Kind → Job → ℕ → List Event → List Event → ClientOutcome → Type 0
+  FailsEnd most kind job length before after (ends.Failed outcome) =
+      FailsAs most kind job length before after outcome
+  FailsEnd most kind job length before after _ = after ≡ before
 
   -- a job failed so
   abbrev pub FailsBy : ℕ → Job → List Event → List Event → ClientOutcome → Type 0
   FailsBy most job before after end =
-      (length : ℕ) × FailsEnd most (opens job.kind job length) before after end
+      (length : ℕ) × FailsEnd most job.kind job length before after end
 
   -- N of a file: how many bytes a received one holds; of one that is sent in octet, the length on
   -- the wire. In netascii only the system states the length of a file that is sent
@@ -122,7 +142,9 @@ module _ {S K : Type 0} (sources : SourceMeaning S) (sinks : SinkMeaning K) wher
       (files : Files S K) (count : ℕ) : Type 0 where
     -- the length on the wire with which the end opened
     pub length : ℕ
+    pub may : MayOpen kind job length
     pub runs : Runs port (opens kind job length) before s files
+    pub side : IsFileOf kind runs.file
     pub counts : IsCountOf files job.mode length count
 
   -- the run of a job's end

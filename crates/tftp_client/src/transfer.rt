@@ -16,7 +16,7 @@ ghost use Rattle.tftp_client.specs.Stored.{count_of, stored};
 ghost use Rattle.tftp_client.specs.Taken.{nothing};
 ghost use Rattle.tftp_client.specs.Runs.{FailsBy, FailsEnd, FailsTransfer, MayFallBack, Runs};
 ghost use Rattle.tftp_client.specs.Runs.{RunsAs, RunsJob, Stops, Transfers};
-ghost use Rattle.tftp_client.specs.Runs.{begun, measured, opens, plain, sent_from};
+ghost use Rattle.tftp_client.specs.Runs.{IsFileOf, MayOpen, begun, measured, opens, plain, sent_from};
 
 use crate::cause::Cause;
 use crate::client_udp::ClientUdp;
@@ -174,7 +174,7 @@ fn get<R: FileSystem + Clone + Drop + ClientUdp + Clock + Eprint>(
         (state_of completed.conversation journal.new.events) completed.files completed.count) }
     ensures err { IfErr result (λ failure. FailsEnd
         ⟦<LocalSource<R::File> as Source>⟧.meaning ⟦<LocalFile<R> as Sink>⟧.meaning
-        (waits.old + waits_in journal.old.events) (opens Read job.now 0)
+        (waits.old + waits_in journal.old.events) Read job.now 0
         journal.old.events journal.new.events failure.end) }
     ensures counted { waits.new + waits_in journal.new.events
         ≡ waits.old + waits_in journal.old.events }
@@ -220,7 +220,7 @@ fn get_into<N: ClientUdp + Clock + Eprint, R: FileSystem + Drop>(
         (state_of completed.conversation journal.new.events) completed.files completed.count) }
     ensures err { IfErr result (λ failure. FailsEnd
         ⟦<LocalSource<R::File> as Source>⟧.meaning ⟦<LocalFile<R> as Sink>⟧.meaning
-        (waits.old + waits_in journal.old.events) (opens Read job.now 0)
+        (waits.old + waits_in journal.old.events) Read job.now 0
         journal.old.events journal.new.events failure.end) }
     ensures counted { waits.new + waits_in journal.new.events
         ≡ waits.old + waits_in journal.old.events }
@@ -240,6 +240,7 @@ fn ask_to_get<N: ClientUdp + Clock>(
 ) -> Result<Conversation, Failure>
     ensures begins { IfOk result (λ conversation. state_of conversation journal.new.events
         ≡ begun conversation.socket.port (opens Read job.now 0) journal.old.events) }
+    ensures may { OnOk result (MayOpen Read job.now 0) }
     ensures err { IfErr result (λ failure. (status_of failure.end ≡ 2)
         × (journal.new.events ≡ journal.old.events)) }
 {
@@ -332,7 +333,7 @@ fn put<R: FileSystem + Clone + Drop + ClientUdp + Clock + Eprint>(
         (state_of completed.conversation journal.new.events) completed.files completed.count) }
     ensures err { IfErr result (λ failure. (length : ℕ) × FailsEnd
         ⟦<LocalSource<R::File> as Source>⟧.meaning ⟦<LocalFile<R> as Sink>⟧.meaning
-        (waits.old + waits_in journal.old.events) (opens Write job.now length)
+        (waits.old + waits_in journal.old.events) Write job.now length
         journal.old.events journal.new.events failure.end) }
     ensures counted { waits.new + waits_in journal.new.events
         ≡ waits.old + waits_in journal.old.events }
@@ -352,15 +353,17 @@ fn put_from<R: FileSystem + Drop + ClientUdp + Clock + Eprint>(
     waits: &mut u32,
     journal: &mut Journal,
 ) -> Result<Completed<R>, Failure>
-    ensures ok { IfOk result (λ completed. Runs
+    ensures ok { IfOk result (λ completed. (runs : Runs
         ⟦<LocalSource<R::File> as Source>⟧.meaning ⟦<LocalFile<R> as Sink>⟧.meaning
         completed.conversation.socket.port (opens Write job.now outbound.wire_bytes)
-        journal.old.events (state_of completed.conversation journal.new.events) completed.files
+        journal.old.events (state_of completed.conversation journal.new.events) completed.files)
         × (completed.count ≡ count_of outbound.host_bytes completed.files)
-        × (outbound.wire_bytes ≤ MAX_WIRE)) }
+        × (outbound.wire_bytes ≤ MAX_WIRE) × MayOpen Write job.now outbound.wire_bytes
+        × IsFileOf ⟦<LocalSource<R::File> as Source>⟧.meaning
+        ⟦<LocalFile<R> as Sink>⟧.meaning Write runs.file) }
     ensures err { IfErr result (λ failure. FailsEnd
         ⟦<LocalSource<R::File> as Source>⟧.meaning ⟦<LocalFile<R> as Sink>⟧.meaning
-        (waits.old + waits_in journal.old.events) (opens Write job.now outbound.wire_bytes)
+        (waits.old + waits_in journal.old.events) Write job.now outbound.wire_bytes
         journal.old.events journal.new.events failure.end) }
     ensures counted { waits.new + waits_in journal.new.events
         ≡ waits.old + waits_in journal.old.events }
@@ -385,6 +388,7 @@ fn ask_to_put<N: ClientUdp + Clock>(
     ensures begins { IfOk result (λ conversation. state_of conversation journal.new.events
         ≡ begun conversation.socket.port (opens Write job.now length) journal.old.events) }
     ensures fits { OnOk result (length ≤ MAX_WIRE) }
+    ensures may { OnOk result (MayOpen Write job.now length) }
     ensures err { IfErr result (λ failure. (status_of failure.end ≡ 2)
         × (journal.new.events ≡ journal.old.events)) }
 {

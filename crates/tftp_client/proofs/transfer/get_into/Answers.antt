@@ -12,13 +12,14 @@ use Rattle.tftp_client.proofs.transfer.get_into.Goals as goal
 pub returns-in-Ok-clause-ok : goal.returns-in-Ok-clause-ok
 returns-in-Ok-clause-ok g c =
     IfOk-weaker c.converse.result _ _
-    (λ completed ran. runs_as _ _ (λ local. refl) c.args.job.now Read 0 0
-    (runs _ _ c.in-Ok.ensures.begins (ap Some c.requires) (ran.0, ran.1)) (λ octet. refl) ran.2)
+    (λ completed ran. runs_as _ _ (λ local. refl) c.args.job.now Read 0 0 c.in-Ok.ensures.may
+    (runs _ _ c.in-Ok.ensures.begins (ap Some c.requires) (ran.0, ran.1)) tt (λ octet. refl) ran.2)
     c.converse.ensures.ok
 
 pub returns-in-Ok-clause-err : goal.returns-in-Ok-clause-err
 returns-in-Ok-clause-err g c =
-    if_err c.converse.result _ _ (λ failure stopped. fails _ _ c.args.waits.now failure.end _ _ _ _ c.in-Ok.ensures.begins stopped)
+    if_err c.converse.result _ _ (λ failure stopped. fails _ _ c.args.waits.now failure.end Read c.args.job.now 0 _ _ _
+    c.in-Ok.ensures.may c.in-Ok.ensures.begins stopped tt)
     c.converse.ensures.err
 
 pub converse-requires-clause-not_closed : goal.converse-requires-clause-not_closed

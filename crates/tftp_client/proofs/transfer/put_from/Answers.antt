@@ -10,11 +10,12 @@ use Rattle.tftp_client.proofs.transfer.put_from.Goals as goal
 pub returns-in-Ok-clause-ok : goal.returns-in-Ok-clause-ok
 returns-in-Ok-clause-ok g c =
     IfOk-weaker c.converse.result _ _ (λ completed ran.
-    (runs _ _ c.in-Ok.ensures.begins tt (ran.0, ran.1), ran.2, c.in-Ok.ensures.fits)) c.converse.ensures.ok
+    (runs _ _ c.in-Ok.ensures.begins tt (ran.0, ran.1), ran.2, c.in-Ok.ensures.fits, c.in-Ok.ensures.may, tt)) c.converse.ensures.ok
 
 pub returns-in-Ok-clause-err : goal.returns-in-Ok-clause-err
 returns-in-Ok-clause-err g c =
-    if_err c.converse.result _ _ (λ failure stopped. fails _ _ c.args.waits.now failure.end _ _ _ _ c.in-Ok.ensures.begins stopped)
+    if_err c.converse.result _ _ (λ failure stopped. fails _ _ c.args.waits.now failure.end Write c.args.job.now
+    c.args.outbound.wire_bytes _ _ _ c.in-Ok.ensures.may c.in-Ok.ensures.begins stopped tt)
     c.converse.ensures.err
 
 pub converse-requires-clause-not_closed : goal.converse-requires-clause-not_closed
