@@ -10,7 +10,7 @@ int main(int argc, char **argv) {
     if (argc > 5) options.blksize = (uint16_t)atoi(argv[5]);
     struct tftp_end end = {0};
     struct tftp_event event = {0};
-    int fd = udp_socket(0);
+    int fd = udp_socket((struct tftp_endpoint){0});
 
     uint8_t fault = tftp_get(&end, &server, (const uint8_t *)argv[3], strlen(argv[3]), &options, reply,
                              sizeof reply, &event);

@@ -1,45 +1,24 @@
 /* Puts a file by TFTP: put ADDR PORT LOCAL NAME [BLKSIZE] */
 #include "udp.h"
-#include <fcntl.h>
-#include <sys/mman.h>
-#include <sys/stat.h>
 
 static uint8_t datagram[TFTP_MAX_REQUEST + 1], reply[TFTP_HEADER + TFTP_MAX_BLOCK];
-
-/* The whole file in memory: the calls take each block from where the last one ended. */
-static const uint8_t *map_file(const char *path, size_t *length) {
-    static const uint8_t none[1];
-    struct stat about;
-    int fd = open(path, O_RDONLY);
-    if (fd < 0 || fstat(fd, &about)) {
-        perror(path);
-        exit(2);
-    }
-    *length = (size_t)about.st_size;
-    const void *bytes = *length ? mmap(NULL, *length, PROT_READ, MAP_PRIVATE, fd, 0) : none;
-    close(fd);
-    if (bytes == MAP_FAILED) {
-        perror(path);
-        exit(2);
-    }
-    return bytes;
-}
 
 int main(int argc, char **argv) {
     if (argc < 5) return 2;
     struct tftp_endpoint server = udp_endpoint(argv[1], argv[2]), from;
-    size_t length, taken = 0;
-    const uint8_t *file = map_file(argv[3], &length);
+    size_t length = 0, taken = 0; /* the calls take each block from where the last one ended */
+    uint8_t *file = read_file(argv[3], &length);
     struct tftp_options options = {.retries = 5, .asks_tsize = true};
     if (argc > 5) options.blksize = (uint16_t)atoi(argv[5]);
     struct tftp_end end = {0};
     struct tftp_event event = {0};
-    int fd = udp_socket(0);
+    int fd = udp_socket((struct tftp_endpoint){0});
 
     uint8_t fault = tftp_put(&end, &server, (const uint8_t *)argv[4], strlen(argv[4]), length, &options,
                              reply, sizeof reply, &event);
     if (fault) {
         fprintf(stderr, "the request cannot be sent: fault %d\n", fault);
+        free(file);
         return 2;
     }
     udp_send(fd, &event.to, reply, event.send_len);
@@ -62,6 +41,6 @@ int main(int argc, char **argv) {
     printf("%s %zu\n", event.complete ? "complete" : "failed", taken);
     tftp_close(&end);
     close(fd);
-    if (length) munmap((void *)file, length);
+    free(file);
     return event.complete ? 0 : 1;
 }

@@ -18,10 +18,11 @@ static inline double now(void) {
     return (double)t.tv_sec + (double)t.tv_nsec / 1e9;
 }
 
-/* A socket at this port, or at any for 0. */
-static inline int udp_socket(uint16_t port) {
+/* A socket at this endpoint; zeros are for any address and any port. */
+static inline int udp_socket(struct tftp_endpoint own) {
     int fd = socket(AF_INET, SOCK_DGRAM, 0);
-    struct sockaddr_in at = {.sin_family = AF_INET, .sin_port = htons(port)};
+    struct sockaddr_in at = {.sin_family = AF_INET, .sin_port = htons(own.port)};
+    memcpy(&at.sin_addr, own.ip, 4);
     if (fd < 0 || bind(fd, (struct sockaddr *)&at, sizeof at)) {
         perror("socket");
         exit(2);
@@ -52,6 +53,23 @@ static inline ssize_t udp_receive(int fd, double due, struct tftp_endpoint *from
         from->port = ntohs(source.sin_port);
         return len;
     }
+}
+
+/* A whole file in memory of malloc. */
+static inline uint8_t *read_file(const char *path, size_t *len) {
+    FILE *file = fopen(path, "rb");
+    uint8_t *bytes = NULL;
+    long size = file && !fseek(file, 0, SEEK_END) ? ftell(file) : -1;
+    if (size >= 0 && (bytes = malloc((size_t)size + 1))) {
+        rewind(file);
+        *len = fread(bytes, 1, (size_t)size, file);
+    }
+    if (!bytes || *len != (size_t)size) {
+        perror(path);
+        exit(2);
+    }
+    fclose(file);
+    return bytes;
 }
 
 static inline struct tftp_endpoint udp_endpoint(const char *ip, const char *port) {

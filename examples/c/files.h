@@ -1,0 +1,38 @@
+/* The files of serve.c, in memory. */
+#ifndef FILES_H
+#define FILES_H
+#include <stdbool.h>
+#include <stdint.h>
+#include <stdlib.h>
+#include <string.h>
+
+enum { FILES = 32 };
+
+struct file { char name[128]; uint8_t *bytes; size_t len, room; };
+
+static struct file files[FILES];
+
+static struct file *find(const char *name) {
+    for (int i = 0; i < FILES; i++)
+        if (files[i].bytes && !strcmp(files[i].name, name)) return &files[i];
+    return NULL;
+}
+
+static bool grow(struct file *file, size_t more) {
+    if (file->len + more <= file->room) return true;
+    size_t room = (file->len + more) * 2;
+    uint8_t *bytes = realloc(file->bytes, room);
+    if (bytes) file->bytes = bytes, file->room = room;
+    return bytes != NULL;
+}
+
+/* A file that is complete gets its name, unless another has it or there are too many. */
+static bool publish(const struct file *it) {
+    for (int i = 0; i < FILES; i++)
+        if (!files[i].bytes && !find(it->name)) {
+            files[i] = *it;
+            return true;
+        }
+    return false;
+}
+#endif

@@ -1,0 +1,144 @@
+/* Serves files in memory by TFTP: serve ADDR PORT NAME=PATH..
+ *
+ * A read gets one of the files, and a write makes a new one, which is read under its name once it is
+ * complete. It ends by SIGTERM. */
+#include "udp.h"
+#include "files.h"
+#include <signal.h>
+
+enum { AT_ONCE = 16 };
+
+struct transfer {
+    struct tftp_end end;
+    int fd;                     /* a port of its own: the transfer identifier (RFC 1350, section 4) */
+    struct tftp_endpoint client;
+    struct file file;           /* of a read the served one, of a write the one that grows */
+    size_t at;
+    bool writes, published;
+    double due;
+};
+
+static struct transfer transfers[AT_ONCE];
+static uint8_t datagram[TFTP_HEADER + TFTP_MAX_BLOCK + 1], reply[TFTP_HEADER + TFTP_MAX_BLOCK];
+static struct tftp_endpoint own; /* a port of 0 for the transfers */
+static int requests;
+static volatile sig_atomic_t ended;
+
+static void shut(struct transfer *it) {
+    tftp_close(&it->end);
+    close(it->fd);
+    if (it->writes && !it->published) free(it->file.bytes);
+}
+
+static void answer(struct transfer *it, const struct tftp_event *event, bool timed_out) {
+    /* before the last ACK, which says that the file is stored */
+    if (it->writes && event->complete && !it->published && !(it->published = publish(&it->file))) event = NULL;
+    if (event) udp_send(it->fd, &event->to, reply, event->send_len);
+    if (event && (timed_out || event->progress)) it->due = now() + event->interval;
+    if (event && !event->outcome) return;
+    const char *what = it->writes ? "write" : "read";
+    printf("%s %s: %zu bytes, outcome %d\n", what, it->file.name, it->at, event ? event->outcome : -1);
+    fflush(stdout);
+    shut(it);
+}
+
+/* Opens the transfer of a request, or says why not: with the code of an ERROR and its text. */
+static const char *open_for(struct transfer *it, const struct tftp_packet *asked, size_t len, struct tftp_event *event,
+                            uint16_t *code) {
+    struct tftp_options options = {.max_file = 1 << 30, .retries = 5};
+    *code = 0;
+    if (asked->name_len >= sizeof it->file.name) return "name too long";
+    memcpy(it->file.name, datagram + 2, asked->name_len); /* the rest is zeros */
+    struct file *file = find(it->file.name);
+    *code = it->writes ? 6 : 1;
+    if (it->writes == (file != NULL)) return it->writes ? "file exists" : "file not found";
+    if (file) it->file = *file;
+    uint8_t fault = it->writes
+        ? tftp_serve_put(&it->end, &it->client, datagram, len, &options, reply, sizeof reply, event)
+        : tftp_serve_get(&it->end, &it->client, datagram, len, file->len, file->bytes, file->len, &options, reply,
+                         sizeof reply, event);
+    *code = fault == TFTP_REFUSED_OPTIONS ? 8 : 0;
+    return fault == 0 ? NULL : *code ? "options refused" : "cannot be served";
+}
+
+/* A datagram at the request port: the library reads it, this table finds the file. */
+static void request(size_t len, const struct tftp_endpoint *from) {
+    struct tftp_packet packet = {0};
+    struct tftp_event event = {0};
+    struct transfer *it = NULL;
+    uint16_t code = 0;
+    if (tftp_decode(datagram, len, &packet) || packet.opcode > 2) return;
+    for (int i = 0; i < AT_ONCE; i++) {
+        if (!transfers[i].end.is_open) it = &transfers[i];
+        else if (!memcmp(&transfers[i].client, from, sizeof *from)) return; /* a request that comes again */
+    }
+    if (it) *it = (struct transfer){.client = *from, .writes = packet.opcode == 2};
+    const char *why = it ? open_for(it, &packet, len, &event, &code) : "too many transfers";
+    if (why) {
+        udp_send(requests, from, reply, tftp_error(code, (const uint8_t *)why, strlen(why), reply, sizeof reply));
+        return;
+    }
+    it->fd = udp_socket(own);
+    it->at = event.file_len;
+    answer(it, &event, true);
+}
+
+static void step(struct transfer *it, ssize_t len, const struct tftp_endpoint *from) {
+    struct tftp_event event = {0};
+    uint8_t fault;
+    if (len < 0)
+        fault = tftp_timeout(&it->end, reply, sizeof reply, &event);
+    else if (it->writes)
+        fault = !grow(&it->file, TFTP_MAX_BLOCK) ? TFTP_MEMORY : tftp_receive(&it->end, from, datagram, (size_t)len,
+            it->file.bytes + it->at, it->file.room - it->at, reply, sizeof reply, &event);
+    else
+        fault = tftp_send(&it->end, from, datagram, (size_t)len, it->file.bytes + it->at, it->file.len - it->at, reply,
+                          sizeof reply, &event);
+    if (fault) return; /* nothing has changed: the client sends again */
+    it->at += event.file_len;
+    if (it->writes) it->file.len = it->at;
+    answer(it, &event, len < 0);
+}
+
+static void end(int signal) {
+    (void)signal;
+    ended = 1;
+}
+
+int main(int argc, char **argv) {
+    if (argc < 3) return 2;
+    signal(SIGTERM, end);
+    own = udp_endpoint(argv[1], argv[2]);
+    requests = udp_socket(own);
+    own.port = 0;
+    for (int i = 3; i < argc && i - 3 < FILES; i++) {
+        char *path = strchr(argv[i], '=');
+        struct file *file = &files[i - 3];
+        if (!path || path - argv[i] >= (long)sizeof file->name) return 2;
+        memcpy(file->name, argv[i], (size_t)(path - argv[i]));
+        file->bytes = read_file(path + 1, &file->len);
+    }
+    puts("serving");
+    fflush(stdout);
+    while (!ended) {
+        struct pollfd ready[AT_ONCE + 1] = {{.fd = requests, .events = POLLIN}};
+        for (int i = 0; i < AT_ONCE; i++)
+            ready[i + 1] = (struct pollfd){.fd = transfers[i].end.is_open ? transfers[i].fd : -1, .events = POLLIN};
+        poll(ready, AT_ONCE + 1, 50);
+        struct tftp_endpoint from = {0};
+        ssize_t len = ready[0].revents ? udp_receive(requests, 0, &from, datagram, sizeof datagram) : -1;
+        if (len >= 0) request((size_t)len, &from);
+        for (int i = 0; i < AT_ONCE; i++) {
+            struct transfer *it = &transfers[i];
+            if (!it->end.is_open || ready[i + 1].fd < 0) continue;
+            len = ready[i + 1].revents ? udp_receive(it->fd, 0, &from, datagram, sizeof datagram) : -1;
+            if (len >= 0) step(it, len, &from);
+            else if (now() >= it->due) step(it, -1, &from);
+        }
+    }
+    for (int i = 0; i < AT_ONCE; i++)
+        if (transfers[i].end.is_open) shut(&transfers[i]);
+    for (int i = 0; i < FILES; i++) free(files[i].bytes);
+    close(requests);
+    return 0;
+}

@@ -1,0 +1,236 @@
+#!/usr/bin/env python3
+"""Tries the library for C by its examples: c_library.py [TFTP TFTPD]
+
+Takes the programs of bin/, or else those that `rt ci` built, and compiles examples/ by each C compiler that is
+installed, with AddressSanitizer and UndefinedBehaviorSanitizer, and once without for valgrind. The examples get from
+tftpd and put to it, serve tftp, and do so through a network that loses, duplicates and reorders datagrams; each file
+is compared byte for byte. The crate in Rust is built and its doc tests run where cargo is. The last line is a count,
+and says what was skipped.
+"""
+import os
+import random
+import shutil
+import subprocess
+import sys
+import tempfile
+from functools import partial
+from pathlib import Path
+
+from lib.addresses import own_network
+from lib.programs import TOP, programs
+
+sys.path.append(str(TOP / "tools" / "loopback"))
+from datagrams import expect  # noqa: E402
+from scene import Scene, next_line  # noqa: E402
+
+PATIENCE = 120
+WARNINGS = ["-std=c11", "-Wall", "-Wextra", "-Wpedantic", "-Werror"]
+SANITIZED = ["-g", "-O1", "-fsanitize=address,undefined", "-fno-sanitize-recover=all"]
+PLAIN = ["-g", "-O2"]
+VALGRIND = ["valgrind", "-q", "--error-exitcode=99", "--leak-check=full", "--errors-for-leak-kinds=all"]
+COMPILERS = ["gcc", "clang"]
+# Lengths of files: none, and around blocks of 512 and of 1428 bytes
+LENGTHS = [0, 1, 511, 512, 513, 1428, 20_000]
+
+
+def run(*words, status=0, **how):
+    """Runs a command to its end, and returns what it printed."""
+    words = [str(word) for word in words]
+    done = subprocess.run(words, stdin=subprocess.DEVNULL, capture_output=True, text=True, timeout=PATIENCE * 5, **how)
+    if done.returncode != status:
+        raise AssertionError(f"{' '.join(words)}: status {done.returncode}: {done.stdout[-2000:]}{done.stderr[-2000:]}")
+    return done.stdout
+
+
+class Built:
+    """The examples as one compiler makes them, and the words before a command that runs one."""
+
+    def __init__(self, name, folder, compiler, flags, before=()):
+        self.name, self.folder, self.before = name, folder, list(before)
+        folder.mkdir()
+        words = [compiler, *WARNINGS, *flags, "-I", TOP / "include"]
+        for source in ["get", "put", "serve"]:
+            run(*words, TOP / "examples" / "c" / f"{source}.c", folder.parent / "libtftp.a", "-o", folder / source)
+        # it has an allocator of its own, which AddressSanitizer would take the place of
+        bare = [*words[:1], *WARNINGS, "-O2", "-g", "-fno-builtin-malloc", "-I", TOP / "include"]
+        run(*bare, "-ffreestanding", "-c", TOP / "examples/c/bare.c", "-o", folder / "bare.o")
+        library = folder.parent / "libtftp.a"
+        run(*bare, TOP / "examples/c/host_machine.c", folder / "bare.o", library, "-o", folder / "bare")
+        run(*words, TOP / "tools/c_library.c", library, "-o", folder / "layout")
+
+    def words(self, name, *words):
+        return [*map(str, self.before), str(self.folder / name), *map(str, words)]
+
+
+def content(length):
+    return random.Random(length).randbytes(length)
+
+
+def ways(scene, server, count, lossy):
+    """Where so many clients of a server send, as two words: to itself, or each to a bad network of its own."""
+    return [scene.proxy(server, seed).word.split(":") if lossy else server.word.split(":") for seed in range(count)]
+
+
+def gets(built, scene, way, name, blksize, expected):
+    run(*built.words("get", *way, name, "got", blksize), cwd=scene.folder)
+    expect((scene.folder / "got").read_bytes(), expected, f"what get stored of {name}")
+
+
+def puts(built, scene, way, local, name, blksize):
+    run(*built.words("put", *way, local, name, blksize), cwd=scene.folder)
+
+
+def boots(built, scene, way, name, expected):
+    env = {**os.environ, "SERVER": way[0], "PORT": way[1], "NAME": name, "LOCAL": "image"}
+    run(built.folder / "bare", cwd=scene.folder, env=env)
+    expect((scene.folder / "image").read_bytes(), expected, f"the image of {name}")
+
+
+def by_tftpd(scene, built, lossy):
+    """get, put and the client without an operating system against tftpd."""
+    lengths = [513, 6_000] if lossy or built.before else LENGTHS
+    for length in lengths:
+        scene.make(f"f{length}", content(length))
+    server = scene.serve("--transfers", str(3 * len(lengths)))
+    for number, length in enumerate(lengths):
+        blksize = [0, 1428][number % 2]
+        get, put, boot = ways(scene, server, 3, lossy)
+        gets(built, scene, get, f"f{length}", blksize, content(length))
+        puts(built, scene, put, f"f{length}", f"p{length}", blksize)
+        expect((scene.folder / f"p{length}").read_bytes(), content(length), f"what put sent of {length} bytes")
+        boots(built, scene, boot, f"f{length}", content(length))
+    expect(server.process.wait(PATIENCE), 0, "the status of tftpd")
+
+
+def serves(scene, built):
+    """Starts the server of files in memory, and returns where it is, and the process."""
+    scene.make("disk", content(3_000))
+    port = scene.port()
+    number = port.address[1]
+    port.close()
+    words = built.words("serve", scene.address, number, "memory=disk")
+    process = scene.start(words[0], words[1:])
+    expect(next_line(process.stdout), "serving\n", "the first line of serve")
+    return At(scene.address, number), process
+
+
+def ended(process):
+    """It frees all that it has when it ends, with whatever transfers are open."""
+    process.terminate()
+    expect(process.wait(PATIENCE), 0, "the status of serve")
+
+
+def by_library(scene, built, lossy):
+    """The server of files in memory against get, put and tftp."""
+    server, process = serves(scene, built)
+    one, two, three, four = ways(scene, server, 4, lossy)
+    gets(built, scene, one, "memory", 1428, content(3_000))
+    puts(built, scene, two, "disk", "new", 0)
+    gets(built, scene, three, "new", 0, content(3_000))
+    scene.tftp("get", ":".join(four), "memory", "disk2", "--blksize", "512").completes(3_000)
+    run(*built.words("get", *server.word.split(":"), "none", "got"), cwd=scene.folder, status=1)
+    scene.tftp("get", server.word, "new", "disk3", "--timeout", "1", "--blksize", "1000").completes(3_000)
+    expect((scene.folder / "disk3").read_bytes(), content(3_000), "what tftp stored")
+    ended(process)
+
+
+class At:
+    """A server at this address."""
+
+    def __init__(self, host, number):
+        self.word, self.address = f"{host}:{number}", (host, number)
+
+
+def by_python(scene, library):
+    scene.make("f", content(2_000))
+    server = scene.serve("--transfers", "1")
+    run(sys.executable, TOP / "examples/python/get.py", library, *server.word.split(":"), "f", "got", 512,
+        cwd=scene.folder)
+    expect((scene.folder / "got").read_bytes(), content(2_000), "what get.py stored")
+
+
+def by_rust(scene, room):
+    """The crate's doc tests, and its example through a bad network."""
+    crate = room / "rust"
+    shutil.copytree(TOP / "examples" / "rust", crate, ignore=shutil.ignore_patterns("target", "Cargo.lock"))
+    env = {**os.environ, "TFTP_LIB": str(room)}
+    cargo = ["cargo", "--offline", "--quiet"]
+    run(*cargo, "test", cwd=crate, env=env)
+    run(*cargo, "build", "--examples", cwd=crate, env=env)
+    scene.make("f", content(4_000))
+    proxy = scene.proxy(scene.serve("--transfers", "1"), 7)
+    run(crate / "target/debug/examples/get", proxy.word, "f", "got", cwd=scene.folder)
+    expect((scene.folder / "got").read_bytes(), content(4_000), "what the example in Rust stored")
+
+
+def by_curl(scene, built):
+    """Another client gets from the server of files in memory."""
+    server, process = serves(scene, built)
+    run("curl", "-s", "-o", "got", f"tftp://{server.word}/memory", cwd=scene.folder)
+    expect((scene.folder / "got").read_bytes(), content(3_000), "what curl stored")
+    ended(process)
+
+
+def archive(room):
+    """libtftp.a and libtftp.so.0 in the folder, of what `rt lib` built."""
+    if not (TOP / "crates/tftp_c/out/libtftp_c.a").is_file():
+        run("rt", "lib", cwd=TOP / "crates/tftp_c")
+    run(TOP / "tools/library.sh", room)
+
+
+def builds(room, skipped):
+    """The examples by each compiler that is here."""
+    found = []
+    for compiler in COMPILERS:
+        if not shutil.which(compiler):
+            skipped.append(compiler)
+            continue
+        found.append(Built(f"{compiler}, sanitized", room / compiler, compiler, SANITIZED))
+        if shutil.which("valgrind") and len(found) == 1:
+            found.append(Built(f"{compiler}, valgrind", room / "valgrind", compiler, PLAIN, VALGRIND))
+    if not shutil.which("valgrind"):
+        skipped.append("valgrind")
+    return found
+
+
+def tests(room, skipped):
+    """Each trial by its name."""
+    found = builds(room, skipped)
+    for built in found:
+        yield f"header, {built.name}", lambda scene, built=built: run(*built.words("layout"))
+        for lossy, network in [(False, "a good network"), (True, "a bad network")]:
+            for server, test in [("tftpd", by_tftpd), ("serve", by_library)]:
+                yield f"{server}, {network}, {built.name}", partial(test, built=built, lossy=lossy)
+    if found and shutil.which("curl"):
+        yield "serve, curl", partial(by_curl, built=found[0])
+    else:
+        skipped.append("curl")
+    if (room / "libtftp.so.0").is_file():
+        yield "Python", partial(by_python, library=room / "libtftp.so.0")
+    else:
+        skipped.append("Python (no shared library)")
+    if shutil.which("cargo"):
+        yield "Rust", partial(by_rust, room=room)
+    else:
+        skipped.append("Rust (no cargo)")
+
+
+def main():
+    found, skipped, faults, count = programs(["tftp", "tftpd"], sys.argv[1:]), [], [], 0
+    with tempfile.TemporaryDirectory(prefix="tftp-library-") as name:
+        room, network = Path(name), own_network()
+        archive(room)
+        for count, (what, test) in enumerate(tests(room, skipped), 1):
+            try:
+                with Scene(found, room / f"scene{count}", f"{network}.{count}") as scene:
+                    test(scene)
+            except Exception as fault:  # whatever happened, the others are tried
+                faults.append(f"{what}: {type(fault).__name__}: {fault}")
+    print(*faults, sep="\n", end="\n" if faults else "")
+    told = f"; skipped: {', '.join(skipped)}" if skipped else ""
+    print(f"library for C: {count - len(faults)} of {count} passed{told}")
+    sys.exit(1 if faults else 0)
+
+
+if __name__ == "__main__":
+    main()
