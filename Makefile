@@ -1,12 +1,13 @@
-# make, make build: proves the four programs and builds them into bin/
+# make, make build: proves the four programs and the library for C, and builds them into bin/
 # make run: the four programs on a small sample, out of bin/, or from source by `rt try` where bin/ is not up to date
 # make tftp-show, tftp-play, tftp or tftpd: proves and builds that program alone, which takes less than all four
+# make libtftp: proves and builds the library for C alone: bin/libtftp.a, and with a C compiler bin/libtftp.so.0
 # make test: the gate, every proof from nothing, and then what is tried of the programs that it built; with REQUIRE_ALL=1
 #   nothing may be skipped. The last line is `N passed, N failed`
 # make quick CRATE=NAME: what a change of one crate is tried by in minutes
 # make slips CRATES="NAME ..": tries the wrong bodies in crates/NAME/slips/, of all crates without words
-# make install, make uninstall: programs, manuals, completions, units and documents at DESTDIR and PREFIX; they copy what
-#   is in bin/, and build nothing. PROGRAM_PREFIX= is put before the names of the programs and their manuals
+# make install, make uninstall: programs, library, manuals, completions, units and documents at DESTDIR and PREFIX; they
+#   copy what is in bin/, and build nothing. PROGRAM_PREFIX= is put before the names of the programs and their manuals
 # make dist: an archive of what is installed, with a script that installs it on hosts without the kit
 # make deb: a package for Debian
 # make soak SECONDS=3600 SEED=2: trials of bin/tftp and bin/tftpd against a model, a bad network and a bad host
@@ -21,8 +22,10 @@ DESTDIR :=
 PROGRAM_PREFIX :=
 MANDIR := $(PREFIX)/share/man
 UNITDIR := $(PREFIX)/lib/systemd/system
+LIBDIR := $(PREFIX)/lib
 
 PROGRAMS := bin/tftp-show bin/tftp-play bin/tftp bin/tftpd
+LIBRARY := bin/libtftp.a
 SOURCES := $(shell find crates -path '*/out' -prune -o \( -name '*.rt' -o -name '*.antt' \) -print) crates.txt
 
 # the tests of the tools; `python3 -m unittest` runs the checks, too
@@ -32,14 +35,16 @@ TESTS := tools.tests.test_gate tools.tests.test_stand_ins tools.tests.test_progr
 CHECKS := tools/same_options.py tools/check_install.py tools/check_documents.py tools/statement.py tools/definitions.py \
 	tools/one_journal.py tools/same_pictures.sh tools/lint.py tools/processors.py '$(MAKE) --no-print-directory run' \
 	tools/statuses.py tools/memory_in_turn.py tools/lost_requests.py tools/out_of_memory.py 'python3 -m unittest $(TESTS)' \
-	tools/mutants.py tools/loopback/run.py 'tools/network.py bin/tftp bin/tftpd' tools/soak/run.py
+	tools/mutants.py tools/c_library.py tools/loopback/run.py 'tools/network.py bin/tftp bin/tftpd' tools/soak/run.py
 
-.PHONY: build run sample tftp-show tftp-play tftp tftpd test quick slips install uninstall dist deb soak mutants bench \
-	bench-udp clean
+.PHONY: build programs libtftp run sample tftp-show tftp-play tftp tftpd test quick slips install uninstall dist deb soak \
+	mutants bench bench-udp clean
 # one after another: each crate is proved by as many processors as there are
 .NOTPARALLEL:
 
-build: $(PROGRAMS)
+build: $(PROGRAMS) $(LIBRARY)
+programs: $(PROGRAMS)
+libtftp: $(LIBRARY)
 
 # one run builds all four
 $(PROGRAMS) &: $(SOURCES) tools/build.sh
@@ -50,13 +55,17 @@ $(PROGRAMS) &: $(SOURCES) tools/build.sh
 	@cp crates/tftp_main/out/tftp_main bin/tftp
 	@cp crates/tftpd_main/out/tftpd_main bin/tftpd
 
+$(LIBRARY): $(SOURCES) tools/build.sh tools/library.sh
+	@tools/build.sh tftp_c
+	@tools/library.sh bin
+
 tftp-show tftp-play tftp tftpd:
 	@tools/build.sh $(subst -,_,$@)_main
 	@mkdir -p bin
 	@cp crates/$(subst -,_,$@)_main/out/$(subst -,_,$@)_main bin/$@
 
 run:
-	@if $(MAKE) -q --no-print-directory build; then exec $(MAKE) --no-print-directory sample; else exec tools/try.sh; fi
+	@if $(MAKE) -q --no-print-directory programs; then exec $(MAKE) --no-print-directory sample; else exec tools/try.sh; fi
 
 sample:
 	bin/tftp-show < examples/packets.hex; test $$? -le 1 # 1: some lines of the sample are faults
@@ -77,12 +86,12 @@ slips:
 
 install uninstall:
 	@tools/install.sh $@ 'DESTDIR=$(DESTDIR)' 'PREFIX=$(PREFIX)' 'PROGRAM_PREFIX=$(PROGRAM_PREFIX)' \
-		'MANDIR=$(MANDIR)' 'UNITDIR=$(UNITDIR)'
+		'MANDIR=$(MANDIR)' 'UNITDIR=$(UNITDIR)' 'LIBDIR=$(LIBDIR)'
 
-dist: $(PROGRAMS)
+dist: $(PROGRAMS) $(LIBRARY)
 	@tools/install.sh dist '$(VERSION)'
 
-deb: $(PROGRAMS)
+deb: $(PROGRAMS) $(LIBRARY)
 	@debian/pack.sh '$(VERSION)'
 
 SECONDS := 60

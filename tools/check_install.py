@@ -3,7 +3,8 @@
 
 Takes the programs that `rt ci` built, or else those of bin/, and works on a copy of the files that are installed, in a
 temporary folder. The last line says what was skipped: the kit hidden, where this user may not mount; the package, where
-dpkg-deb is not installed; the completions of a shell that is not installed.
+dpkg-deb is not installed; the completions of a shell that is not installed; the library for C, where it is not built or
+there is no compiler.
 """
 import filecmp
 import os
@@ -17,7 +18,9 @@ from pathlib import Path
 TOP = Path(__file__).resolve().parent.parent
 PROGRAMS = ["tftp", "tftpd", "tftp-show", "tftp-play"]
 COPIED = ["Makefile", "LICENSE", "SECURITY.md", "crates.txt", "completions", "debian", "docs/OPERATING.md", "examples",
-          "man", "packaging", "tools"]
+          "include", "man", "packaging", "tools"]
+LIBRARY = ["include/tftp.h", "lib/libtftp.a", "lib/libtftp.so", "lib/libtftp.so.0", "lib/pkgconfig/tftp.pc",
+           "man/man3/tftp.3"]
 WORDS = ["PREFIX=/usr", "PROGRAM_PREFIX=x-", "MANDIR=/usr/man", "UNITDIR=/usr/units"]
 SHELLS = {"bash": ["bash", "-n"], "zsh": ["zsh", "-f", "-n"], "fish": ["fish", "--no-execute"]}
 PATIENCE = 600
@@ -27,9 +30,9 @@ MANUALS = ["man1/x-tftp.1", "man1/x-tftp-play.1", "man1/x-tftp-show.1", "man5/x-
 UNITS = ["x-tftpd.service", "x-tftpd@.service"]
 
 
-def wanted():
+def wanted(library):
     """The paths of the files that are installed with these words."""
-    found = {f"usr/share/doc/fanjuvery/{name}" for name in DOCUMENTS}
+    found = {f"usr/share/doc/fanjuvery/{name}" for name in DOCUMENTS} | {f"usr/{name}" for name in library}
     found |= {f"usr/man/{name}" for name in MANUALS} | {f"usr/units/{name}" for name in UNITS}
     for name in PROGRAMS:
         found |= {
@@ -64,10 +67,20 @@ class Trial:
             if not place:
                 sys.exit(f"install: there is no {name}: run `rt ci` or `make` first")
             shutil.copy(place, self.top / "bin" / name)
+        self.library = self.copy_library()
         # a kit that says that it was called
         (room / "path").mkdir()
         (room / "path" / "rt").write_text(f"#!/bin/sh\ntouch '{room}/built'\nexit 1\n")
         (room / "path" / "rt").chmod(0o755)
+
+    def copy_library(self):
+        """Makes the library for C of the archive that was built. Returns which files of it are installed."""
+        built = TOP / "crates/tftp_c/out/libtftp_c.a"
+        if not built.is_file() or not shutil.which("cc"):
+            self.skipped.append("the library for C")
+            return []
+        subprocess.run([TOP / "tools/library.sh", self.top / "bin"], check=True)
+        return LIBRARY
 
     def run(self, *words, folder=None, status=0):
         """Runs a command, and says so if it ends otherwise. Returns what it prints."""
@@ -89,7 +102,8 @@ class Trial:
         root = self.room / "root"
         words = [f"DESTDIR={root}", *WORDS]
         self.run("make", "install", *words)
-        self.expect(sorted(files_below(root) ^ wanted()), [], "the files that are installed or wanted alone")
+        found = sorted(files_below(root) ^ wanted(self.library))
+        self.expect(found, [], "the files that are installed or wanted alone")
         if self.wrong:
             return
         for name in PROGRAMS:
@@ -137,7 +151,8 @@ class Trial:
         unpacked = next(self.room.glob("fanjuvery-9-*"))
         root = self.room / "unpacked"
         self.run("./install.sh", "install", f"DESTDIR={root}", *WORDS, folder=unpacked)
-        self.expect(sorted(files_below(root) ^ wanted()), [], "the files that the archive installs, or wanted alone")
+        found = sorted(files_below(root) ^ wanted(self.library))
+        self.expect(found, [], "the files that the archive installs, or wanted alone")
         check, kit = ["./install.sh", "check"], shutil.which("rt")
         if kit:
             kit = Path(kit).resolve().parent.parent
@@ -184,6 +199,22 @@ class Trial:
         left = [name for name in files_below(root) if "tftp" in name or "fanjuvery" in name]
         self.expect(left, [], "what a purge leaves")
 
+    def check_library(self):
+        """With the package for development and a compiler an example is built as any program is, and runs."""
+        if not self.library or not shutil.which("dpkg-deb") or not shutil.which("pkg-config"):
+            self.skipped.append("a program over the library")
+            return
+        root, example = self.room / "dev", self.room / "example"
+        self.run("dpkg-deb", "-x", next((self.top / "out").glob("libfanjuvery-dev_9_*.deb")), root)
+        found = next(root.rglob("tftp.pc"), None)
+        self.expect(bool(found), True, "whether the package for development has tftp.pc")
+        if not found:
+            return
+        config = ["env", f"PKG_CONFIG_PATH={found.parent}", f"PKG_CONFIG_SYSROOT_DIR={root}", "pkg-config"]
+        flags = self.run(*config, "--cflags", "--libs", "tftp").split()
+        self.run("cc", "examples/c/get.c", "-o", example, *flags, f"-Wl,-rpath,{found.parent.parent}")
+        self.run(example, status=2)
+
     def check_completions(self):
         """Each shell that is there reads its completions."""
         for shell, words in SHELLS.items():
@@ -198,7 +229,7 @@ def main():
     with tempfile.TemporaryDirectory(prefix="tftp-install-") as room:
         trial = Trial(Path(room))
         for check in [trial.check_install, trial.check_no_build, trial.check_archive, trial.check_package,
-                      trial.check_completions]:
+                      trial.check_library, trial.check_completions]:
             check()
     for line in trial.wrong:
         print(line)

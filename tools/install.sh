@@ -1,10 +1,10 @@
 #!/bin/sh
-# Installs the programs of bin/ with their manuals, completions, units and documents, or removes them; packs all that
-# into an archive; or checks that the programs run on this host. It builds nothing.
+# Installs the programs and the library of bin/ with their manuals, completions, units and documents, or removes them;
+# packs all that into an archive; or checks that the programs run on this host. It builds nothing.
 # Usage: install.sh install|uninstall [NAME=VALUE..], install.sh dist VERSION, or install.sh check
-# NAME is DESTDIR, PREFIX (/usr/local), PROGRAM_PREFIX (put before each program's name), MANDIR (PREFIX/share/man) or
-# UNITDIR (PREFIX/lib/systemd/system). Nothing is written or removed but the files below; one that is the same already
-# stays as it is.
+# NAME is DESTDIR, PREFIX (/usr/local), PROGRAM_PREFIX (put before each program's name), MANDIR (PREFIX/share/man),
+# UNITDIR (PREFIX/lib/systemd/system) or LIBDIR (PREFIX/lib). Without bin/libtftp.a no library is installed. Nothing is
+# written or removed but the files below; one that is the same already stays as it is.
 set -eu
 umask 022
 cd "$(dirname "$0")"
@@ -19,7 +19,7 @@ test $# -gt 0 || fail "$usage"
 verb=$1
 shift
 
-DESTDIR='' PREFIX=/usr/local PROGRAM_PREFIX='' MANDIR='' UNITDIR='' VERSION=''
+DESTDIR='' PREFIX=/usr/local PROGRAM_PREFIX='' MANDIR='' UNITDIR='' LIBDIR='' VERSION=''
 case $verb in
 install | uninstall)
     for word; do
@@ -29,6 +29,7 @@ install | uninstall)
         PROGRAM_PREFIX=*) PROGRAM_PREFIX=${word#*=} ;;
         MANDIR=*) MANDIR=${word#*=} ;;
         UNITDIR=*) UNITDIR=${word#*=} ;;
+        LIBDIR=*) LIBDIR=${word#*=} ;;
         *) fail "$usage" ;;
         esac
     done
@@ -42,8 +43,9 @@ check) test $# = 0 || fail "$usage" ;;
 esac
 MANDIR=${MANDIR:-$PREFIX/share/man}
 UNITDIR=${UNITDIR:-$PREFIX/lib/systemd/system}
+LIBDIR=${LIBDIR:-$PREFIX/lib}
 DOCDIR=$PREFIX/share/doc/fanjuvery
-for path in "$PREFIX" "$MANDIR" "$UNITDIR"; do
+for path in "$PREFIX" "$MANDIR" "$UNITDIR" "$LIBDIR"; do
     case $path in
     /*) ;;
     *) fail "no absolute path: $path" ;;
@@ -78,6 +80,21 @@ named() {
     echo "$room/${1##*/}"
 }
 
+# the library, a file a line, if it is built: the linker finds libtftp.so.0 by libtftp.so
+library() {
+    test -e bin/libtftp.a -o "$verb" = uninstall || return 0
+    echo "644 $LIBDIR/libtftp.a bin/libtftp.a"
+    if test -e bin/libtftp.so.0 -o "$verb" = uninstall; then
+        echo 'INPUT(-l:libtftp.so.0)' > "$room/libtftp.so"
+        echo "755 $LIBDIR/libtftp.so.0 bin/libtftp.so.0"
+        echo "644 $LIBDIR/libtftp.so $room/libtftp.so"
+    fi
+    echo "644 $PREFIX/include/tftp.h include/tftp.h"
+    sed "s|^prefix=.*|prefix=$PREFIX|; s|^libdir=.*|libdir=$LIBDIR|" packaging/tftp.pc > "$room/tftp.pc"
+    echo "644 $LIBDIR/pkgconfig/tftp.pc $room/tftp.pc"
+    echo "644 $MANDIR/man3/tftp.3 man/tftp.3"
+}
+
 # what is installed, a file a line: its mode, its place and where it is taken from
 files() {
     # users start tftpd, too, and have no sbin/ on their PATH: it needs no root
@@ -88,7 +105,7 @@ files() {
         echo "644 $PREFIX/share/zsh/site-functions/_$name $(named "completions/$program.zsh")"
         echo "644 $PREFIX/share/fish/vendor_completions.d/$name.fish $(named "completions/$program.fish")"
     done
-    for manual in man/*.[1-8]; do
+    for manual in man/*.[124-8]; do
         echo "644 $MANDIR/man${manual##*.}/$PROGRAM_PREFIX${manual#man/} $manual"
     done
     for unit in tftpd.service tftpd@.service; do
@@ -98,12 +115,14 @@ files() {
     for document in LICENSE SECURITY.md docs/OPERATING.md "$(named packaging/README.md)"; do
         echo "644 $DOCDIR/${document##*/} $document"
     done
+    library
 }
 
 # what is in the archive: what is installed, and what `check` needs
 packed() {
     for program in $programs; do echo "bin/$program"; done
-    ls -d completions/* man/*.[1-8] packaging/*
+    for file in bin/libtftp.a bin/libtftp.so.0; do test ! -e "$file" || echo "$file"; done
+    ls -d completions/* man/*.[1-8] packaging/* include/* examples/c/*
     echo LICENSE SECURITY.md docs/OPERATING.md examples/loopback.sh examples/packets.hex | tr ' ' '\n'
 }
 

@@ -73,6 +73,10 @@ def main():
             (folder / f"{name}.new").replace(folder / name)
             (folder / name).touch()
             print(f"{name}: {how}", flush=True)
+    # `rt ci` proves the library for C, and leaves no archive of it
+    subprocess.run(["rt", "lib"], cwd=TOP / "crates/tftp_c", stdin=subprocess.DEVNULL, stdout=subprocess.DEVNULL, check=True)
+    subprocess.run([TOP / "tools/library.sh", folder], check=True)
+    print("libtftp: by rt lib and tools/library.sh", flush=True)
 
 
 if __name__ == "__main__":
