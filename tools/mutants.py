@@ -30,17 +30,17 @@ from lib.seeds import commit_seed
 HOST = own_address()
 # Of a run: the kilobytes of address space, the blocks of a file, and the seconds
 MEMORY, FILE, SECONDS = 400_000, 20_000, 20
-# What a program may write to standard error, with the status
+# What a program may write to standard error in its first line; a second has the cause
 REFUSALS = {
-    "tftp-show": r"tftp-show: (out of memory|input unreadable|no such transfer|svg unwritable)\n",
-    "tftp-play": r"(line \d+: fault|script: unreadable|svg: unwritable|(tftp-play: )?out of memory)\n",
-    "tftp": r"tftp: [A-Z]\w+(\(\w+\))?\n|tftp: (file|socket) fault\n|(tftp|error): out of memory\n",
-    "tftpd": r"tftpd: (file|socket) fault\n|(tftpd|error): out of memory\n",
+    "tftp-show": r"tftp-show: (out of memory|input unreadable|no such transfer|svg unwritable)",
+    "tftp-play": r"line \d+: fault|script: unreadable|svg: unwritable|(tftp-play: )?out of memory",
+    "tftp": r"tftp: ([A-Z]\w+(\(\w+\))?|(file|socket) fault|out of memory)",
+    "tftpd": r"tftpd: ((file|socket) fault|out of memory)",
 }
 USAGE = r"error: [^\0]*"
 WORDS = {
     "tftp-show": ["--flow", "--svg", "picture", "--transfer", "1", "2", "--help", "-V", "--"],
-    "tftp-play": ["read.script", "--svg", "picture", "--help", "-", "--"],
+    "tftp-play": ["read.script", "--svg", "picture", "--events", "--help", "-", "--"],
     "tftp": ["get", "put", "a", "local", "--blksize", "8", "65464", "--tsize", "--netascii", "--replace", "--no-dally",
              "--verbose", "-v", "-b", "--progress", "--fallback", "--help", "--", ""],
     "tftpd": ["served", "--max-block", "8", "--max-file", "0", "--cap", "64", "--transfers", "1", "--read-only", "--log",
@@ -109,7 +109,7 @@ class Mutants:
         done = self.ran(name, words, given)
         errors = done.stderr.decode("latin-1")
         is_said = not errors if done.returncode == 0 else \
-            re.fullmatch(rf"({REFUSALS[name]}|{USAGE})?", errors) if done.returncode in (1, 2) else False
+            re.fullmatch(rf"(({REFUSALS[name]})\n({name}: [^\n]+\n)?|{USAGE})?", errors)
         # (these write their log, or a line more, to standard error)
         is_free = {"--log", "--verbose", "-v", "--progress"} & {*words} or any(word[:2] == "-v" for word in words)
         if done.returncode not in (0, 1, 2) or not (is_said or is_free):

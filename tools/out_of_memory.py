@@ -28,7 +28,7 @@ FLOW = b"0\t192.0.2.2\t1024\t192.0.2.1\t69\t000161006f6374657400\n" \
     b"1\t192.0.2.1\t1025\t192.0.2.2\t1024\t00030001414243\n2\t192.0.2.2\t1024\t192.0.2.1\t1025\t00040001\n"
 SCRIPT = b"file a 414243\nget a octet\nput n netascii 0D0A blksize=8\nsettle 0\n"
 CONTENT = b"fortytwo"
-SAID = r"(tftp-show: |tftp-play: |tftp: |error: )?out of memory\n|tftp: (Memory|file fault)\n"
+SAID = r"(tftp-show: |tftp-play: |tftp: |error: )?out of memory\n|tftp: (Memory|file fault)\n(tftp: [^\n]+\n)?"
 
 
 class Answerer:
