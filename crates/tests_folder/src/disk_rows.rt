@@ -184,7 +184,7 @@ fn a_name_is_synced(rt: HostRuntime) {
     calls.clear();
     let committed = commits(&rt, alloc, &mut store, &mut draft, Existing::Replaced);
     expect_equal(&rt, &committed, &Ok(()), "the second commit");
-    expect(&rt, calls.were("soms"), "sync, rename, sync");
+    expect(&rt, calls.were("sooms"), "sync, look, rename, sync");
     remove_folder(&rt, folder);
 }
 
