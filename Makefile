@@ -106,11 +106,12 @@ bench: $(PROGRAMS)
 	bench/ends/run.py crates/tests_speed/out/tests_speed
 	python3 bench/play/plays.py bin/tftp-play
 
-bench-udp: bin/tftpd bin/tftp
+bench-udp: bin/tftpd bin/tftp $(LIBRARY)
 	python3 bench/udp/run.py bin/tftpd bin/tftp
 	python3 bench/udp/allocations.py bin/tftpd bin/tftp
 	python3 bench/udp/beside.py bin/tftpd
 	python3 bench/udp/calls.py bin/tftpd
+	bench/c/run.py bin/tftpd
 
 clean:
 	rm -rf bin out crates/*/out

@@ -1,10 +1,26 @@
 /* Holds tftp.h to the types of the library: each field of each struct has the value that the library gives the field of
- * that name, each struct its size, and each number its value. */
+ * that name, each struct its size, and each number its value. Then refuses each request for memory of a get in turn:
+ * the call reports it, changes nothing, and does its work when it is made again. It is linked with --wrap for malloc
+ * and realloc. */
 #include "tftp.h"
 #include <stdio.h>
+#include <stdlib.h>
 #include <string.h>
 
-static int wrong;
+void *__real_malloc(size_t len);
+void *__real_realloc(void *bytes, size_t len);
+void *__wrap_malloc(size_t len);
+void *__wrap_realloc(void *bytes, size_t len);
+
+static int wrong, asked, refused;
+
+void *__wrap_malloc(size_t len) {
+    return ++asked == refused ? NULL : __real_malloc(len);
+}
+
+void *__wrap_realloc(void *bytes, size_t len) {
+    return ++asked == refused ? NULL : __real_realloc(bytes, len);
+}
 
 static void expect(const char *what, unsigned long long found, unsigned long long expected) {
     if (found != expected) {
@@ -14,6 +30,55 @@ static void expect(const char *what, unsigned long long found, unsigned long lon
 }
 
 #define FIELD(value, field, number) expect(#value "." #field, (value).field, (number))
+
+/* A DATA at a get in netascii, which decodes it; made again if memory was refused, with the event as it was. */
+static void take(struct tftp_end *end, const char *data, size_t len, char *file, size_t *have) {
+    static const struct tftp_endpoint peer = {{10, 0, 0, 1}, 1024};
+    uint8_t datagram[64] = {0, 3}, block[512], reply[TFTP_MAX_REQUEST];
+    struct tftp_event event, before;
+    memcpy(datagram + 2, data, len);
+    memset(&event, 0, sizeof event);
+    event.number = 77;
+    before = event;
+    uint8_t fault = tftp_receive(end, &peer, datagram, len + 2, block, sizeof block, reply, sizeof reply, &event);
+    if (fault == TFTP_MEMORY) {
+        expect("the event after TFTP_MEMORY", memcmp(&event, &before, sizeof event), 0);
+        fault = tftp_receive(end, &peer, datagram, len + 2, block, sizeof block, reply, sizeof reply, &event);
+    }
+    expect("a DATA", fault, TFTP_OK);
+    expect("the length of an ACK", event.send_len, 4);
+    memcpy(file + *have, block, event.file_len);
+    *have += event.file_len;
+}
+
+/* A get of two blocks of 8 bytes while the request for memory of this number is refused. Whether it was. */
+static int lacking(int number) {
+    static const struct tftp_endpoint server = {{10, 0, 0, 1}, 69};
+    struct tftp_options options = {.max_file = 100, .blksize = 8, .is_netascii = true};
+    struct tftp_end end = {0};
+    struct tftp_event event = {0};
+    uint8_t request[TFTP_MAX_REQUEST], oack[] = "\0\6blksize\0008";
+    char file[64];
+    size_t have = 0;
+    asked = 0;
+    refused = number;
+    uint8_t fault = tftp_get(&end, &server, (const uint8_t *)"a", 1, &options, request, sizeof request, &event);
+    if (fault == TFTP_MEMORY) {
+        expect("a handle without memory", end.is_open, 0);
+        fault = tftp_get(&end, &server, (const uint8_t *)"a", 1, &options, request, sizeof request, &event);
+    }
+    expect("a get", fault, TFTP_OK);
+    struct tftp_endpoint peer = {{10, 0, 0, 1}, 1024};
+    uint8_t block[8], reply[TFTP_MAX_REQUEST];
+    fault = tftp_receive(&end, &peer, oack, sizeof oack, block, sizeof block, reply, sizeof reply, &event);
+    expect("an OACK", fault, TFTP_OK);
+    take(&end, "\0\1one\r\ntwo", 10, file, &have);
+    take(&end, "\0\2\r\nend", 7, file, &have);
+    expect("the length of the file", have, 11);
+    expect("the file", memcmp(file, "one\ntwo\nend", have), 0);
+    tftp_close(&end);
+    return asked >= number;
+}
 
 int main(void) {
     struct { struct tftp_endpoint it, behind; } endpoint;
@@ -89,5 +154,9 @@ int main(void) {
     expect("a smaller file", tftp_put(&end, at, name, 1, large - 1, &plain, bytes, most, told), TFTP_OK);
     tftp_close(&end);
     tftp_close(&end);
+
+    int number = 1;
+    while (lacking(number)) number++;
+    expect("whether there were requests for memory", number > 3, 1);
     return wrong;
 }

@@ -56,7 +56,8 @@ class Built:
         run(*bare, "-ffreestanding", "-c", TOP / "examples/c/bare.c", "-o", folder / "bare.o")
         library = folder.parent / "libtftp.a"
         run(*bare, TOP / "examples/c/host_machine.c", folder / "bare.o", library, "-o", folder / "bare")
-        run(*words, TOP / "tools/c_library.c", library, "-o", folder / "layout")
+        wrapped = "-Wl,--wrap=malloc,--wrap=realloc"
+        run(*words, wrapped, TOP / "tools/c_library.c", library, "-o", folder / "layout")
 
     def words(self, name, *words):
         return [*map(str, self.before), str(self.folder / name), *map(str, words)]
@@ -197,7 +198,7 @@ def tests(room, skipped):
     """Each trial by its name."""
     found = builds(room, skipped)
     for built in found:
-        yield f"header, {built.name}", lambda scene, built=built: run(*built.words("layout"))
+        yield f"header and memory, {built.name}", lambda scene, built=built: run(*built.words("layout"))
         for lossy, network in [(False, "a good network"), (True, "a bad network")]:
             for server, test in [("tftpd", by_tftpd), ("serve", by_library)]:
                 yield f"{server}, {network}, {built.name}", partial(test, built=built, lossy=lossy)
