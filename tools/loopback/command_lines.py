@@ -1,10 +1,5 @@
 """Help texts, and invalid command lines: each fault names the option and its range."""
-from pathlib import Path
-
 from datagrams import PATIENCE, expect
-
-# Whole help texts, each in a file that is named for its command
-TEXTS = Path(__file__).resolve().parent / "help"
 
 GET, PUT = (("tftp", way, "127.0.0.1:69", "a", "b") for way in ("get", "put"))
 
@@ -57,12 +52,3 @@ def test_help_and_faults(scene):
         writes(scene, words, 0, (part, ""))
     for words, part in FAULTS:
         writes(scene, words, 2, ("", part))
-
-
-def test_help_texts(scene):
-    """The help of each subcommand is the text that was read, whole. `rt ci` compares those of `tftp` and `tftpd`."""
-    for path in sorted(TEXTS.iterdir()):
-        program, *verb = path.stem.split("-", 1)
-        process = scene.start(program, [*verb, "--help"])
-        wrote = [text.decode() for text in process.communicate(timeout=PATIENCE)]
-        expect((process.returncode, *wrote), (0, path.read_text(), ""), f"the help of {path.stem}")
