@@ -1,5 +1,6 @@
 """A test's ports and ends, which send and receive the packets of lib/packets.py."""
 import socket
+import struct
 import sys
 import time
 from pathlib import Path
@@ -66,6 +67,14 @@ class Port:
                 found.append(self.socket.recvfrom(65_536))
         except BlockingIOError:
             return found
+
+
+def send_from_port_0(address, datagram, to):
+    """Sends a datagram that bears the source port 0, which takes a raw socket (RFC 768: no checksum is 0, too)."""
+    header = struct.pack("!HHHH", 0, to[1], 8 + len(datagram), 0)
+    with socket.socket(socket.AF_INET, socket.SOCK_RAW, socket.IPPROTO_UDP) as raw:
+        raw.bind((address, 0))
+        raw.sendto(header + datagram, (to[0], 0))
 
 
 def taken_ports():

@@ -195,6 +195,13 @@ class Scene:
         env = {**os.environ, "LD_PRELOAD": str(library), "UNSENT": str(unsent)}
         return Server(self.start("tftpd", self.server_words(".", self.address, words), env=env))
 
+    def delay(self, *words, millis):
+        """Starts a server of the folder with these words, for which the opening of a file `slow` and each sync take so
+        many milliseconds more."""
+        library = compiled(self.folder, HERE / "slow_calls.c")
+        env = {**os.environ, "LD_PRELOAD": str(library), "DELAY": str(millis)}
+        return Server(self.start("tftpd", self.server_words(".", self.address, words), env=env))
+
     def port(self, number=0):
         """The UDP port of this number, which the system chooses for 0."""
         port = Port(self.address, number)

@@ -2,7 +2,8 @@
 import os
 
 from both_programs import bytes_of, logs
-from datagrams import PATIENT, End, ack, data, error, expect, oack, rrq, wrq
+from datagrams import PATIENT, End, ack, data, error, expect, oack, rrq, send_from_port_0, wrq
+from scene import LIFE
 
 FILE_NOT_FOUND = error(1, "file not found")
 ACCESS_VIOLATION = error(2, "access violation")
@@ -47,6 +48,25 @@ def first_block_of(scene, server, name, block):
 def is_refused(scene, server, request, expected):
     """The request port answers a request by this ERROR."""
     End(scene.port(), server.address).is_answered(request, expected)
+
+
+def test_a_request_from_port_0_is_ignored(scene):
+    """Nothing can be answered to port 0: such a request opens no transfer, which is tried where raw sockets are
+    allowed."""
+    scene.make("a", b"ABC")
+    server = scene.serve("--log", "--cap", "1")
+    try:
+        send_from_port_0(scene.address, rrq("a"), server.address)
+    except PermissionError:
+        return
+    end = first_block_of(scene, server, "a", b"ABC")
+    end.send(ack(1))
+    printed, log = (text.decode().splitlines() for text in server.process.communicate(timeout=LIFE))
+    logs(log[:2], [
+        rf"ignored {scene.address}:0 RRQ a octet",
+        rf"opened \d+ {end.port.word} RRQ a octet timeout=255: OACK timeout=255",
+    ])
+    expect(len(printed), 1, f"the transfers that closed, in {printed}")
 
 
 def test_requests_are_refused(scene):

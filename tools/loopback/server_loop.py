@@ -1,11 +1,16 @@
 """The loop of `tftpd`: when it polls, syncs and ends, what it cannot send, and the ports of its transfers."""
 import re
+import socket
+import struct
 import time
 
 from both_programs import bytes_of, logs
-from datagrams import PATIENT, ack, data, error, expect, free_ports, oack, rrq, wrq
+from datagrams import PATIENCE, PATIENT, End, ack, data, error, expect, free_ports, oack, rrq, wrq
 from scene import LIFE, next_line
 from server_alone import FILE_NOT_FOUND, first_block_of, is_refused, opened
+
+# Datagrams come with the time of the kernel, of `asm/socket.h`
+SO_TIMESTAMPNS = 35
 
 
 def watched(server):
@@ -122,6 +127,54 @@ def test_a_sync_waits_until_no_port_is_ready(scene):
     end.send(error(0, "stop"))
     counts = watched(server)
     expect((counts["syncs"], counts["hasty"]), (4, 0), f"the syncs, and those that were hasty: {counts}")
+
+
+# How long what takes long takes, in milliseconds; a transfer's timeout is a second
+LONG = 1_300
+
+
+def arrived(port, expected):
+    """Waits for a datagram, and returns when it came to the port, in seconds by the clock of the kernel, and from
+    where."""
+    port.socket.settimeout(PATIENCE)
+    found, notes, _, sender = port.socket.recvmsg(65_536, 64)
+    expect(found, expected, "the datagram")
+    seconds, nanos = struct.unpack("qq", notes[0][2])
+    return seconds + nanos / 1e9, sender
+
+
+def timed_port(scene):
+    """A port whose datagrams have the time at which they came."""
+    port = scene.port()
+    port.socket.setsockopt(socket.SOL_SOCKET, SO_TIMESTAMPNS, 1)
+    return port
+
+
+def test_a_deadline_runs_from_a_slow_opening(scene):
+    """The opening of a file takes longer than the timeout of its transfer: what answers the request is sent again a
+    timeout after it was sent, not at once."""
+    scene.make("slow", b"ABC")
+    server = scene.delay(millis=LONG)
+    port = timed_port(scene)
+    port.send(rrq("slow", timeout=1), server.address)
+    first, transfer = arrived(port, oack(timeout=1))
+    again, _ = arrived(port, oack(timeout=1))
+    expect(again - first > 0.99, True, f"whether the answer is sent again after a second, not after {again - first:.3f} s")
+    End(port, transfer).send(error(0, "stop"))
+
+
+def test_a_deadline_runs_from_a_slow_commit(scene):
+    """The commit of a put takes longer than the timeout of its transfer. The server still dallies for two timeouts
+    after its last ACK."""
+    server = scene.delay(millis=LONG)
+    port = timed_port(scene)
+    port.send(wrq("new", timeout=1), server.address)
+    _, transfer = arrived(port, oack(timeout=1))
+    End(port, transfer).send(data(1, b"ABC"))
+    stored, _ = arrived(port, ack(1))
+    server.has_closed("Complete")
+    lasted = time.time() - stored
+    expect(lasted > 1.99, True, f"whether the server dallied for two seconds, not for {lasted:.3f} s")
 
 
 def served_ports(scene, server, count):

@@ -64,8 +64,9 @@ module _ {S F D : Type 0} (meaning : StoreMeaning S D) (sources : SourceMeaning 
 
   pub step_adds : (s t : LoopState S F D) → Does meaning sources s t → Adds s.events t.events
   step_adds s t (Waited d) =
-      adds_more s.events _ t.events (adds_one _ s.events _ refl)
-      (adds_one _ _ t.events (ap (λ (u : LoopState S F D). u.events) d.is))
+      adds_more s.events _ t.events (adds_one (Watched d.time) s.events _ refl)
+      (adds_more (Watched d.time ∷ s.events) _ t.events (adds_one _ (Watched d.time ∷ s.events) _ refl)
+      (adds_one _ _ t.events (ap (λ (u : LoopState S F D). u.events) d.is)))
   step_adds s t (At_port d) = adds_to s.events d.next.events t.events (ap (λ (u : LoopState S F D). u.events) d.is)
       (port_adds s.now (port_state s d.timer) d.next d.does)
   step_adds s t (Request_received d) = adds_one _ s.events t.events (ap (λ (u : LoopState S F D). u.events) d.is)
@@ -84,7 +85,7 @@ module _ {S F D : Type 0} (meaning : StoreMeaning S D) (sources : SourceMeaning 
   same_now now t u e h = subst (λ (v : LoopState S F D). now ≤ v.now) (sym e) h
 
   pub step_forward : (s t : LoopState S F D) → Does meaning sources s t → s.now ≤ t.now
-  step_forward s t (Waited d) = same_now s.now t _ d.is (omega arith)
+  step_forward s t (Waited d) = same_now s.now t _ d.is d.forward
   step_forward s t (At_port d) = same_now s.now t _ d.is (omega arith)
   step_forward s t (Request_received d) = same_now s.now t _ d.is (omega arith)
   step_forward s t (No_request_found d) = same_now s.now t _ d.is (omega arith)

@@ -9,7 +9,7 @@ use Rattle.tftp_sockets.specs.Journal.{Event}
 use Rattle.tftp_loop.specs.PortOrder.{IsOneOf}
 use Rattle.tftp_loop.specs.Run.{Run}
 use Rattle.tftp_loop.specs.Run.Run.{Start, Then}
-use Rattle.tftp_loop.specs.Serves.{LoopState, Does, MayWait, RequestLoss, No_memory, No_room, No_port, No_identifier}
+use Rattle.tftp_loop.specs.Serves.{LoopState, Does, MayWait, RequestLoss, No_answer, No_memory, No_room, No_port, No_identifier}
 use Rattle.tftp_loop.specs.Serves.{Same_port}
 use Rattle.tftp_loop.specs.WholeRun.{ServesFrom, ServesFromIn, ServesToEnd, ServesToEndIn, Serves, ServesIn}
 use Rattle.tftp_loop.specs.Serves.Does.{Waited, At_port, Request_received, No_request_found, Request_not_received}
@@ -28,9 +28,10 @@ module _ {S F D : Type 0} (meaning : StoreMeaning S D) (sources : SourceMeaning 
   abbrev anywhere : LoopState S F D → LoopState S F D
   anywhere s = record s { range = None }
 
-  may_anywhere : (s : LoopState S F D) (millis : ℕ) (ports : List ℕ) → MayWait s millis ports
-      → MayWait (anywhere s) millis ports
-  may_anywhere s millis ports may = record {
+  may_anywhere : (s : LoopState S F D) (time millis : ℕ) (ports : List ℕ) → MayWait s time millis ports
+      → MayWait (anywhere s) time millis ports
+  may_anywhere s time millis ports may = record {
+    read = may.read;
     left = may.left;
     rounds = may.rounds;
     requests = may.requests;
@@ -43,6 +44,7 @@ module _ {S F D : Type 0} (meaning : StoreMeaning S D) (sources : SourceMeaning 
 
   loss_anywhere : (s t : LoopState S F D) (from : Endpoint) (bytes : List ℕ)
       → RequestLoss meaning sources s t from bytes → RequestLoss meaning sources (anywhere s) (anywhere t) from bytes
+  loss_anywhere s t from bytes (No_answer none) = No_answer none
   loss_anywhere s t from bytes (No_memory capacity lacks) = No_memory capacity lacks
   loss_anywhere s t from bytes (No_room opens capacity lacks) = No_room opens capacity lacks
   loss_anywhere s t from bytes (No_port opens port earlier is) = No_port opens port earlier is
@@ -51,9 +53,12 @@ module _ {S F D : Type 0} (meaning : StoreMeaning S D) (sources : SourceMeaning 
 
   step_anywhere : (s t : LoopState S F D) → Does meaning sources s t → Does meaning sources (anywhere s) (anywhere t)
   step_anywhere s t (Waited d) = Waited (record {
+    time = d.time;
+    forward = d.forward;
+    soon = d.soon;
     millis = d.millis;
     ports = d.ports;
-    may = may_anywhere s d.millis d.ports d.may;
+    may = may_anywhere s d.time d.millis d.ports d.may;
     is = ap anywhere d.is;
   })
   step_anywhere s t (At_port d) =

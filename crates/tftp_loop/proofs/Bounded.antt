@@ -1,5 +1,5 @@
 -- In each state of a run a deadline is an interval away at most, and no end has more than its retries.
-use Rattle.std.proofs.Common.{arith, ◌≡◌, ◌<◌, ◌≤◌, ℕ, true, false, List, [], ◌∷◌, length}
+use Rattle.std.proofs.Common.{arith, ◌≡◌, ◌<◌, ◌≤◌, ◌+◌, ℕ, true, false, List, [], ◌∷◌, length, map}
 use Rattle.std.proofs.Common.{Option, Some, None, IsSome, refl, sym, ap, subst, ◌∙◌, inl, inr}
 use Rattle.std.specs.Prelude.{All, slice_index_or, slice_set, Result, Ok, Err, ⊤}
 use Rattle.std.specs.List.{swap_remove}
@@ -18,10 +18,11 @@ use Rattle.tftp_server.specs.Port.{Ask, Ignores, Refuses, Reads, Writes, Service
 use Rattle.tftp_server.specs.Request.{Came, Goes, Left, Nothing, Error_reply, A_transfer, Sent, Taken, left_by}
 use Rattle.tftp_server.specs.State.{TransferState, ServerState, at, with_new, without}
 use Rattle.tftp_server.specs.declared.config.Config.{Config}
+use Rattle.tftp_sockets.specs.declared.watch.TheConstants.{LONGEST_WAIT}
 use Rattle.tftp_loop.specs.Run.{Run}
 use Rattle.tftp_loop.specs.Run.Run.{Start, Then}
 use Rattle.tftp_loop.specs.Serves.{Timer, PortState, LoopState, AtPort, Does, interval_at, marked_by}
-use Rattle.tftp_loop.specs.Serves.{port_state, started, with_timer}
+use Rattle.tftp_loop.specs.Serves.{port_state, set_by, started, with_timer}
 use Rattle.tftp_loop.specs.Serves.Does.{Waited, At_port, Request_received, No_request_found, Request_not_received}
 use Rattle.tftp_loop.specs.Serves.Does.{No_port_found}
 use Rattle.tftp_loop.specs.Serves.Does.{Request_answered, Request_lost, Clock_read, Store_set, Transfer_closed}
@@ -29,11 +30,12 @@ use Rattle.tftp_loop.specs.Expiry.{IsIdleAt, ReceivesNoneAt}
 use Rattle.tftp_loop.specs.Tended.{AreKept}
 use Rattle.tftp_loop.proofs.LoopStays.{all_appended, all_removed, all_set, other_port, some_none}
 use Rattle.tftp_loop.proofs.PortEnds.{HasLimit, IsNear, at_transfer, changes_limit, changes_near, restarted_near}
-use Rattle.tftp_loop.proofs.PortEnds.{same_config, same_timer}
+use Rattle.tftp_loop.proofs.PortEnds.{same_config, same_timer, set_near}
 use Rattle.tftp_loop.proofs.PortStays.{stays_at}
 use Rattle.tftp_loop.proofs.Sleeping.{step_kept}
 use Rattle.tftp_loop.proofs.Tables.{inserted_apart, inserted_own, removed_apart}
-use Rattle.tftp_loop.proofs.Waits.{marked_at}
+use Rattle.tftp_loop.proofs.Rounds.{begins_round, step_round, wait_or_work}
+use Rattle.tftp_loop.proofs.Waits.{waited_at}
 
 pub some_at : {T : Type 0} (o : Option T) → IsSome o → (x : T) × (o ≡ Some x)
 some_at None h = absurd (let e : false ≡ true = h in cc)
@@ -210,11 +212,13 @@ module _ {S F D : Type 0} (meaning : StoreMeaning S D) (sources : SourceMeaning 
   step_bounded s t (Waited d) kept bounded =
       subst AreBounded (sym d.is)
       (λ k e h.
-      let long = length-map s.timers (marked_by d.ports) in
-      let h' : k < length s.timers = omega (arith, long, h) in
+      let more = length-map (map (set_by d.time) s.timers) (marked_by d.ports) in
+      let long = length-map s.timers (set_by d.time) in
+      let h' : k < length s.timers = omega (arith, long, more, h) in
+      let timer = slice_index_or s.timers k e in
       let was = bounded k e h' in
-      subst (IsBounded s.server s.now) (sym (marked_at d.ports s.timers k e h'))
-      (record { near = was.near; limit = was.limit }))
+      subst (IsBounded s.server d.time) (sym (waited_at d.time d.ports s.timers k e h'))
+      (record { near = set_near s.now d.time timer.provisional timer d.forward was.near; limit = was.limit }))
   step_bounded s t (Clock_read d) kept bounded =
       subst AreBounded (sym d.is)
       (λ k e h. let was = bounded k e h in record {
@@ -245,9 +249,27 @@ module _ {S F D : Type 0} (meaning : StoreMeaning S D) (sources : SourceMeaning 
   pub record IsSound (s : LoopState S F D) : Type 0 where
     pub kept : AreKept s.server.held s.timers
     pub bounded : All (IsBounded s.server s.now) s.timers
+    pub limit : s.limit ≤ s.now + LONGEST_WAIT
 
-  pub sound_along : (start s : LoopState S F D) → start.timers ≡ [] → Run (Does meaning sources) start s → IsSound s
-  sound_along start s empty Start =
+  -- a round ends a second after the one before it began, at the latest
+  step_limit : (s t : LoopState S F D) → Does meaning sources s t → s.limit ≤ s.now + LONGEST_WAIT
+      → t.limit ≤ t.now + LONGEST_WAIT
+  step_limit s t does limit = elim (wait_or_work meaning sources s t does) [
+    | inl waits ↦
+        let now : t.now ≡ waits.time = ap (λ (u : LoopState S F D). u.now) waits.is in
+        let most = ap (λ (u : LoopState S F D). u.limit) waits.is in
+        let forward = waits.forward in
+        omega (arith, now, most, forward)
+    | inr is ↦
+        let round = step_round meaning sources s.now s t does is (begins_round meaning sources s limit) in
+        let most = round.limit in
+        let from = round.from in
+        omega (arith, most, from)
+  ]
+
+  pub sound_along : (start s : LoopState S F D) → start.timers ≡ [] → start.limit ≤ start.now + LONGEST_WAIT
+      → Run (Does meaning sources) start s → IsSound s
+  sound_along start s empty begins Start =
       let none : length start.timers ≡ 0 = ap (λ (ts : List Timer). length ts) empty in
       record {
         kept = record {
@@ -255,10 +277,12 @@ module _ {S F D : Type 0} (meaning : StoreMeaning S D) (sources : SourceMeaning 
           each = λ k d h. absurd (omega (arith, h, none));
         };
         bounded = λ k d h. absurd (omega (arith, h, none));
+        limit = begins;
       }
-  sound_along start s empty (Then {middle} run does) =
-      let was = sound_along start middle empty run in
+  sound_along start s empty begins (Then {middle} run does) =
+      let was = sound_along start middle empty begins run in
       record {
         kept = step_kept meaning sources middle s does was.kept;
         bounded = step_bounded middle s does was.kept was.bounded;
+        limit = step_limit middle s does was.limit;
       }

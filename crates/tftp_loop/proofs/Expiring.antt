@@ -1,8 +1,8 @@
 -- A transfer that makes no progress is closed in time, and its line is printed.
-use Rattle.std.proofs.Common.{arith, ◌≡◌, ◌<◌, ◌≤◌, ◌+◌, ◌*◌, ◌⊎◌, max, ℕ, List}
-use Rattle.std.proofs.Common.{[], ◌∷◌, ◌++◌, length, Option, Some, None, IsSome, refl, sym, ap, subst, ◌∙◌, inl}
+use Rattle.std.proofs.Common.{arith, ◌≡◌, ◌<◌, ◌≤◌, ◌+◌, ◌*◌, ◌⊎◌, max, ℕ, Bool, true, false, List}
+use Rattle.std.proofs.Common.{[], ◌∷◌, ◌++◌, length, map, Option, Some, None, IsSome, refl, sym, ap, subst, ◌∙◌, inl}
 use Rattle.std.proofs.Common.{inr}
-use Rattle.std.specs.Prelude.{slice_index_or, slice_set}
+use Rattle.std.specs.Prelude.{slice_index_or, slice_set, if◌then◌else◌}
 use Rattle.std.specs.List.{Contains}
 use Rattle.std.proofs.lemmas.Bool.{cases_eq}
 use Rattle.std.proofs.lemmas.List.{append_assoc, length-map}
@@ -23,28 +23,28 @@ use Rattle.tftp_sockets.specs.Journal.{Event, replied}
 use Rattle.tftp_sockets.specs.Journal.Event.{Printed}
 use Rattle.tftp_loop.specs.Run.{Run}
 use Rattle.tftp_loop.specs.Serves.{Timer, PortState, LoopState, AtPort, Does, Waits, answering_port}
-use Rattle.tftp_loop.specs.Serves.{interval_at, marked_by, port_state, started}
+use Rattle.tftp_loop.specs.Serves.{deadline_by, interval_at, marked_by, port_state, set_by, started}
 use Rattle.tftp_loop.specs.Serves.{with_timer}
 use Rattle.tftp_loop.specs.Serves.Does.{Waited, At_port, Request_received, No_request_found, Request_not_received}
 use Rattle.tftp_loop.specs.Serves.Does.{No_port_found}
 use Rattle.tftp_loop.specs.Serves.Does.{Request_answered, Request_lost, Clock_read, Store_set, Transfer_closed}
 use Rattle.tftp_loop.specs.Reported.{IsNoWait}
 use Rattle.tftp_loop.specs.Expiry.{After, At_first, ClosesInSilence, Idles, IsIdle, IsIdleAt, NoneReceived}
-use Rattle.tftp_loop.specs.Expiry.{PrintsClose, ReceivesNone, ReceivesNoneAt, closing_time}
+use Rattle.tftp_loop.specs.Expiry.{PrintsClose, ReceivesNone, ReceivesNoneAt, closing_time, counted_from}
 use Rattle.tftp_loop.specs.Tended.{AreKept}
 use Rattle.tftp_loop.proofs.Adding.{Adds, adds_more, step_adds, step_forward}
 use Rattle.tftp_loop.proofs.Bounded.{some_at, sound_along}
 use Rattle.tftp_loop.proofs.EndSteps.{most_left, open_left, timeouts_left}
 use Rattle.tftp_loop.proofs.InTime.{InTime, at_last, changes_closes, changes_complete, changes_in_time, first_time}
-use Rattle.tftp_loop.proofs.InTime.{rested}
+use Rattle.tftp_loop.proofs.InTime.{latest, latest_later, no_later, rested, set_early}
 use Rattle.tftp_loop.proofs.ListLemmas.{set_long}
 use Rattle.tftp_loop.proofs.PortEnds.{SameTimer, at_transfer, same_timer}
 use Rattle.tftp_loop.proofs.PortStays.{stays_at}
-use Rattle.tftp_loop.proofs.Rounds.{InRound, begins_round, step_round, wait_or_work}
+use Rattle.tftp_loop.proofs.Rounds.{InRound, begins_round, next_round, step_round, wait_or_work}
 use Rattle.tftp_loop.proofs.Sleeping.{step_kept}
 use Rattle.tftp_loop.proofs.Tables.{any_default, appended_at, appended_long, inserted_apart, removed_apart}
 use Rattle.tftp_loop.proofs.Tables.{not_taken, removed_place, set_other, set_own, taken_by}
-use Rattle.tftp_loop.proofs.Waits.{marked_at}
+use Rattle.tftp_loop.proofs.Waits.{deadline_later, waited_at}
 
 module _ {S F D : Type 0} (meaning : StoreMeaning S D) (sources : SourceMeaning F) (first : LoopState S F D)
     (timer : Timer) (e0 : EndState) where
@@ -57,8 +57,14 @@ module _ {S F D : Type 0} (meaning : StoreMeaning S D) (sources : SourceMeaning 
   abbrev most : ℕ
   most = max 1 first.server.config.retries
 
-  abbrev CountsDown : ℕ → ℕ → ℕ → Type 0
-  CountsDown since deadline left = 1 ≤ left → InTime first.now millis round most since deadline left
+  abbrev start : ℕ
+  start = counted_from first.now timer
+
+  abbrev last_of : ℕ → Timer → ℕ
+  last_of since here = latest millis round since here.provisional here.deadline
+
+  abbrev CountsDown : ℕ → Timer → ℕ → Type 0
+  CountsDown since here left = 1 ≤ left → InTime start millis round most since (last_of since here) left
 
   -- the transfer is held still
   record Lasts (Quiet : Type 0) (since : ℕ) (s : LoopState S F D) : Type 0 where
@@ -69,7 +75,7 @@ module _ {S F D : Type 0} (meaning : StoreMeaning S D) (sources : SourceMeaning 
     pub same : SameTimer timer here
     pub transfer : TransferState F D
     pub found : at timer.port s.server.held ≡ Some transfer
-    pub counts : CountsDown since here.deadline (timeouts_left transfer.end)
+    pub counts : CountsDown since here (timeouts_left transfer.end)
     pub complete : Quiet → is_complete transfer.end.position.phase ≡ is_complete e0.position.phase
     pub closes : Quiet → (o : Outcome) → outcome_of transfer.end.position.phase ≡ Some o
         → ClosesInSilence e0.position.phase o
@@ -137,8 +143,8 @@ module _ {S F D : Type 0} (meaning : StoreMeaning S D) (sources : SourceMeaning 
             (ap (λ (p : ℕ). at p s.server.held) port_is ∙ lasts.found) in
             let interval : own.interval * 1000 ≡ millis =
             ap (λ (t : Timer). t.interval * 1000) own_is ∙ ap (λ (n : ℕ). n * 1000) lasts.same.interval in
-            let counts : CountsDown since own.deadline (timeouts_left lasts.transfer.end) =
-            subst (λ (t : Timer). CountsDown since t.deadline (timeouts_left lasts.transfer.end))
+            let counts : CountsDown since own (timeouts_left lasts.transfer.end) =
+            subst (λ (t : Timer). CountsDown since t (timeouts_left lasts.transfer.end))
             (sym own_is) lasts.counts in
             let Idle = IsIdleAt meaning sources does in
             let Silent = ReceivesNoneAt meaning sources does in
@@ -154,14 +160,14 @@ module _ {S F D : Type 0} (meaning : StoreMeaning S D) (sources : SourceMeaning 
               };
               transfer = changed.next;
               found = ap (λ (p : ℕ). at p next.server.held) (sym port_is) ∙ changed.found;
-              counts = changes_in_time first.now millis round most Idle Silent s.now since own next.timer
+              counts = changes_in_time start millis round most Idle Silent s.now since own next.timer
                   lasts.transfer.end changed.next.end changed.changes (idle port_is) interval soon counts;
               complete = λ quiet.
-                  changes_complete first.now millis round most Idle Silent s.now since own next.timer
+                  changes_complete start millis round most Idle Silent s.now since own next.timer
                   lasts.transfer.end changed.next.end changed.changes (silent quiet port_is)
                   ∙ lasts.complete (fewer quiet);
               closes = λ quiet.
-                  changes_closes first.now millis round most Idle Silent s.now since own next.timer lasts.transfer.end
+                  changes_closes start millis round most Idle Silent s.now since own next.timer lasts.transfer.end
                   changed.next.end changed.changes (silent quiet port_is) e0 (lasts.complete (fewer quiet))
                   (lasts.closes (fewer quiet));
               adds = adds_more first.events s.events next.events lasts.adds adds;
@@ -334,23 +340,35 @@ module _ {S F D : Type 0} (meaning : StoreMeaning S D) (sources : SourceMeaning 
       (waits.may.transfers lasts.place timer lasts.within).due) soon
 
   rests_lives : (Quiet More : Type 0) (since : ℕ) (s t : LoopState S F D) → Waits meaning sources s t → (More → Quiet)
-      → s.now ≤ last_moment → Lasts Quiet since s → Lasts More s.now t
-  rests_lives Quiet More since s t waits fewer soon lasts =
-      let more = length-map s.timers (marked_by waits.ports) in
+      → s.now ≤ last_moment → InRound meaning sources since s → Lasts Quiet since s → Lasts More s.now t
+  rests_lives Quiet More since s t waits fewer soon in_round lasts =
+      let more = length-map (map (set_by waits.time) s.timers) (marked_by waits.ports) in
+      let as_many = length-map s.timers (set_by waits.time) in
       let inside = lasts.within in
+      let here = lasts.here in
       let early = rests_early Quiet since s t waits soon lasts in
+      let later = deadline_later waits.time here.provisional here in
+      let within_limit = waits.soon in
+      let most_soon = in_round.soon in
+      let most_limit = in_round.limit in
+      let set = set_early millis round since waits.time here.provisional here
+      (ap (λ (n : ℕ). n * 1000) lasts.same.interval) (omega (arith, within_limit, most_soon, most_limit)) in
+      let deadline = deadline_by waits.time here.provisional here in
       let adds = subst (λ (u : LoopState S F D). Adds s.events u.events) waits.is
       (step_adds meaning sources s t (Waited waits)) in
       subst (Lasts More s.now) (sym waits.is) (record {
         place = lasts.place;
-        here = marked_by waits.ports lasts.here;
-        within = omega (arith, more, inside);
-        is = λ d. marked_at waits.ports s.timers lasts.place d lasts.within ∙ ap (marked_by waits.ports) (lasts.is d);
+        here = marked_by waits.ports (set_by waits.time lasts.here);
+        within = omega (arith, more, as_many, inside);
+        is = λ d. waited_at waits.time waits.ports s.timers lasts.place d lasts.within
+            ∙ ap (λ (t : Timer). marked_by waits.ports (set_by waits.time t)) (lasts.is d);
         same = record { port = lasts.same.port; peer = lasts.same.peer; interval = lasts.same.interval };
         transfer = lasts.transfer;
         found = lasts.found;
-        counts = λ some. rested first.now millis round most since lasts.here.deadline s.now
-            (timeouts_left lasts.transfer.end) early (lasts.counts some);
+        counts = λ some. rested start millis round most since deadline s.now
+            (timeouts_left lasts.transfer.end) (omega (arith, early, later))
+            (no_later start millis round most since (last_of since here) deadline (timeouts_left lasts.transfer.end)
+            (timeouts_left lasts.transfer.end) set (omega arith) (lasts.counts some));
         complete = λ quiet. lasts.complete (fewer quiet);
         closes = λ quiet. lasts.closes (fewer quiet);
         adds = adds_more first.events s.events _ lasts.adds adds;
@@ -382,11 +400,11 @@ module _ {S F D : Type 0} (meaning : StoreMeaning S D) (sources : SourceMeaning 
     wait_lives : Waits meaning sources s t → s.now ≤ last_moment → LivesOn More t
     wait_lives waits soon = record {
       since = s.now;
-      in_round = begins_round meaning sources s t (ap (λ (u : LoopState S F D). u.now) waits.is);
+      in_round = next_round meaning sources was.since s t waits was.in_round;
       kept = step_kept meaning sources s t does was.kept;
       lives = elim was.lives [
         | inl gone ↦ inl (gone_on Quiet More s t fewer (step_adds meaning sources s t does) gone)
-        | inr lasts ↦ inr (rests_lives Quiet More was.since s t waits fewer soon lasts)
+        | inr lasts ↦ inr (rests_lives Quiet More was.since s t waits fewer soon was.in_round lasts)
       ];
     }
 
@@ -408,7 +426,7 @@ module _ {S F D : Type 0} (meaning : StoreMeaning S D) (sources : SourceMeaning 
       one_lives Quiet More middle last does idle (λ m. m.0) (λ m. m.1) (lives_along run before start) before
 
   too_late : (Quiet : Type 0) (since : ℕ) (s t : LoopState S F D) → Waits meaning sources s t → s.now ≤ last_moment
-      → closing_time first.now timer.interval first.server.config.retries < s.now → Lasts Quiet since s → ⊥
+      → closing_time start timer.interval first.server.config.retries < s.now → Lasts Quiet since s → ⊥
   too_late Quiet since s t waits soon late lasts =
       let early = rests_early Quiet since s t waits soon lasts in
       let port_is : (slice_index_or s.timers lasts.place timer).port ≡ timer.port =
@@ -420,19 +438,32 @@ module _ {S F D : Type 0} (meaning : StoreMeaning S D) (sources : SourceMeaning 
       let some = open_left lasts.transfer.end.position.phase lasts.transfer.end.position.retries_left
       (not_taken (is_closed lasts.transfer) (record_of lasts.transfer.end, draft_of lasts.transfer.files)
       not_closed) in
-      let last = at_last first.now millis round most since lasts.here.deadline s.now
-      (timeouts_left lasts.transfer.end) some early (lasts.counts some) in
+      let later = latest_later millis round since lasts.here.provisional lasts.here.deadline in
+      let last = at_last start millis round most since (last_of since lasts.here) s.now
+      (timeouts_left lasts.transfer.end) some (omega (arith, early, later)) (lasts.counts some) in
       omega (arith, last, late)
 
 -- ---- the laws
+-- at first each deadline is an interval away at most, from when on it counts
+near_first : (now : ℕ) (b : Bool) (timer : Timer) → timer.provisional ≡ b
+    → timer.deadline ≤ now + timer.interval * 1000
+    → latest (timer.interval * 1000) LONGEST_WAIT now b timer.deadline
+    ≤ (if b then now + LONGEST_WAIT else now) + timer.interval * 1000
+near_first now true timer is near = omega (arith, near)
+near_first now false timer is near = near
+
+counted_later : (now : ℕ) (b : Bool) → now ≤ (if b then now + LONGEST_WAIT else now)
+counted_later now true = omega arith
+counted_later now false = omega arith
+
 module _ {S F D : Type 0} (meaning : StoreMeaning S D) (sources : SourceMeaning F) where
   -- a transfer lasts at first
   begins : (start first : LoopState S F D) (timer : Timer) (transfer : TransferState F D)
-      → start.timers ≡ [] → Run (Does meaning sources) start first → Contains first.timers timer
-      → at timer.port first.server.held ≡ Some transfer
+      → start.timers ≡ [] → start.limit ≤ start.now + LONGEST_WAIT → Run (Does meaning sources) start first
+      → Contains first.timers timer → at timer.port first.server.held ≡ Some transfer
       → LivesOn meaning sources first timer transfer.end (Unit {0}) first
-  begins start first timer transfer empty run has found =
-      let sound = sound_along meaning sources start first empty run in
+  begins start first timer transfer empty begun run has found =
+      let sound = sound_along meaning sources start first empty begun run in
       let bounded = sound.bounded has.0 timer has.1 in
       let is : (d : Timer) → slice_index_or first.timers has.0 d ≡ timer =
       λ d. any_default first.timers has.0 d timer has.1 ∙ has.2 in
@@ -443,7 +474,7 @@ module _ {S F D : Type 0} (meaning : StoreMeaning S D) (sources : SourceMeaning 
       limit.left in
       record {
         since = first.now;
-        in_round = begins_round meaning sources first first refl;
+        in_round = begins_round meaning sources first sound.limit;
         kept = sound.kept;
         lives = inr (record {
           place = has.0;
@@ -453,8 +484,11 @@ module _ {S F D : Type 0} (meaning : StoreMeaning S D) (sources : SourceMeaning 
           same = record { port = refl; peer = refl; interval = refl };
           transfer = transfer;
           found = found;
-          counts = λ some. first_time first.now (timer.interval * 1000) LONGEST_WAIT
-              (max 1 first.server.config.retries) timer.deadline (timeouts_left transfer.end) near few;
+          counts = λ some. first_time (counted_from first.now timer) (timer.interval * 1000) LONGEST_WAIT
+              (max 1 first.server.config.retries) first.now
+              (latest (timer.interval * 1000) LONGEST_WAIT first.now timer.provisional timer.deadline)
+              (timeouts_left transfer.end) (counted_later first.now timer.provisional)
+              (near_first first.now timer.provisional timer refl near) few;
           complete = λ quiet. refl;
           closes = λ quiet o closed. inr (inr closed);
           adds = record { more = []; is = refl };
@@ -462,16 +496,18 @@ module _ {S F D : Type 0} (meaning : StoreMeaning S D) (sources : SourceMeaning 
       }
 
   pub times_out_in_silence : (start first last new : LoopState S F D) (timer : Timer) (transfer : TransferState F D)
-      → start.timers ≡ [] → Run (Does meaning sources) start first → Contains first.timers timer
+      → start.timers ≡ [] → start.limit ≤ start.now + LONGEST_WAIT → Run (Does meaning sources) start first
+      → Contains first.timers timer
       → at timer.port first.server.held ≡ Some transfer
       → (idles : Idles meaning sources timer.port first last) → NoneReceived meaning sources idles
       → Waits meaning sources last new
-      → closing_time first.now timer.interval first.server.config.retries < last.now → last.now ≤ last_moment
+      → closing_time (counted_from first.now timer) timer.interval first.server.config.retries < last.now
+      → last.now ≤ last_moment
       → (outcome : Outcome) × PrintsClose timer.port timer.peer.port outcome first.events last.events
       × ClosesInSilence transfer.end.position.phase outcome
-  times_out_in_silence start first last new timer transfer empty run has found idles silent waits late soon =
+  times_out_in_silence start first last new timer transfer empty begun run has found idles silent waits late soon =
       let along = lives_along meaning sources first timer transfer.end idles soon
-      (begins start first timer transfer empty run has found) in
+      (begins start first timer transfer empty begun run has found) in
       elim along.lives [
         | inl gone ↦ (gone.outcome, gone.closed, gone.why silent)
         | inr lasts ↦ absurd (too_late meaning sources first timer transfer.end
@@ -479,18 +515,20 @@ module _ {S F D : Type 0} (meaning : StoreMeaning S D) (sources : SourceMeaning 
       ]
 
   pub closes_without_progress : (start first last new : LoopState S F D) (timer : Timer)
-      → start.timers ≡ [] → Run (Does meaning sources) start first → Contains first.timers timer
+      → start.timers ≡ [] → start.limit ≤ start.now + LONGEST_WAIT → Run (Does meaning sources) start first
+      → Contains first.timers timer
       → Idles meaning sources timer.port first last → Waits meaning sources last new
-      → closing_time first.now timer.interval first.server.config.retries < last.now → last.now ≤ last_moment
+      → closing_time (counted_from first.now timer) timer.interval first.server.config.retries < last.now
+      → last.now ≤ last_moment
       → (outcome : Outcome) × PrintsClose timer.port timer.peer.port outcome first.events last.events
-  closes_without_progress start first last new timer empty run has idles waits late soon =
-      let sound = sound_along meaning sources start first empty run in
+  closes_without_progress start first last new timer empty begun run has idles waits late soon =
+      let sound = sound_along meaning sources start first empty begun run in
       let there : IsSome (at timer.port first.server.held) =
       subst (λ (t : Timer). IsSome (at t.port first.server.held)) has.2
       (sound.kept.each has.0 timer has.1).there in
       let some = some_at (at timer.port first.server.held) there in
       let along = lives_along meaning sources first timer some.0.end idles soon
-      (begins start first timer some.0 empty run has some.1) in
+      (begins start first timer some.0 empty begun run has some.1) in
       elim along.lives [
         | inl gone ↦ (gone.outcome, gone.closed)
         | inr lasts ↦ absurd (too_late meaning sources first timer some.0.end

@@ -1,6 +1,6 @@
 -- What becomes of a datagram of the request port before a server sleeps.
 use Rattle.std.proofs.Common.{arith, ◌≡◌, ◌≤◌, ◌==◌, ◌||◌, ◌⊎◌, ℕ, Bool, true, false, List, ◌∷◌, cond, Option, Some}
-use Rattle.std.proofs.Common.{None, sym, ap, subst, ◌∙◌, inl, inr}
+use Rattle.std.proofs.Common.{None, map, sym, ap, subst, ◌∙◌, inl, inr}
 use Rattle.std.specs.Prelude.{is_some, All, ◌≢◌}
 use Rattle.std.specs.List.{list_any}
 use Rattle.std.proofs.lemmas.Bool.{ne_eqb}
@@ -15,7 +15,7 @@ use Rattle.tftp_sockets.specs.Quiet.{is_among, was_tried}
 use Rattle.tftp_loop.specs.Run.{Run}
 use Rattle.tftp_loop.specs.Run.Run.{Start, Then}
 use Rattle.tftp_loop.specs.Serves.{Timer, PortState, LoopState, AtPort, Does, Waits, ReceivesRequest, port_state}
-use Rattle.tftp_loop.specs.Serves.{until_look}
+use Rattle.tftp_loop.specs.Serves.{set_by, until_look}
 use Rattle.tftp_loop.specs.Serves.AtPort.{A_datagram, A_lost_datagram, Nothing_found, A_failed_receive, A_timeout}
 use Rattle.tftp_loop.specs.Serves.AtPort.{A_missed_timeout, Work}
 use Rattle.tftp_loop.specs.Serves.Does.{Waited, At_port, Request_received, No_request_found, Request_not_received}
@@ -116,8 +116,8 @@ module _ {S F D : Type 0} (meaning : StoreMeaning S D) (sources : SourceMeaning 
       (ap (λ (u : LoopState S F D). u.pending) receives.is)) [
         | inl still ↦
             let none = no_time last.marked (is_some last.pending)
-            (list_any (λ (timer : Timer). timer.marked) last.timers)
-            (until_look last.now last.timers) waits.millis (ap is_some still) waits.may.longest in
+            (list_any (λ (timer : Timer). timer.marked) (map (set_by waits.time) last.timers))
+            (until_look waits.time (map (set_by waits.time) last.timers)) waits.millis (ap is_some still) waits.may.longest in
             absurd (omega (arith, none, some))
         | inr done ↦ done
       ]

@@ -1,11 +1,12 @@
 -- The time that is left to a transfer that makes no progress, and what a step at its port leaves of it.
-use Rattle.std.proofs.Common.{arith, ◌≡◌, ◌≤◌, ◌+◌, ◌*◌, ◌-◌, mul-add, ℕ, Bool, Some, sym, ap, ◌∙◌, inl, inr}
+use Rattle.std.proofs.Common.{arith, ◌≡◌, ◌≤◌, ◌+◌, ◌*◌, ◌-◌, max, mul-add, ℕ, Bool, true, false, Some, sym, ap, ◌∙◌}
+use Rattle.std.proofs.Common.{inl, inr}
 use Rattle.tftp_ends.specs.declared.outcome.Outcome.{Outcome}
 use Rattle.tftp_ends.specs.End.{EndState, is_complete, outcome_of}
 use Rattle.tftp_ends.specs.Step.{after_turn, timeout_turn}
 use Rattle.tftp_sockets.specs.Watch.{deadline_of}
 use Rattle.tftp_loop.specs.Expiry.{ClosesInSilence}
-use Rattle.tftp_loop.specs.Serves.{Timer, timer_after}
+use Rattle.tftp_loop.specs.Serves.{Timer, deadline_by, timer_after}
 use Rattle.tftp_loop.proofs.EndSteps.{timeout_spends, timeouts_left}
 use Rattle.tftp_loop.proofs.PortEnds.{By_datagram, By_late_timeout, By_nothing, By_timeout, Changes}
 
@@ -17,13 +18,13 @@ pub record InTime (start millis round most since deadline left : ℕ) : Type 0 w
   pub newest : since ≤ start + (millis + round) * spent + millis
 
 module _ (start millis round most : ℕ) where
-  pub first_time : (deadline left : ℕ) → deadline ≤ start + millis → left ≤ most + 1
-      → InTime start millis round most start deadline left
-  first_time deadline left near few =
+  pub first_time : (since deadline left : ℕ) → since ≤ start → deadline ≤ start + millis → left ≤ most + 1
+      → InTime start millis round most since deadline left
+  first_time since deadline left from near few =
       let none : (millis + round) * 0 ≡ 0 = omega arith in
-      record { spent = 0; few = omega (arith, few); due = omega (arith, near, none); newest = omega (arith, none) }
+      record { spent = 0; few = omega (arith, few); due = omega (arith, near, none); newest = omega (arith, from, none) }
 
-  no_later : (since deadline deadline' left left' : ℕ) → deadline' ≤ deadline → left' ≤ left
+  pub no_later : (since deadline deadline' left left' : ℕ) → deadline' ≤ deadline → left' ≤ left
       → InTime start millis round most since deadline left → InTime start millis round most since deadline' left'
   no_later since deadline deadline' left left' sooner fewer t =
       let few = t.few in
@@ -68,36 +69,63 @@ module _ (start millis round most : ℕ) where
       ap (λ (n : ℕ). (millis + round) * n) sum in
       omega (arith, due, before, all, same)
 
+-- the latest that a deadline may be in this round: a provisional one is yet to be set
+abbrev pub latest : ℕ → ℕ → ℕ → Bool → ℕ → ℕ
+latest millis round since true deadline = max deadline (since + round + millis)
+latest millis round since false deadline = deadline
+
+pub latest_later : (millis round since : ℕ) (b : Bool) (deadline : ℕ) → deadline ≤ latest millis round since b deadline
+latest_later millis round since true deadline = omega arith
+latest_later millis round since false deadline = omega arith
+
+pub set_early : (millis round since time : ℕ) (b : Bool) (timer : Timer) → timer.interval * 1000 ≡ millis
+    → time ≤ since + round → deadline_by time b timer ≤ latest millis round since b timer.deadline
+set_early millis round since time true timer interval soon =
+    let own : deadline_of time timer.interval ≤ time + timer.interval * 1000 = omega arith in
+    omega (arith, own, interval, soon)
+set_early millis round since time false timer interval soon = omega arith
+
 -- ---- what a step at the port leaves
 module _ (start millis round most : ℕ) (Idle Silent : Type 0) (now since : ℕ) (timer timer' : Timer) (e e' : EndState)
     (changes : Changes Idle Silent now timer timer' e e') where
   pub changes_in_time : Idle → timer.interval * 1000 ≡ millis → now ≤ since + round
-      → (1 ≤ timeouts_left e → InTime start millis round most since timer.deadline (timeouts_left e))
-      → 1 ≤ timeouts_left e' → InTime start millis round most since timer'.deadline (timeouts_left e')
+      → (1 ≤ timeouts_left e
+      → InTime start millis round most since (latest millis round since timer.provisional timer.deadline)
+      (timeouts_left e))
+      → 1 ≤ timeouts_left e'
+      → InTime start millis round most since (latest millis round since timer'.provisional timer'.deadline)
+      (timeouts_left e')
   changes_in_time idle interval soon before some = elim changes [
     | By_datagram progress handled is_idle silent is ↦
         let still = is_idle idle in
         let fewer = handled.left still in
-        let deadline : timer'.deadline ≡ timer.deadline =
-        ap (λ (t : Timer). t.deadline) is ∙ ap (λ (b : Bool). (timer_after now b timer).deadline) still in
-        no_later start millis round most since timer.deadline timer'.deadline (timeouts_left e) (timeouts_left e')
+        let last = λ (t : Timer). latest millis round since t.provisional t.deadline in
+        let deadline : last timer' ≡ last timer =
+        ap last (is ∙ ap (λ (b : Bool). timer_after now b timer) still) in
+        no_later start millis round most since (last timer) (last timer') (timeouts_left e) (timeouts_left e')
         (omega (arith, deadline)) fewer (before (omega (arith, some, fewer)))
     | By_timeout end is ↦
         let same : timeouts_left e' ≡ timeouts_left (after_turn e (timeout_turn e)) =
         ap (λ (f : EndState). timeouts_left f) end in
         let spends : timeouts_left (after_turn e (timeout_turn e)) + 1 ≤ timeouts_left e =
         (timeout_spends e).left (omega (arith, some, same)) in
-        let deadline : timer'.deadline ≡ deadline_of now timer.interval = ap (λ (t : Timer). t.deadline) is in
-        timed_out start millis round most since timer.deadline timer'.deadline now (timeouts_left e)
-        (timeouts_left e') soon (omega (arith, deadline, interval)) (omega (arith, spends, same))
+        let last = λ (t : Timer). latest millis round since t.provisional t.deadline in
+        let deadline : last timer' ≡ max (deadline_of now timer.interval) (since + round + millis) = ap last is in
+        let own : deadline_of now timer.interval ≤ now + timer.interval * 1000 = omega arith in
+        timed_out start millis round most since (last timer) (last timer') (since + round) (timeouts_left e)
+        (timeouts_left e') (omega arith) (omega (arith, deadline, own, soon, interval)) (omega (arith, spends, same))
         (before (omega (arith, spends)))
     | By_late_timeout end none is ↦
         let same : timeouts_left e' ≡ timeouts_left e = ap (λ (f : EndState). timeouts_left f) end in
         absurd (omega (arith, some, same, none))
-    | By_nothing end deadline interval' ↦
+    | By_nothing end deadline interval' provisional ↦
         let same : timeouts_left e' ≡ timeouts_left e = ap (λ (f : EndState). timeouts_left f) end in
-        no_later start millis round most since timer.deadline timer'.deadline (timeouts_left e) (timeouts_left e')
-        (omega (arith, deadline)) (omega (arith, same)) (before (omega (arith, some, same)))
+        let last = λ (t : Timer). latest millis round since t.provisional t.deadline in
+        let here : last timer' ≡ last timer =
+        ap (λ (b : Bool). latest millis round since b timer'.deadline) provisional
+        ∙ ap (λ (n : ℕ). latest millis round since timer.provisional n) deadline in
+        no_later start millis round most since (last timer) (last timer') (timeouts_left e) (timeouts_left e')
+        (omega (arith, here)) (omega (arith, same)) (before (omega (arith, some, same)))
   ]
 
   pub changes_complete : Silent → is_complete e'.position.phase ≡ is_complete e.position.phase
@@ -105,7 +133,7 @@ module _ (start millis round most : ℕ) (Idle Silent : Type 0) (now since : ℕ
     | By_datagram progress handled is_idle silent is ↦ absurd (silent quiet)
     | By_timeout end is ↦ ap (λ (f : EndState). is_complete f.position.phase) end ∙ (timeout_spends e).complete
     | By_late_timeout end none is ↦ ap (λ (f : EndState). is_complete f.position.phase) end
-    | By_nothing end deadline interval ↦ ap (λ (f : EndState). is_complete f.position.phase) end
+    | By_nothing end deadline interval provisional ↦ ap (λ (f : EndState). is_complete f.position.phase) end
   ]
 
   -- from the end before to the first one
@@ -125,6 +153,6 @@ module _ (start millis round most : ℕ) (Idle Silent : Type 0) (now since : ℕ
         closes_first e0 o complete closes ((timeout_spends e).closes o
         (sym (ap (λ (f : EndState). outcome_of f.position.phase) end) ∙ closed))
     | By_late_timeout end none is ↦ closes o (sym (ap (λ (f : EndState). outcome_of f.position.phase) end) ∙ closed)
-    | By_nothing end deadline interval ↦ closes o (sym (ap (λ (f : EndState). outcome_of f.position.phase) end)
+    | By_nothing end deadline interval provisional ↦ closes o (sym (ap (λ (f : EndState). outcome_of f.position.phase) end)
         ∙ closed)
   ]

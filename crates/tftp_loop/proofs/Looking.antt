@@ -1,6 +1,6 @@
 -- A port of a transfer that is not marked is drained, or is left for a while.
 use Rattle.std.proofs.Common.{arith, ◌≡◌, ◌≤◌, ◌<◌, ◌==◌, ◌||◌, ◌&&◌, ◌+◌, ◌⊎◌, not, ℕ, Bool, true, false, List, ◌∷◌}
-use Rattle.std.proofs.Common.{length, Option, Some, None, inl, inr, refl, sym, ap, subst, ◌∙◌}
+use Rattle.std.proofs.Common.{length, map, Option, Some, None, inl, inr, refl, sym, ap, subst, ◌∙◌}
 use Rattle.std.specs.Prelude.{slice_index_or, All, ◌≢◌}
 use Rattle.std.specs.List.{swap_remove}
 use Rattle.std.proofs.lemmas.List.{length-map}
@@ -14,7 +14,8 @@ use Rattle.tftp_sockets.specs.Journal.Event.{Received, Elapsed, Watched, Quiet}
 use Rattle.tftp_sockets.specs.Journal.QuietEvent.{Empty, Failed, Slept, Woke}
 use Rattle.tftp_sockets.specs.Quiet.{is_among, is_drained}
 use Rattle.tftp_loop.specs.Serves.{Timer, PortState, LoopState, AtPort, Does, answering_port, interval_at, look_after}
-use Rattle.tftp_loop.specs.Serves.{marked_by, next_look, port_state, restarted, started, timer_after, with_timer}
+use Rattle.tftp_loop.specs.Serves.{deadline_by, marked_by, next_look, port_state, restarted, set_by, started, timer_after}
+use Rattle.tftp_loop.specs.Serves.{with_timer}
 use Rattle.tftp_loop.specs.Serves.AtPort.{A_datagram, A_lost_datagram, Nothing_found, A_failed_receive, A_timeout}
 use Rattle.tftp_loop.specs.Serves.AtPort.{A_missed_timeout, Work}
 use Rattle.tftp_loop.specs.Serves.Does.{Waited, At_port, Request_received, No_request_found, Request_not_received}
@@ -24,7 +25,7 @@ use Rattle.tftp_loop.specs.Tended.{AreApart}
 use Rattle.tftp_loop.proofs.Drained.{answered_drained, either_drained, other_drained, port_drained, replied_drained}
 use Rattle.tftp_loop.proofs.LoopStays.{all_appended, all_removed, all_set, other_port}
 use Rattle.tftp_loop.proofs.PortStays.{or_left, or_right, own_receive}
-use Rattle.tftp_loop.proofs.Waits.{marked_at}
+use Rattle.tftp_loop.proofs.Waits.{mapped_at}
 
 -- the port is left for a while after an opening or progress: it is read again soon, and if that is at its deadline,
 -- the interval is as short
@@ -88,6 +89,33 @@ after_timeout es fs now timer looked on (Drained d) = Drained (on d)
 after_timeout es fs now timer looked on (Left l) = Left
     (record { soon = l.short looked now (omega arith); short = λ e n k. l.short looked n k })
 
+-- a reading of the clock sets a provisional deadline
+set_left : (now time : ℕ) (b : Bool) (timer : Timer) → now ≤ time → IsLeft now timer
+    → IsLeft time (record timer { deadline = deadline_by time b timer; provisional = false })
+set_left now time true timer h l =
+    let soon = l.soon in
+    record {
+      soon = omega (arith, soon, h);
+      short = λ e n k. omega (arith, e, soon, h, k);
+    }
+set_left now time false timer h l =
+    let soon = l.soon in
+    record { soon = omega (arith, soon, h); short = λ e n k. l.short e n (omega (arith, h, k)) }
+
+set_looked : (es : List Event) (now time : ℕ) (timer : Timer) → now ≤ time → IsLooked es now timer
+    → IsLooked (Watched time ∷ es) time (set_by time timer)
+set_looked es now time timer h (Marked m) = Marked m
+set_looked es now time timer h (Drained d) = Drained d
+set_looked es now time timer h (Left l) = Left (set_left now time timer.provisional timer h l)
+
+pub read_looked : (es : List Event) (now time : ℕ) (timers : List Timer) → now ≤ time → All (IsLooked es now) timers
+    → All (IsLooked (Watched time ∷ es) time) (map (set_by time) timers)
+read_looked es now time timers h looked k d within =
+    let long = length-map timers (set_by time) in
+    let inside : k < length timers = omega (arith, long, within) in
+    subst (IsLooked (Watched time ∷ es) time) (sym (mapped_at (set_by time) timers k d inside))
+    (set_looked es now time (slice_index_or timers k d) h (looked k d inside))
+
 -- a wait marks the ports that it reports
 woken : (es : List Event) (now millis : ℕ) (ports : List ℕ) (timer : Timer) (among : Bool)
     → is_among timer.port ports ≡ among → IsLooked es now timer
@@ -138,14 +166,17 @@ module _ {S F D : Type 0} (meaning : StoreMeaning S D) (sources : SourceMeaning 
   pub step_looked : (s t : LoopState S F D) → Does meaning sources s t
       → All (λ (timer : Timer). timer.port ≢ s.requests) s.timers → AreApart s.timers → AreLooked s → AreLooked t
   step_looked s t (Waited d) own apart looked =
-      let after = Quiet (Woke d.ports) ∷ Quiet (Slept d.millis) ∷ s.events in
+      let read = Watched d.time ∷ s.events in
+      let after = Quiet (Woke d.ports) ∷ Quiet (Slept d.millis) ∷ read in
+      let set = map (set_by d.time) s.timers in
+      let were = read_looked s.events s.now d.time s.timers d.forward looked in
       subst AreLooked (sym d.is)
       (λ k e h.
-      let long = length-map s.timers (marked_by d.ports) in
-      let within : k < length s.timers = omega (arith, long, h) in
-      let timer = slice_index_or s.timers k e in
-      subst (IsLooked after s.now) (sym (marked_at d.ports s.timers k e within))
-      (woken s.events s.now d.millis d.ports timer (is_among timer.port d.ports) refl (looked k e within)))
+      let long = length-map set (marked_by d.ports) in
+      let within : k < length set = omega (arith, long, h) in
+      let timer = slice_index_or set k e in
+      subst (IsLooked after d.time) (sym (mapped_at (marked_by d.ports) set k e within))
+      (woken read d.time d.millis d.ports timer (is_among timer.port d.ports) refl (were k e within)))
   step_looked s t (Clock_read d) own apart looked =
       subst AreLooked (sym d.is)
       (λ k e h.

@@ -16,7 +16,7 @@ use Rattle.tftp_server.specs.State.{TransferState, ServerState, at, is_closed, i
 use Rattle.tftp_server.specs.Steps.{KeepsHeld, with_end}
 use Rattle.tftp_server.specs.Work.{WorksAt}
 use Rattle.tftp_sockets.specs.Watch.{deadline_of}
-use Rattle.tftp_loop.specs.Serves.{Timer, PortState, AtPort, marked_as, restarted, timer_after}
+use Rattle.tftp_loop.specs.Serves.{Timer, PortState, AtPort, deadline_by, marked_as, restarted, timer_after}
 use Rattle.tftp_loop.specs.Serves.AtPort.{A_datagram, A_lost_datagram, Nothing_found, A_failed_receive, A_timeout}
 use Rattle.tftp_loop.specs.Serves.AtPort.{A_missed_timeout, Work}
 use Rattle.tftp_loop.specs.Expiry.{IsIdleAt, ReceivesNoneAt}
@@ -39,7 +39,7 @@ pub data Changes (Idle Silent : Type 0) (now : ℕ) (timer timer' : Timer) (e e'
   By_late_timeout : e' ≡ e → timeouts_left e ≡ 0 → timer' ≡ restarted now timer
       → Changes Idle Silent now timer timer' e e'
   By_nothing : e' ≡ e → timer'.deadline ≡ timer.deadline → timer'.interval ≡ timer.interval
-      → Changes Idle Silent now timer timer' e e'
+      → timer'.provisional ≡ timer.provisional → Changes Idle Silent now timer timer' e e'
 
 -- ---- timers
 pub record SameTimer (timer timer' : Timer) : Type 0 where
@@ -67,6 +67,14 @@ after_near now true timer near = (let h : deadline_of now timer.interval ≤ now
     omega arith in h)
 after_near now false timer near = near
 
+-- also once it is set
+pub set_near : (now time : ℕ) (b : Bool) (timer : Timer) → now ≤ time → IsNear now timer
+    → deadline_by time b timer ≤ time + timer.interval * 1000
+set_near now time true timer h near =
+    let own : deadline_of time timer.interval ≤ time + timer.interval * 1000 = omega arith in
+    omega (arith, own, near, h)
+set_near now time false timer h near = omega (arith, near, h)
+
 pub restarted_near : (now : ℕ) (timer : Timer) → IsNear now (restarted now timer)
 restarted_near now timer = (let h : deadline_of now timer.interval ≤ now + timer.interval * 1000 = omega arith in h)
 
@@ -78,7 +86,7 @@ changes_near Idle Silent now timer timer' e e' (By_timeout end is) near =
     near_by now (restarted now timer) timer' is (restarted_near now timer)
 changes_near Idle Silent now timer timer' e e' (By_late_timeout end none is) near =
     near_by now (restarted now timer) timer' is (restarted_near now timer)
-changes_near Idle Silent now timer timer' e e' (By_nothing end deadline interval) near =
+changes_near Idle Silent now timer timer' e e' (By_nothing end deadline interval provisional) near =
     let same : timer'.interval * 1000 ≡ timer.interval * 1000 = ap (λ (i : ℕ). i * 1000) interval in
     omega (arith, near, deadline, same)
 
@@ -105,7 +113,7 @@ changes_limit Idle Silent now timer timer' e e' (By_timeout end is) retries limi
     (timeout_spends e).moves limit)
 changes_limit Idle Silent now timer timer' e e' (By_late_timeout end none is) retries limit =
     subst (HasLimit retries) (sym end) limit
-changes_limit Idle Silent now timer timer' e e' (By_nothing end deadline interval) retries limit =
+changes_limit Idle Silent now timer timer' e e' (By_nothing end deadline interval provisional) retries limit =
     subst (HasLimit retries) (sym end) limit
 
 closed_by : (b : Bool) → not b ≡ false → b ≡ true
@@ -191,17 +199,19 @@ module _ {S F D : Type 0} (meaning : StoreMeaning S D) (sources : SourceMeaning 
         next = keeps.0;
         found = put_next old.timer.port old.server.held new.server.held transfer keeps.0 found keeps.2;
         changes = By_nothing keeps.1.end (ap (λ (t : Timer). t.deadline) d.timer)
-            (ap (λ (t : Timer). t.interval) d.timer);
+            (ap (λ (t : Timer). t.interval) d.timer) (ap (λ (t : Timer). t.provisional) d.timer);
       }
   at_transfer now old new (Nothing_found d) transfer found = record {
     next = transfer;
     found = ap (λ (s : ServerState S F D). at old.timer.port s.held) d.server ∙ found;
-    changes = By_nothing refl (ap (λ (t : Timer). t.deadline) d.timer) (ap (λ (t : Timer). t.interval) d.timer);
+    changes = By_nothing refl (ap (λ (t : Timer). t.deadline) d.timer) (ap (λ (t : Timer). t.interval) d.timer)
+        (ap (λ (t : Timer). t.provisional) d.timer);
   }
   at_transfer now old new (A_failed_receive d) transfer found = record {
     next = transfer;
     found = ap (λ (s : ServerState S F D). at old.timer.port s.held) d.server ∙ found;
-    changes = By_nothing refl (ap (λ (t : Timer). t.deadline) d.timer) (ap (λ (t : Timer). t.interval) d.timer);
+    changes = By_nothing refl (ap (λ (t : Timer). t.deadline) d.timer) (ap (λ (t : Timer). t.interval) d.timer)
+        (ap (λ (t : Timer). t.provisional) d.timer);
   }
   at_transfer now old new (A_timeout d) transfer found =
       let t = d.times_out.times_out in
@@ -229,5 +239,6 @@ module _ {S F D : Type 0} (meaning : StoreMeaning S D) (sources : SourceMeaning 
         next = works.0;
         found = put_next old.timer.port old.server.held new.server.held transfer works.0 found works.2;
         changes = By_nothing (ap (λ (t : TransferState F D). t.end) works.1.rest)
-            (ap (λ (t : Timer). t.deadline) d.timer) (ap (λ (t : Timer). t.interval) d.timer);
+            (ap (λ (t : Timer). t.deadline) d.timer) (ap (λ (t : Timer). t.interval) d.timer)
+            (ap (λ (t : Timer). t.provisional) d.timer);
       }

@@ -95,8 +95,9 @@ module _ {S F D : Type 0} (meaning : StoreMeaning S D) (sources : SourceMeaning 
         (ap (λ (d : ServerLoop S F D). d.sockets.requests.port) is)
         (ap (λ (d : ServerLoop S F D). d.sockets.pool.range) is)
         (ap (λ (d : ServerLoop S F D). d.server) is) refl (ap (λ (d : ServerLoop S F D). (loop_state None d).timers) is)
-        (ap (λ (d : ServerLoop S F D). d.sockets.watch.now) is) (ap (λ (d : ServerLoop S F D). d.sockets.is_ready) is
-        ∙ marked) (ap (λ (d : ServerLoop S F D). d.left) is)
+        (ap (λ (d : ServerLoop S F D). d.sockets.watch.now) is)
+        (ap (λ (d : ServerLoop S F D). d.sockets.limit) is) refl
+        (ap (λ (d : ServerLoop S F D). d.sockets.is_ready) is ∙ marked) (ap (λ (d : ServerLoop S F D). d.left) is)
         (ap (λ (d : ServerLoop S F D). d.rounds) is) events))
 
     received_is_tried : AreTried received
@@ -149,6 +150,7 @@ module _ {S F D : Type 0} (meaning : StoreMeaning S D) (sources : SourceMeaning 
       ∙ sym (ap (λ (p : Option (Endpoint × ℕ)). pending_in p before) none)))
       (ap (λ (d : ServerLoop S F D). (loop_state None d).timers) is)
       (ap (λ (d : ServerLoop S F D). d.sockets.watch.now) is)
+      (ap (λ (d : ServerLoop S F D). d.sockets.limit) is) refl
       (ap (λ (d : ServerLoop S F D). d.sockets.is_ready) is)
       (ap (λ (d : ServerLoop S F D). d.left) is) (ap (λ (d : ServerLoop S F D). d.rounds) is) events
 

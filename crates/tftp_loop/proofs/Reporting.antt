@@ -19,6 +19,7 @@ use Rattle.tftp_loop.specs.Run.Run.{Start, Then}
 use Rattle.tftp_loop.specs.declared.serving.Ending.{Ending}
 use Rattle.tftp_loop.specs.Serves.{Timer, PortState, LoopState, AtPort, Does, Waits, answering_port, at_start}
 use Rattle.tftp_loop.specs.Serves.{interval_at, marked_by, port_state, started, with_timer}
+use Rattle.tftp_loop.specs.Serves.{set_by}
 use Rattle.tftp_loop.specs.Serves.AtPort.{A_datagram, A_lost_datagram, Nothing_found, A_failed_receive, A_timeout}
 use Rattle.tftp_loop.specs.Serves.AtPort.{A_missed_timeout, Work}
 use Rattle.tftp_loop.specs.Serves.Does.{Waited, At_port, Request_received, No_request_found, Request_not_received}
@@ -33,7 +34,7 @@ use Rattle.tftp_loop.proofs.Sleeping.{kept_along, step_kept}
 use Rattle.tftp_loop.proofs.Tables.{any_default, appended_at, appended_long, inserted_apart, removed_apart}
 use Rattle.tftp_loop.proofs.Tables.{removed_place, set_other, set_own}
 use Rattle.tftp_loop.proofs.Visits.{works_unclosed}
-use Rattle.tftp_loop.proofs.Waits.{marked_at}
+use Rattle.tftp_loop.proofs.Waits.{waited_at}
 
 -- ---- at the port
 module _ {S F D : Type 0} (meaning : StoreMeaning S D) (sources : SourceMeaning F) where
@@ -277,17 +278,20 @@ module _ {S F D : Type 0} (meaning : StoreMeaning S D) (sources : SourceMeaning 
       is_among port waits.ports ≡ true → HasTimer port old.timers → IsDue port woken
   reported_due port old woken waits among has =
       let long = length-map old.timers (λ (timer : Timer). timer.port) in
-      let more = length-map old.timers (marked_by waits.ports) in
+      let set = map (set_by waits.time) old.timers in
+      let more = length-map set (marked_by waits.ports) in
+      let as_many = length-map old.timers (set_by waits.time) in
       let within : has.0 < length old.timers = (let w = has.1 in omega (arith, long, w)) in
       let port_of : (d : Timer) → (slice_index_or old.timers has.0 d).port ≡ port =
       λ d. sym (map_at (λ (timer : Timer). timer.port) old.timers has.0 d)
       ∙ (any_default (map (λ (timer : Timer). timer.port) old.timers) has.0 d.port port has.1 ∙ has.2) in
       subst (IsDue port) (sym waits.is) (record {
         place = has.0;
-        within = omega (arith, more, within);
-        has_port = λ d. ap (λ (u : Timer). u.port) (marked_at waits.ports old.timers has.0 d within) ∙ port_of d;
+        within = omega (arith, more, as_many, within);
+        has_port =
+            λ d. ap (λ (u : Timer). u.port) (waited_at waits.time waits.ports old.timers has.0 d within) ∙ port_of d;
         marked = λ d.
-            ap (λ (u : Timer). u.marked) (marked_at waits.ports old.timers has.0 d within)
+            ap (λ (u : Timer). u.marked) (waited_at waits.time waits.ports old.timers has.0 d within)
             ∙ or_right (slice_index_or old.timers has.0 d).marked
             (is_among (slice_index_or old.timers has.0 d).port waits.ports)
             (ap (λ (p : ℕ). is_among p waits.ports) (port_of d) ∙ among);

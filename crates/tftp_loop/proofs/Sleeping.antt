@@ -1,6 +1,6 @@
 -- A server that may sleep has nothing to do.
 use Rattle.std.proofs.Common.{arith, ◌≡◌, ◌<◌, ◌≤◌, ◌-◌, ◌||◌, ◌&&◌, not, ℕ, zero, suc, Bool, true, false, List, []}
-use Rattle.std.proofs.Common.{◌∷◌, length, cond, Option, Some, None, refl, sym, ap, subst, ◌∙◌}
+use Rattle.std.proofs.Common.{◌∷◌, length, map, cond, Option, Some, None, refl, sym, ap, subst, ◌∙◌}
 use Rattle.std.specs.Prelude.{slice_index_or, is_some, All, ◌≢◌}
 use Rattle.std.specs.List.{list_any}
 use Rattle.tftp_file.specs.Source.{SourceMeaning}
@@ -8,11 +8,13 @@ use Rattle.tftp_store.specs.Store.{StoreMeaning}
 use Rattle.tftp_server.specs.State.{ServerState}
 use Rattle.tftp_sockets.specs.declared.watch.TheConstants.{LONGEST_WAIT}
 use Rattle.tftp_sockets.specs.Journal.{Event}
+use Rattle.tftp_sockets.specs.Journal.Event.{Watched}
 use Rattle.tftp_sockets.specs.Quiet.{is_among, is_drained}
 use Rattle.tftp_loop.specs.Run.{Run}
 use Rattle.tftp_loop.specs.Run.Run.{Start, Then}
 use Rattle.tftp_loop.specs.declared.serving.Ending.{Ending}
-use Rattle.tftp_loop.specs.Serves.{Timer, LoopState, Does, Waits, at_start, is_busy, port_state, until_look}
+use Rattle.tftp_loop.specs.Serves.{Timer, LoopState, Does, Waits, at_start, is_busy, port_state, read_at, set_by}
+use Rattle.tftp_loop.specs.Serves.{until_look}
 use Rattle.tftp_loop.specs.Serves.Does.{Waited, At_port, Request_received, No_request_found, Request_not_received}
 use Rattle.tftp_loop.specs.Serves.Does.{No_port_found, Request_answered, Request_lost, Clock_read, Store_set}
 use Rattle.tftp_loop.specs.Serves.Does.{Transfer_closed}
@@ -20,10 +22,10 @@ use Rattle.tftp_loop.specs.Served.{Work_by}
 use Rattle.tftp_loop.specs.Sleeps.{HasItsOwnPort, MaySleep}
 use Rattle.tftp_loop.specs.Tended.{AreKept}
 use Rattle.tftp_loop.proofs.Drained.{port_drained, replied_drained}
-use Rattle.tftp_loop.proofs.Looking.{AreLooked, looked_at_rest, step_looked}
+use Rattle.tftp_loop.proofs.Looking.{AreLooked, looked_at_rest, read_looked, step_looked}
 use Rattle.tftp_loop.proofs.LoopStays.{work_keeps}
 use Rattle.tftp_loop.proofs.PortStays.{own_receive}
-use Rattle.tftp_loop.proofs.Waits.{marked_kept}
+use Rattle.tftp_loop.proofs.Waits.{set_kept, waited_kept}
 
 module _ {S F D : Type 0} (meaning : StoreMeaning S D) (sources : SourceMeaning F) where
   -- ---- along a run
@@ -79,7 +81,7 @@ module _ {S F D : Type 0} (meaning : StoreMeaning S D) (sources : SourceMeaning 
       AreKept t.server.held t.timers
   step_kept s t (Waited d) kept =
       subst (λ (u : LoopState S F D). AreKept u.server.held u.timers) (sym d.is)
-      (marked_kept s.server.held d.ports s.timers kept)
+      (waited_kept s.server.held d.time d.ports s.timers kept)
   step_kept s t (Clock_read d) kept = subst (λ (u : LoopState S F D). AreKept u.server.held u.timers) (sym d.is) kept
   step_kept s t (At_port d) kept = (work_keeps meaning sources s t (Then Start (Work_by (At_port d) tt))).kept kept
   step_kept s t (Request_received d) kept =
@@ -168,26 +170,31 @@ module _ {S F D : Type 0} (meaning : StoreMeaning S D) (sources : SourceMeaning 
   pub rests_before_it_sleeps : (port : ℕ) (ending : Ending) (server : ServerState S F D) (before : List Event)
       (old new : LoopState S F D) → Run (Does meaning sources) (at_start port ending server before) old
       → HasItsOwnPort meaning sources (at_start port ending server before) old →
-      (waits : Waits meaning sources old new) → 1 ≤ waits.millis → MaySleep meaning sources old waits.millis
+      (waits : Waits meaning sources old new) → 1 ≤ waits.millis →
+      MaySleep meaning sources (read_at waits.time old) waits.millis
   rests_before_it_sleeps port ending server before old new run own waits some =
       let was = quiet_along meaning sources port ending server before old run own in
-      let until = until_look old.now old.timers in
+      let set = map (set_by waits.time) old.timers in
+      let until = until_look waits.time set in
       let longest = waits.may.longest in
       let parts =
-      idle_parts old.marked (is_some old.pending) (list_any (λ (timer : Timer). timer.marked) old.timers) until
+      idle_parts old.marked (is_some old.pending) (list_any (λ (timer : Timer). timer.marked) set) until
       (omega (arith, some, longest)) in
-      let most : waits.millis ≤ until = idle_millis (is_busy old) until waits.millis some longest in
+      let most : waits.millis ≤ until = idle_millis (is_busy (read_at waits.time old)) until waits.millis some longest in
+      let looked = read_looked old.events old.now waits.time old.timers waits.forward was.looked in
+      let kept = set_kept old.server.held waits.time old.timers was.kept in
       record {
         requests = was.drained parts.0;
         pending = none_pending old.pending parts.1;
         transfers = λ k d h.
-            let first = look_first old.now old.timers k d h in
-            let unmarked = none_marked old.timers parts.2 k d h in
+            let first = look_first waits.time set k d h in
+            let unmarked = none_marked set parts.2 k d h in
             record {
               unmarked = unmarked;
-              drained = looked_at_rest (slice_index_or old.timers k d) old.events old.now unmarked (was.looked k d h);
+              drained = looked_at_rest (slice_index_or set k d) (Watched waits.time ∷ old.events) waits.time unmarked
+                  (looked k d h);
               ends = omega (arith, first, most, some);
-              look = (was.kept.each k d h).look;
+              look = (kept.each k d h).look;
             };
-        longest = let l = look_longest old.now old.timers in omega (arith, l, most);
+        longest = let l = look_longest waits.time set in omega (arith, l, most);
       }

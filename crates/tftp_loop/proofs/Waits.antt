@@ -1,14 +1,15 @@
 -- A wait, and when it is allowed.
 use Rattle.std.proofs.Common.{arith, ◌≡◌, ◌<◌, ◌≤◌, ◌-◌, ◌||◌, ◌⊎◌, ◌+◌, ◌++◌, ℕ, zero, suc, Bool, List, [], ◌∷◌}
-use Rattle.std.proofs.Common.{length, map, take, drop, get_or, set, min, Option, Some, None, refl, sym, ap, subst, ◌∙◌}
+use Rattle.std.proofs.Common.{length, map, take, drop, get_or, set, min, max, true, false, Option, Some, None, IsSome}
+use Rattle.std.proofs.Common.{refl, sym, ap, subst, ◌∙◌}
 use Rattle.std.proofs.Common.{inl, inr, cond}
 use Rattle.std.specs.Prelude.{slice_index_or, is_some, All, ◌≢◌}
 use Rattle.std.specs.List.{list_any}
 use Rattle.tftp_file.specs.Source.{SourceMeaning}
 use Rattle.tftp_ends.specs.declared.endpoint.Endpoint.{Endpoint}
 use Rattle.tftp_store.specs.Store.{StoreMeaning}
-use Rattle.tftp_server.specs.State.{TransferState, ServerState}
-use Rattle.tftp_sockets.specs.Watch.{wait_of}
+use Rattle.tftp_server.specs.State.{TransferState, ServerState, at, taken_of}
+use Rattle.tftp_sockets.specs.Watch.{last_moment, wait_of}
 use Rattle.tftp_sockets.specs.declared.watch.TheConstants.{LONGEST_WAIT}
 use Rattle.tftp_sockets.specs.declared.port.Port.{Port}
 use Rattle.tftp_sockets.specs.Journal.{Event}
@@ -19,11 +20,12 @@ use Rattle.tftp_loop.specs.declared.transfer_port.TransferSocket.{TransferSocket
 use Rattle.tftp_loop.specs.declared.server_loop.ServerLoop.{ServerLoop}
 use Rattle.tftp_loop.specs.Run.{Run}
 use Rattle.tftp_loop.specs.Run.Run.{Start, Then}
-use Rattle.tftp_loop.specs.Serves.{Timer, LoopState, Does, MayWait, IsServed, marked_by, most_millis, until_look}
+use Rattle.tftp_loop.specs.Serves.{Timer, LoopState, Does, MayWait, IsServed, deadline_by, marked_by, most_millis}
+use Rattle.tftp_loop.specs.Serves.{read_at, set_by, until_look}
 use Rattle.tftp_loop.specs.Serves.Does.{Waited, Clock_read}
 use Rattle.tftp_loop.specs.Served.{pending_in, state_of, timer_of}
-use Rattle.tftp_loop.specs.Tended.{AreSettled, AreKept, HasSlept, HasWoken, IsHeld, IsOpen, IsSettled, IsTended}
-use Rattle.tftp_loop.specs.Tended.{marked_if, millis_of, timers_of}
+use Rattle.tftp_loop.specs.Tended.{AreSettled, AreKept, HasRead, HasSlept, HasWoken, IsHeld, IsSettled, IsTended}
+use Rattle.tftp_loop.specs.Tended.{marked_if, millis_of, set_if, timers_of}
 use Rattle.tftp_loop.proofs.ListLemmas.{map_at}
 use Rattle.tftp_loop.proofs.LoopRuns.{same_state}
 use Rattle.tftp_loop.proofs.Tables.{any_default}
@@ -74,19 +76,32 @@ module _ {S F D : Type 0} where
         not_closed = tended.settled.none_closed k t h;
       }
 
-  pub may_wait : (buffer : List ℕ) (d : ServerLoop S F D) (millis : ℕ) (ports : List ℕ) → IsTended d → 1 ≤ d.left →
-      1 ≤ d.rounds → millis ≤ millis_of d → (millis ≡ 0 → (millis_of d ≡ 0) ⊎ (ports ≢ []))
-      → MayWait (state_of buffer d) millis ports
-  may_wait buffer d millis ports tended left rounds longest shortest =
-      let same = millis_same buffer d in
+  -- the state once the clock was read
+  read_state : (buffer : List ℕ) (d read : ServerLoop S F D) → HasRead d read →
+      record (read_at read.sockets.watch.now (state_of buffer d)) { limit = read.sockets.limit } ≡ state_of buffer read
+  read_state buffer d read r =
+      sym (same_state (state_of buffer read)
+      (record (read_at read.sockets.watch.now (state_of buffer d)) { limit = read.sockets.limit })
+      r.requests r.range r.server (ap (λ (p : Option (Endpoint × ℕ)). pending_in p buffer) r.pending) r.timers
+      refl refl refl r.marked r.left r.rounds r.events)
+
+  pub may_wait : (buffer : List ℕ) (d read : ServerLoop S F D) (millis : ℕ) (ports : List ℕ) → HasRead d read →
+      IsTended d → 1 ≤ d.left → 1 ≤ d.rounds → millis ≤ millis_of read
+      → (millis ≡ 0 → (millis_of read ≡ 0) ⊎ (ports ≢ []))
+      → MayWait (state_of buffer d) read.sockets.watch.now millis ports
+  may_wait buffer d read millis ports r tended left rounds longest shortest =
+      let time = read.sockets.watch.now in
+      let same : most_millis (read_at time (state_of buffer d)) ≡ millis_of read =
+      ap (λ (s : LoopState S F D). most_millis s) (read_state buffer d read r) ∙ millis_same buffer read in
       record {
+        read = refl;
         left = left;
         rounds = rounds;
         requests =
             λ h. tended.requests (ap (λ (b : Bool). d.sockets.is_ready || b) (sym (pending_same d.pending buffer)) ∙ h);
         transfers = served buffer d tended;
         longest = omega (arith, longest, same);
-        shortest = λ h. shortest_by (millis_of d) (most_millis (state_of buffer d)) same (shortest h);
+        shortest = λ h. shortest_by (millis_of read) (most_millis (read_at time (state_of buffer d))) same (shortest h);
       }
 
 -- ---- marks, one by one
@@ -112,58 +127,124 @@ timers_marked reported [] = refl
 timers_marked reported (port ∷ ports) =
     ap (λ (ts : List Timer). marked_by reported (timer_of port) ∷ ts) (timers_marked reported ports)
 
+-- the deadline of a port is set as that of its timer
+pub timers_set : (time : ℕ) (ports : List (Port TransferSocket)) →
+    map timer_of (map (set_if time) ports) ≡ map (set_by time) (map timer_of ports)
+timers_set time [] = refl
+timers_set time (port ∷ ports) =
+    ap (λ (ts : List Timer). set_by time (timer_of port) ∷ ts) (timers_set time ports)
+
 -- ---- what a wait leaves
-pub marked_at : (ports : List ℕ) (timers : List Timer) (k : ℕ) (d : Timer) → k < length timers →
-    slice_index_or (map (marked_by ports) timers) k d ≡ marked_by ports (slice_index_or timers k d)
-marked_at ports timers k d h =
-    let e = length-map timers (marked_by ports) in
-    any_default (map (marked_by ports) timers) k d (marked_by ports d) (omega (arith, e, h))
-    ∙ map_at (marked_by ports) timers k d
+pub mapped_at : (f : Timer → Timer) (timers : List Timer) (k : ℕ) (d : Timer) → k < length timers →
+    slice_index_or (map f timers) k d ≡ f (slice_index_or timers k d)
+mapped_at f timers k d h =
+    let e = length-map timers f in
+    any_default (map f timers) k d (f d) (omega (arith, e, h)) ∙ map_at f timers k d
 
-module _ {F D : Type 0} (held : List (ℕ × TransferState F D)) (ports : List ℕ) (timers : List Timer) where
-  short : (k : ℕ) → k < length (map (marked_by ports) timers) → k < length timers
-  short k h = let e = length-map timers (marked_by ports) in omega (arith, e, h)
+pub waited_at : (time : ℕ) (ports : List ℕ) (timers : List Timer) (k : ℕ) (d : Timer) → k < length timers →
+    slice_index_or (map (marked_by ports) (map (set_by time) timers)) k d
+    ≡ marked_by ports (set_by time (slice_index_or timers k d))
+waited_at time ports timers k d h =
+    let e = length-map timers (set_by time) in
+    mapped_at (marked_by ports) (map (set_by time) timers) k d (omega (arith, e, h))
+    ∙ ap (marked_by ports) (mapped_at (set_by time) timers k d h)
 
-  pub marked_kept : AreKept held timers → AreKept held (map (marked_by ports) timers)
-  marked_kept kept = record {
+-- a timer that was changed so has its port, and is read at its deadline at the latest
+record Changes (f : Timer → Timer) : Type 0 where
+  pub port : (t : Timer) → (f t).port ≡ t.port
+  pub look : (t : Timer) → t.look_at ≤ t.deadline → (f t).look_at ≤ (f t).deadline
+
+marks : (ports : List ℕ) → Changes (marked_by ports)
+marks ports = record { port = λ t. refl; look = λ t h. h }
+
+pub deadline_later : (time : ℕ) (b : Bool) (timer : Timer) → timer.deadline ≤ deadline_by time b timer
+deadline_later time true timer = omega arith
+deadline_later time false timer = omega arith
+
+sets : (time : ℕ) → Changes (set_by time)
+sets time = record {
+  port = λ t. refl;
+  look = λ t h. let later = deadline_later time t.provisional t in omega (arith, h, later);
+}
+
+module _ {F D : Type 0} (held : List (ℕ × TransferState F D)) (f : Timer → Timer) (changes : Changes f)
+    (timers : List Timer) where
+  short : (k : ℕ) → k < length (map f timers) → k < length timers
+  short k h = let e = length-map timers f in omega (arith, e, h)
+
+  port_of : (k : ℕ) (d : Timer) (h : k < length (map f timers)) →
+      (slice_index_or (map f timers) k d).port ≡ (slice_index_or timers k d).port
+  port_of k d h =
+      ap (λ (t : Timer). t.port) (mapped_at f timers k d (short k h)) ∙ changes.port (slice_index_or timers k d)
+
+  mapped_kept : AreKept held timers → AreKept held (map f timers)
+  mapped_kept kept = record {
     apart = λ j k d e hj hk h.
-        kept.apart j k d e (short j hj) (short k hk)
-        (sym (ap (λ (t : Timer). t.port) (marked_at ports timers j d (short j hj)))
-        ∙ (h ∙ ap (λ (t : Timer). t.port) (marked_at ports timers k e (short k hk))));
+        kept.apart j k d e (short j hj) (short k hk) (sym (port_of j d hj) ∙ (h ∙ port_of k e hk));
     each = λ k d h.
         let own = kept.each k d (short k h) in
-        subst (IsHeld held) (sym (marked_at ports timers k d (short k h)))
-        (record { there = own.there; look = own.look });
+        let timer = slice_index_or timers k d in
+        subst (IsHeld held) (sym (mapped_at f timers k d (short k h)))
+        (record {
+          there = subst (λ (p : ℕ). IsSome (at p held)) (sym (changes.port timer)) own.there;
+          look = changes.look timer own.look;
+        });
   }
 
-  marked_held : AreSettled held timers → AreSettled held (map (marked_by ports) timers)
-  marked_held settled = record {
-    kept = marked_kept settled.kept;
-    none_closed =
-        λ k d h. subst (IsOpen held) (sym (marked_at ports timers k d (short k h)))
+  mapped_held : AreSettled held timers → AreSettled held (map f timers)
+  mapped_held settled = record {
+    kept = mapped_kept settled.kept;
+    none_closed = λ k d h.
+        subst (λ (p : ℕ). taken_of (at p held) ≡ None) (sym (port_of k d h))
         (settled.none_closed k d (short k h));
   }
 
+module _ {F D : Type 0} (held : List (ℕ × TransferState F D)) (time : ℕ) where
+  pub set_kept : (timers : List Timer) → AreKept held timers → AreKept held (map (set_by time) timers)
+  set_kept timers = mapped_kept held (set_by time) (sets time) timers
+
+  set_held : (timers : List Timer) → AreSettled held timers → AreSettled held (map (set_by time) timers)
+  set_held timers = mapped_held held (set_by time) (sets time) timers
+
+  pub waited_kept : (ports : List ℕ) (timers : List Timer) → AreKept held timers →
+      AreKept held (map (marked_by ports) (map (set_by time) timers))
+  waited_kept ports timers kept =
+      mapped_kept held (marked_by ports) (marks ports) (map (set_by time) timers) (set_kept timers kept)
+
 module _ {S F D : Type 0} (meaning : StoreMeaning S D) (sources : SourceMeaning F) where
-  -- a wait that was allowed, its marks, and the clock after it
-  pub waits_as : (buffer : List ℕ) (old noted new : ServerLoop S F D) (millis : ℕ) (ports : List ℕ) →
-      MayWait (state_of buffer old) millis ports
-      → HasSlept millis ports old noted → HasWoken ports noted new →
+  -- the clock before a wait that was allowed, the wait, its marks, and the clock after it
+  pub waits_as : (buffer : List ℕ) (old read noted new : ServerLoop S F D) (millis : ℕ) (ports : List ℕ) →
+      HasRead old read → MayWait (state_of buffer old) read.sockets.watch.now millis ports
+      → HasSlept millis ports read noted → HasWoken ports noted new →
       Run (Does meaning sources) (state_of buffer old) (state_of buffer new)
-  waits_as buffer old noted new millis ports may slept woken =
-      let requests = slept.requests in
+  waits_as buffer old read noted new millis ports reads may slept woken =
+      let requests = slept.requests ∙ reads.requests in
       let now = slept.now in
+      let limit = slept.limit ∙ reads.limit in
+      let time = read.sockets.watch.now in
       let s = state_of buffer old in
       let waited : LoopState S F D = record s {
         marked = s.marked || is_among s.requests ports;
-        timers = map (marked_by ports) s.timers;
+        timers = map (marked_by ports) (map (set_by time) s.timers);
+        now = time;
+        limit = min (s.now + LONGEST_WAIT) last_moment;
+        woken = true;
         rounds = s.rounds - 1;
-        events = Quiet (Woke ports) ∷ Quiet (Slept millis) ∷ s.events;
+        events = Quiet (Woke ports) ∷ Quiet (Slept millis) ∷ Watched time ∷ s.events;
       } in
-      let forward : old.sockets.watch.now ≤ new.sockets.watch.now = let f = woken.now in omega (arith, now, f) in
-      let soon : new.sockets.watch.now ≤ old.sockets.watch.now + LONGEST_WAIT =
-      let f = woken.soon in omega (arith, now, f) in
-      Then (Then Start (Waited (record { millis = millis; ports = ports; may = may; is = refl })))
+      let forward : time ≤ new.sockets.watch.now = let f = woken.now in omega (arith, now, f) in
+      let soon : new.sockets.watch.now ≤ max time waited.limit =
+      subst (λ (n : ℕ). new.sockets.watch.now ≤ max n waited.limit) now
+      (subst (λ (n : ℕ). new.sockets.watch.now ≤ max noted.sockets.watch.now n) limit woken.soon) in
+      Then (Then Start (Waited (record {
+        time = time;
+        forward = reads.forward;
+        soon = reads.soon;
+        millis = millis;
+        ports = ports;
+        may = may;
+        is = refl;
+      })))
       (Clock_read (record {
         time = new.sockets.watch.now;
         woken = refl;
@@ -171,15 +252,30 @@ module _ {S F D : Type 0} (meaning : StoreMeaning S D) (sources : SourceMeaning 
         soon = soon;
         is =
             same_state (state_of buffer new)
-            (record waited { now = new.sockets.watch.now; events = Watched new.sockets.watch.now ∷ waited.events })
-            (woken.requests ∙ requests) (woken.range ∙ slept.range) (woken.server ∙ slept.server)
-            (ap (λ (p : Option (Endpoint × ℕ)). pending_in p buffer) (woken.pending ∙ slept.pending))
-            (woken.timers ∙ ap (map (marked_by ports)) slept.timers) refl
-            (woken.marked ∙ (ap (λ (b : Bool). b || is_among noted.sockets.requests.port ports) slept.marked
+            (record waited {
+              now = new.sockets.watch.now;
+              woken = false;
+              events = Watched new.sockets.watch.now ∷ waited.events;
+            })
+            (woken.requests ∙ requests) (woken.range ∙ (slept.range ∙ reads.range))
+            (woken.server ∙ (slept.server ∙ reads.server))
+            (ap (λ (p : Option (Endpoint × ℕ)). pending_in p buffer) (woken.pending ∙ (slept.pending ∙ reads.pending)))
+            (woken.timers ∙ ap (map (marked_by ports)) (slept.timers ∙ reads.timers)) refl (woken.limit ∙ limit) refl
+            (woken.marked ∙ (ap (λ (b : Bool). b || is_among noted.sockets.requests.port ports)
+            (slept.marked ∙ reads.marked)
             ∙ ap (λ (p : ℕ). old.sockets.is_ready || is_among p ports) requests))
-            (woken.left ∙ slept.left) (woken.rounds ∙ ap (λ (n : ℕ). n - 1) slept.rounds)
-            (woken.events ∙ ap (λ (es : List Event). Watched new.sockets.watch.now ∷ es) slept.events);
+            (woken.left ∙ (slept.left ∙ reads.left))
+            (woken.rounds ∙ ap (λ (n : ℕ). n - 1) (slept.rounds ∙ reads.rounds))
+            (woken.events ∙ ap (λ (es : List Event). Watched new.sockets.watch.now ∷ es)
+            (slept.events ∙ ap (λ (es : List Event). Quiet (Woke ports) ∷ Quiet (Slept millis) ∷ es) reads.events));
       }))
+
+  -- the clock leaves what is settled
+  pub read_settled : (old read : ServerLoop S F D) → HasRead old read → IsSettled old → IsSettled read
+  read_settled old read reads settled =
+      subst (λ (ts : List Timer). AreSettled read.server.held ts) (sym reads.timers)
+      (subst (λ (s : ServerState S F D). AreSettled s.held (map (set_by read.sockets.watch.now) (timers_of old)))
+      (sym reads.server) (set_held old.server.held read.sockets.watch.now (timers_of old) settled))
 
   -- a wait leaves what is settled
   pub slept_settled : (old noted : ServerLoop S F D) (millis : ℕ) (ports : List ℕ) → HasSlept millis ports old noted →
@@ -193,4 +289,4 @@ module _ {S F D : Type 0} (meaning : StoreMeaning S D) (sources : SourceMeaning 
   woken_settled noted new ports woken settled =
       subst (λ (ts : List Timer). AreSettled new.server.held ts) (sym woken.timers)
       (subst (λ (s : ServerState S F D). AreSettled s.held (map (marked_by ports) (timers_of noted))) (sym woken.server)
-      (marked_held noted.server.held ports (timers_of noted) settled))
+      (mapped_held noted.server.held (marked_by ports) (marks ports) (timers_of noted) settled))

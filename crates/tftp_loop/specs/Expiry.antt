@@ -1,5 +1,5 @@
 -- How long a server holds a transfer that makes no progress (RFC 1350, section 2).
-use Rattle.std.specs.Prelude.{ℕ, ◌≡◌, ◌≤◌, ◌<◌, ◌+◌, ◌*◌, ◌⊎◌, max, ⊤, true, false}
+use Rattle.std.specs.Prelude.{ℕ, ◌≡◌, ◌≤◌, ◌<◌, ◌+◌, ◌*◌, ◌⊎◌, max, ⊤, true, false, if◌then◌else◌}
 use Rattle.std.specs.Prelude.{List, [], ◌∷◌, ◌++◌, Some}
 use Rattle.std.specs.List.{Contains}
 use Rattle.tftp_file.specs.Source.{SourceMeaning}
@@ -30,6 +30,11 @@ in_millis seconds = seconds * 1000
 abbrev pub closing_time : (now interval retries : ℕ) → ℕ
 closing_time now interval retries =
     now + in_millis interval + (in_millis interval + LONGEST_WAIT) * max 1 retries
+
+-- from when on it counts: from now, or from a second later if its deadline is provisional, since
+-- that is set within this round
+abbrev pub counted_from : ℕ → Timer → ℕ
+counted_from now timer = if timer.provisional then now + LONGEST_WAIT else now
 
 -- the line of a transfer that closed was printed between two journals
 abbrev pub PrintsClose : ℕ → ℕ → Outcome → List Event → List Event → Type 0
@@ -83,10 +88,12 @@ module _ {S F D : Type 0} (meaning : StoreMeaning S D) (sources : SourceMeaning 
   abbrev pub ClosesWithoutProgress : Type 0
   ClosesWithoutProgress =
       (start first last new : LoopState S F D) (timer : Timer)
-      → start.timers ≡ [] → Run (Does meaning sources) start first
+      → start.timers ≡ [] → start.limit ≤ start.now + LONGEST_WAIT
+      → Run (Does meaning sources) start first
       → Contains first.timers timer
       → Idles timer.port first last → Waits meaning sources last new
-      → closing_time first.now timer.interval first.server.config.retries < last.now
+      → closing_time (counted_from first.now timer) timer.interval first.server.config.retries
+      < last.now
       → last.now ≤ last_moment
       → (outcome : Outcome)
       × PrintsClose timer.port timer.peer.port outcome first.events last.events
@@ -95,11 +102,13 @@ module _ {S F D : Type 0} (meaning : StoreMeaning S D) (sources : SourceMeaning 
   abbrev pub TimesOutInSilence : Type 0
   TimesOutInSilence =
       (start first last new : LoopState S F D) (timer : Timer) (transfer : TransferState F D)
-      → start.timers ≡ [] → Run (Does meaning sources) start first
+      → start.timers ≡ [] → start.limit ≤ start.now + LONGEST_WAIT
+      → Run (Does meaning sources) start first
       → Contains first.timers timer → at timer.port first.server.held ≡ Some transfer
       → (idles : Idles timer.port first last) → NoneReceived idles
       → Waits meaning sources last new
-      → closing_time first.now timer.interval first.server.config.retries < last.now
+      → closing_time (counted_from first.now timer) timer.interval first.server.config.retries
+      < last.now
       → last.now ≤ last_moment
       → (outcome : Outcome)
       × PrintsClose timer.port timer.peer.port outcome first.events last.events

@@ -1,5 +1,6 @@
 -- The loop's own values as states of its run.
-use Rattle.std.specs.Prelude.{ℕ, ◌≡◌, ◌⊎◌, ⊤, List, ◌∷◌, map, take, Option, Some, None, IfSome}
+use Rattle.std.specs.Prelude.{ℕ, ◌≡◌, ◌⊎◌, ⊤, false, List, ◌∷◌, map, take, Option, Some, None}
+use Rattle.std.specs.Prelude.{IfSome}
 use Rattle.tftp_file.specs.Source.{SourceMeaning}
 use Rattle.tftp_ends.specs.declared.endpoint.Endpoint.{Endpoint}
 use Rattle.tftp_store.specs.Store.{StoreMeaning}
@@ -34,6 +35,7 @@ timer_of port =
       deadline = port.socket.times_out_at;
       marked = port.is_ready;
       look_at = port.due;
+      provisional = port.socket.is_provisional;
     }
 
 module _ {S F D : Type 0} where
@@ -92,6 +94,8 @@ module _ {S F D : Type 0} where
         pending = pending;
         timers = map timer_of d.ports.items;
         now = d.sockets.watch.now;
+        limit = d.sockets.limit;
+        woken = false;
         marked = d.sockets.is_ready;
         left = d.left;
         rounds = d.rounds;
@@ -142,6 +146,7 @@ module _ {S F D : Type 0} where
         ≡ with_timer old.sockets.watch.now from opened.tid old.server.held
         (map timer_of old.ports.items)
     pub now : new.sockets.watch.now ≡ old.sockets.watch.now
+    pub limit : new.sockets.limit ≡ old.sockets.limit
     pub marked : new.sockets.is_ready ≡ old.sockets.is_ready
     pub left_to_close : new.left ≡ old.left
     pub rounds : new.rounds ≡ old.rounds

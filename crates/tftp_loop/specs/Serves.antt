@@ -1,6 +1,6 @@
 -- A run of a server over UDP: each step is followed at once by its answer, nothing else is sent or
 -- printed, and the server waits only when its work is done (RFC 1350, sections 2 and 4).
-use Rattle.std.specs.Prelude.{ℕ, ◌≡◌, ◌≢◌, ◌≤◌, ◌<◌, ◌-◌, ◌+◌, ◌||◌, ◌⊎◌, min, Bool, true, false}
+use Rattle.std.specs.Prelude.{ℕ, ◌≡◌, ◌≢◌, ◌≤◌, ◌<◌, ◌-◌, ◌+◌, ◌||◌, ◌⊎◌, min, max, Bool, true, false}
 use Rattle.std.specs.Prelude.{if◌then◌else◌, List, [], ◌∷◌, ◌++◌, length, map, All, IfSome}
 use Rattle.std.specs.Prelude.{slice_set, slice_index_or, Option, Some, None, is_some, IsSome}
 use Rattle.std.specs.List.{swap_remove, list_any}
@@ -49,6 +49,9 @@ pub record Timer : Type 0 where
   pub marked : Bool
   -- when the port is read again, marked or not
   pub look_at : ℕ
+  -- whether the deadline is provisional: it counts from a time that was read before the newest
+  -- opening, progress or timeout, and the next reading of the clock sets it
+  pub provisional : Bool
 
 -- a server, the timer of one of its transfers, and the journal
 pub record PortState (S F D : Type 0) : Type 0 where
@@ -69,6 +72,10 @@ pub record LoopState (S F D : Type 0) : Type 0 where
   pub timers : List Timer
   -- the last reading of the clock, in milliseconds
   pub now : ℕ
+  -- up to which time this round lasts at most, by the clock of the program
+  pub limit : ℕ
+  -- whether the clock is yet to be read since the newest wait
+  pub woken : Bool
   -- whether a datagram may be at the request port
   pub marked : Bool
   -- how many transfers are yet to close, and how many waits may still begin
@@ -92,6 +99,7 @@ restarted now timer =
     record timer {
       deadline = deadline_of now timer.interval;
       look_at = deadline_of now timer.interval;
+      provisional = true;
     }
 
 -- the timer whose port may have a datagram, or has none: it is read when it is marked, or when the
@@ -107,6 +115,7 @@ timer_after now true timer =
       deadline = deadline_of now timer.interval;
       marked = false;
       look_at = next_look now timer.interval;
+      provisional = true;
     }
 timer_after now false timer = marked_as true timer
 
@@ -120,6 +129,22 @@ started now port peer interval =
       deadline = deadline_of now interval;
       marked = false;
       look_at = next_look now interval;
+      provisional = true;
+    }
+
+-- the deadline after a reading of the clock, if it was provisional or not: an interval from a time
+-- that was read after the opening, the progress or the timeout that it counts from, and never
+-- earlier than before (RFC 2349, "Timeout Interval Option Specification")
+abbrev pub deadline_by : ℕ → Bool → Timer → ℕ
+deadline_by time true timer = max timer.deadline (deadline_of time timer.interval)
+deadline_by time false timer = timer.deadline
+
+-- the timer after a reading of the clock: its deadline is set
+abbrev pub set_by : ℕ → Timer → Timer
+set_by time timer =
+    record timer {
+      deadline = deadline_by time timer.provisional timer;
+      provisional = false;
     }
 
 -- the timer after a wait that reported these ports
@@ -300,8 +325,20 @@ module _ {S F D : Type 0} where
         ⊎ (timer.look_at ≡ next_look old.now timer.interval))
     pub not_closed : taken_of (at timer.port old.server.held) ≡ None
 
-  -- a wait of at most so long, which reported these ports, is allowed
-  pub record MayWait (old : LoopState S F D) (millis : ℕ) (ports : List ℕ) : Type 0 where
+  -- the state once the clock was read before a wait: each deadline is set
+  abbrev pub read_at : ℕ → LoopState S F D → LoopState S F D
+  read_at time old =
+      record old {
+        now = time;
+        timers = map (set_by time) old.timers;
+        events = Watched time ∷ old.events;
+      }
+
+  -- a wait of at most so long, which reported these ports, is allowed, if the clock is read at this
+  -- time before it
+  pub record MayWait (old : LoopState S F D) (time millis : ℕ) (ports : List ℕ) : Type 0 where
+    -- the clock was read after the newest wait
+    pub read : old.woken ≡ false
     -- the loop goes on
     pub left : 1 ≤ old.left
     pub rounds : 1 ≤ old.rounds
@@ -311,22 +348,29 @@ module _ {S F D : Type 0} where
         → was_tried old.requests old.events ≡ true
     pub transfers : All (IsServed old) old.timers
     -- it is no longer than there is nothing to do
-    pub longest : millis ≤ most_millis old
+    pub longest : millis ≤ most_millis (read_at time old)
     -- it takes no time only if there is something to do, or ports were reported at once
-    pub shortest : millis ≡ 0 → (most_millis old ≡ 0) ⊎ (ports ≢ [])
+    pub shortest : millis ≡ 0 → (most_millis (read_at time old) ≡ 0) ⊎ (ports ≢ [])
 
 module _ {S F D : Type 0} (meaning : StoreMeaning S D) (sources : SourceMeaning F)
     (old new : LoopState S F D) where
-  -- the server waits, and marks the ports that were reported
+  -- the clock is read, which sets each provisional deadline; then the server waits, and marks the
+  -- ports that were reported. The round up to the next wait ends a second after this one began
   pub record Waits : Type 0 where
+    pub time : ℕ
+    pub forward : old.now ≤ time
+    pub soon : time ≤ max old.now old.limit
     pub millis : ℕ
     pub ports : List ℕ
-    pub may : MayWait old millis ports
+    pub may : MayWait old time millis ports
     pub is : new ≡ record old {
       marked = old.marked || is_among old.requests ports;
-      timers = map (marked_by ports) old.timers;
+      timers = map (marked_by ports) (map (set_by time) old.timers);
+      now = time;
+      limit = min (old.now + LONGEST_WAIT) last_moment;
+      woken = true;
       rounds = old.rounds - 1;
-      events = Quiet (Woke ports) ∷ Quiet (Slept millis) ∷ old.events;
+      events = Quiet (Woke ports) ∷ Quiet (Slept millis) ∷ Watched time ∷ old.events;
     }
 
   -- a step at the port of a transfer
@@ -398,6 +442,8 @@ module _ {S F D : Type 0} (meaning : StoreMeaning S D) (sources : SourceMeaning 
 
   -- why the pending datagram is lost
   pub data RequestLoss (from : Endpoint) (bytes : List ℕ) : Type 0 where
+    -- no answer can come to its sender, which is at port 0
+    No_answer : from.port ≡ 0 → RequestLoss from bytes
     -- a growth was refused, where an empty buffer of this capacity is to hold the answer, or the
     -- store
     -- answered `Memory`
@@ -425,14 +471,13 @@ module _ {S F D : Type 0} (meaning : StoreMeaning S D) (sources : SourceMeaning 
     pub why : RequestLoss from bytes
     pub is : new ≡ record old { pending = None }
 
-  -- the clock is read, directly after a wait: it never goes back, and the time advances by a second
-  -- at most
+  -- the clock is read, directly after a wait: it never goes back, and a round lasts a second at most
   pub record ReadsClock : Type 0 where
     pub time : ℕ
     pub woken : has_woken old.events ≡ true
     pub forward : old.now ≤ time
-    pub soon : time ≤ old.now + LONGEST_WAIT
-    pub is : new ≡ record old { now = time; events = Watched time ∷ old.events }
+    pub soon : time ≤ max old.now old.limit
+    pub is : new ≡ record old { now = time; woken = false; events = Watched time ∷ old.events }
 
   -- the store is set for the next transfer; its stored files do not change
   pub record SetsStore : Type 0 where
@@ -486,6 +531,8 @@ at_start_in range requests ending server events =
       pending = None;
       timers = [];
       now = 0;
+      limit = LONGEST_WAIT;
+      woken = false;
       marked = true;
       left = ending.transfers;
       rounds = ending.rounds;

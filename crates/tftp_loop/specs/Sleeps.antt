@@ -8,7 +8,7 @@ use Rattle.tftp_sockets.specs.Journal.{Event}
 use Rattle.tftp_sockets.specs.Quiet.{is_drained}
 use Rattle.tftp_loop.specs.Run.{Run}
 use Rattle.tftp_loop.specs.declared.serving.Ending.{Ending}
-use Rattle.tftp_loop.specs.Serves.{Timer, LoopState, Does, Waits, at_start, look_after}
+use Rattle.tftp_loop.specs.Serves.{Timer, LoopState, Does, Waits, at_start, look_after, read_at}
 
 -- a port of a transfer is not marked, and a wait of so long is over when it is read again, which is
 -- at its deadline at the latest; the last event of the port is that a receive found nothing there,
@@ -35,11 +35,12 @@ module _ {S F D : Type 0} (meaning : StoreMeaning S D) (sources : SourceMeaning 
     pub transfers : All (Rests old.events old.now millis) old.timers
     pub longest : millis ≤ LONGEST_WAIT
 
-  -- at each wait of a run that takes time
+  -- at each wait of a run that takes time, once the clock was read before it
   abbrev pub RestsBeforeItSleeps : Type 0
   RestsBeforeItSleeps =
       (port : ℕ) (ending : Ending) (server : ServerState S F D) (before : List Event)
       (old new : LoopState S F D)
       → Run (Does meaning sources) (at_start port ending server before) old
       → HasItsOwnPort (at_start port ending server before) old
-      → (waits : Waits meaning sources old new) → 1 ≤ waits.millis → MaySleep old waits.millis
+      → (waits : Waits meaning sources old new) → 1 ≤ waits.millis
+      → MaySleep (read_at waits.time old) waits.millis

@@ -1,5 +1,5 @@
 -- What each part of a round leaves at the ports, so that the next wait is allowed.
-use Rattle.std.specs.Prelude.{ℕ, ◌≡◌, ◌≤◌, ◌<◌, ◌+◌, ◌-◌, ◌||◌, ◌⊎◌, ⊤, true, List, ◌∷◌, map}
+use Rattle.std.specs.Prelude.{ℕ, ◌≡◌, ◌≤◌, ◌<◌, ◌+◌, ◌-◌, ◌||◌, ◌⊎◌, ⊤, true, false, List, ◌∷◌, map, min, max}
 use Rattle.std.specs.Prelude.{length, take, slice_set, slice_index_or, Option, Some, None, is_some}
 use Rattle.std.specs.Prelude.{IsSome, All, if◌then◌else◌}
 use Rattle.std.specs.List.{list_any, swap_remove}
@@ -8,7 +8,7 @@ use Rattle.tftp_ends.specs.declared.endpoint.Endpoint.{Endpoint}
 use Rattle.tftp_ends.specs.declared.record.Record.{Record}
 use Rattle.tftp_store.specs.Store.{StoreMeaning}
 use Rattle.tftp_server.specs.State.{TransferState, at, taken_of}
-use Rattle.tftp_sockets.specs.Watch.{deadline_of, wait_of}
+use Rattle.tftp_sockets.specs.Watch.{deadline_of, last_moment, wait_of}
 use Rattle.tftp_sockets.specs.declared.watch.TheConstants.{LONGEST_WAIT}
 use Rattle.tftp_sockets.specs.declared.port.Port.{Port}
 use Rattle.tftp_sockets.specs.Journal.{Event}
@@ -24,7 +24,7 @@ use Rattle.tftp_loop.specs.declared.transfer_port.TransferSocket.{TransferSocket
 use Rattle.tftp_loop.specs.Run.{Run}
 use Rattle.tftp_loop.specs.Serves.{Timer, PortState, LoopState, AnswersRequest, Closes}
 use Rattle.tftp_loop.specs.Serves.{LosesRequest}
-use Rattle.tftp_loop.specs.Serves.{FindsNoPort, SetsStore, next_look, marked_by}
+use Rattle.tftp_loop.specs.Serves.{FindsNoPort, SetsStore, deadline_by, next_look, marked_by, set_by}
 use Rattle.tftp_loop.specs.Served.{OnlyServesPort, close_reported, loop_state, state_of, timer_of}
 
 -- ---- timers
@@ -144,7 +144,32 @@ abbrev pub marked_if : List ℕ → Port TransferSocket → Port TransferSocket
 marked_if reported port =
     record port { is_ready = port.is_ready || is_among port.socket.udp.port reported }
 
+-- the port after a reading of the clock
+abbrev pub set_if : ℕ → Port TransferSocket → Port TransferSocket
+set_if time port =
+    record port {
+      socket = record port.socket {
+        times_out_at = deadline_by time port.socket.is_provisional (timer_of port);
+        is_provisional = false;
+      };
+    }
+
 module _ {S F D : Type 0} where
+  -- the clock was read before a wait, which set each provisional deadline
+  pub record HasRead (old new : ServerLoop S F D) : Type 0 where
+    pub requests : new.sockets.requests.port ≡ old.sockets.requests.port
+    pub range : new.sockets.pool.range ≡ old.sockets.pool.range
+    pub server : new.server ≡ old.server
+    pub pending : new.pending ≡ old.pending
+    pub timers : timers_of new ≡ map (set_by new.sockets.watch.now) (timers_of old)
+    pub forward : old.sockets.watch.now ≤ new.sockets.watch.now
+    pub soon : new.sockets.watch.now ≤ max old.sockets.watch.now old.sockets.limit
+    pub limit : new.sockets.limit ≡ min (old.sockets.watch.now + LONGEST_WAIT) last_moment
+    pub marked : new.sockets.is_ready ≡ old.sockets.is_ready
+    pub left : new.left ≡ old.left
+    pub rounds : new.rounds ≡ old.rounds
+    pub events : new.journal.events ≡ Watched new.sockets.watch.now ∷ old.journal.events
+
   -- a wait of so long was noted, which reported these ports
   pub record HasSlept (millis : ℕ) (ports : List ℕ) (old new : ServerLoop S F D) : Type 0 where
     pub requests : new.sockets.requests.port ≡ old.sockets.requests.port
@@ -153,6 +178,7 @@ module _ {S F D : Type 0} where
     pub pending : new.pending ≡ old.pending
     pub timers : timers_of new ≡ timers_of old
     pub now : new.sockets.watch.now ≡ old.sockets.watch.now
+    pub limit : new.sockets.limit ≡ old.sockets.limit
     pub marked : new.sockets.is_ready ≡ old.sockets.is_ready
     pub left : new.left ≡ old.left
     pub rounds : new.rounds ≡ old.rounds
@@ -167,7 +193,8 @@ module _ {S F D : Type 0} where
     pub pending : new.pending ≡ old.pending
     pub timers : timers_of new ≡ map (marked_by ports) (timers_of old)
     pub now : old.sockets.watch.now ≤ new.sockets.watch.now
-    pub soon : new.sockets.watch.now ≤ old.sockets.watch.now + LONGEST_WAIT
+    pub soon : new.sockets.watch.now ≤ max old.sockets.watch.now old.sockets.limit
+    pub limit : new.sockets.limit ≡ old.sockets.limit
     pub marked : new.sockets.is_ready
         ≡ (old.sockets.is_ready || is_among old.sockets.requests.port ports)
     pub left : new.left ≡ old.left

@@ -25,7 +25,8 @@ use tftp_server::{Admission, Opened, Server, Store};
 use tftp_sockets::{Port, Receipt, ServerSocket, deadline};
 use tftp_store::ServedStore;
 
-/// The identifier passed to the server for a datagram that opens no transfer.
+/// The identifier passed to the server for a datagram that opens no transfer. Nothing can be sent to
+/// it, so that a request that bears it has no answer (RFC 768: a source port of 0 is none).
 const NO_PORT: u16 = 0;
 
 /// The most bytes that the files of all transfers read ahead: more leave a processor's cache before
@@ -100,9 +101,10 @@ impl<S: ServedStore<Reason> + Drop> ServerLoop<S> {
         }
     }
 
-    /// Handles a datagram that was received at the request port. If it would open no transfer, it
-    /// stays pending: the datagrams of transfers are handled first, and then it is admitted again,
-    /// since an acknowledgement that its client sent just before may free a slot.
+    /// Handles a datagram that was received at the request port. One from port 0 is ignored, since no
+    /// answer can come there. One that would open no transfer stays pending: the datagrams of
+    /// transfers are handled first, and then it is admitted again, since an acknowledgement that its
+    /// client sent just before may free a slot.
     fn take_received<N: ServerUdp + Eprint>(
         &mut self,
         rt: &N,
@@ -117,6 +119,10 @@ impl<S: ServedStore<Reason> + Drop> ServerLoop<S> {
         ensures rounds { self.new.rounds ≡ self.old.rounds }
     {
         let bytes = &request[..count];
+        if from.port == NO_PORT {
+            self.ignore(rt, Datagram { from, bytes });
+            return;
+        }
         let Ok(admission) = self.server.admit(from, bytes) else {
             self.lose(rt, Datagram { from, bytes }, Lost::Memory);
             return;
@@ -127,6 +133,13 @@ impl<S: ServedStore<Reason> + Drop> ServerLoop<S> {
             return;
         }
         self.pending = Some((from, count));
+    }
+
+    /// Logs a datagram that nothing can answer, if there is a log.
+    fn ignore<E: Eprint>(&self, rt: &E, datagram: Datagram<'_>) {
+        if self.logs {
+            log_unopened(rt, self.alloc, datagram, &[], None);
+        }
     }
 
     /// Carries out the admission of a datagram that may open a transfer, at a port of its own. The
@@ -306,6 +319,7 @@ impl<S: ServedStore<Reason> + Drop> ServerLoop<S> {
                 peer,
                 interval,
                 times_out_at,
+                is_provisional: true,
                 moved_at: self.sockets.watch.now,
                 file_work_limit: file_work_limit(&self.server, tid),
                 log_entry,

@@ -7,7 +7,8 @@ ghost use Rattle.tftp_sockets.specs.Quiet.{is_among};
 ghost use Rattle.tftp_loop.specs.Serves.{marked_by};
 ghost use Rattle.tftp_loop.specs.Served.{FailsToPrint, OnlyWorks, OnlyServes, ServesRounds};
 ghost use Rattle.tftp_loop.specs.Served.{WorksRound};
-ghost use Rattle.tftp_loop.specs.Tended.{ClosesPort, Finishes, HasSlept, HasWoken, HaveTurned};
+ghost use Rattle.tftp_loop.specs.Tended.{ClosesPort, Finishes, HasRead, HasSlept, HasWoken};
+ghost use Rattle.tftp_loop.specs.Tended.{HaveTurned};
 ghost use Rattle.tftp_loop.specs.Tended.{IsSettled, IsTended, TakesTurn, Visits, leaves_by};
 ghost use Rattle.tftp_loop.specs.Tended.{millis_of, timers_of};
 
@@ -16,14 +17,15 @@ use crate::report::{log_unsent, record_of_closed, report_close};
 use crate::server_udp::ServerUdp;
 use crate::serving::{LoopConfig, LoopFault};
 use crate::sockets::Sockets;
-use crate::transfer_port::{TransferPort, count_active, mark_all, work_at};
+use crate::transfer_port::{TransferPort, count_active, mark_all, set_all, work_at};
 use std::alloc::{AllocError, Global};
 use std::time::Clock;
 use tftp_ends::{Endpoint, Record};
 use tftp_lines::Reason;
 use tftp_server::{Server, Store};
 use tftp_sockets::{
-    DATAGRAM_BUFFER, Journal, Reports, index_of, poll_now, read_watch, wait, wait_for,
+    DATAGRAM_BUFFER, Journal, LONGEST_WAIT, Reports, index_of, note_poll, poll_now,
+    read_watch_within, wait, wait_for,
 };
 use tftp_store::ServedStore;
 
@@ -187,7 +189,9 @@ impl<S: ServedStore<Reason> + Drop> ServerLoop<S> {
         ensures settled { IsSettled self.new }
         ensures rounds { self.new.rounds + 1 ≡ self.old.rounds }
     {
-        if poll_now(&mut self.sockets.poll, reports, &mut self.journal) {
+        if poll_now(&mut self.sockets.poll, reports) {
+            self.set_deadlines(clock);
+            note_poll(reports, &mut self.journal);
             self.wake(clock, reports);
             return;
         }
@@ -222,8 +226,21 @@ impl<S: ServedStore<Reason> + Drop> ServerLoop<S> {
         ensures rounds { self.new.rounds + 1 ≡ self.old.rounds }
     {
         self.active = count_active(self.sockets.watch.now, self.ports.as_slice());
+        self.set_deadlines(clock);
         self.wait_for_ports(reports);
         self.wake(clock, reports);
+    }
+
+    /// Reads the clock before a wait, and sets the deadlines of the transfers that opened, advanced
+    /// or timed out since it was read: the store or a file may have taken long.
+    fn set_deadlines<C: Clock>(&mut self, clock: &C)
+        ensures { HasRead self.old self.new }
+    {
+        let began = self.sockets.watch.now;
+        let limit = self.sockets.limit;
+        let time = read_watch_within(clock, &mut self.journal, &mut self.sockets.watch, limit);
+        self.sockets.limit = began.saturating_add(LONGEST_WAIT);
+        set_all(self.ports.as_mut_slice(), time);
     }
 
     /// Waits until a datagram has arrived, as long as is allowed.
@@ -247,7 +264,8 @@ impl<S: ServedStore<Reason> + Drop> ServerLoop<S> {
     {
         self.mark(reports.ports());
         self.rounds = self.rounds.saturating_sub(1);
-        read_watch(clock, &mut self.journal, &mut self.sockets.watch);
+        let limit = self.sockets.limit;
+        read_watch_within(clock, &mut self.journal, &mut self.sockets.watch, limit);
     }
 
     /// Marks the ports that a wait reported.

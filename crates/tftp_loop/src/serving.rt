@@ -15,7 +15,7 @@ use std::time::Clock;
 use tftp_ends::Endpoint;
 use tftp_lines::{Printed, Reason, reason_of};
 use tftp_server::Server;
-use tftp_sockets::{Journal, print_line};
+use tftp_sockets::{Journal, LONGEST_WAIT, print_line};
 use tftp_store::ServedStore;
 
 /// The configuration of a server's loop.
@@ -99,6 +99,7 @@ fn listen<N: ServerUdp + Clock + Print + Eprint, S: ServedStore<Reason> + Drop>(
     journal: Journal,
 ) -> (Result<(), LoopFault>, Journal)
     requires time { sockets.watch.now ≡ 0 }
+    requires limit { sockets.limit ≡ LONGEST_WAIT }
     requires marked { sockets.is_ready ≡ true }
     requires range { sockets.pool.range ≡ config.now.ports }
     ensures serves { ServesFromIn S.meaning S.Source.meaning config.now.ports sockets.requests.port
@@ -130,6 +131,7 @@ fn run<N: ServerUdp + Clock + Print + Eprint, S: ServedStore<Reason> + Drop>(
     journal: Journal,
 ) -> (Result<(), LoopFault>, Journal)
     requires time { sockets.watch.now ≡ 0 }
+    requires limit { sockets.limit ≡ LONGEST_WAIT }
     requires marked { sockets.is_ready ≡ true }
     requires range { sockets.pool.range ≡ config.now.ports }
     ensures serves { ServesFromIn S.meaning S.Source.meaning config.now.ports sockets.requests.port

@@ -15,7 +15,7 @@ use std::io;
 use std::time::Clock;
 use tftp_ends::Endpoint;
 use tftp_server::Admission;
-use tftp_sockets::{Journal, ServerSocket, Watch, read_clock};
+use tftp_sockets::{Journal, LONGEST_WAIT, ServerSocket, Watch, read_clock};
 
 /// The request port, the poll of all ports, and the time.
 #[derive(Drop)]
@@ -26,8 +26,10 @@ pub(crate) struct Sockets {
     pub(crate) is_ready: bool,
     /// The ports of transfers.
     pool: PortPool,
-    /// The time, read after each wait.
+    /// The time, read after each wait and before the next.
     pub(crate) watch: Watch,
+    /// Up to which time of the watch this round lasts at most: a second after the one before began.
+    pub(crate) limit: u64,
 }
 
 impl Sockets {
@@ -38,6 +40,7 @@ impl Sockets {
         config: &LoopConfig,
     ) -> io::Result<Sockets>
         ensures time { IfOk result (λ sockets. sockets.watch.now ≡ 0) }
+        ensures limit { IfOk result (λ sockets. sockets.limit ≡ LONGEST_WAIT) }
         ensures bound { IfOk result (λ sockets.
             IsBoundTo config.now.listen sockets.requests.ip sockets.requests.port) }
         ensures pool { IfOk result (λ sockets. sockets.pool
@@ -53,6 +56,7 @@ impl Sockets {
             is_ready: true,
             pool,
             watch: Watch::new(read_clock(net, 0)),
+            limit: LONGEST_WAIT,
         })
     }
 

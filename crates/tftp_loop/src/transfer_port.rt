@@ -7,7 +7,7 @@ ghost use Rattle.tftp_loop.specs.Fair.{ReceivesAtMost};
 ghost use Rattle.tftp_loop.specs.Serves.{WorksAtPort, look_after, marked_as, restarted};
 ghost use Rattle.tftp_loop.specs.Serves.{timer_after};
 ghost use Rattle.tftp_loop.specs.Served.{timer_of};
-ghost use Rattle.tftp_loop.specs.Tended.{marked_if};
+ghost use Rattle.tftp_loop.specs.Tended.{marked_if, set_if};
 
 use crate::log_entry::LogEntry;
 use tftp_ends::{Endpoint, Step};
@@ -33,6 +33,9 @@ pub(crate) struct TransferSocket {
     pub(crate) interval: u8,
     /// When the transfer times out, in milliseconds. The port may be due earlier, to be read again.
     pub(crate) times_out_at: u64,
+    /// Whether the deadline counts from a time that was read before the newest opening, progress or
+    /// timeout: the next reading of the clock sets it.
+    pub(crate) is_provisional: bool,
     /// When the transfer was opened or last made progress, in milliseconds.
     pub(crate) moved_at: u64,
     /// The number of active transfers up to which its file reads ahead or is written back.
@@ -92,6 +95,7 @@ fn note_progress(port: &mut TransferPort, now: u64)
     let deadline = deadline(now, port.socket.interval);
     port.socket.moved_at = now;
     port.socket.times_out_at = deadline;
+    port.socket.is_provisional = true;
     port.is_ready = false;
     port.due = deadline.min(next_look(now));
 }
@@ -154,4 +158,26 @@ pub(crate) fn restart(port: &mut TransferPort, now: u64)
 {
     port.due = deadline(now, port.socket.interval);
     port.socket.times_out_at = port.due;
+    port.socket.is_provisional = true;
+}
+
+/// Sets the provisional deadlines at a reading of the clock.
+pub(crate) fn set_all(ports: &mut [TransferPort], time: u64)
+    ensures { ports.new ≡ map (set_if time) ports.old }
+{
+    for port in ports.iter_mut() {
+        set_deadline(port, time);
+    }
+}
+
+/// Sets the deadline of a transfer at a reading of the clock, if it is provisional.
+fn set_deadline(port: &mut TransferPort, time: u64)
+    ensures { port.new ≡ set_if time port.old }
+{
+    if !port.socket.is_provisional {
+        return;
+    }
+    let latest = deadline(time, port.socket.interval);
+    port.socket.times_out_at = port.socket.times_out_at.max(latest);
+    port.socket.is_provisional = false;
 }

@@ -124,24 +124,24 @@ module _ (more : List Client) (before : List Noted) where
       (tt, (tt, (tt, (tt, honest_25)))),
     )
 
-    honest_41 : Honest 41
-    honest_41 = (
+    honest_42 : Honest 42
+    honest_42 = (
       delivered 0 1 server_ip client_ip refl refl 1024 5000 (data_bytes 1 read_file) _ (1, omega arith, refl),
-      (tt, (tt, (tt, (tt, (tt, (tt, (tt, (tt, (tt, (tt, honest_30)))))))))),
-    )
-
-    honest_44 : Honest 44
-    honest_44 = (
-      delivered 1 0 client_ip server_ip refl refl 5000 1024 (ack_bytes 1) _ (0, omega arith, refl),
-      (tt, (tt, honest_41)),
+      (tt, (tt, (tt, (tt, (tt, (tt, (tt, (tt, (tt, (tt, (tt, honest_30))))))))))),
     )
 
     honest_45 : Honest 45
-    honest_45 = (tt, honest_44)
+    honest_45 = (
+      delivered 1 0 client_ip server_ip refl refl 5000 1024 (ack_bytes 1) _ (0, omega arith, refl),
+      (tt, (tt, honest_42)),
+    )
+
+    honest_46 : Honest 46
+    honest_46 = (tt, honest_45)
 
     -- all of them, if the latecomer's request is
-    pub honest_all : Comes 0 (Received 69 latecomer read_request) (reverse (take 45 exchange) ++ before) → Honest 47
-    honest_all comes = (tt, (comes, honest_45))
+    pub honest_all : Comes 0 (Received 69 latecomer read_request) (reverse (take 46 exchange) ++ before) → Honest 48
+    honest_all comes = (tt, (comes, honest_46))
 
 -- ---- the latecomer is a stranger
 abbrev programs : Programs memory_meaning memory_source memory_source memory_sink
@@ -278,7 +278,7 @@ strange_still = record {
 honest_late : IsHonest memory_meaning memory_source memory_source memory_sink three late_exchange
 honest_late =
     honest_all (asking ∷ []) asked strange_still (tt, tt)
-    (delivered (asking ∷ []) asked 3 0 other_ip server_ip refl refl 7001 69 read_request _ (45, omega arith, refl))
+    (delivered (asking ∷ []) asked 3 0 other_ip server_ip refl refl 7001 69 read_request _ (46, omega arith, refl))
 
 two_apart : (p q : ℕ) → p ≢ q → AreDistinct (p ∷ q ∷ [])
 two_apart p q n zero zero port e f = refl

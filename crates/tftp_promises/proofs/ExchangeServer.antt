@@ -176,7 +176,7 @@ refuses_wrong_peer =
 
 pub answers_wrong_peer : Step s2 s3
 answers_wrong_peer =
-    handles s2 0 (timed 1024 reader 1000 false 500) (read_by reading_0 read_file) stranger (ack_bytes 0) at_stranger
+    handles s2 0 (timed 1024 reader 1000 false 500 true) (read_by reading_0 read_file) stranger (ack_bytes 0) at_stranger
     (Error UnknownTransferId) before_write (Source read_file) (omega arith) refl refl refuses_wrong_peer refl refl tt
 
 pub asks_to_write : Step s3 s4
@@ -244,7 +244,7 @@ reads_block = record {
 
 pub sends_block : Step s5 s6
 sends_block =
-    handles s5 0 (timed 1024 reader 1000 true 1000) (read_by reading_0 read_file) reader (ack_bytes 0) sends LastSent
+    handles s5 0 (timed 1024 reader 1000 true 1000 true) (read_by reading_0 read_file) reader (ack_bytes 0) sends LastSent
     before_write (Source []) (omega arith) refl refl reads_block refl refl tt
 
 -- the block is stored and committed
@@ -306,14 +306,15 @@ served timer unmarked due look still = record {
   not_closed = still;
 }
 
-may_wait : MayWait s8 500 []
+may_wait : MayWait s8 0 500 []
 may_wait = record {
+  read = refl;
   left = omega arith;
   rounds = omega arith;
   requests = λ marked. absurd (true≢false (sym marked));
   transfers =
       All-from_recursion (IsServed s8) s8.timers (
-        served (timed 1024 reader 1000 false 500) refl (omega arith)
+        served (timed 1024 reader 1000 false 500 true) refl (omega arith)
             (omega arith) refl,
         (served writes refl (omega arith) (omega arith) refl, tt),
       );
@@ -322,7 +323,15 @@ may_wait = record {
 }
 
 pub waits : Step s8 s9
-waits = Waited (record { millis = 500; ports = []; may = may_wait; is = refl })
+waits = Waited (record {
+  time = 0;
+  forward = omega arith;
+  soon = omega arith;
+  millis = 500;
+  ports = [];
+  may = may_wait;
+  is = refl;
+})
 
 pub reads_clock : Step s9 s10
 reads_clock = Clock_read (record { time = 1000; woken = refl; forward = omega arith; soon = omega arith; is = refl })
@@ -330,10 +339,10 @@ reads_clock = Clock_read (record { time = 1000; woken = refl; forward = omega ar
 pub finds_nothing : Step s10 s11
 finds_nothing = At_port (record {
   index = 0;
-  timer = timed 1024 reader 1000 false 500;
+  timer = timed 1024 reader 1000 false 500 false;
   within = omega arith;
   is_timer = refl;
-  next = record { server = s11.server; timer = timed 1024 reader 1000 false 1000; events = s11.events };
+  next = record { server = s11.server; timer = timed 1024 reader 1000 false 1000 false; events = s11.events };
   does = Nothing_found (record { server = refl; timer = refl; events = refl });
   is = refl;
 })
@@ -341,10 +350,10 @@ finds_nothing = At_port (record {
 pub sends_again : Step s11 s12
 sends_again = At_port (record {
   index = 0;
-  timer = timed 1024 reader 1000 false 1000;
+  timer = timed 1024 reader 1000 false 1000 false;
   within = omega arith;
   is_timer = refl;
-  next = record { server = s12.server; timer = timed 1024 reader 2000 false 2000; events = s12.events };
+  next = record { server = s12.server; timer = timed 1024 reader 2000 false 2000 true; events = s12.events };
   does = A_timeout (record {
     step = reported reading_1 again;
     due = omega arith;
@@ -373,13 +382,13 @@ is_acknowledged = record { decoded = Some (Ack 1); says = ack_spelled 1 (omega a
 
 pub completes_read : Step s12 s13
 completes_read =
-    handles s12 0 (timed 1024 reader 2000 false 2000) (read_by reading_2 []) reader (ack_bytes 1) completes Nothing
+    handles s12 0 (timed 1024 reader 2000 false 2000 true) (read_by reading_2 []) reader (ack_bytes 1) completes Nothing
     after_write (Source []) (omega arith) refl refl is_acknowledged refl refl tt
 
 pub closes_read : Step s13 s14
 closes_read = Transfer_closed (record {
   index = 0;
-  timer = timed 1024 reader 2000 false 1500;
+  timer = timed 1024 reader 2000 false 1500 true;
   within = omega arith;
   is_timer = refl;
   taken = (record_of reading_3, None);

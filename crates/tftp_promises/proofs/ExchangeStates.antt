@@ -136,12 +136,24 @@ abbrev pub held_7 : List (ℕ × Held)
 held_7 = (1024, read_by late_0 read_file) ∷ held_6
 
 -- ---- the timers
-abbrev pub timed : ℕ → Endpoint → ℕ → Bool → ℕ → Timer
-timed port peer deadline marked look_at =
-    record { port = port; peer = peer; interval = 1; deadline = deadline; marked = marked; look_at = look_at }
+abbrev pub timed : ℕ → Endpoint → ℕ → Bool → ℕ → Bool → Timer
+timed port peer deadline marked look_at provisional =
+    record {
+      port = port;
+      peer = peer;
+      interval = 1;
+      deadline = deadline;
+      marked = marked;
+      look_at = look_at;
+      provisional = provisional;
+    }
 
 abbrev pub writes : Timer
-writes = timed 1025 writer 1000 false 500
+writes = timed 1025 writer 1000 false 500 true
+
+-- the same once the clock was read
+abbrev pub dallies : Timer
+dallies = timed 1025 writer 1000 false 500 false
 
 -- ---- the states
 abbrev pub s0 : Loop
@@ -154,13 +166,13 @@ abbrev pub s2 : Loop
 s2 = record s1 {
   server = serving before_write held_0;
   pending = None;
-  timers = timed 1024 reader 1000 false 500 ∷ [];
+  timers = timed 1024 reader 1000 false 500 true ∷ [];
   events = Sent 1024 reader (oack_bytes agreed) ∷ s1.events;
 }
 
 abbrev pub s3 : Loop
 s3 = record s2 {
-  timers = timed 1024 reader 1000 true 1000 ∷ [];
+  timers = timed 1024 reader 1000 true 1000 true ∷ [];
   events = Sent 1024 stranger (error_bytes UnknownTransferId) ∷ Received 1024 stranger (ack_bytes 0) ∷ s2.events;
 }
 
@@ -171,14 +183,14 @@ abbrev pub s5 : Loop
 s5 = record s4 {
   server = serving before_write held_1;
   pending = None;
-  timers = timed 1024 reader 1000 true 1000 ∷ writes ∷ [];
+  timers = timed 1024 reader 1000 true 1000 true ∷ writes ∷ [];
   events = Sent 1025 writer (ack_bytes 0) ∷ s4.events;
 }
 
 abbrev pub s6 : Loop
 s6 = record s5 {
   server = serving before_write held_2;
-  timers = timed 1024 reader 1000 false 500 ∷ writes ∷ [];
+  timers = timed 1024 reader 1000 false 500 true ∷ writes ∷ [];
   events = Sent 1024 reader (data_bytes 1 read_file) ∷ Received 1024 reader (ack_bytes 0) ∷ s5.events;
 }
 
@@ -192,32 +204,40 @@ abbrev pub s8 : Loop
 s8 = record s7 { marked = false; events = Quiet (Empty 69) ∷ s7.events }
 
 abbrev pub s9 : Loop
-s9 = record s8 { rounds = 1; events = Quiet (Woke []) ∷ Quiet (Slept 500) ∷ s8.events }
+s9 = record s8 {
+  timers = timed 1024 reader 1000 false 500 false ∷ dallies ∷ [];
+  woken = true;
+  rounds = 1;
+  events = Quiet (Woke []) ∷ Quiet (Slept 500) ∷ Watched 0 ∷ s8.events;
+}
 
 abbrev pub s10 : Loop
-s10 = record s9 { now = 1000; events = Watched 1000 ∷ s9.events }
+s10 = record s9 { now = 1000; woken = false; events = Watched 1000 ∷ s9.events }
 
 abbrev pub s11 : Loop
-s11 = record s10 { timers = timed 1024 reader 1000 false 1000 ∷ writes ∷ []; events = Quiet (Empty 1024) ∷ s10.events }
+s11 = record s10 {
+  timers = timed 1024 reader 1000 false 1000 false ∷ dallies ∷ [];
+  events = Quiet (Empty 1024) ∷ s10.events;
+}
 
 abbrev pub s12 : Loop
 s12 = record s11 {
   server = serving after_write held_4;
-  timers = timed 1024 reader 2000 false 2000 ∷ writes ∷ [];
+  timers = timed 1024 reader 2000 false 2000 true ∷ dallies ∷ [];
   events = Sent 1024 reader (data_bytes 1 read_file) ∷ Elapsed 1024 1000 ∷ s11.events;
 }
 
 abbrev pub s13 : Loop
 s13 = record s12 {
   server = serving after_write held_5;
-  timers = timed 1024 reader 2000 false 1500 ∷ writes ∷ [];
+  timers = timed 1024 reader 2000 false 1500 true ∷ dallies ∷ [];
   events = Received 1024 reader (ack_bytes 1) ∷ s12.events;
 }
 
 abbrev pub s14 : Loop
 s14 = record s13 {
   server = serving after_write held_6;
-  timers = writes ∷ [];
+  timers = dallies ∷ [];
   left = 1;
   events = Printed (line_text (Closed 1024 5000 outcomes.Complete)) ∷ s13.events;
 }
@@ -234,6 +254,6 @@ abbrev pub s16 : Loop
 s16 = record s15 {
   server = serving after_write held_7;
   pending = None;
-  timers = writes ∷ timed 1024 latecomer 2000 false 1500 ∷ [];
+  timers = dallies ∷ timed 1024 latecomer 2000 false 1500 true ∷ [];
   events = Sent 1024 latecomer (oack_bytes agreed) ∷ s15.events;
 }

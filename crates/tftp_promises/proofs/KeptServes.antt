@@ -152,7 +152,7 @@ module _ {S F D G K : Type 0} {stores : StoreMeaning S D} {sources : SourceMeani
     waiting_keeps h =
         same_keeps (Waited h) refl (λ port. refl) (λ port transfer r. r)
         (λ a. record { opens = refl; moves = λ moved. refl }) h.is refl refl (λ from bytes e. e)
-        (Quiet (Woke h.ports) ∷ Quiet (Slept h.millis) ∷ []) refl (tt, (tt, tt))
+        (Quiet (Woke h.ports) ∷ Quiet (Slept h.millis) ∷ Watched h.time ∷ []) refl (tt, (tt, (tt, tt)))
 
     -- ---- a receive at the request port without a datagram
     finding_keeps : (h : FindsNoRequest stores sources old.state new) →

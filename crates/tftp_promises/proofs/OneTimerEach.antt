@@ -17,7 +17,7 @@ use Rattle.tftp_server.specs.Work.{WorksAt}
 use Rattle.tftp_sockets.specs.Journal.{Event}
 use Rattle.tftp_loop.specs.Run.{Run}
 use Rattle.tftp_loop.specs.Run.Run.{Start, Then}
-use Rattle.tftp_loop.specs.Serves.{Timer, PortState, LoopState, AtPort, Does, at_start, marked_by, timer_after}
+use Rattle.tftp_loop.specs.Serves.{Timer, PortState, LoopState, AtPort, Does, at_start, marked_by, set_by, timer_after}
 use Rattle.tftp_loop.specs.Serves.{with_timer, interval_at, started}
 use Rattle.tftp_loop.specs.Serves.AtPort.{A_datagram, A_lost_datagram, Nothing_found, A_failed_receive, A_timeout}
 use Rattle.tftp_loop.specs.Serves.AtPort.{A_missed_timeout, Work}
@@ -171,8 +171,11 @@ module _ {S F D : Type 0} (stores : StoreMeaning S D) (sources : SourceMeaning F
   step_matched : (old new : LoopState S F D) → Does stores sources old new → IsMatched old → IsMatched new
   step_matched old new (Waited d) matched =
       subst IsMatched (sym d.is)
-      (stays_matched old.timers (map (marked_by d.ports) old.timers) old.server.held old.server.held
-      (λ port. hits_map (λ (t : Timer). t.port) port old.timers (marked_by d.ports) (λ t. refl)) (λ port. refl)
+      (let set = map (set_by d.time) old.timers in
+      stays_matched old.timers (map (marked_by d.ports) set) old.server.held old.server.held
+      (λ port.
+      hits_map (λ (t : Timer). t.port) port set (marked_by d.ports) (λ t. refl)
+      ∙ hits_map (λ (t : Timer). t.port) port old.timers (set_by d.time) (λ t. refl)) (λ port. refl)
       matched)
   step_matched old new (At_port d) matched =
       let stays =

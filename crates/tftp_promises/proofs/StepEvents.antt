@@ -92,7 +92,8 @@ module _ {S F D : Type 0} {stores : StoreMeaning S D} {sources : SourceMeaning F
   -- a step of the server
   pub server_adds : {old new : LoopState S F D} → Does stores sources old new → Adds old.events new.events
   server_adds (Waited r) =
-      Notes (Quiet (Woke r.ports)) (Quiet (Slept r.millis) ∷ []) (tt, tt) (ap (λ (s : LoopState S F D). s.events) r.is)
+      Notes (Quiet (Woke r.ports)) (Quiet (Slept r.millis) ∷ Watched r.time ∷ []) (tt, (tt, tt))
+      (ap (λ (s : LoopState S F D). s.events) r.is)
   server_adds (At_port r) = then_is (port_adds r.does) (ap (λ (s : LoopState S F D). s.events) r.is)
   server_adds {old = old} (Request_received r) =
       Notes (Received old.requests r.from r.bytes) [] tt (ap (λ (s : LoopState S F D). s.events) r.is)

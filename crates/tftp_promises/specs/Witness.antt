@@ -123,7 +123,8 @@ exchange =
     ∷ (2, Quiet (Slept 990)) ∷ (2, Received 5001 write_port (ack_bytes 1)) ∷ (2, Watched 20)
     ∷ (2, Printed (end_text (ends.Complete 1)))
     -- so the server sends the block again
-    ∷ (0, Quiet (Empty 69)) ∷ (0, Quiet (Slept 500)) ∷ (0, Quiet (Woke [])) ∷ (0, Watched 1000)
+    ∷ (0, Quiet (Empty 69)) ∷ (0, Watched 0) ∷ (0, Quiet (Slept 500)) ∷ (0, Quiet (Woke []))
+    ∷ (0, Watched 1000)
     ∷ (0, Quiet (Empty 1024)) ∷ (0, Elapsed 1024 1000)
     ∷ (0, Sent 1024 reader (data_bytes 1 read_file))
     ∷ (1, Quiet (Slept 980)) ∷ (1, Received 5000 read_port (data_bytes 1 read_file))

@@ -1,6 +1,6 @@
 -- The time of a program over UDP, and its deadlines (ours; RFC 2349, "Timeout Interval Option
 -- Specification").
-use Rattle.std.specs.Prelude.{ℕ, ◌+◌, ◌-◌, ◌*◌, ◌/◌, min, List, [], ◌∷◌}
+use Rattle.std.specs.Prelude.{ℕ, ◌+◌, ◌-◌, ◌*◌, ◌/◌, min, max, List, [], ◌∷◌}
 use Rattle.tftp_sockets.specs.declared.watch.Watch.{Watch}
 use Rattle.tftp_sockets.specs.declared.watch.TheConstants.{LONGEST_WAIT, MILLIS_PER_SECOND}
 
@@ -15,6 +15,11 @@ whole_millis nanos = min (nanos / 1000000) last_moment
 -- the time at a new reading: it advances as much as the clock, at most by a second
 abbrev pub later_by : Watch → ℕ → ℕ
 later_by watch reading = min (watch.now + min (reading - watch.reading) LONGEST_WAIT) last_moment
+
+-- the time at a new reading: it advances as much as the clock, to this time at most
+abbrev pub later_within : Watch → ℕ → ℕ → ℕ
+later_within watch reading limit =
+    min (min (watch.now + (reading - watch.reading)) last_moment) (max limit watch.now)
 
 -- the deadline: these seconds from now
 abbrev pub deadline_of : ℕ → ℕ → ℕ

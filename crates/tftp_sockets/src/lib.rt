@@ -20,6 +20,7 @@ pub use journal::Journal;
 pub use port::{Port, index_of, wait_for};
 pub use receipt::Receipt;
 pub use sockets::{
-    ClientSocket, Reports, ServerSocket, poll_now, print_end, print_line, read_watch, wait,
+    ClientSocket, Reports, ServerSocket, note_poll, poll_now, print_end, print_line, read_watch,
+    read_watch_within, wait,
 };
 pub use watch::{LONGEST_WAIT, Watch, deadline, is_due};

@@ -293,21 +293,22 @@ impl Reports {
     }
 }
 
-/// Polls without waiting. Returns whether a datagram has arrived at a port; if not, nothing is
-/// noted.
-pub fn poll_now(poll: &mut Poll, reports: &mut Reports, journal: &mut Journal) -> bool
-    ensures noted { journal.new.events ≡ (if result
-        then Quiet (Woke reports.new.ports.items) ∷ Quiet (Slept 0) ∷ journal.old.events
-        else journal.old.events) }
-    ensures some { result ≡ true → reports.new.ports.items ≢ [] }
+/// Polls without waiting. Returns whether a datagram has arrived at a port. Nothing is noted: if a
+/// port is reported, [`note_poll`] does that.
+pub fn poll_now(poll: &mut Poll, reports: &mut Reports) -> bool
+    ensures { result ≡ true → reports.new.ports.items ≢ [] }
 {
     reports.poll(poll, 0);
-    if reports.ports.is_empty() {
-        return false;
-    }
+    !reports.ports.is_empty()
+}
+
+/// Notes a poll that took no time and reported these ports.
+pub fn note_poll(reports: &Reports, journal: &mut Journal)
+    ensures { journal.new.events ≡ Quiet (Woke reports.now.ports.items) ∷ Quiet (Slept 0)
+        ∷ journal.old.events }
+{
     journal.note(&EventRef::Slept(0));
     journal.note(&EventRef::Woke(reports.ports()));
-    true
 }
 
 /// Waits until a datagram has arrived at a port, for at most `millis` milliseconds. Before it
@@ -343,6 +344,24 @@ pub fn read_watch<C: Clock>(clock: &C, journal: &mut Journal, watch: &mut Watch)
 {
     let reading = read_clock(clock, watch.reading);
     let time = watch.advance(reading);
+    journal.note(&EventRef::Watched(time));
+    time
+}
+
+/// Reads the clock as [`read_watch`] does, for a time that advances to `limit` at most.
+pub fn read_watch_within<C: Clock>(
+    clock: &C,
+    journal: &mut Journal,
+    watch: &mut Watch,
+    limit: u64,
+) -> u64
+    ensures noted { journal.new.events ≡ Watched result ∷ journal.old.events }
+    ensures time { watch.new.now ≡ result }
+    ensures forward { watch.old.now ≤ result }
+    ensures soon { result ≤ max watch.old.now limit }
+{
+    let reading = read_clock(clock, watch.reading);
+    let time = watch.advance_within(reading, limit);
     journal.note(&EventRef::Watched(time));
     time
 }

@@ -1,8 +1,8 @@
 //! A program's own time in milliseconds, and the deadlines of transfers.
 
-ghost use Rattle.std.specs.Prelude.{◌≡◌, ◌≤◌, ◌+◌, ◌↔◌, IsTrue};
+ghost use Rattle.std.specs.Prelude.{◌≡◌, ◌≤◌, ◌+◌, ◌↔◌, IsTrue, max};
 ghost use Rattle.std.specs.Duration.{as_nanos};
-ghost use Rattle.tftp_sockets.specs.Watch.{deadline_of, later_by, whole_millis};
+ghost use Rattle.tftp_sockets.specs.Watch.{deadline_of, later_by, later_within, whole_millis};
 ghost use Rattle.tftp_sockets.specs.declared.watch.TheConstants.{LONGEST_WAIT};
 
 use std::time::Duration;
@@ -44,6 +44,20 @@ impl Watch {
     {
         let passed = reading.saturating_sub(self.reading).min(LONGEST_WAIT);
         self.now = self.now.saturating_add(passed);
+        self.reading = reading;
+        self.now
+    }
+
+    /// Advances to a new reading, to `limit` at most, and returns the time.
+    pub fn advance_within(&mut self, reading: u64, limit: u64) -> u64
+        ensures kept { self.new ≡ record { now = result; reading = reading } }
+        ensures time { result ≡ later_within self.old reading limit }
+        ensures forward { self.old.now ≤ result }
+        ensures soon { result ≤ max self.old.now limit }
+    {
+        let passed = reading.saturating_sub(self.reading);
+        let latest = limit.max(self.now);
+        self.now = self.now.saturating_add(passed).min(latest);
         self.reading = reading;
         self.now
     }

@@ -4,12 +4,12 @@ use Rattle.tftp_loop.proofs.laws.a_server_closes_what_makes_no_progress.Goals as
 
 pub returns-clause-closes : goal.returns-clause-closes
 returns-clause-closes g c =
-    λ start first last new timer empty run has idles waits late soon.
+    λ start first last new timer empty begun run has idles waits late soon.
     closes_without_progress g.T.Store.meaning g.T.Source.Source.meaning start first last new
-    timer empty run has idles waits late soon
+    timer empty begun run has idles waits late soon
 
 pub returns-clause-silent : goal.returns-clause-silent
 returns-clause-silent g c =
-    λ start first last new timer transfer empty run has found idles silent waits late soon.
+    λ start first last new timer transfer empty begun run has found idles silent waits late soon.
     times_out_in_silence g.T.Store.meaning g.T.Source.Source.meaning start first last new
-    timer transfer empty run has found idles silent waits late soon
+    timer transfer empty begun run has found idles silent waits late soon

@@ -35,6 +35,7 @@ returns-clause-serves g c =
           (ap (λ (s : Sockets). s.pool.range) made.sockets ∙ c.requires.range) made.server
           (ap (λ (p : Option (Endpoint × ℕ)). pending_in p request) made.pending) (ap (map timer_of) made.ports)
           (ap (λ (s : Sockets). s.watch.now) made.sockets ∙ c.requires.time)
+          (ap (λ (s : Sockets). s.limit) made.sockets ∙ c.requires.limit) refl
           (ap (λ (s : Sockets). s.is_ready) made.sockets ∙ c.requires.marked) made.left made.rounds
           (ap (λ (j : Journal). j.events) made.journal)))
           c.take_rounds-result.ensures.serves,
@@ -56,6 +57,7 @@ returns-clause-end g c =
           (ap (λ (s : Sockets). s.pool.range) made.sockets ∙ c.requires.range) made.server
           (ap (λ (p : Option (Endpoint × ℕ)). pending_in p request) made.pending) (ap (map timer_of) made.ports)
           (ap (λ (s : Sockets). s.watch.now) made.sockets ∙ c.requires.time)
+          (ap (λ (s : Sockets). s.limit) made.sockets ∙ c.requires.limit) refl
           (ap (λ (s : Sockets). s.is_ready) made.sockets ∙ c.requires.marked) made.left made.rounds
           (ap (λ (j : Journal). j.events) made.journal)))
           c.take_rounds-result.ensures.serves,

@@ -1,6 +1,6 @@
-use Rattle.std.proofs.Common.{take, refl, inl}
+use Rattle.std.proofs.Common.{arith, take, refl, inl}
 use Rattle.std.specs.Prelude.{Some}
-use Rattle.tftp_loop.specs.Serves.{No_memory}
+use Rattle.tftp_loop.specs.Serves.{No_answer, No_memory}
 use Rattle.tftp_loop.specs.Served.{loop_state}
 use Rattle.tftp_loop.specs.Tended.{Concluded}
 use Rattle.tftp_loop.proofs.RequestRuns.{loses_as}
@@ -12,4 +12,13 @@ returns-in_default-clause-handles g c =
     Concluded
     (loses_as g.S.Store.meaning g.S.Source.Source.meaning (loop_state (Some (c.args.from, bytes)) c.args.self.now) _
     c.args.from bytes refl (No_memory 0 (inl c.in_default.ensures.why)) refl)
+    c.requires.pending
+
+pub returns-then-from-eq-NO_PORT-clause-handles : goal.returns-then-from-eq-NO_PORT-clause-handles
+returns-then-from-eq-NO_PORT-clause-handles g c =
+    let bytes = take c.args.count c.args.request.now in
+    let none = c.if-from-eq-NO_PORT.true in
+    Concluded
+    (loses_as g.S.Store.meaning g.S.Source.Source.meaning (loop_state (Some (c.args.from, bytes)) c.args.self.now) _
+    c.args.from bytes refl (No_answer (omega (arith, none))) refl)
     c.requires.pending
