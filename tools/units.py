@@ -237,7 +237,8 @@ def try_late_address(it):
     until("it was started seven times", lambda: int(it.property("tftpd", "NRestarts")) >= 7, 3 * PATIENCE)
     it.server.run(f"ip address add {LATE}/24 dev wire")
     until("it serves its address", lambda: it.is_served(LATE))
-    expect("tftpd: address not available" in it.log("tftpd.service"), True, "whether the journal has the reason")
+    reason = f"tftpd: {LATE}:69: address not available"
+    expect(reason in it.log("tftpd.service"), True, "whether the journal has the reason")
     it.server.run(f"ip address delete {LATE}/24 dev wire")
     it.revert("tftpd")
 
