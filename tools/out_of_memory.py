@@ -3,8 +3,8 @@
 
 Without words the programs are those of bin/, or else those that `rt ci` built. Whichever request is refused, a program
 ends as it does with ample memory, or it says that it is out of memory, with status 2, and what it has printed until then
-is the beginning of what it would have printed; tftp may say that it could not open its file. A file that it was to make
-is whole, or has no name. (tftpd is tried by lost_requests.py.) The counter is refuse_memory.c, compiled into a temporary
+is the beginning of what it would have printed; or it refuses in other words, as where a file cannot be opened. A file
+that tftp was to make is whole, or has no name. (tftpd is tried by lost_requests.py.) The counter is refuse_memory.c, compiled into a temporary
 folder; a run has two minutes.
 """
 import re
@@ -28,7 +28,9 @@ FLOW = b"0\t192.0.2.2\t1024\t192.0.2.1\t69\t000161006f6374657400\n" \
     b"1\t192.0.2.1\t1025\t192.0.2.2\t1024\t00030001414243\n2\t192.0.2.2\t1024\t192.0.2.1\t1025\t00040001\n"
 SCRIPT = b"file a 414243\nget a octet\nput n netascii 0D0A blksize=8\nsettle 0\n"
 CONTENT = b"fortytwo"
-SAID = r"(tftp-show: |tftp-play: |tftp: |error: )?out of memory\n|tftp: (Memory|file fault)\n(tftp: [^\n]+\n)?"
+SAID = r"(tftp-show: |tftp-play: |tftp: |error: )?out of memory\n|tftp: Memory\n(tftp: [^\n]+\n)?"
+# another refusal, as of a file that could not be opened
+OTHER = r"(tftp-show|tftp-play|tftp|error|script|output|svg|line \d+): [^\n]+\n(tftp[a-z-]*: [^\n]+\n)?"
 
 
 class Answerer:
@@ -79,7 +81,8 @@ class Trial:
             is_said = found[0] == 2 and re.fullmatch(SAID, found[2]) and printed.startswith(found[1])
             is_whole = not self.local.exists() or self.local.read_bytes() == CONTENT
             said += bool(is_said)
-            if not (is_said or found[:3] == (status, printed, "")) or not is_whole:
+            is_refused = found[0] in (1, 2) and re.fullmatch(OTHER, found[2]) and printed.startswith(found[1])
+            if not (is_said or is_refused or found[:3] == (status, printed, "")) or not is_whole:
                 wrong += 1
                 print(f"out of memory: {self.name}: request {refused} of {count}: {found[:3]}")
         return count, said, wrong
