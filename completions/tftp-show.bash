@@ -1,21 +1,19 @@
-# bash completion of tftp-show, which reads standard input
+# bash completion of tftp-show, which reads a capture
 
 _tftp_show() {
     local options
     COMPREPLY=()
-    options='--flow --svg --transfer --help -h --version -V'
+    options='--flow --follow --json --svg --transfer --port --help -h --version -V'
     case $3 in
-    --svg)
-        compopt -o filenames 2> /dev/null
-        mapfile -t COMPREPLY < <(compgen -f -- "$2")
-        return
-        ;;
-    --transfer)
+    --transfer | --port)
         return
         ;;
     esac
     if [[ $2 = -* ]]; then
         mapfile -t COMPREPLY < <(compgen -W "$options" -- "$2")
+    else
+        compopt -o filenames 2> /dev/null
+        mapfile -t COMPREPLY < <(compgen -f -- "$2")
     fi
 }
 

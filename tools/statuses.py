@@ -169,7 +169,8 @@ def closed_pipe():
 def test_show(check):
     check.has_help("tftp-show")
     check.is_usage_fault("tftp-show", "--verbose")
-    check.is_usage_fault("tftp-show", "packets.hex")
+    check.is_usage_fault("tftp-show", "packets.hex", "more.hex")
+    check.ends("tftp-show", ["packets.hex"], 2, "tftp-show: input unreadable\n", "")
     check.ends("tftp-show", [], 0, "", "ACK 0\n", input=b"00040000")
     check.ends("tftp-show", [], 1, "", "ACK 0\nnot hex\nfault EmptyOack 2\n", input=b"00040000\n0\n0006")
     with open("/dev/full", "wb") as full:

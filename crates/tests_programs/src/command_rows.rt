@@ -4,13 +4,14 @@ use crate::expect::{expect_bytes, expect_equal};
 use tftp_play::play_words;
 use tftp_show::show_words;
 
-/// Words after the program's name, and the status: `tftp-show` reads no file, and draws only what
-/// it reads with `--flow`.
-const SHOW: [(&[&str], u8); 6] = [
+/// Words after the program's name, and the status: a file has to be there, and a transfer is drawn
+/// only with `--flow`.
+const SHOW: [(&[&str], u8); 7] = [
     (&["tftp-show", "--help"], 0),
     (&["tftp-show", "--version"], 0),
     (&["tftp-show", "--verbose"], 2),
-    (&["tftp-show", "packets.hex"], 2),
+    (&["tftp-show", "/missing/packets.hex"], 2),
+    (&["tftp-show", "a.pcap", "b.pcap"], 2),
     (&["tftp-show", "--svg", "/dev/null"], 2),
     (&["tftp-show", "--flow", "--transfer", "0"], 2),
 ];

@@ -193,12 +193,12 @@ transfer 2: 192.0.2.2:2070 reads from 192.0.2.1:69
     (
         STRANGERS,
         "\
+line 8: 192.0.2.7:53 > 192.0.2.8:99 ACK 1, of no transfer
 line 9: not a payload in hexadecimal digits
 line 10: not a time in seconds
 line 11: not one IPv4 address each
 line 12: not one port each
 line 13: not six fields: time, address, port, address, port, payload
-line 8: 192.0.2.7:53 > 192.0.2.8:99 ACK 1, of no transfer
 transfer 1: 192.0.2.2:1024 reads from 192.0.2.1:69
   asked    RRQ a octet
   answered by 192.0.2.1:2000

@@ -72,7 +72,7 @@ const INPUTS: [(&[u8], &str, u8); 7] = [
     (b"", "", 0),
     (b"00040000", "ACK 0\n", 0),
     (b"0004FFff\n", "ACK 65535\n", 0),
-    (b"00040000\r\n", "not hex\n", 1),
+    (b"00040000\r\n", "ACK 0\n", 0),
     (b"\xff\xff\n", "not hex\n", 1),
     (b"\n", "fault Short 0\n", 1),
     (

@@ -90,17 +90,17 @@ some_left [] h = h
 some_left (b ∷ left) h = omega arith
 
 packets_first : (left : List ℕ) → 0 < length (take_through 10 left) →
-    are_packets left ≡ (spells_packet (decode_of (strip_last 10 (take_through 10 left)))
+    are_packets left ≡ (spells_packet (decode_of (strip_last 13 (strip_last 10 (take_through 10 left))))
     && are_packets (drop_through 10 left))
 packets_first left h = rw (lines_first left (some_left left h)) refl
 
 shown_first : (left : List ℕ) → 0 < length (take_through 10 left) →
-    input_shown left ≡ (line_shown (strip_last 10 (take_through 10 left)) ++ 10 ∷ [])
+    input_shown left ≡ (line_shown (strip_last 13 (strip_last 10 (take_through 10 left))) ++ 10 ∷ [])
     ++ input_shown (drop_through 10 left)
 shown_first left h = rw (lines_first left (some_left left h)) refl
 
 owed_after : (start now now' : Option (List ℕ)) (left all text : List ℕ) → 0 < length (take_through 10 left) →
-    text ≡ line_shown (strip_last 10 (take_through 10 left)) ++ 10 ∷ [] → Owes start now left all →
+    text ≡ line_shown (strip_last 13 (strip_last 10 (take_through 10 left))) ++ 10 ∷ [] → Owes start now left all →
     Appends now now' text → Owes start now' (drop_through 10 left) all
 owed_after None now now' left all text h e o a = tt
 owed_after (Some start) None now' left all text h e o a = absurd o
@@ -115,7 +115,7 @@ owed_after (Some start) (Some now) (Some now') left all text h e o a =
 pub goes_on : (input left left' start now now' : Option (List ℕ)) (packets is_packet : Bool) (read text : List ℕ) →
     GoesOn input left start now packets → DropsThrough left left' 10 →
     IfSome left (λ bytes. read ≡ take_through 10 bytes) → 0 < length read →
-    is_packet ≡ spells_packet (decode_of (strip_last 10 read)) → text ≡ line_shown (strip_last 10 read) ++ 10 ∷ [] →
+    is_packet ≡ spells_packet (decode_of (strip_last 13 (strip_last 10 read))) → text ≡ line_shown (strip_last 13 (strip_last 10 read)) ++ 10 ∷ [] →
     Appends now now' text → GoesOn input left' start now' (packets && is_packet)
 goes_on None left left' start now now' packets is_packet read text g d r h i e a = tt
 goes_on (Some all) None left' start now now' packets is_packet read text g d r h i e a = absurd g
@@ -124,8 +124,8 @@ goes_on (Some all) (Some left) left' start now now' packets is_packet read text 
     subst (λ l. GoesOn (Some all) l start now' (packets && is_packet)) (sym d) (
       and_assoc packets is_packet _
           ∙ ap (λ b. packets && (b && are_packets (drop_through 10 left)))
-          (i ∙ ap (λ l. spells_packet (decode_of (strip_last 10 l))) r)
+          (i ∙ ap (λ l. spells_packet (decode_of (strip_last 13 (strip_last 10 l)))) r)
           ∙ ap (λ b. packets && b) (sym (packets_first left h'))
           ∙ g.0,
-      owed_after start now now' left all text h' (e ∙ ap (λ l. line_shown (strip_last 10 l) ++ 10 ∷ []) r) g.1 a,
+      owed_after start now now' left all text h' (e ∙ ap (λ l. line_shown (strip_last 13 (strip_last 10 l)) ++ 10 ∷ []) r) g.1 a,
     )

@@ -2,4 +2,3 @@ pub mod Data
 pub mod Digits
 pub mod Lines
 pub mod Show
-pub mod Flow

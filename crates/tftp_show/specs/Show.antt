@@ -2,6 +2,7 @@
 use Rattle.std.specs.Prelude.{ℕ, ◌==◌, Bool, false, if◌then◌else◌, List, [], ◌∷◌, ◌++◌}
 use Rattle.std.specs.Prelude.{codes, is_none, Result, Ok, Err}
 use Rattle.std.specs.List.{flat_map, list_all}
+use Rattle.std.specs.Io.BufRead.{strip_last}
 use Rattle.hex.specs.Hex.{decode_of}
 use Rattle.hex.specs.declared.error.FromHexError.{FromHexError}
 use Rattle.tftp_wire.specs.Datagram.{datagram_shown}
@@ -31,13 +32,13 @@ abbrev pub spells_packet : Result (List ℕ) FromHexError → Bool
 spells_packet (Ok bytes) = is_none (first_fault bytes)
 spells_packet (Err e) = false
 
--- whether all lines are packets
+-- whether all lines are packets; a carriage return at the end of a line is part of its line end
 abbrev pub are_packets : List ℕ → Bool
-are_packets input = list_all (λ digits. spells_packet (decode_of digits)) (lines_of input)
+are_packets input = list_all (λ line. spells_packet (decode_of (strip_last 13 line))) (lines_of input)
 
 -- the output for an input: a line for each line
 abbrev pub input_shown : List ℕ → List ℕ
-input_shown input = flat_map (λ digits. line_shown digits ++ 10 ∷ []) (lines_of input)
+input_shown input = flat_map (λ line. line_shown (strip_last 13 line) ++ 10 ∷ []) (lines_of input)
 
 -- the status, if all could be read and written
 abbrev pub status_of : List ℕ → ℕ

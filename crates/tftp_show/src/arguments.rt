@@ -2,20 +2,24 @@
 
 ghost use Rattle.std.specs.Prelude.{◌≤◌};
 
-use crate::flow::{flow_drawn, flow_reported};
-use crate::show::{ShowFault, show_reported};
+use crate::run::{drawn, shown};
+use crate::show::ShowFault;
+use crate::task::{Style, Task};
 use clap::{Arg, ArgMatches, Command, value_parser};
 use std::alloc::{AllocError, Global};
 use std::convert::AsStr;
 use std::fs;
-use std::io::{self, Write};
+use std::io::{self, Read, Write};
 use std::rt::Runtime;
 use tftp_arguments::{VERSION, flag, number, own_words, print_usage, print_words_fault};
 
 const EXAMPLES: &str = "\
 The packets of a capture, a line each:
-  tshark -r FILE -Y tftp -T fields -e udp.payload | tftp-show
-What happened in each transfer of a capture:
+  tftp-show boot.pcap
+What happened in each transfer of a capture, and of what is captured now:
+  tftp-show --flow boot.pcap
+  tcpdump -i eth0 -U -w - udp | tftp-show --follow
+The fields of a capture that tshark wrote are read too:
   tshark -r FILE -Y 'tftp and not icmp' -T fields -e frame.time_relative -e ip.src \\
     -e udp.srcport -e ip.dst -e udp.dstport -e udp.payload | tftp-show --flow";
 
@@ -32,8 +36,8 @@ pub fn show_command<R: Runtime + AllocGlobal, E: Write + Drop>(rt: &R, errors: E
     }
 }
 
-/// Runs `tftp-show` over standard input and output with a command line, and returns its status. The
-/// first word is the program's name; `errors` is standard error.
+/// Runs `tftp-show` over a file, or over standard input, with a command line, and returns its status.
+/// The first word is the program's name; `errors` is standard error.
 ///
 /// `--help` and `--version` print and return 0. A faulty command line is reported on standard error
 /// with status 2, as is the [`ShowFault`] of a run.
@@ -55,52 +59,129 @@ pub fn show_words<R: Runtime + AllocGlobal, S: AsStr, E: Write + Drop>(
 
 /// The command line of `tftp-show`.
 fn show_syntax<'a>(alloc: Global) -> Result<Command<'a>, AllocError> {
+    let file = Arg::new(alloc, "FILE").help("A capture, or lines; standard input if there is none");
+    let command = Command::new(alloc, "tftp-show")
+        .about("Prints TFTP datagrams of a capture, or of lines of hexadecimal digits")
+        .version(VERSION)
+        .after_help(EXAMPLES)
+        .arg(file)?;
+    with_selection(alloc, with_styles(alloc, command)?)
+}
+
+/// Adds what is printed.
+fn with_styles<'a>(alloc: Global, command: Command<'a>) -> Result<Command<'a>, AllocError> {
     let flow = flag(
         alloc,
         "flow",
-        "Reads the fields of a capture, and prints what happened in each transfer",
+        "Prints what happened in each transfer, when it is over",
     );
+    let follow = flag(
+        alloc,
+        "follow",
+        "Prints a line as a transfer begins, and one as it ends",
+    );
+    let json = flag(
+        alloc,
+        "json",
+        "Prints an object of JSON for each transfer, when it is over",
+    );
+    command.arg(flow)?.arg(follow)?.arg(json)
+}
+
+/// Adds of what it is printed or drawn.
+fn with_selection<'a>(alloc: Global, command: Command<'a>) -> Result<Command<'a>, AllocError> {
     let svg = Arg::new(alloc, "svg")
         .long("svg")
         .value_name("FILE")
         .requires_arg("flow")?
-        .help("Draws a transfer of the capture as a sequence diagram into this file");
+        .help("Draws a transfer as a sequence diagram into this file");
     let transfer = number(
         alloc,
         "transfer",
         "N",
         value_parser!(u32).range(1..),
-        "The transfer that is drawn, by its number in the report",
-    )
-    .default_value("1");
-    Command::new(alloc, "tftp-show")
-        .about("Prints TFTP datagrams, given as lines of hexadecimal digits on standard input")
-        .version(VERSION)
-        .after_help(EXAMPLES)
-        .arg(flow)?
-        .arg(svg)?
-        .arg(transfer)
+        "The transfer that is drawn or alone printed, by its number in the report",
+    );
+    let port = number(
+        alloc,
+        "port",
+        "1-65535",
+        value_parser!(u16).range(1..),
+        "The port of requests in a capture [default: 69]",
+    );
+    command.arg(svg)?.arg(transfer)?.arg(port)
 }
 
 /// Shows packets, or the transfers of a capture.
 fn show_matched<R: Runtime + AllocGlobal, E: Write + Drop>(
     rt: &R,
     matches: &ArgMatches<'_>,
+    mut errors: E,
+) -> u8
+    ensures { result ≤ 2 }
+{
+    let Some(path) = matches.get_str("FILE") else {
+        return show_source(rt, rt.reader(), matches, true, errors);
+    };
+    match fs::open(rt, path) {
+        Ok(file) => show_source(rt, file, matches, false, errors),
+        Err(error) => ShowFault::of_reading(&error).report(&mut errors),
+    }
+}
+
+/// Shows an input on standard output, and draws a transfer into the file of `--svg`, if any.
+fn show_source<R: Runtime + AllocGlobal, I: Read + Drop, E: Write + Drop>(
+    rt: &R,
+    input: I,
+    matches: &ArgMatches<'_>,
+    is_live: bool,
     errors: E,
 ) -> u8
     ensures { result ≤ 2 }
 {
     let output = io::writer(rt);
-    if !matches.get_flag("flow") {
-        return show_reported(rt.alloc(), rt.reader(), output, errors);
+    let task = task_of(matches, is_live);
+    match matches.get_str("svg") {
+        Some(path) => {
+            let picture = || fs::create(rt, path);
+            drawn(rt.alloc(), input, output, task, picture, errors)
+        }
+        None => shown(rt.alloc(), input, output, task, errors),
     }
-    let Some(path) = matches.get_str("svg") else {
-        return flow_reported(rt.alloc(), rt.reader(), output, errors);
-    };
-    let number = match matches.get_one::<u32>("transfer") {
-        Some(number) => number as usize,
-        None => 1,
-    };
-    let picture = || fs::create(rt, path);
-    flow_drawn(rt.alloc(), rt.reader(), output, number, picture, errors)
+}
+
+/// What a command line asks for.
+fn task_of(matches: &ArgMatches<'_>, is_live: bool) -> Task {
+    let number = matches
+        .get_one::<u32>("transfer")
+        .map(|number| number as u64);
+    let style = style_of(matches);
+    let draws = matches.get_str("svg").is_some();
+    Task {
+        style,
+        only: if draws || style == Style::Packets {
+            None
+        } else {
+            number
+        },
+        drawn: if draws {
+            Some(number.unwrap_or(1))
+        } else {
+            None
+        },
+        port: matches.get_one::<u16>("port").unwrap_or(69),
+        is_live,
+    }
+}
+
+fn style_of(matches: &ArgMatches<'_>) -> Style {
+    if matches.get_flag("json") {
+        Style::Json
+    } else if matches.get_flag("follow") {
+        Style::Follow
+    } else if matches.get_flag("flow") {
+        Style::Report
+    } else {
+        Style::Packets
+    }
 }

@@ -15,11 +15,15 @@ ghost use Rattle.tftp_show.specs.Show.{status_of};
 
 use crate::show::data::shown_data;
 use crate::show::digits::{decode_digits, is_hex};
-use crate::show::lines::read_line;
 pub use fault::ShowFault;
+pub(crate) use lines::read_line;
 use std::alloc::{AllocError, Global};
 use std::io::{self, BufRead, BufReader, BufWriter, Read, Write};
 use tftp_wire::{show_datagram, show_ref};
+
+/// The digits of the longest datagram, and a line end: what UDP carries over IPv4 is at most 65507
+/// bytes (RFC 768, RFC 791).
+pub(crate) const LONGEST_LINE: usize = 2 * 65_507 + 2;
 
 /// Reads lines of hexadecimal digits, each a datagram, and writes for each its packet, or
 /// `fault KIND AT`, or `not hex`.
@@ -87,8 +91,12 @@ pub fn show_lines<R: BufRead, W: Write>(
             output.flush()?;
             return Ok(packets);
         }
+        if line.len() > LONGEST_LINE {
+            return Err(ShowFault::Long);
+        }
         text.clear();
-        packets &= show_line(without_end(line.as_slice()), &mut bytes, &mut text)?;
+        let digits = without_return(without_end(line.as_slice()));
+        packets &= show_line(digits, &mut bytes, &mut text)?;
         text.push('\n')?;
         output.write_all(text.as_bytes())?;
     }
@@ -101,6 +109,16 @@ fn without_end(line: &[u8]) -> &[u8]
 {
     match line {
         [front @ .., b'\n'] => front,
+        _ => line,
+    }
+}
+
+/// The line without a carriage return at its end.
+fn without_return(line: &[u8]) -> &[u8]
+    ensures { result.now ≡ strip_last 13 line.now }
+{
+    match line {
+        [front @ .., b'\r'] => front,
         _ => line,
     }
 }

@@ -25,6 +25,9 @@ pub enum ShowFault {
     /// An allocation failed.
     #[error("out of memory")]
     Memory,
+    /// A line is longer than that of any datagram.
+    #[error("a line is longer than a datagram")]
+    Long,
     /// The picture could not be opened or written.
     #[error("svg unwritable")]
     Undrawn,

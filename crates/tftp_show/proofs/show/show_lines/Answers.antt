@@ -12,9 +12,11 @@ pub loop-preserved : goal.loop-preserved
 loop-preserved g c =
     let left = g.R.Read.remaining c.loop.input in
     let read = c.read_line.new.line.items in
-    let digits = c.without_end.ensures ∙ ap (strip_last 10) c.as_slice.ensures.value in
+    let digits =
+    c.without_return-digits.ensures ∙ ap (strip_last 13) c.without_end.ensures
+    ∙ ap (λ l. strip_last 13 (strip_last 10 l)) c.as_slice.ensures.value in
     let shown =
-    c.in_ok-packets.ensures.appended ∙ ap (λ s. s ++ line_shown c.without_end.result.now)
+    c.in_ok-packets.ensures.appended ∙ ap (λ s. s ++ line_shown c.without_return-digits.result.now)
     c.clear-in-loop.ensures.bytes ∙ ap line_shown digits in
     goes_on (g.R.Read.remaining c.args.input.now) left (g.R.Read.remaining c.read_line.new.input)
     (g.W.Write.contents c.args.output.now) (g.W.Write.contents c.loop.output) (g.W.Write.contents c.write_all.new.self)

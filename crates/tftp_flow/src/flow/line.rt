@@ -6,11 +6,9 @@ use std::alloc::{AllocError, Global};
 use std::fmt;
 use std::net::{Ipv4Addr, SocketAddrV4};
 
-/// A datagram of a capture.
+/// What a line says of a datagram.
 #[derive(Drop)]
-pub(crate) struct Seen {
-    /// The line of the capture, counted from 1.
-    pub(crate) line: u64,
+pub(crate) struct Line {
     pub(crate) at: Moment,
     pub(crate) from: SocketAddrV4,
     pub(crate) to: SocketAddrV4,
@@ -67,11 +65,10 @@ struct Heading {
 }
 
 /// The datagram that a line spells, or why it is not read. It fails only when out of memory.
-pub(crate) fn read_seen(
+pub(crate) fn read_fields(
     alloc: Global,
-    line: u64,
     text: &[u8],
-) -> Result<Result<Seen, LineFault>, AllocError> {
+) -> Result<Result<Line, LineFault>, AllocError> {
     let Some(fields) = Fields::of(text) else {
         return Ok(Err(LineFault::Fields));
     };
@@ -80,8 +77,7 @@ pub(crate) fn read_seen(
         Err(fault) => return Ok(Err(fault)),
     };
     match hex::decode(alloc, fields.digits) {
-        Ok(bytes) => Ok(Ok(Seen {
-            line,
+        Ok(bytes) => Ok(Ok(Line {
             at,
             from,
             to,

@@ -1,28 +1,12 @@
-//! What is printed of a capture: the lines that belong to no transfer, and then each transfer.
+//! What is printed of a capture: a line for what belongs to no transfer, and some for a transfer.
 
 use crate::flow::event::{Event, Party};
 use crate::flow::transfer::{Aside, Ending, Transfer};
-use crate::flow::{Flow, Stray, Unread};
+use crate::flow::{Stray, Unread};
 use std::fmt;
 
 /// The most datagrams sent again that are printed of a transfer; the others are counted.
 const MAX_REPEATS: usize = 20;
-
-impl fmt::Display for Flow {
-    fn fmt<W: fmt::Write>(&self, f: &mut fmt::Formatter<W>) -> fmt::Result {
-        for unread in &self.unread {
-            writeln!(f, "{unread}")?;
-        }
-        for stray in &self.strays {
-            writeln!(f, "{stray}")?;
-        }
-        for (index, transfer) in self.transfers.iter().enumerate() {
-            let number = index.saturating_add(1);
-            write!(f, "transfer {number}: {transfer}")?;
-        }
-        Ok(())
-    }
-}
 
 impl fmt::Display for Unread {
     fn fmt<W: fmt::Write>(&self, f: &mut fmt::Formatter<W>) -> fmt::Result {
@@ -33,40 +17,76 @@ impl fmt::Display for Unread {
 
 impl fmt::Display for Stray {
     fn fmt<W: fmt::Write>(&self, f: &mut fmt::Formatter<W>) -> fmt::Result {
-        let (line, from, to) = (self.line, self.from, self.to);
+        let (spot, from, to) = (self.spot, self.from, self.to);
         let text = self.text.as_str();
-        write!(f, "line {line}: {from} > {to} {text}, of no transfer")
+        write!(f, "{spot}: {from} > {to} {text}, of no transfer")
     }
 }
 
 impl fmt::Display for Aside {
     fn fmt<W: fmt::Write>(&self, f: &mut fmt::Formatter<W>) -> fmt::Result {
-        let (line, from, to, why) = (self.line, self.from, self.to, self.why);
+        let (spot, from, to, why) = (self.spot, self.from, self.to, self.why);
         let text = self.text.as_str();
-        write!(f, "line {line}: {from} > {to} {text}, {why}")
+        write!(f, "{spot}: {from} > {to} {text}, {why}")
     }
 }
 
+/// The report of a transfer, some lines.
 impl fmt::Display for Transfer {
     fn fmt<W: fmt::Write>(&self, f: &mut fmt::Formatter<W>) -> fmt::Result {
-        let (client, asked_at) = (self.client, self.asked_at);
-        match self.sender() {
-            Party::Server => writeln!(f, "{client} reads from {asked_at}")?,
-            Party::Client => writeln!(f, "{client} writes to {asked_at}")?,
-        }
+        self.write_ends(f)?;
         let request = self.request.as_str();
-        writeln!(f, "  asked    {request}")?;
+        writeln!(f, "\n  asked    {request}")?;
         self.write_answer(f)?;
         self.write_moved(f)?;
+        self.write_cut(f)?;
         self.write_repeats(f)?;
         for aside in &self.asides {
             writeln!(f, "  beside   {aside}")?;
         }
-        self.write_ending(f)
+        write!(f, "  ended    ")?;
+        self.write_ending(f)?;
+        writeln!(f)
+    }
+}
+
+/// The line of a transfer that begins.
+#[derive(Clone, Copy)]
+pub struct Opened<'t>(pub &'t Transfer);
+
+impl fmt::Display for Opened<'_> {
+    fn fmt<W: fmt::Write>(&self, f: &mut fmt::Formatter<W>) -> fmt::Result {
+        self.0.write_ends(f)?;
+        let request = self.0.request.as_str();
+        write!(f, ": {request}")
+    }
+}
+
+/// The line of a transfer that ended, or that is over.
+#[derive(Clone, Copy)]
+pub struct Ended<'t>(pub &'t Transfer);
+
+impl fmt::Display for Ended<'_> {
+    fn fmt<W: fmt::Write>(&self, f: &mut fmt::Formatter<W>) -> fmt::Result {
+        let number = self.0.number;
+        write!(f, "transfer {number}: ")?;
+        self.0.write_ending(f)?;
+        let (blocks, bytes) = (self.0.block_count(), self.0.byte_count());
+        let (time, again) = (self.0.lasted(), self.0.again());
+        write!(f, "; {blocks}, {bytes} in {time} s, {again} sent again")
     }
 }
 
 impl Transfer {
+    /// Its number, and which end does what.
+    fn write_ends<W: fmt::Write>(&self, f: &mut fmt::Formatter<W>) -> fmt::Result {
+        let (number, client, asked_at) = (self.number, self.client, self.asked_at);
+        match self.sender() {
+            Party::Server => write!(f, "transfer {number}: {client} reads from {asked_at}"),
+            Party::Client => write!(f, "transfer {number}: {client} writes to {asked_at}"),
+        }
+    }
+
     /// Who answered, and what was agreed.
     fn write_answer<W: fmt::Write>(&self, f: &mut fmt::Formatter<W>) -> fmt::Result {
         let Some(server) = self.server else {
@@ -86,13 +106,18 @@ impl Transfer {
 
     /// How much was sent, and how long it took.
     fn write_moved<W: fmt::Write>(&self, f: &mut fmt::Formatter<W>) -> fmt::Result {
-        let (blocks, bytes) = (self.block_count(), self.byte_count());
-        match self.events.last() {
-            Some(last) => {
-                let time = self.time_of(last.at);
-                writeln!(f, "  sent     {blocks}, {bytes} in {time} s")
-            }
-            None => writeln!(f, "  sent     {blocks}, {bytes}"),
+        let (blocks, bytes, time) = (self.block_count(), self.byte_count(), self.lasted());
+        writeln!(f, "  sent     {blocks}, {bytes} in {time} s")
+    }
+
+    /// The datagrams whose end was not seen.
+    fn write_cut<W: fmt::Write>(&self, f: &mut fmt::Formatter<W>) -> fmt::Result {
+        match self.cut() {
+            0 => Ok(()),
+            cut => writeln!(
+                f,
+                "  cut      the capture has the beginning of {cut} of them"
+            ),
         }
     }
 
@@ -102,12 +127,7 @@ impl Transfer {
         for event in repeats.take(MAX_REPEATS) {
             writeln!(f, "  again    {event}")?;
         }
-        let count = self
-            .events
-            .iter()
-            .filter(|event| event.gap.is_some())
-            .count();
-        let more = count.saturating_sub(MAX_REPEATS);
+        let more = self.again().saturating_sub(MAX_REPEATS);
         if more > 0 {
             writeln!(f, "  again    {more} more")?;
         }
@@ -117,10 +137,10 @@ impl Transfer {
     /// How it ended.
     fn write_ending<W: fmt::Write>(&self, f: &mut fmt::Formatter<W>) -> fmt::Result {
         match &self.ending {
-            Ending::Complete => writeln!(f, "  ended    complete"),
+            Ending::Complete => write!(f, "complete"),
             Ending::Error { by, text } => {
                 let text = text.as_str();
-                writeln!(f, "  ended    {text} of the {by}")
+                write!(f, "{text} of the {by}")
             }
             Ending::Open => self.write_open(f),
         }
@@ -129,12 +149,12 @@ impl Transfer {
     /// The last datagram of a transfer that did not end, and who did not answer it.
     fn write_open<W: fmt::Write>(&self, f: &mut fmt::Formatter<W>) -> fmt::Result {
         let Some(Event { by, what, .. }) = self.events.last() else {
-            return writeln!(f, "  ended    nothing was sent");
+            return write!(f, "nothing was sent");
         };
         let silent = by.other();
-        writeln!(
+        write!(
             f,
-            "  ended    nothing after {what} of the {by}: the {silent} was silent"
+            "nothing after {what} of the {by}: the {silent} was silent"
         )
     }
 }

@@ -1,6 +1,7 @@
 //! A datagram of a transfer: who sent it, what it is, and whether it repeats an earlier one.
 
 use crate::flow::moment::{Moment, Span};
+use crate::flow::seen::Spot;
 use std::fmt;
 use tftp_wire::{HEADER, PacketFaultKind, PacketRef, decode_ref, has_error_opcode};
 
@@ -52,17 +53,17 @@ pub enum What {
 }
 
 impl What {
-    /// What the payload of a datagram is.
-    pub(crate) fn of(bytes: &[u8]) -> What {
+    /// What the payload of a datagram is, by its beginning and by its length.
+    pub(crate) fn of(bytes: &[u8], length: usize) -> What {
         match decode_ref(bytes) {
-            Ok(packet) => What::of_packet(&packet),
+            Ok(packet) => What::of_packet(&packet, length.saturating_sub(HEADER)),
             Err(_) if has_error_opcode(bytes) => What::Error {
                 code: error_code(bytes),
             },
             // no block of RFC 1350 has the number 0, but many programs send it after 65535
             Err(fault) if fault.kind == PacketFaultKind::BlockZero => What::Data {
                 block: 0,
-                length: bytes.len().saturating_sub(HEADER),
+                length: length.saturating_sub(HEADER),
             },
             Err(fault) => What::Fault { kind: fault.kind },
         }
@@ -76,13 +77,14 @@ impl What {
         }
     }
 
-    fn of_packet(packet: &PacketRef<'_>) -> What {
+    /// What a packet is; `length` is that of the block of a DATA.
+    fn of_packet(packet: &PacketRef<'_>, length: usize) -> What {
         match packet {
             PacketRef::Read(_) => What::Read,
             PacketRef::Write(_) => What::Write,
-            PacketRef::Data { block, bytes } => What::Data {
+            PacketRef::Data { block, bytes: _ } => What::Data {
                 block: *block,
-                length: bytes.len(),
+                length,
             },
             PacketRef::Ack { block } => What::Ack { block: *block },
             PacketRef::Error { code, text: _ } => What::Error { code: *code },
@@ -119,8 +121,8 @@ impl fmt::Display for What {
 /// A datagram of a transfer.
 #[derive(Clone, Copy)]
 pub struct Event {
-    /// The line of the capture, counted from 1.
-    pub line: u64,
+    /// Where it stands.
+    pub spot: Spot,
     /// When it was seen.
     pub at: Moment,
     /// Who sent it.
@@ -129,13 +131,15 @@ pub struct Event {
     pub what: What,
     /// If it was sent before: how long ago.
     pub gap: Option<Span>,
+    /// Whether only the beginning of its payload was seen.
+    pub is_cut: bool,
 }
 
 /// A datagram that was sent again: what, by whom, and how long after the one before.
 impl fmt::Display for Event {
     fn fmt<W: fmt::Write>(&self, f: &mut fmt::Formatter<W>) -> fmt::Result {
-        let (line, by, what) = (self.line, self.by, self.what);
-        write!(f, "line {line}: {what} of the {by}")?;
+        let (spot, by, what) = (self.spot, self.by, self.what);
+        write!(f, "{spot}: {what} of the {by}")?;
         match self.gap {
             Some(gap) => write!(f, " after {gap} s"),
             None => Ok(()),

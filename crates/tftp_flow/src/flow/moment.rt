@@ -26,9 +26,36 @@ impl Moment {
         seconds.checked_mul(SECOND)?.checked_add(micros).map(Moment)
     }
 
+    /// The moment of so many microseconds.
+    pub fn of_micros(micros: u64) -> Moment {
+        Moment(micros)
+    }
+
+    /// The second that it is in.
+    pub(crate) fn second(self) -> u64 {
+        self.0 / SECOND
+    }
+
+    /// The later of two.
+    pub(crate) fn later(self, other: Moment) -> Moment {
+        Moment(self.0.max(other.0))
+    }
+
     /// How long after an earlier moment this is; nothing, if it is before.
     pub(crate) fn since(self, earlier: Moment) -> Span {
         Span(self.0.saturating_sub(earlier.0))
+    }
+}
+
+impl Span {
+    /// So many seconds.
+    pub(crate) fn of_seconds(seconds: u64) -> Span {
+        Span(seconds.saturating_mul(SECOND))
+    }
+
+    /// Whether it is longer than another.
+    pub(crate) fn exceeds(self, other: Span) -> bool {
+        self.0 > other.0
     }
 }
 
@@ -50,7 +77,18 @@ fn micros_of(digits: &[u8]) -> Option<u64> {
 /// In seconds, with six digits of their fraction.
 impl fmt::Display for Span {
     fn fmt<W: fmt::Write>(&self, f: &mut fmt::Formatter<W>) -> fmt::Result {
-        let (seconds, micros) = (self.0 / SECOND, self.0 % SECOND);
-        write!(f, "{seconds}.{micros:06}")
+        write_seconds(self.0, f)
     }
+}
+
+/// In seconds, with six digits of their fraction.
+impl fmt::Display for Moment {
+    fn fmt<W: fmt::Write>(&self, f: &mut fmt::Formatter<W>) -> fmt::Result {
+        write_seconds(self.0, f)
+    }
+}
+
+fn write_seconds<W: fmt::Write>(micros: u64, f: &mut fmt::Formatter<W>) -> fmt::Result {
+    let (seconds, micros) = (micros / SECOND, micros % SECOND);
+    write!(f, "{seconds}.{micros:06}")
 }

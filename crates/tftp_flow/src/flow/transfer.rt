@@ -1,25 +1,34 @@
 //! A transfer of a capture: its request, and the datagrams between its two transfer identifiers.
 
 ghost use Rattle.std.specs.Prelude.{◌≡◌, ◌+◌, IfOk, OnErr, OnOk};
-ghost use Rattle.tftp_show.specs.Flow.{given_to};
+ghost use Rattle.tftp_flow.specs.Flow.{given_to};
 
 use crate::flow::event::{Event, Party, What};
-use crate::flow::line::Seen;
 use crate::flow::moment::{Moment, Span};
+use crate::flow::seen::{Seen, Spot, line_of};
 use std::alloc::{AllocError, Global};
 use std::fmt;
 use std::net::SocketAddrV4;
 use tftp_diagram::Count;
-use tftp_wire::{OptionsRef, PacketRef, decode_ref, show_datagram};
+use tftp_wire::{OptionsRef, PacketRef, decode_ref};
 
 /// The block size where none is agreed (RFC 1350, section 2).
 const DEFAULT_BLOCK: usize = 512;
 
+/// The seconds of silence after which a transfer is over.
+const SILENCE: u64 = 30;
+
+/// How often an end that waits is taken to send again, each time after the agreed timeout.
+const TIMEOUTS: u64 = 6;
+
+/// The most datagrams in which a repeat is looked for.
+const LOOK_BACK: usize = 1000;
+
 /// A datagram of a transfer's ports that is not of the transfer.
 #[derive(Drop)]
 pub struct Aside {
-    /// The line of the capture, counted from 1.
-    pub line: u64,
+    /// Where it stands.
+    pub spot: Spot,
     /// When it was seen.
     pub at: Moment,
     /// Its source.
@@ -79,6 +88,10 @@ pub enum Ending {
 #[derive(Drop)]
 pub struct Transfer {
     alloc: Global,
+    /// Its number, by the order of the requests, counted from 1.
+    pub number: u64,
+    /// The number of the last transfer before it from the client's endpoint.
+    pub(crate) before: Option<u64>,
     /// The client's transfer identifier.
     pub client: SocketAddrV4,
     /// Where the request was sent.
@@ -89,7 +102,9 @@ pub struct Transfer {
     pub request: String,
     request_bytes: Vec<u8>,
     is_read: bool,
-    began: Moment,
+    pub(crate) began: Moment,
+    newest: Moment,
+    silence: Span,
     /// The line of the first OACK.
     pub agreed: Option<String>,
     block_size: usize,
@@ -107,31 +122,44 @@ pub struct Transfer {
     pub bytes: u64,
     /// How it ended.
     pub ending: Ending,
+    /// How many datagrams it had when it was reported.
+    told: Option<usize>,
 }
 
 impl Transfer {
     /// The transfer that a request begins.
-    pub(crate) fn new(alloc: Global, seen: Seen, what: What) -> Result<Transfer, AllocError>
+    pub(crate) fn new(
+        alloc: Global,
+        number: u64,
+        seen: &Seen<'_>,
+        what: What,
+    ) -> Result<Transfer, AllocError>
         ensures { IfOk result (λ transfer. given_to transfer ≡ 1) }
     {
-        let request = line_of(alloc, seen.bytes.as_slice())?;
+        let request = line_of(alloc, seen)?;
+        let request_bytes = Vec::from_slice(alloc, seen.bytes)?;
         let mut events = Vec::new(alloc);
         events.push(Event {
-            line: seen.line,
+            spot: seen.spot,
             at: seen.at,
             by: Party::Client,
             what,
             gap: None,
+            is_cut: seen.is_cut(),
         })?;
         Ok(Transfer {
             alloc,
+            number,
+            before: None,
             client: seen.from,
             asked_at: seen.to,
             server: None,
             request,
-            request_bytes: seen.bytes,
+            request_bytes,
             is_read: what == What::Read,
             began: seen.at,
+            newest: seen.at,
+            silence: Span::of_seconds(SILENCE),
             agreed: None,
             block_size: DEFAULT_BLOCK,
             events,
@@ -142,13 +170,14 @@ impl Transfer {
             blocks: 0,
             bytes: 0,
             ending: Ending::Open,
+            told: None,
         })
     }
 
     /// How a datagram belongs to it, if at all (RFC 1350, section 4): it is known by its two
     /// transfer identifiers, and the first answer to the client from the host that was asked has
     /// the server's. A request belongs to it only as a repeat of its own.
-    pub(crate) fn part_of(&self, seen: &Seen, what: What) -> Option<Part> {
+    pub(crate) fn part_of(&self, seen: &Seen<'_>, what: What) -> Option<Part> {
         if what.is_request() {
             return self.part_of_request(seen);
         }
@@ -158,10 +187,10 @@ impl Transfer {
         }
     }
 
-    fn part_of_request(&self, seen: &Seen) -> Option<Part> {
+    fn part_of_request(&self, seen: &Seen<'_>) -> Option<Part> {
         let is_same = seen.from == self.client
             && seen.to == self.asked_at
-            && seen.bytes.as_slice() == self.request_bytes.as_slice();
+            && seen.bytes == self.request_bytes.as_slice();
         if is_same {
             Some(Part::Own(Party::Client))
         } else {
@@ -169,7 +198,7 @@ impl Transfer {
         }
     }
 
-    fn part_of_bound(&self, server: SocketAddrV4, seen: &Seen) -> Option<Part> {
+    fn part_of_bound(&self, server: SocketAddrV4, seen: &Seen<'_>) -> Option<Part> {
         if seen.from == server && seen.to == self.client {
             Some(Part::Own(Party::Server))
         } else if seen.from == self.client && seen.to == server {
@@ -185,7 +214,7 @@ impl Transfer {
         }
     }
 
-    fn part_of_answer(&self, seen: &Seen) -> Option<Part> {
+    fn part_of_answer(&self, seen: &Seen<'_>) -> Option<Part> {
         if seen.to == self.client && seen.from.ip() == self.asked_at.ip() {
             Some(Part::Answer)
         } else if seen.to == self.client {
@@ -198,19 +227,21 @@ impl Transfer {
     }
 
     /// Adds a datagram that one end sent.
-    pub(crate) fn add(&mut self, seen: &Seen, what: What, by: Party) -> Result<(), AllocError>
+    pub(crate) fn add(&mut self, seen: &Seen<'_>, what: What, by: Party) -> Result<(), AllocError>
         ensures ok { OnOk result (given_to self.new ≡ given_to self.old + 1) }
         ensures err { OnErr result (given_to self.new ≡ given_to self.old) }
     {
         let gap = self.gap_of(seen.at, what, by);
-        self.learn_text(seen.bytes.as_slice(), what, by)?;
+        self.learn_text(seen, what, by)?;
         self.events.push(Event {
-            line: seen.line,
+            spot: seen.spot,
             at: seen.at,
             by,
             what,
             gap,
+            is_cut: seen.is_cut(),
         })?;
+        self.newest = self.newest.later(seen.at);
         if by == Party::Server && self.server.is_none() {
             self.server = Some(seen.from);
         }
@@ -219,13 +250,13 @@ impl Transfer {
     }
 
     /// Adds a datagram that has one of its ports and is not of it.
-    pub(crate) fn add_aside(&mut self, seen: &Seen, why: Why) -> Result<(), AllocError>
+    pub(crate) fn add_aside(&mut self, seen: &Seen<'_>, why: Why) -> Result<(), AllocError>
         ensures ok { OnOk result (given_to self.new ≡ given_to self.old + 1) }
         ensures err { OnErr result (given_to self.new ≡ given_to self.old) }
     {
-        let text = line_of(self.alloc, seen.bytes.as_slice())?;
+        let text = line_of(self.alloc, seen)?;
         self.asides.push(Aside {
-            line: seen.line,
+            spot: seen.spot,
             at: seen.at,
             from: seen.from,
             to: seen.to,
@@ -250,21 +281,23 @@ impl Transfer {
             .events
             .iter()
             .rev()
+            .take(LOOK_BACK)
             .find(|event| event.by == by && event.what == what)?;
         Some(at.since(before.at))
     }
 
     /// Keeps the texts of the options that were agreed on and of the ERROR.
-    fn learn_text(&mut self, bytes: &[u8], what: What, by: Party) -> Result<(), AllocError>
+    fn learn_text(&mut self, seen: &Seen<'_>, what: What, by: Party) -> Result<(), AllocError>
         ensures { given_to self.new ≡ given_to self.old }
     {
         match what {
             What::Options if self.agreed.is_none() => {
-                self.agreed = Some(line_of(self.alloc, bytes)?);
-                self.block_size = block_size_of(bytes);
+                self.agreed = Some(line_of(self.alloc, seen)?);
+                self.block_size = block_size_of(seen.bytes);
+                self.silence = silence_of(seen.bytes);
             }
             What::Error { .. } if self.is_open() => {
-                let text = line_of(self.alloc, bytes)?;
+                let text = line_of(self.alloc, seen)?;
                 self.ending = Ending::Error { by, text };
             }
             _ => {}
@@ -334,8 +367,53 @@ impl Transfer {
     }
 
     /// Whether it did not end.
-    pub(crate) fn is_open(&self) -> bool {
+    pub fn is_open(&self) -> bool {
         matches!(self.ending, Ending::Open)
+    }
+
+    /// Notes that it is reported.
+    pub fn tell(&mut self)
+        ensures { given_to self.new ≡ given_to self.old }
+    {
+        self.told = Some(self.len());
+    }
+
+    /// Whether it was reported.
+    pub fn is_told(&self) -> bool {
+        self.told.is_some()
+    }
+
+    /// The datagrams since it was reported.
+    pub fn untold(&self) -> usize {
+        self.len().saturating_sub(self.told.unwrap_or(0))
+    }
+
+    /// The datagrams of it and beside it.
+    fn len(&self) -> usize {
+        self.events.len().saturating_add(self.asides.len())
+    }
+
+    /// Whether it is over at a moment: it was silent for its timeouts.
+    pub(crate) fn is_silent(&self, at: Moment) -> bool {
+        at.since(self.newest).exceeds(self.silence)
+    }
+
+    /// The number of its datagrams that were sent again.
+    pub(crate) fn again(&self) -> usize {
+        self.events.iter().filter(|it| it.gap.is_some()).count()
+    }
+
+    /// The number of its datagrams of which the beginning alone was seen.
+    pub(crate) fn cut(&self) -> usize {
+        self.events.iter().filter(|it| it.is_cut).count()
+    }
+
+    /// How long after its request its last datagram was seen.
+    pub(crate) fn lasted(&self) -> Span {
+        match self.events.last() {
+            Some(last) => self.time_of(last.at),
+            None => self.time_of(self.began),
+        }
     }
 
     /// How long after its request a moment is.
@@ -353,24 +431,32 @@ fn is_ahead(newest: Option<u16>, block: u16) -> bool {
     }
 }
 
-/// The line of a datagram.
-pub(crate) fn line_of(alloc: Global, bytes: &[u8]) -> Result<String, AllocError> {
-    let mut line = String::new(alloc);
-    show_datagram(bytes, &mut line).map_err(|_| AllocError)?;
-    Ok(line)
-}
-
 /// The block size that an OACK agrees on (RFC 2348), or the default.
 fn block_size_of(bytes: &[u8]) -> usize {
-    match decode_ref(bytes) {
-        Ok(PacketRef::Oack(options)) => stated_block_size(&options).unwrap_or(DEFAULT_BLOCK),
-        _ => DEFAULT_BLOCK,
+    match stated(bytes, b"blksize") {
+        Some(size) => size as usize,
+        None => DEFAULT_BLOCK,
     }
 }
 
-fn stated_block_size(options: &OptionsRef<'_>) -> Option<usize> {
+/// The silence after which a transfer is over that agrees on a timeout (RFC 2349).
+fn silence_of(bytes: &[u8]) -> Span {
+    let timeout = stated(bytes, b"timeout").unwrap_or(0);
+    Span::of_seconds(timeout.saturating_mul(TIMEOUTS).max(SILENCE))
+}
+
+/// The number that an OACK states for an option.
+fn stated(bytes: &[u8], name: &[u8]) -> Option<u64> {
+    match decode_ref(bytes) {
+        Ok(PacketRef::Oack(options)) => stated_in(&options, name),
+        _ => None,
+    }
+}
+
+fn stated_in(options: &OptionsRef<'_>, name: &[u8]) -> Option<u64> {
     let option = options
         .iter()
-        .find(|option| option.name.eq_ignore_ascii_case(b"blksize"))?;
-    str::from_utf8(option.value).ok()?.parse::<usize>().ok()
+        .find(|option| option.name.eq_ignore_ascii_case(name))?;
+    let number = str::from_utf8(option.value).ok()?.parse::<u32>().ok()?;
+    Some(u64::from(number))
 }

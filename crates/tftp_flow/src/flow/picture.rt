@@ -59,45 +59,52 @@ impl Place {
 }
 
 impl Transfer {
-    /// Its picture; `number` is its number in the report. Of a long transfer the first and the last
-    /// datagrams are drawn, and those around one that was sent again.
-    pub(crate) fn diagram(&self, number: usize) -> Result<Diagram, AllocError> {
-        let mut picture = Picture::new(self.alloc(), self.title(number)?, self.summary()?);
+    /// Its picture. Of a long transfer the first and the last datagrams are drawn, and those around
+    /// one that was sent again.
+    pub fn diagram(&self) -> Result<Diagram, AllocError> {
+        let mut picture = Picture::new(self.alloc(), self.title()?, self.summary()?);
         picture.add_ends(self)?;
         let rows = usize::from(MAX_ROWS).saturating_sub(self.asides.len());
         let choice = Choice::new(self.alloc(), self.events.as_slice(), rows)?;
         let mut before = 0;
         for (index, event) in self.events.iter().enumerate() {
-            picture.add_asides(self, before, event.line)?;
+            picture.add_asides(self, before, event.spot.number())?;
             if choice.has(index) {
                 picture.add_event(self, event)?;
             } else {
                 picture.skipped = picture.skipped.saturating_add(1);
             }
-            before = event.line;
+            before = event.spot.number();
         }
         picture.add_asides(self, before, u64::MAX)?;
         picture.close(self)?;
         Ok(picture.diagram)
     }
 
-    fn title(&self, number: usize) -> Result<String, AllocError> {
-        let request = self.request.as_str();
+    fn title(&self) -> Result<String, AllocError> {
+        let (number, request) = (self.number, self.request.as_str());
         let title = format!(in self.alloc(); "Transfer {number}: {request}")?;
         shortened(self.alloc(), title)
     }
 
+    /// What the picture shows, and how much was sent.
     fn summary(&self) -> Result<String, AllocError> {
-        let (blocks, bytes) = (self.block_count(), self.byte_count());
         let seen = Count {
-            number: self.events.len() as u64,
+            number: (self.events.len() as u64).saturating_add(self.asides.len() as u64),
             name: "datagram",
         };
-        let again = self.events.iter().filter(|it| it.gap.is_some()).count();
-        if again == 0 {
-            return format!(in self.alloc(); "{seen}: {blocks}, {bytes}.");
+        let mut text = seen.to_string(self.alloc())?;
+        let again = self.again();
+        if again > 0 {
+            write!(text, ", {again} of them sent again")?;
         }
-        format!(in self.alloc(); "{seen}, {again} of them sent again: {blocks}, {bytes}.")
+        let beside = self.asides.len();
+        if beside > 0 {
+            write!(text, ", {beside} beside it")?;
+        }
+        let (blocks, bytes) = (self.block_count(), self.byte_count());
+        write!(text, ": {blocks}, {bytes}.")?;
+        Ok(text)
     }
 
     /// The line of a datagram.
@@ -114,6 +121,10 @@ impl Transfer {
             },
             what => what.to_string(self.alloc())?,
         };
+        if event.is_cut {
+            let line = format!(in self.alloc(); "{line} (its beginning)")?;
+            return shortened(self.alloc(), line);
+        }
         shortened(self.alloc(), line)
     }
 }
@@ -245,7 +256,8 @@ impl Picture {
     /// Adds the datagrams that are not of the transfer, of the lines between two.
     fn add_asides(&mut self, transfer: &Transfer, from: u64, to: u64) -> Result<(), AllocError> {
         for aside in &transfer.asides {
-            if from < aside.line && aside.line < to {
+            let at = aside.spot.number();
+            if from < at && at < to {
                 self.add_aside(transfer, aside)?;
             }
         }

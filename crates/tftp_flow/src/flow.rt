@@ -1,0 +1,323 @@
+//! The transfers of a capture that are not over, and what belongs to none.
+
+ghost use Rattle.std.specs.Prelude.{◌≡◌, ◌+◌, ◌≤◌, ◌↔◌, IfOk, IsTrue, OnErr, OnOk, vec_len};
+ghost use Rattle.tftp_flow.specs.Flow.{added, lines_in};
+
+mod choice;
+mod event;
+mod index;
+mod json;
+mod line;
+mod moment;
+mod picture;
+mod place;
+mod report;
+mod seen;
+mod transfer;
+
+use crate::flow::index::Index;
+use crate::flow::line::read_fields;
+use crate::flow::place::{Place, Places};
+use crate::flow::seen::line_of;
+use crate::flow::transfer::Part;
+pub use event::{Event, Party, What};
+pub use json::Json;
+pub use line::LineFault;
+pub use moment::{Moment, Span};
+pub use report::{Ended, Opened};
+pub use seen::{Seen, Spot, show_seen};
+use std::alloc::{AllocError, Global};
+use std::net::SocketAddrV4;
+pub use transfer::{Aside, Ending, Transfer, Why};
+
+/// The most transfers of one client's endpoint that a datagram is looked for in.
+const MOST_OF_PORT: usize = 16;
+
+/// The transfers of a capture that are not over.
+#[derive(Drop)]
+pub struct Flow {
+    alloc: Global,
+    /// The transfers, in the order of their requests.
+    pub transfers: Vec<Transfer>,
+    /// The datagrams that are of no transfer.
+    pub strays: Vec<Stray>,
+    /// The lines that are no datagrams.
+    pub unread: Vec<Unread>,
+    index: Index,
+    /// The port of requests; `None` if all that is read is TFTP.
+    port: Option<u16>,
+    /// The requests so far.
+    begun: u64,
+    /// The newest moment.
+    now: Moment,
+    /// The second in which transfers that are over were looked for.
+    looked: u64,
+}
+
+/// A datagram of no transfer.
+#[derive(Drop)]
+pub struct Stray {
+    /// Where it stands.
+    pub spot: Spot,
+    /// Its source.
+    pub from: SocketAddrV4,
+    /// Its destination.
+    pub to: SocketAddrV4,
+    /// Its line, as `ACK 1` or `fault Opcode 0`.
+    pub text: String,
+}
+
+/// A line of a capture that is not read.
+#[derive(Clone, Copy)]
+pub struct Unread {
+    /// The line of the capture, counted from 1.
+    pub line: u64,
+    /// Why.
+    pub fault: LineFault,
+}
+
+/// Where a datagram was put.
+#[derive(Clone, Copy)]
+pub enum Placed {
+    /// It begins a transfer, the last of all.
+    Begun,
+    /// It was given to the transfer of this index.
+    Given(usize),
+    /// It is of no transfer.
+    Stray,
+    /// It is a line that is not read.
+    Unread,
+    /// It is not of TFTP.
+    Ignored,
+}
+
+impl Flow {
+    /// A capture of which nothing was read. With a port a request is one to this port, and what is
+    /// neither of a transfer nor from or to this port is ignored; with none all is TFTP.
+    pub fn new(alloc: Global, port: Option<u16>) -> Flow
+        ensures { lines_in result ≡ 0 }
+    {
+        Flow {
+            alloc,
+            transfers: Vec::new(alloc),
+            strays: Vec::new(alloc),
+            unread: Vec::new(alloc),
+            index: Index::new(alloc),
+            port,
+            begun: 0,
+            now: Moment::of_micros(0),
+            looked: 0,
+        }
+    }
+
+    /// Adds a line of a capture, without its line end, as [`Flow::add_seen`] does; or the line is
+    /// not read.
+    ///
+    /// It fails only when out of memory, and the line is then in none of these.
+    pub fn add_line(&mut self, number: u64, text: &[u8]) -> Result<Placed, AllocError>
+        ensures ok { IfOk result (λ placed.
+            lines_in self.new ≡ lines_in self.old + added placed) }
+        ensures err { OnErr result (lines_in self.new ≡ lines_in self.old) }
+    {
+        match read_fields(self.alloc, text)? {
+            Ok(line) => self.add_seen(&Seen {
+                spot: Spot::Line(number),
+                at: line.at,
+                from: line.from,
+                to: line.to,
+                bytes: line.bytes.as_slice(),
+                length: line.bytes.len(),
+            }),
+            Err(fault) => self.add_unread(number, fault),
+        }
+    }
+
+    /// Adds a datagram: it begins a transfer, or is given to one, or is of none, or is ignored.
+    ///
+    /// It fails only when out of memory, and the datagram is then in none of these.
+    pub fn add_seen(&mut self, seen: &Seen<'_>) -> Result<Placed, AllocError>
+        ensures ok { IfOk result (λ placed.
+            lines_in self.new ≡ lines_in self.old + added placed) }
+        ensures err { OnErr result (lines_in self.new ≡ lines_in self.old) }
+    {
+        self.now = self.now.later(seen.at);
+        let what = What::of(seen.bytes, seen.length);
+        match self.place_of(seen, what) {
+            Some(place) => self.give(place, seen, what),
+            None if what.is_request() && self.is_at_port(seen.to) => self.begin(seen, what),
+            None if self.is_at_port(seen.to) || self.is_at_port(seen.from) => self.add_stray(seen),
+            None => Ok(Placed::Ignored),
+        }
+    }
+
+    /// Whether a second has passed since transfers that are over were dropped.
+    pub fn is_due(&self) -> bool {
+        self.looked < self.now.second()
+    }
+
+    /// Whether a transfer is over: it has been silent for its timeouts.
+    pub fn is_over(&self, transfer: &Transfer) -> bool {
+        transfer.is_silent(self.now)
+    }
+
+    /// Drops the transfers that are over.
+    pub fn drop_over(&mut self)
+        ensures fewer { vec_len self.new.transfers ≤ vec_len self.old.transfers }
+        ensures strays { self.new.strays ≡ self.old.strays }
+        ensures unread { self.new.unread ≡ self.old.unread }
+    {
+        let now = self.now;
+        self.looked = now.second();
+        self.index.remove_silent(self.transfers.as_slice(), now);
+        self.transfers.retain(|transfer| !transfer.is_silent(now));
+    }
+
+    /// Whether an endpoint has the port of requests.
+    fn is_at_port(&self, at: SocketAddrV4) -> bool {
+        match self.port {
+            Some(port) => at.port() == port,
+            None => true,
+        }
+    }
+
+    /// The transfer that a datagram belongs to.
+    fn place_of(&self, seen: &Seen<'_>, what: What) -> Option<Place> {
+        let mut places = Places::new();
+        self.look(self.index.of_client(seen.from), seen, what, &mut places);
+        self.look(self.index.of_client(seen.to), seen, what, &mut places);
+        self.look_at(self.index.of_server(seen.from), seen, what, &mut places);
+        self.look_at(self.index.of_server(seen.to), seen, what, &mut places);
+        places.chosen()
+    }
+
+    /// Looks at the newest transfer of a client's endpoint, and at those before it.
+    fn look(&self, newest: Option<u64>, seen: &Seen<'_>, what: What, places: &mut Places) {
+        let mut next = newest;
+        for _ in 0..MOST_OF_PORT {
+            if next.is_none() {
+                return;
+            }
+            next = self.look_at(next, seen, what, places);
+        }
+    }
+
+    /// Looks at a transfer, and returns the one before it from its client's endpoint.
+    fn look_at(
+        &self,
+        number: Option<u64>,
+        seen: &Seen<'_>,
+        what: What,
+        places: &mut Places,
+    ) -> Option<u64> {
+        let number = number?;
+        let found = self
+            .transfers
+            .binary_search_by_key(&number, |transfer| transfer.number);
+        let index = found.ok()?;
+        let transfer = self.transfers.get(index)?;
+        if let Some(part) = transfer.part_of(seen, what) {
+            places.add(Place { index, part }, transfer.is_open());
+        }
+        transfer.before
+    }
+
+    /// Gives a datagram to a transfer.
+    fn give(&mut self, place: Place, seen: &Seen<'_>, what: What) -> Result<Placed, AllocError>
+        ensures ok { IfOk result (λ placed.
+            lines_in self.new ≡ lines_in self.old + added placed) }
+        ensures err { OnErr result (lines_in self.new ≡ lines_in self.old) }
+    {
+        match place.part {
+            Part::Own(by) => self.give_own(place.index, seen, what, by),
+            Part::Answer => self.give_answer(place.index, seen, what),
+            Part::Beside(why) => self.give_aside(place.index, seen, why),
+        }
+    }
+
+    fn give_own(
+        &mut self,
+        index: usize,
+        seen: &Seen<'_>,
+        what: What,
+        by: Party,
+    ) -> Result<Placed, AllocError>
+        ensures ok { IfOk result (λ placed.
+            lines_in self.new ≡ lines_in self.old + added placed) }
+        ensures err { OnErr result (lines_in self.new ≡ lines_in self.old) }
+    {
+        let Some(transfer) = self.transfers.get_mut(index) else {
+            return self.add_stray(seen);
+        };
+        transfer.add(seen, what, by)?;
+        Ok(Placed::Given(index))
+    }
+
+    /// Gives the first answer, whose source is the server's end.
+    fn give_answer(
+        &mut self,
+        index: usize,
+        seen: &Seen<'_>,
+        what: What,
+    ) -> Result<Placed, AllocError>
+        ensures ok { IfOk result (λ placed.
+            lines_in self.new ≡ lines_in self.old + added placed) }
+        ensures err { OnErr result (lines_in self.new ≡ lines_in self.old) }
+    {
+        let Some(transfer) = self.transfers.get(index) else {
+            return self.add_stray(seen);
+        };
+        let number = transfer.number;
+        self.index.add_server(seen.from, number)?;
+        self.give_own(index, seen, what, Party::Server)
+    }
+
+    fn give_aside(&mut self, index: usize, seen: &Seen<'_>, why: Why) -> Result<Placed, AllocError>
+        ensures ok { IfOk result (λ placed.
+            lines_in self.new ≡ lines_in self.old + added placed) }
+        ensures err { OnErr result (lines_in self.new ≡ lines_in self.old) }
+    {
+        let Some(transfer) = self.transfers.get_mut(index) else {
+            return self.add_stray(seen);
+        };
+        transfer.add_aside(seen, why)?;
+        Ok(Placed::Given(index))
+    }
+
+    fn begin(&mut self, seen: &Seen<'_>, what: What) -> Result<Placed, AllocError>
+        ensures ok { IfOk result (λ placed.
+            lines_in self.new ≡ lines_in self.old + added placed) }
+        ensures err { OnErr result (lines_in self.new ≡ lines_in self.old) }
+    {
+        let number = self.begun.saturating_add(1);
+        let mut transfer = Transfer::new(self.alloc, number, seen, what)?;
+        transfer.before = self.index.of_client(seen.from);
+        self.index.add_client(seen.from, number)?;
+        self.transfers.push(transfer)?;
+        self.begun = number;
+        Ok(Placed::Begun)
+    }
+
+    fn add_stray(&mut self, seen: &Seen<'_>) -> Result<Placed, AllocError>
+        ensures ok { IfOk result (λ placed.
+            lines_in self.new ≡ lines_in self.old + added placed) }
+        ensures err { OnErr result (lines_in self.new ≡ lines_in self.old) }
+    {
+        let text = line_of(self.alloc, seen)?;
+        self.strays.push(Stray {
+            spot: seen.spot,
+            from: seen.from,
+            to: seen.to,
+            text,
+        })?;
+        Ok(Placed::Stray)
+    }
+
+    fn add_unread(&mut self, line: u64, fault: LineFault) -> Result<Placed, AllocError>
+        ensures ok { IfOk result (λ placed.
+            lines_in self.new ≡ lines_in self.old + added placed) }
+        ensures err { OnErr result (lines_in self.new ≡ lines_in self.old) }
+    {
+        self.unread.push(Unread { line, fault })?;
+        Ok(Placed::Unread)
+    }
+}

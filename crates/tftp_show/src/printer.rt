@@ -1,0 +1,321 @@
+//! Prints the transfers of a capture as they begin, end and are over.
+
+use crate::show::ShowFault;
+use crate::task::{Style, Task};
+use std::alloc::Global;
+use std::io::Write;
+use tftp_capture::{CaptureFault, FrameFault, Record, read_datagram};
+use tftp_diagram::Diagram;
+use tftp_flow::{Ended, Flow, Json, Moment, Opened, Placed, Seen, Spot, Transfer, show_seen};
+
+/// The frames that have no datagram.
+#[derive(Clone, Copy)]
+struct LeftOut {
+    /// Of a link that is not supported.
+    links: u64,
+    /// Later fragments.
+    fragments: u64,
+    /// All others.
+    others: u64,
+}
+
+/// What is printed of a capture, and what is to be said in the end.
+#[derive(Drop)]
+pub(crate) struct Printer<W> {
+    alloc: Global,
+    output: W,
+    task: Task,
+    flow: Flow,
+    text: String,
+    left_out: LeftOut,
+    /// Whether all was of a transfer, or a packet.
+    is_whole: bool,
+    /// Whether a transfer ended that was not printed yet.
+    has_ended: bool,
+    /// Whether the transfer that alone is printed was there.
+    is_found: bool,
+    /// The picture of the transfer that is drawn.
+    diagram: Option<Diagram>,
+}
+
+/// How a run over a capture ended.
+#[derive(Drop)]
+pub(crate) struct Outcome {
+    pub(crate) is_whole: bool,
+    pub(crate) diagram: Option<Diagram>,
+    /// The frame at which the capture could not be read on, and why.
+    pub(crate) cut: Option<(u64, CaptureFault)>,
+}
+
+impl<W: Write> Printer<W> {
+    /// A printer of lines, all of which are TFTP, or of frames.
+    pub(crate) fn new(alloc: Global, output: W, task: Task, port: Option<u16>) -> Printer<W> {
+        Printer {
+            alloc,
+            output,
+            task,
+            flow: Flow::new(alloc, port),
+            text: String::new(alloc),
+            left_out: LeftOut {
+                links: 0,
+                fragments: 0,
+                others: 0,
+            },
+            is_whole: true,
+            has_ended: false,
+            is_found: false,
+            diagram: None,
+        }
+    }
+
+    /// Adds a line of a capture.
+    pub(crate) fn add_line(&mut self, number: u64, line: &[u8]) -> Result<(), ShowFault> {
+        let placed = self.flow.add_line(number, line)?;
+        self.print_placed(placed)
+    }
+
+    /// Adds a frame of a capture.
+    pub(crate) fn add_frame(&mut self, record: Record, frame: &[u8]) -> Result<(), ShowFault> {
+        let datagram = match read_datagram(record.link, frame) {
+            Ok(datagram) => datagram,
+            Err(fault) => {
+                self.leave_out(fault);
+                return Ok(());
+            }
+        };
+        let seen = Seen {
+            spot: Spot::Frame(record.number),
+            at: Moment::of_micros(record.micros),
+            from: datagram.from,
+            to: datagram.to,
+            bytes: datagram.payload,
+            length: datagram.length,
+        };
+        let placed = self.flow.add_seen(&seen)?;
+        if self.task.style == Style::Packets && !matches!(placed, Placed::Ignored) {
+            self.print_packet(&seen)?;
+        }
+        self.print_placed(placed)
+    }
+
+    /// Prints what ended, if no more input is at hand and that is wanted.
+    pub(crate) fn rest(&mut self, is_used_up: bool) -> Result<(), ShowFault> {
+        if !is_used_up || !self.task.is_live {
+            return Ok(());
+        }
+        if self.has_ended {
+            self.print_ended()?;
+            self.has_ended = false;
+        }
+        self.output.flush()?;
+        Ok(())
+    }
+
+    /// Prints the transfers that are left, and what was left out. `cut` says where the capture could
+    /// not be read on.
+    pub(crate) fn finish(
+        &mut self,
+        cut: Option<(u64, CaptureFault)>,
+    ) -> Result<Outcome, ShowFault> {
+        for index in 0..self.flow.transfers.len() {
+            self.print_last(index)?;
+        }
+        if self.task.wants_others() {
+            self.print_left_out()?;
+        }
+        self.output.flush()?;
+        let is_missing = (self.task.only.is_some() && !self.is_found)
+            || (self.task.drawn.is_some() && self.diagram.is_none());
+        if is_missing {
+            return Err(ShowFault::NoTransfer);
+        }
+        Ok(Outcome {
+            is_whole: self.is_whole,
+            diagram: self.diagram.take(),
+            cut,
+        })
+    }
+
+    fn leave_out(&mut self, fault: FrameFault) {
+        let left_out = self.left_out;
+        match fault {
+            FrameFault::Link => self.left_out.links = left_out.links.saturating_add(1),
+            FrameFault::Fragment => self.left_out.fragments = left_out.fragments.saturating_add(1),
+            _ => self.left_out.others = left_out.others.saturating_add(1),
+        }
+    }
+
+    fn print_left_out(&mut self) -> Result<(), ShowFault> {
+        let LeftOut {
+            links,
+            fragments,
+            others,
+        } = self.left_out;
+        if others > 0 {
+            writeln!(self.output, "not UDP over IPv4: frames {others}")?;
+        }
+        if fragments > 0 {
+            writeln!(self.output, "later fragments: frames {fragments}")?;
+        }
+        if links > 0 {
+            writeln!(self.output, "of another link type: frames {links}")?;
+        }
+        Ok(())
+    }
+
+    fn print_packet(&mut self, seen: &Seen<'_>) -> Result<(), ShowFault> {
+        self.text.clear();
+        self.is_whole &= show_seen(seen, &mut self.text)?;
+        self.text.push('\n')?;
+        self.output.write_all(self.text.as_bytes())?;
+        Ok(())
+    }
+
+    /// Prints what a datagram changed.
+    fn print_placed(&mut self, placed: Placed) -> Result<(), ShowFault> {
+        match placed {
+            Placed::Begun => self.print_begun()?,
+            Placed::Given(index) => self.print_given(index)?,
+            Placed::Stray | Placed::Unread => self.print_others()?,
+            Placed::Ignored => {}
+        }
+        if self.flow.is_due() {
+            self.print_over()?;
+        }
+        Ok(())
+    }
+
+    fn print_begun(&mut self) -> Result<(), ShowFault> {
+        if self.task.style != Style::Follow {
+            return Ok(());
+        }
+        if let Some(transfer) = self.flow.transfers.last() {
+            if self.task.wants(transfer.number) {
+                let opened = Opened(transfer);
+                writeln!(self.output, "{opened}")?;
+            }
+        }
+        Ok(())
+    }
+
+    fn print_given(&mut self, index: usize) -> Result<(), ShowFault> {
+        let Some(transfer) = self.flow.transfers.get(index) else {
+            return Ok(());
+        };
+        if transfer.is_open() || transfer.is_told() {
+            return Ok(());
+        }
+        if self.task.style == Style::Follow {
+            return self.tell(index);
+        }
+        self.has_ended = true;
+        Ok(())
+    }
+
+    /// Prints the datagrams of no transfer, and the lines that are not read.
+    fn print_others(&mut self) -> Result<(), ShowFault> {
+        if self.task.style != Style::Packets {
+            self.is_whole = false;
+        }
+        if self.task.wants_others() {
+            for unread in &self.flow.unread {
+                writeln!(self.output, "{unread}")?;
+            }
+            for stray in &self.flow.strays {
+                writeln!(self.output, "{stray}")?;
+            }
+        }
+        self.flow.unread.clear();
+        self.flow.strays.clear();
+        Ok(())
+    }
+
+    /// Prints the transfers that ended.
+    fn print_ended(&mut self) -> Result<(), ShowFault> {
+        for index in 0..self.flow.transfers.len() {
+            if self.is_to_tell(index) {
+                self.tell(index)?;
+            }
+        }
+        Ok(())
+    }
+
+    fn is_to_tell(&self, index: usize) -> bool {
+        match self.flow.transfers.get(index) {
+            Some(transfer) => !transfer.is_open() && !transfer.is_told(),
+            None => false,
+        }
+    }
+
+    /// Prints the transfers that are over, and drops them.
+    fn print_over(&mut self) -> Result<(), ShowFault> {
+        for index in 0..self.flow.transfers.len() {
+            if self.is_over(index) {
+                self.print_last(index)?;
+            }
+        }
+        self.flow.drop_over();
+        Ok(())
+    }
+
+    fn is_over(&self, index: usize) -> bool {
+        match self.flow.transfers.get(index) {
+            Some(transfer) => self.flow.is_over(transfer),
+            None => false,
+        }
+    }
+
+    /// Prints a transfer for the last time: all of it, or how much came after its report.
+    fn print_last(&mut self, index: usize) -> Result<(), ShowFault> {
+        let Some(transfer) = self.flow.transfers.get(index) else {
+            return Ok(());
+        };
+        if self.task.drawn == Some(transfer.number) {
+            self.diagram = Some(transfer.diagram()?);
+        }
+        if !transfer.is_told() {
+            return self.tell(index);
+        }
+        let (number, more) = (transfer.number, transfer.untold());
+        if more > 0 && self.task.style == Style::Report && self.task.wants(number) {
+            writeln!(
+                self.output,
+                "transfer {number}: datagrams after its report {more}"
+            )?;
+        }
+        Ok(())
+    }
+
+    /// Prints a transfer.
+    fn tell(&mut self, index: usize) -> Result<(), ShowFault> {
+        let Some(transfer) = self.flow.transfers.get_mut(index) else {
+            return Ok(());
+        };
+        transfer.tell();
+        if !self.task.wants(transfer.number) {
+            return Ok(());
+        }
+        self.is_found = true;
+        write_transfer(&mut self.output, self.task.style, transfer)
+    }
+}
+
+fn write_transfer<W: Write>(
+    output: &mut W,
+    style: Style,
+    transfer: &Transfer,
+) -> Result<(), ShowFault> {
+    match style {
+        Style::Packets => {}
+        Style::Report => write!(output, "{transfer}")?,
+        Style::Follow => {
+            let ended = Ended(transfer);
+            writeln!(output, "{ended}")?;
+        }
+        Style::Json => {
+            let object = Json(transfer);
+            writeln!(output, "{object}")?;
+        }
+    }
+    Ok(())
+}

@@ -1,0 +1,522 @@
+#!/usr/bin/env python3
+"""Tries what `tftp-show` does with captures: captures.py [TFTP_SHOW]
+
+Captures of each format, link and fault are built by hand (`frames.py`); what is printed of them is written here. Where
+`tshark` is installed it reads them too, packet by packet; where `tcpdump` is and may capture, it records an exchange on
+the loopback interface. Then each capture is mutated, with a seed, under a limit of memory and of time. The last line is
+a count; the status is 1 where something was not as wanted.
+"""
+import json
+import os
+import random
+import resource
+import select
+import shutil
+import socket
+import struct
+import subprocess
+import sys
+import tempfile
+import time
+from pathlib import Path
+
+from lib import frames as f
+from lib.addresses import own_address
+from lib.packets import ack, data, oack, rrq
+from lib.programs import program
+
+EXAMPLES = Path(__file__).resolve().parent.parent / "examples"
+PATIENCE = 60
+MEMORY = 200 << 20
+MUTATION_SECONDS = 15
+SEED = 57
+
+REPORT = """\
+transfer 1: 192.0.2.2:54359 reads from 192.0.2.1:69
+  asked    RRQ tiny octet blksize=8
+  answered by 192.0.2.1:38225
+  agreed   OACK blksize=8: blocks of 8 bytes
+  sent     3 blocks, 20 bytes in 1.004035 s
+  again    frame 7: DATA 2 8 of the server after 1.001062 s
+  ended    complete
+"""
+LINES = """\
+RRQ tiny octet blksize=8
+OACK blksize=8
+ACK 0
+DATA 1 8
+ACK 1
+DATA 2 8
+DATA 2 8
+ACK 2
+DATA 3 4
+ACK 3
+"""
+HELP = """\
+Prints TFTP datagrams of a capture, or of lines of hexadecimal digits
+
+Usage: tftp-show [OPTIONS] [FILE]
+
+Arguments:
+  [FILE]  A capture, or lines; standard input if there is none
+
+Options:
+      --flow            Prints what happened in each transfer, when it is over
+      --follow          Prints a line as a transfer begins, and one as it ends
+      --json            Prints an object of JSON for each transfer, when it is over
+      --svg <FILE>      Draws a transfer as a sequence diagram into this file
+      --transfer <N>    The transfer that is drawn or alone printed, by its number in the report
+      --port <1-65535>  The port of requests in a capture [default: 69]
+  -h, --help            Print help
+  -V, --version         Print version
+
+The packets of a capture, a line each:
+  tftp-show boot.pcap
+What happened in each transfer of a capture, and of what is captured now:
+  tftp-show --flow boot.pcap
+  tcpdump -i eth0 -U -w - udp | tftp-show --follow
+The fields of a capture that tshark wrote are read too:
+  tshark -r FILE -Y 'tftp and not icmp' -T fields -e frame.time_relative -e ip.src \\
+    -e udp.srcport -e ip.dst -e udp.dstport -e udp.payload | tftp-show --flow
+"""
+
+
+def limit():
+    """A program that takes more memory than this is out of memory."""
+    resource.setrlimit(resource.RLIMIT_AS, (MEMORY, MEMORY))
+
+
+class Check:
+    """The runs of the program, and what was wrong in them."""
+
+    def __init__(self, program, folder):
+        self.program, self.folder = program, folder
+        self.runs, self.wrong = 0, []
+
+    def fails(self, what):
+        """Notes what was wrong."""
+        self.wrong.append(what)
+
+    def run(self, words, given=b""):
+        """Status, output and messages of a run."""
+        self.runs += 1
+        try:
+            done = subprocess.run(
+                [self.program, *words], input=given, capture_output=True, timeout=PATIENCE, preexec_fn=limit
+            )
+        except subprocess.TimeoutExpired:
+            return None, "", "has not ended"
+        return done.returncode, done.stdout.decode(errors="replace"), done.stderr.decode(errors="replace")
+
+    def ends(self, name, words, given, status, output, errors=""):
+        """A run ends so."""
+        got = self.run(words, given)
+        if got != (status, output, errors):
+            self.fails(f"{name} {words}: {got!r}, wanted {(status, output, errors)!r}")
+
+    def file(self, content):
+        """A file with this content."""
+        path = self.folder / f"{self.runs}.pcap"
+        path.write_bytes(content)
+        return str(path)
+
+    def reads(self, name, capture, report=REPORT, lines=LINES, status=0, errors="", words=()):
+        """A capture is read so, from a file and from standard input, with and without `--flow`."""
+        path = self.file(capture)
+        self.ends(name, ["--flow", *words, path], b"", status, report, errors)
+        self.ends(name, ["--flow", *words], capture, status, report, errors)
+        self.ends(name, [*words, path], b"", status, lines, errors)
+
+
+def tag_sets(kind):
+    """The VLAN tags that a link is tried with."""
+    return [(), (0x8100,), (0x88A8, 0x8100)] if kind in (f.ETHERNET, f.COOKED, f.COOKED2) else [()]
+
+
+def samples():
+    """Captures of one exchange, each with what it is called, in each format and of each link."""
+    told = f.exchange()
+    for kind in (f.ETHERNET, f.COOKED, f.COOKED2, f.RAW, f.LOOPBACK, f.LOOP, 12, 14, 228):
+        link = f.RAW if kind in (12, 14, 228) else kind
+        for tags in tag_sets(link):
+            seen = f.frames(told, link, tags)
+            for order in "<>":
+                for magic in (f.MICROS, f.NANOS):
+                    yield f"classic {kind} {tags} {order} {magic:x}", f.classic(seen, kind, order=order, magic=magic)
+                yield f"pcapng {kind} {tags} {order}", f.pcapng(seen, kind, order=order)
+    seen = f.frames(told, f.ETHERNET)
+    yield "nanoseconds", f.pcapng(seen, 1, resolution=9, per_second=10**9)
+    yield "no default option", f.pcapng(seen, 1, resolution=6)
+    names = f.block("<", 4, struct.pack("<HH", 0, 0))
+    statistics = f.block("<", 5, struct.pack("<III", 0, 0, 0) + bytes(64))
+    yield "other blocks", f.pcapng(seen, 1, between=names + statistics)
+    own = f.block("<", 0xBAD, bytes(300_000))
+    yield "a long other block", f.pcapng(seen, 1, between=own)
+    half = len(seen) // 2
+    two = f.pcapng(seen[:half], 1) + f.pcapng(f.frames(told, f.RAW)[half:], f.RAW, order=">")
+    yield "two sections", two
+    yield "options of IPv4", f.classic(f.frames(told, f.ETHERNET, options=bytes([1] * 8)), 1)
+    padded = [(at, frame + bytes(max(0, 60 - len(frame)))) for at, frame in seen]
+    yield "padded frames", f.classic(padded, 1)
+    yield "a sum behind each frame", f.classic([(at, frame + b"sum!") for at, frame in seen], 0x34000001)
+
+
+def two_interfaces():
+    """An exchange whose directions are of two interfaces with other links and clocks."""
+    parts = [f.section("<"), f.interface("<", f.ETHERNET), f.interface("<", f.RAW, resolution=0x80 | 20)]
+    for at, packet in f.packets(f.exchange()):
+        if packet[12:16] == f.octets(f.CLIENT):
+            parts.append(f.enhanced("<", at, f.link(f.ETHERNET, packet)))
+        else:
+            parts.append(f.enhanced("<", -(-at * 2**20 // 1_000_000), packet, 1))
+    return b"".join(parts)
+
+
+def of_one(frame, kind=f.ETHERNET):
+    """A capture of one frame, and then an exchange."""
+    return f.classic([(1, frame)] + f.frames(f.exchange(), f.ETHERNET), kind)
+
+
+def later(report):
+    """The report where another frame is before it."""
+    return report.replace("frame 7", "frame 8")
+
+
+def frame_faults():
+    """Frames without a UDP datagram over IPv4, and the word of the line that counts them."""
+    body = f.udp(1, 2, b"x")
+    good = f.ipv4(f.CLIENT, f.SERVER, body)
+    others = {
+        "empty": b"",
+        "short link": bytes(13),
+        "no tag": bytes(12) + b"\x81\0\0",
+        "three tags": f.link(f.ETHERNET, good, tags=(0x8100,) * 3),
+        "ARP": f.link(f.ETHERNET, bytes(28), protocol=0x0806),
+        "IPv6": f.link(f.ETHERNET, b"\x60" + bytes(47), protocol=0x86DD),
+        "short packet": f.link(f.ETHERNET, good[:19]),
+        "version": f.link(f.ETHERNET, f.ipv4(f.CLIENT, f.SERVER, body, version=6)),
+        "header of 16": f.link(f.ETHERNET, f.ipv4(f.CLIENT, f.SERVER, body, words=4)),
+        "total within header": f.link(f.ETHERNET, f.ipv4(f.CLIENT, f.SERVER, body, total=19)),
+        "header behind the frame": f.link(f.ETHERNET, f.ipv4(f.CLIENT, f.SERVER, b"", words=15, total=80)),
+        "TCP": f.link(f.ETHERNET, f.ipv4(f.CLIENT, f.SERVER, bytes(20), kind=6)),
+        "short UDP": f.link(f.ETHERNET, f.ipv4(f.CLIENT, f.SERVER, body[:7])),
+        "UDP of 7": f.link(f.ETHERNET, f.ipv4(f.CLIENT, f.SERVER, f.udp(1, 2, b"x", 7))),
+        "UDP past its packet": f.link(f.ETHERNET, f.ipv4(f.CLIENT, f.SERVER, f.udp(1, 2, b"x", 10))),
+    }
+    for name, frame in others.items():
+        yield name, frame, "not UDP over IPv4: frames 1\n"
+    fragment = f.ipv4(f.CLIENT, f.SERVER, bytes(100), offset=185)
+    yield "a later fragment", f.link(f.ETHERNET, fragment), "later fragments: frames 1\n"
+
+
+def try_formats(check):
+    """Each format, link and fault."""
+    for name, capture in samples():
+        check.reads(name, capture)
+    check.reads("two interfaces", two_interfaces())
+    for name, frame, line in frame_faults():
+        check.reads(name, of_one(frame), later(REPORT) + line)
+    for kind, frame, line in [
+        (f.LOOPBACK, struct.pack("<I", 30) + bytes(40), "not UDP over IPv4: frames 1\n"),
+        (f.LOOPBACK, bytes(3), "not UDP over IPv4: frames 1\n"),
+        (f.COOKED, bytes(15), "not UDP over IPv4: frames 1\n"),
+        (f.COOKED2, bytes(19), "not UDP over IPv4: frames 1\n"),
+        (127, bytes(40), "of another link type: frames 1\n"),
+    ]:
+        check.reads(f"link {kind}", f.classic([(1, frame)], kind), line, "")
+    undescribed = f.section("<") + f.enhanced("<", 1, bytes(60), 3)
+    check.reads("an interface that is not described", undescribed, "of another link type: frames 1\n", "")
+    plain = f.section("<") + f.interface("<", f.RAW)
+    plain += b"".join(f.simple("<", packet) for _, packet in f.packets(f.exchange()))
+    timeless = REPORT.replace("1.004035", "0.000000").replace("1.001062", "0.000000")
+    check.reads("simple packet blocks", plain, timeless)
+    empty = f.classic([], 1)
+    check.reads("no frame", empty, "", "")
+
+
+def try_fragments(check):
+    """A DATA of 1468 bytes in two fragments, and one that the capture has the beginning of."""
+    client, server = (f.CLIENT, 1024), (f.SERVER, 2000)
+    whole = f.udp(server[1], client[1], data(1, bytes(1468)))
+    parts = [
+        (0, f.ipv4(f.CLIENT, f.SERVER, f.udp(1024, 69, rrq("a", blksize=1468)))),
+        (1, f.ipv4(f.SERVER, f.CLIENT, f.udp(2000, 1024, oack(blksize=1468)))),
+        (2, f.ipv4(f.CLIENT, f.SERVER, f.udp(1024, 2000, ack(0)))),
+        (3, f.ipv4(f.SERVER, f.CLIENT, whole[:1400], more=True)),
+        (4, f.ipv4(f.SERVER, f.CLIENT, whole[1400:], offset=175)),
+        (5, f.ipv4(f.CLIENT, f.SERVER, f.udp(1024, 2000, ack(1)))),
+        (6, f.ipv4(f.SERVER, f.CLIENT, f.udp(2000, 1024, data(2, b"end")))),
+        (7, f.ipv4(f.CLIENT, f.SERVER, f.udp(1024, 2000, ack(2)))),
+    ]
+    report = """\
+transfer 1: 192.0.2.2:1024 reads from 192.0.2.1:69
+  asked    RRQ a octet blksize=1468
+  answered by 192.0.2.1:2000
+  agreed   OACK blksize=1468: blocks of 1468 bytes
+  sent     2 blocks, 1471 bytes in 0.000007 s
+  cut      the capture has the beginning of 1 of them
+  ended    complete
+"""
+    lines = "RRQ a octet blksize=1468\nOACK blksize=1468\nACK 0\nDATA 1 1468\nACK 1\nDATA 2 3\nACK 2\n"
+    check.reads("fragments", f.classic(parts, f.RAW), report + "later fragments: frames 1\n", lines)
+    short = [part for part in parts if part[0] not in (3, 4)] + [(3, f.ipv4(f.SERVER, f.CLIENT, whole))]
+    short.sort()
+    check.reads("a snap length", f.classic(short, f.RAW, snap=100), report, lines)
+    picture = check.folder / "cut.svg"
+    check.run(["--flow", "--svg", str(picture)], f.classic(parts, f.RAW))
+    if not picture.exists() or "DATA 1 1468 (its beginning)" not in picture.read_text():
+        check.fails("the picture does not mark a fragment")
+
+
+def try_cuts(check):
+    """A capture that is cut at each byte, and records that no capture has."""
+    told = f.frames(f.exchange(), f.RAW)
+    for capture, head, per_frame, whole in [(f.classic(told, f.RAW), [24], 16, 1), (f.pcapng(told, f.RAW), [28, 48], 28, 4)]:
+        # where a record ends, and where its frame does
+        ends, seen = list(head), []
+        for _, frame in told:
+            seen.append(ends[-1] + per_frame + len(frame))
+            padded = ends[-1] + per_frame + len(frame) + -len(frame) % whole
+            ends.append(padded + (4 if whole == 4 else 0))
+        for cut in range(4, len(capture), 5):
+            status, output, errors = check.run(["--flow"], capture[:cut])
+            count = sum(1 for end in seen if end <= cut)
+            wanted = (0, "") if cut in ends else (1, f"tftp-show: frame {count + 1}: cut short\n")
+            if (status, errors) != wanted:
+                check.fails(f"cut at {cut} of {len(capture)}: {status}, {errors!r}, wanted {wanted}")
+            if count == len(told) and output != REPORT:
+                check.fails(f"cut at {cut}: {output!r}")
+    long = f.classic(told, f.RAW) + struct.pack("<IIII", 0, 0, 262_145, 262_145)
+    check.reads("a long record", long, status=1, errors="tftp-show: frame 11: a record is too long\n")
+    good = f.pcapng(told, f.RAW)
+    for name, more, fault in [
+        ("a block of 8", struct.pack("<II", 0xBAD, 8), "a block with an impossible length"),
+        ("a block of 13", struct.pack("<II", 0xBAD, 13), "a block with an impossible length"),
+        ("a frame past its block", struct.pack("<IIIIIII", 6, 36, 0, 0, 0, 5, 5) + bytes(8), "a block with an impossible length"),
+        ("a frame of 4 GB", struct.pack("<IIIIIII", 6, 36, 0, 0, 0, 2**32 - 1, 5) + bytes(8), "a record is too long"),
+        ("a section without an order", struct.pack("<III", 0x0A0D0D0A, 28, 0) + bytes(16), "not a capture"),
+    ]:
+        check.reads(name, good + more, status=1, errors=f"tftp-show: frame 11: {fault}\n")
+
+
+def try_selection(check):
+    """`--port`, `--transfer`, `--json`, and what is not TFTP."""
+    told = f.exchange()
+    other = [(at, s, (t[0], 6969) if t[1] == 69 else t, payload) for at, s, t, payload in told]
+    capture = f.classic(f.frames(other, f.RAW), f.RAW)
+    check.ends("another port", ["--flow"], capture, 0, "")
+    check.reads("a port", capture, REPORT.replace(":69\n", ":6969\n"), words=["--port", "6969"])
+    names = [(5, (f.CLIENT, 5353), (f.SERVER, 53), b"\0\1what\0octet\0")]
+    late = [(9_000_000 + told[-1][0], (f.SERVER, 7), (f.CLIENT, 69), ack(7))]
+    mixed = f.classic(f.frames(names + told + late, f.RAW), f.RAW)
+    stray = "frame 12: 192.0.2.1:7 > 192.0.2.2:69 ACK 7, of no transfer\n"
+    check.ends("a stranger at the port", ["--flow"], mixed, 1, stray + later(REPORT))
+    second = f.exchange(1025, 2001, told[0][0] + 100, "b")
+    both = f.classic(f.frames(sorted(told + second), f.RAW), f.RAW)
+    status, output, _ = check.run(["--flow", "--transfer", "2"], both)
+    if status != 0 or not output.startswith("transfer 2: 192.0.2.2:1025 reads") or "transfer 1" in output:
+        check.fails(f"--transfer 2: {status}, {output!r}")
+    check.ends("no such transfer", ["--flow", "--transfer", "3"], both, 2, "", "tftp-show: no such transfer\n")
+    status, output, _ = check.run(["--json"], both)
+    wanted = {
+        "transfer": 1, "kind": "read", "client": "192.0.2.2:54359", "asked": "192.0.2.1:69",
+        "server": "192.0.2.1:38225", "request": "RRQ tiny octet blksize=8", "agreed": "OACK blksize=8",
+        "block_size": 8, "blocks": 3, "bytes": 20, "datagrams": 10, "again": 1, "beside": 0, "cut": 0,
+        "began": 1764000000.0, "seconds": 1.004035, "ended": "complete", "error": None, "by": None,
+    }
+    objects = [json.loads(line) for line in output.splitlines()]
+    if status != 0 or len(objects) != 2 or objects[0] != wanted:
+        check.fails(f"--json: {status}, {output!r}")
+    quote = f.classic(f.frames([(0, (f.CLIENT, 9), (f.SERVER, 69), rrq('a"\\b'))], f.RAW), f.RAW)
+    status, output, _ = check.run(["--json"], quote)
+    if '"' not in json.loads(output)["request"]:
+        check.fails(f"--json of a quote: {output!r}")
+
+
+def try_lines(check):
+    """Lines of digits: their ends, the longest and a longer one."""
+    check.ends("line ends", [], b"00040001\r\n00040002\n00040003\r", 0, "ACK 1\nACK 2\nACK 3\n")
+    check.ends("the longest", [], b"0" * 131_014 + b"\r\n", 1, "fault Opcode 0\n")
+    message = "tftp-show: a line is longer than a datagram\n"
+    check.ends("a longer one", [], b"00040001\n" + b"0" * 131_016 + b"\n", 2, "ACK 1\n", message)
+    check.ends("a line without an end", [], b"0" * 100_000_000, 2, "", message)
+    check.ends("the same of a capture", ["--flow"], b"0" * 100_000_000, 2, "", message)
+
+
+def try_live(check):
+    """What is printed while the input goes on."""
+    told = f.frames(f.exchange(), f.RAW)
+    for words, wanted in [
+        (["--follow"], [(1, "transfer 1: 192.0.2.2:54359 reads from 192.0.2.1:69: RRQ tiny octet blksize=8\n"),
+                        (10, "transfer 1: complete; 3 blocks, 20 bytes in 1.004035 s, 1 sent again\n")]),
+        (["--flow"], [(10, REPORT)]),
+    ]:
+        check.runs += 1
+        with subprocess.Popen([check.program, *words], stdin=subprocess.PIPE, stdout=subprocess.PIPE) as show:
+            show.stdin.write(f.classic([], f.RAW))
+            sent = 0
+            for count, text in wanted:
+                for at, frame in told[sent:count]:
+                    show.stdin.write(f.classic([(at, frame)], f.RAW)[24:])
+                sent = count
+                show.stdin.flush()
+                got = read_up_to(show.stdout, len(text))
+                if got != text:
+                    check.fails(f"{words} live: {got!r}, wanted {text!r}")
+            show.stdin.close()
+            if show.stdout.read() or show.wait(PATIENCE):
+                check.fails(f"{words} live: more output, or status {show.returncode}")
+
+
+def read_up_to(stream, count):
+    """So many bytes of a stream, or what came within the patience."""
+    got, end = b"", time.monotonic() + PATIENCE
+    while len(got) < count and time.monotonic() < end:
+        if select.select([stream], [], [], 1)[0]:
+            part = os.read(stream.fileno(), count - len(got))
+            if not part:
+                break
+            got += part
+    return got.decode(errors="replace")
+
+
+def try_many(check):
+    """Transfers by the thousand: time in proportion, and memory for the open ones alone."""
+    many = []
+    for number in range(20_000):
+        at = number * 1_000_000
+        many += f.exchange(1024 + number % 60_000, 2000 + number % 60_000, at)
+    capture = f.classic(f.frames(many, f.RAW), f.RAW)
+    began = time.monotonic()
+    status, output, errors = check.run(["--flow"], capture)
+    if status != 0 or output.count("complete") != 20_000:
+        check.fails(f"20,000 transfers: {status}, {output.count('complete')}, {errors!r}")
+    requests = [(n, (f.CLIENT, 1024 + n % 60_000), (f.SERVER, 69), rrq(str(n))) for n in range(10_000)]
+    same = [(n, (f.CLIENT, 1024), (f.SERVER, 69), rrq(str(n))) for n in range(10_000)]
+    for told in (requests, same):
+        status, output, _ = check.run(["--flow"], f.classic(f.frames(told, f.RAW), f.RAW))
+        if status != 0 or output.count("answered by nobody") != 10_000:
+            check.fails(f"10,000 requests: {status}, {output.count('nobody')}")
+    print(f"captures: 40,000 transfers in {time.monotonic() - began:.1f} s")
+
+
+def try_examples(check):
+    """The captures of examples/ are the lines beside them."""
+    for name in ("wire", "netboot/uefi"):
+        lines = check.run(["--flow", str(EXAMPLES / f"{name}.txt")])
+        status, output, errors = check.run(["--flow", str(EXAMPLES / f"{name}.pcap")])
+        if "complete" not in output or (status, output.replace("frame ", "line "), errors) != lines:
+            check.fails(f"{name}: {output!r}, wanted {lines}")
+
+
+def try_tshark(check):
+    """What `tshark` finds in the captures, packet by packet."""
+    if not shutil.which("tshark"):
+        print("captures: tshark is not installed: skipped")
+        return
+    fields = ["-e", "frame.number", "-e", "ip.src", "-e", "udp.srcport", "-e", "ip.dst", "-e", "udp.dstport"]
+    for name, capture in list(samples())[::7] + [("two interfaces", two_interfaces())]:
+        path = check.file(capture)
+        words = ["tshark", "-r", path, "-Y", "tftp", "-T", "fields", "-E", "occurrence=f"]
+        seen = subprocess.run([*words, "-e", "udp.payload"], capture_output=True, timeout=PATIENCE).stdout
+        check.ends(f"tshark of {name}", [], seen, 0, LINES)
+        told = subprocess.run([*words, *fields], capture_output=True, timeout=PATIENCE, text=True).stdout
+        if len(told.splitlines()) != 10:
+            check.fails(f"tshark of {name}: {told!r}")
+
+
+def try_tcpdump(check):
+    """An exchange on the loopback interface that `tcpdump` records."""
+    host = own_address()
+    path = check.folder / "loopback.pcap"
+    if not shutil.which("tcpdump"):
+        print("captures: tcpdump is not installed: skipped")
+        return
+    for words in ([], ["-i", "any"]):
+        where = words or ["-i", "lo"]
+        command = ["tcpdump", *where, "-U", "-w", str(path), "-Z", "root", "udp", "and", "host", host]
+        dump = subprocess.Popen(command, stderr=subprocess.PIPE, text=True)
+        if "listening on" not in dump.stderr.readline() + dump.stderr.readline():
+            dump.kill()
+            dump.wait()
+            print(f"captures: tcpdump may not capture at {where[1]}: skipped")
+            continue
+        ports = say(host, path)
+        dump.terminate()
+        dump.wait()
+        status, output, errors = check.run(["--port", str(ports[1]), str(path)])
+        both = 2 if words and output.count("RRQ") == 2 else 1
+        wanted = "".join(line * both for line in LINES.splitlines(True)) if both == 2 else LINES
+        if status != 0 or output != wanted:
+            check.fails(f"tcpdump {where[1]}: {status}, {output!r}, {errors!r}")
+
+
+def say(host, path):
+    """Sends the datagrams of the exchange, and waits until they are recorded. Returns the two ports."""
+    client, server = (socket.socket(socket.AF_INET, socket.SOCK_DGRAM) for _ in range(2))
+    client.bind((host, 0))
+    server.bind((host, 0))
+    for _, source, _, payload in f.exchange():
+        sender, to = (client, server) if source[0] == f.CLIENT else (server, client)
+        sender.sendto(payload, to.getsockname())
+        to.recv(1000)
+        time.sleep(0.01)
+    end, before = time.monotonic() + 10, -1
+    while time.monotonic() < end and path.stat().st_size != before:
+        before = path.stat().st_size
+        time.sleep(0.5)
+    ports = client.getsockname()[1], server.getsockname()[1]
+    client.close()
+    server.close()
+    return ports
+
+
+def try_mutations(check):
+    """Captures with some bytes changed, removed or repeated: no crash, no more memory and no more time."""
+    chance = random.Random(SEED)
+    kept = [capture for _, capture in samples() if len(capture) < 5000] + [two_interfaces()]
+    end = time.monotonic() + MUTATION_SECONDS
+    count = 0
+    while time.monotonic() < end:
+        capture = bytearray(chance.choice(kept))
+        for _ in range(chance.randint(1, 8)):
+            at = chance.randrange(4, len(capture))
+            way = chance.randrange(4)
+            if way == 0:
+                capture[at] = chance.choice((0, 1, 0x7F, 0x80, 0xFF, chance.randrange(256)))
+            elif way == 1:
+                del capture[at : at + chance.randint(1, 40)]
+            elif way == 2:
+                capture[at:at] = capture[at : at + chance.randint(1, 40)]
+            else:
+                capture[at : at + 4] = struct.pack("<I", chance.choice((0, 1, 2**31, 2**32 - 1, 262_144)))
+            if len(capture) < 6:
+                break
+        words = chance.choice((["--flow"], ["--json"], ["--follow"], []))
+        status, _, errors = check.run(words, bytes(capture))
+        count += 1
+        if status not in (0, 1) or (status == 0 and errors):
+            check.folder.joinpath("mutation.pcap").write_bytes(capture)
+            check.fails(f"mutation {count} {words}: {status}, {errors!r}, {bytes(capture).hex()}")
+            return
+    print(f"captures: {count} mutations with seed {SEED}")
+
+
+def main():
+    """Tries all, and returns the status."""
+    show = sys.argv[1] if len(sys.argv) > 1 else str(program("tftp-show"))
+    with tempfile.TemporaryDirectory() as folder:
+        check = Check(show, Path(folder))
+        name = Path(show).name
+        check.ends("help", ["--help"], b"", 0, HELP.replace("Usage: tftp-show", f"Usage: {name}"))
+        for tries in (try_formats, try_fragments, try_cuts, try_selection, try_lines, try_live, try_many,
+                      try_examples, try_tshark, try_tcpdump, try_mutations):
+            tries(check)
+    for wrong in check.wrong[:20]:
+        print(f"captures: {wrong}")
+    print(f"captures: {check.runs} runs, {len(check.wrong)} wrong")
+    return 1 if check.wrong else 0
+
+
+if __name__ == "__main__":
+    sys.exit(main())
