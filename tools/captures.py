@@ -292,7 +292,7 @@ def try_cuts(check):
     for name, more, fault in [
         ("a block of 8", struct.pack("<II", 0xBAD, 8), "a block with an impossible length"),
         ("a block of 13", struct.pack("<II", 0xBAD, 13), "a block with an impossible length"),
-        ("a frame past its block", struct.pack("<IIIIIII", 6, 36, 0, 0, 0, 5, 5) + bytes(8), "a block with an impossible length"),
+        ("a frame past its block", struct.pack("<IIIIIII", 6, 36, 0, 0, 0, 9, 9) + bytes(8), "a block with an impossible length"),
         ("a frame of 4 GB", struct.pack("<IIIIIII", 6, 36, 0, 0, 0, 2**32 - 1, 5) + bytes(8), "a record is too long"),
         ("a section without an order", struct.pack("<III", 0x0A0D0D0A, 28, 0) + bytes(16), "not a capture"),
     ]:
@@ -434,10 +434,9 @@ def try_tcpdump(check):
         return
     for words in ([], ["-i", "any"]):
         where = words or ["-i", "lo"]
-        command = ["tcpdump", *where, "-U", "-w", str(path), "-Z", "root", "udp", "and", "host", host]
+        command = ["tcpdump", *where, "--immediate-mode", "-U", "-w", str(path), "-Z", "root", "udp", "and", "host", host]
         dump = subprocess.Popen(command, stderr=subprocess.PIPE, text=True)
-        if "listening on" not in dump.stderr.readline() + dump.stderr.readline():
-            dump.kill()
+        if not any("listening on" in line for line in dump.stderr):
             dump.wait()
             print(f"captures: tcpdump may not capture at {where[1]}: skipped")
             continue
@@ -461,8 +460,9 @@ def say(host, path):
         sender.sendto(payload, to.getsockname())
         to.recv(1000)
         time.sleep(0.01)
-    end, before = time.monotonic() + 10, -1
-    while time.monotonic() < end and path.stat().st_size != before:
+    # a file has a header of 24 bytes
+    end, before = time.monotonic() + 10, 24
+    while time.monotonic() < end and (path.stat().st_size == 24 or path.stat().st_size != before):
         before = path.stat().st_size
         time.sleep(0.5)
     ports = client.getsockname()[1], server.getsockname()[1]
