@@ -3,9 +3,10 @@
 
 Without words the programs are those of bin/, or else those that `rt ci` built. Whichever request is refused, a program
 ends as it does with ample memory, or it says that it is out of memory, with status 2, and what it has printed until then
-is the beginning of what it would have printed; or it refuses in other words, as where a file cannot be opened. A file
-that tftp was to make is whole, or has no name. (tftpd is tried by lost_requests.py.) The counter is refuse_memory.c, compiled into a temporary
-folder; a run has two minutes.
+is the beginning of what it would have printed; or it refuses in other words, as where a file cannot be opened. A script
+goes on behind an event that was refused, and behind a commit that the store refused: the first line that differs says
+so. A file that tftp was to make is whole, or has no name. (tftpd is tried by lost_requests.py.) The counter is
+refuse_memory.c, compiled into a temporary folder; a run has two minutes.
 """
 import re
 import socket
@@ -31,6 +32,15 @@ CONTENT = b"fortytwo"
 SAID = r"(tftp-show: |tftp-play: |tftp: |error: )?out of memory\n|tftp: Memory\n(tftp: [^\n]+\n)?"
 # another refusal, as of a file that could not be opened
 OTHER = r"(tftp-show|tftp-play|tftp|error|script|output|svg|line \d+): [^\n]+\n(tftp[a-z-]*: [^\n]+\n)?"
+# what tftp-play prints of an event or a commit that was refused, and goes on
+EVENT = r"refused Memory|#\d+ \S+ > \S+ ERROR 3 \(.*\)"
+
+
+def goes_on(found: tuple[int, str, str, int], printed: str) -> bool:
+    """Whether a script went on behind what was refused for want of memory: all before it is as with ample memory."""
+    pairs = zip(found[1].splitlines(), printed.splitlines())
+    first = next((ours for ours, whole in pairs if ours != whole), "")
+    return found[0] in (0, 1) and not found[2] and bool(re.fullmatch(EVENT, first))
 
 
 class Answerer:
@@ -82,6 +92,7 @@ class Trial:
             is_whole = not self.local.exists() or self.local.read_bytes() == CONTENT
             said += bool(is_said)
             is_refused = found[0] in (1, 2) and re.fullmatch(OTHER, found[2]) and printed.startswith(found[1])
+            is_refused = is_refused or self.name.startswith("tftp-play") and goes_on(found, printed)
             if not (is_said or is_refused or found[:3] == (status, printed, "")) or not is_whole:
                 wrong += 1
                 print(f"out of memory: {self.name}: request {refused} of {count}: {found[:3]}")
