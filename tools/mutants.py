@@ -109,7 +109,7 @@ class Mutants:
         done = self.ran(name, words, given)
         errors = done.stderr.decode("latin-1")
         is_said = not errors if done.returncode == 0 else \
-            re.fullmatch(rf"(({REFUSALS[name]})\n({name}: [^\n]+\n)?|{USAGE})?", errors)
+            re.fullmatch(rf"(({REFUSALS[name]})\n({name}: (?s:.+)\n)?|{USAGE})?", errors)
         # (these write their log, or a line more, to standard error)
         is_free = {"--log", "--verbose", "-v", "--progress"} & {*words} or any(word[:2] == "-v" for word in words)
         if done.returncode not in (0, 1, 2) or not (is_said or is_free):
