@@ -9,7 +9,7 @@ from pathlib import Path
 from lib import frames
 
 
-def capture_of(text):
+def capture_of(text) -> bytes:
     """The capture of lines."""
     seen = []
     for line in text.splitlines():
@@ -21,7 +21,7 @@ def capture_of(text):
     return frames.classic(seen, frames.ETHERNET)
 
 
-def main():
+def main() -> None:
     """Reads the lines, and writes the capture."""
     lines, capture = sys.argv[1:]
     Path(capture).write_bytes(capture_of(Path(lines).read_text()))

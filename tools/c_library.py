@@ -15,6 +15,7 @@ import sys
 import tempfile
 from functools import partial
 from pathlib import Path
+from typing import Any, Iterator
 
 from lib.addresses import own_network
 from lib.programs import TOP, programs
@@ -33,7 +34,7 @@ COMPILERS = ["gcc", "clang"]
 LENGTHS = [0, 1, 511, 512, 513, 1428, 20_000]
 
 
-def run(*words, status=0, **how):
+def run(*words, status=0, **how) -> str:
     """Runs a command to its end, and returns what it printed."""
     words = [str(word) for word in words]
     done = subprocess.run(words, stdin=subprocess.DEVNULL, capture_output=True, text=True, timeout=PATIENCE * 5, **how)
@@ -45,7 +46,7 @@ def run(*words, status=0, **how):
 class Built:
     """The examples as one compiler makes them, and the words before a command that runs one."""
 
-    def __init__(self, name, folder, compiler, flags, before=()):
+    def __init__(self, name, folder, compiler, flags, before=()) -> None:
         self.name, self.folder, self.before = name, folder, list(before)
         folder.mkdir()
         words = [compiler, *WARNINGS, *flags, "-I", TOP / "include"]
@@ -59,35 +60,35 @@ class Built:
         wrapped = "-Wl,--wrap=malloc,--wrap=realloc"
         run(*words, wrapped, TOP / "tools/c_library.c", library, "-o", folder / "layout")
 
-    def words(self, name, *words):
+    def words(self, name, *words) -> list[str]:
         return [*map(str, self.before), str(self.folder / name), *map(str, words)]
 
 
-def content(length):
+def content(length) -> bytes:
     return random.Random(length).randbytes(length)
 
 
-def ways(scene, server, count, lossy):
+def ways(scene, server, count, lossy) -> list[str]:
     """Where so many clients of a server send, as two words: to itself, or each to a bad network of its own."""
     return [scene.proxy(server, seed).word.split(":") if lossy else server.word.split(":") for seed in range(count)]
 
 
-def gets(built, scene, way, name, blksize, expected):
+def gets(built, scene, way, name, blksize, expected) -> None:
     run(*built.words("get", *way, name, "got", blksize), cwd=scene.folder)
     expect((scene.folder / "got").read_bytes(), expected, f"what get stored of {name}")
 
 
-def puts(built, scene, way, local, name, blksize):
+def puts(built, scene, way, local, name, blksize) -> None:
     run(*built.words("put", *way, local, name, blksize), cwd=scene.folder)
 
 
-def boots(built, scene, way, name, expected):
+def boots(built, scene, way, name, expected) -> None:
     env = {**os.environ, "SERVER": way[0], "PORT": way[1], "NAME": name, "LOCAL": "image"}
     run(built.folder / "bare", cwd=scene.folder, env=env)
     expect((scene.folder / "image").read_bytes(), expected, f"the image of {name}")
 
 
-def by_tftpd(scene, built, lossy):
+def by_tftpd(scene, built, lossy) -> None:
     """get, put and the client without an operating system against tftpd."""
     lengths = [513, 6_000] if lossy or built.before else LENGTHS
     for length in lengths:
@@ -103,7 +104,7 @@ def by_tftpd(scene, built, lossy):
     expect(server.process.wait(PATIENCE), 0, "the status of tftpd")
 
 
-def serves(scene, built):
+def serves(scene, built) -> tuple[Any, Any]:
     """Starts the server of files in memory, and returns where it is, and the process."""
     scene.make("disk", content(3_000))
     port = scene.port()
@@ -115,13 +116,13 @@ def serves(scene, built):
     return At(scene.address, number), process
 
 
-def ended(process):
+def ended(process) -> None:
     """It frees all that it has when it ends, with whatever transfers are open."""
     process.terminate()
     expect(process.wait(PATIENCE), 0, "the status of serve")
 
 
-def by_library(scene, built, lossy):
+def by_library(scene, built, lossy) -> None:
     """The server of files in memory against get, put and tftp."""
     server, process = serves(scene, built)
     one, two, three, four = ways(scene, server, 4, lossy)
@@ -138,11 +139,11 @@ def by_library(scene, built, lossy):
 class At:
     """A server at this address."""
 
-    def __init__(self, host, number):
+    def __init__(self, host, number) -> None:
         self.word, self.address = f"{host}:{number}", (host, number)
 
 
-def by_python(scene, library):
+def by_python(scene, library) -> None:
     scene.make("f", content(2_000))
     server = scene.serve("--transfers", "1")
     run(sys.executable, TOP / "examples/python/get.py", library, *server.word.split(":"), "f", "got", 512,
@@ -150,7 +151,7 @@ def by_python(scene, library):
     expect((scene.folder / "got").read_bytes(), content(2_000), "what get.py stored")
 
 
-def by_rust(scene, room):
+def by_rust(scene, room) -> None:
     """The crate's doc tests, and its example through a bad network."""
     crate = room / "rust"
     shutil.copytree(TOP / "examples" / "rust", crate, ignore=shutil.ignore_patterns("target", "Cargo.lock"))
@@ -164,7 +165,7 @@ def by_rust(scene, room):
     expect((scene.folder / "got").read_bytes(), content(4_000), "what the example in Rust stored")
 
 
-def by_curl(scene, built):
+def by_curl(scene, built) -> None:
     """Another client gets from the server of files in memory."""
     server, process = serves(scene, built)
     run("curl", "-s", "-o", "got", f"tftp://{server.word}/memory", cwd=scene.folder)
@@ -172,14 +173,14 @@ def by_curl(scene, built):
     ended(process)
 
 
-def archive(room):
+def archive(room) -> None:
     """libtftp.a and libtftp.so.0 in the folder, of what `rt lib` built."""
     if not (TOP / "crates/tftp_c/out/libtftp_c.a").is_file():
         run("rt", "lib", cwd=TOP / "crates/tftp_c")
     run(TOP / "tools/library.sh", room)
 
 
-def builds(room, skipped):
+def builds(room, skipped) -> list[Any]:
     """The examples by each compiler that is here."""
     found = []
     for compiler in COMPILERS:
@@ -194,7 +195,7 @@ def builds(room, skipped):
     return found
 
 
-def tests(room, skipped):
+def tests(room, skipped) -> Iterator[Any]:
     """Each trial by its name."""
     found = builds(room, skipped)
     for built in found:
@@ -216,7 +217,7 @@ def tests(room, skipped):
         skipped.append("Rust (no cargo)")
 
 
-def main():
+def main() -> None:
     found, skipped, faults, count = programs(["tftp", "tftpd"], sys.argv[1:]), [], [], 0
     with tempfile.TemporaryDirectory(prefix="tftp-library-") as name:
         room, network = Path(name), own_network()

@@ -19,6 +19,7 @@ import sys
 import tempfile
 import time
 from pathlib import Path
+from typing import Any, Iterator, Optional
 
 from lib import frames as f
 from lib.addresses import own_address
@@ -81,7 +82,7 @@ The fields of a capture that tshark wrote are read too:
 """
 
 
-def limit():
+def limit() -> None:
     """A program that takes more memory than this is out of memory."""
     resource.setrlimit(resource.RLIMIT_AS, (MEMORY, MEMORY))
 
@@ -89,15 +90,15 @@ def limit():
 class Check:
     """The runs of the program, and what was wrong in them."""
 
-    def __init__(self, program, folder):
+    def __init__(self, program, folder) -> None:
         self.program, self.folder = program, folder
         self.runs, self.wrong = 0, []
 
-    def fails(self, what):
+    def fails(self, what) -> None:
         """Notes what was wrong."""
         self.wrong.append(what)
 
-    def run(self, words, given=b""):
+    def run(self, words, given=b"") -> tuple[Optional[int], str, str]:
         """Status, output and messages of a run."""
         self.runs += 1
         try:
@@ -108,19 +109,19 @@ class Check:
             return None, "", "has not ended"
         return done.returncode, done.stdout.decode(errors="replace"), done.stderr.decode(errors="replace")
 
-    def ends(self, name, words, given, status, output, errors=""):
+    def ends(self, name, words, given, status, output, errors="") -> None:
         """A run ends so."""
         got = self.run(words, given)
         if got != (status, output, errors):
             self.fails(f"{name} {words}: {got!r}, wanted {(status, output, errors)!r}")
 
-    def file(self, content):
+    def file(self, content) -> str:
         """A file with this content."""
         path = self.folder / f"{self.runs}.pcap"
         path.write_bytes(content)
         return str(path)
 
-    def reads(self, name, capture, report=REPORT, lines=LINES, status=0, errors="", words=()):
+    def reads(self, name, capture, report=REPORT, lines=LINES, status=0, errors="", words=()) -> None:
         """A capture is read so, from a file and from standard input, with and without `--flow`."""
         path = self.file(capture)
         self.ends(name, ["--flow", *words, path], b"", status, report, errors)
@@ -128,12 +129,12 @@ class Check:
         self.ends(name, [*words, path], b"", status, lines, errors)
 
 
-def tag_sets(kind):
+def tag_sets(kind) -> list[tuple[int, ...]]:
     """The VLAN tags that a link is tried with."""
     return [(), (0x8100,), (0x88A8, 0x8100)] if kind in (f.ETHERNET, f.COOKED, f.COOKED2) else [()]
 
 
-def samples():
+def samples() -> Iterator[Any]:
     """Captures of one exchange, each with what it is called, in each format and of each link."""
     told = f.exchange()
     for kind in (f.ETHERNET, f.COOKED, f.COOKED2, f.RAW, f.LOOPBACK, f.LOOP, 12, 14, 228):
@@ -161,7 +162,7 @@ def samples():
     yield "a sum behind each frame", f.classic([(at, frame + b"sum!") for at, frame in seen], 0x34000001)
 
 
-def two_interfaces():
+def two_interfaces() -> bytes:
     """An exchange whose directions are of two interfaces with other links and clocks."""
     parts = [f.section("<"), f.interface("<", f.ETHERNET), f.interface("<", f.RAW, resolution=0x80 | 20)]
     for at, packet in f.packets(f.exchange()):
@@ -172,17 +173,17 @@ def two_interfaces():
     return b"".join(parts)
 
 
-def of_one(frame, kind=f.ETHERNET):
+def of_one(frame, kind=f.ETHERNET) -> bytes:
     """A capture of one frame, and then an exchange."""
     return f.classic([(1, frame)] + f.frames(f.exchange(), f.ETHERNET), kind)
 
 
-def later(report):
+def later(report) -> str:
     """The report where another frame is before it."""
     return report.replace("frame 7", "frame 8")
 
 
-def frame_faults():
+def frame_faults() -> Iterator[Any]:
     """Frames without a UDP datagram over IPv4, and the word of the line that counts them."""
     body = f.udp(1, 2, b"x")
     good = f.ipv4(f.CLIENT, f.SERVER, body)
@@ -209,7 +210,7 @@ def frame_faults():
     yield "a later fragment", f.link(f.ETHERNET, fragment), "later fragments: frames 1\n"
 
 
-def try_formats(check):
+def try_formats(check) -> None:
     """Each format, link and fault."""
     for name, capture in samples():
         check.reads(name, capture)
@@ -234,7 +235,7 @@ def try_formats(check):
     check.reads("no frame", empty, "", "")
 
 
-def try_fragments(check):
+def try_fragments(check) -> None:
     """A DATA of 1468 bytes in two fragments, and one that the capture has the beginning of."""
     client, server = (f.CLIENT, 1024), (f.SERVER, 2000)
     whole = f.udp(server[1], client[1], data(1, bytes(1468)))
@@ -268,7 +269,7 @@ transfer 1: 192.0.2.2:1024 reads from 192.0.2.1:69
         check.fails("the picture does not mark a fragment")
 
 
-def try_cuts(check):
+def try_cuts(check) -> None:
     """A capture that is cut at each byte, and records that no capture has."""
     told = f.frames(f.exchange(), f.RAW)
     for capture, head, per_frame, whole in [(f.classic(told, f.RAW), [24], 16, 1), (f.pcapng(told, f.RAW), [28, 48], 28, 4)]:
@@ -299,7 +300,7 @@ def try_cuts(check):
         check.reads(name, good + more, status=1, errors=f"tftp-show: frame 11: {fault}\n")
 
 
-def try_selection(check):
+def try_selection(check) -> None:
     """`--port`, `--transfer`, `--json`, and what is not TFTP."""
     told = f.exchange()
     other = [(at, s, (t[0], 6969) if t[1] == 69 else t, payload) for at, s, t, payload in told]
@@ -333,7 +334,7 @@ def try_selection(check):
         check.fails(f"--json of a quote: {output!r}")
 
 
-def try_lines(check):
+def try_lines(check) -> None:
     """Lines of digits: their ends, the longest and a longer one."""
     check.ends("line ends", [], b"00040001\r\n00040002\n00040003\r", 0, "ACK 1\nACK 2\nACK 3\n")
     check.ends("the longest", [], b"0" * 131_014 + b"\r\n", 1, "fault Opcode 0\n")
@@ -343,7 +344,7 @@ def try_lines(check):
     check.ends("the same of a capture", ["--flow"], b"0" * 100_000_000, 2, "", message)
 
 
-def try_live(check):
+def try_live(check) -> None:
     """What is printed while the input goes on."""
     told = f.frames(f.exchange(), f.RAW)
     for words, wanted in [
@@ -368,7 +369,7 @@ def try_live(check):
                 check.fails(f"{words} live: more output, or status {show.returncode}")
 
 
-def read_up_to(stream, count):
+def read_up_to(stream, count) -> str:
     """So many bytes of a stream, or what came within the patience."""
     got, end = b"", time.monotonic() + PATIENCE
     while len(got) < count and time.monotonic() < end:
@@ -380,7 +381,7 @@ def read_up_to(stream, count):
     return got.decode(errors="replace")
 
 
-def try_many(check):
+def try_many(check) -> None:
     """Transfers by the thousand: time in proportion, and memory for the open ones alone."""
     many = []
     for number in range(20_000):
@@ -400,7 +401,7 @@ def try_many(check):
     print(f"captures: 40,000 transfers in {time.monotonic() - began:.1f} s")
 
 
-def try_examples(check):
+def try_examples(check) -> None:
     """The captures of examples/ are the lines beside them."""
     for name in ("wire", "netboot/uefi"):
         lines = check.run(["--flow", str(EXAMPLES / f"{name}.txt")])
@@ -409,7 +410,7 @@ def try_examples(check):
             check.fails(f"{name}: {output!r}, wanted {lines}")
 
 
-def try_tshark(check):
+def try_tshark(check) -> None:
     """What `tshark` finds in the captures, packet by packet."""
     if not shutil.which("tshark"):
         print("captures: tshark is not installed: skipped")
@@ -425,7 +426,7 @@ def try_tshark(check):
             check.fails(f"tshark of {name}: {told!r}")
 
 
-def try_tcpdump(check):
+def try_tcpdump(check) -> None:
     """An exchange on the loopback interface that `tcpdump` records."""
     host = own_address()
     path = check.folder / "loopback.pcap"
@@ -450,7 +451,7 @@ def try_tcpdump(check):
             check.fails(f"tcpdump {where[1]}: {status}, {output!r}, {errors!r}")
 
 
-def say(host, path):
+def say(host, path) -> tuple[int, int]:
     """Sends the datagrams of the exchange, and waits until they are recorded. Returns the two ports."""
     client, server = (socket.socket(socket.AF_INET, socket.SOCK_DGRAM) for _ in range(2))
     client.bind((host, 0))
@@ -471,7 +472,7 @@ def say(host, path):
     return ports
 
 
-def try_mutations(check):
+def try_mutations(check) -> None:
     """Captures with some bytes changed, removed or repeated: no crash, no more memory and no more time."""
     chance = random.Random(SEED)
     kept = [capture for _, capture in samples() if len(capture) < 5000] + [two_interfaces()]
@@ -502,7 +503,7 @@ def try_mutations(check):
     print(f"captures: {count} mutations with seed {SEED}")
 
 
-def main():
+def main() -> int:
     """Tries all, and returns the status."""
     show = sys.argv[1] if len(sys.argv) > 1 else str(program("tftp-show"))
     with tempfile.TemporaryDirectory() as folder:

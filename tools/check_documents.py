@@ -14,6 +14,7 @@ import signal
 import subprocess
 import sys
 import tempfile
+from typing import Optional
 
 from lib.addresses import own_address
 from lib.programs import NAMES, TOP, program
@@ -25,7 +26,7 @@ ADDRESS, PORTS = "127.0.0.1:6969", re.compile(r"\d+ \d+ (?=Complete$)")
 FAULTS = {"tftp-show": r"fault |not hex$", "tftp-play": r"end \d+ client-.* complete=no "}
 
 
-def shown_in(document):
+def shown_in(document) -> list[tuple[int, str, list[str]]]:
     """Each command that a document shows, with its line and with the lines that it says are printed."""
     commands, lines, is_code = [], None, False
     ends = ("```",) if document.suffix == ".md" else (".Bd", ".Ed", ".Dl")
@@ -43,18 +44,18 @@ def shown_in(document):
     return [(number, of_roff(command), [of_roff(line) for line in lines]) for number, command, lines in commands]
 
 
-def of_roff(text):
+def of_roff(text) -> str:
     return text.replace("\\e", "\\").replace("\\&", "").replace("\\-", "-")
 
 
-def program_of(command):
+def program_of(command) -> Optional[str]:
     """The one of the two programs that a command runs alone, if it does."""
     run = re.match(r"(?:bin/)?(tftp-show|tftp-play)\b(?!.*\bFILE\b|.*flow\.txt)|(?:cat|printf|echo) .*\| *(?:bin/)?(tftp-show|tftp-play)\b",
                    command)
-    return run and (run[1] or run[2])
+    return (run[1] or run[2]) if run else None
 
 
-def printed_by(command, folder):
+def printed_by(command, folder) -> tuple[list[str], str, int]:
     """What a command prints, with the programs in the folder bin/, what it writes to standard error, and its status."""
     environment = {"PATH": f"{folder}/bin:{os.environ['PATH']}", "LC_ALL": "C"}
     done = subprocess.run(["sh", "-c", command], cwd=folder, env=environment, stdin=subprocess.DEVNULL,
@@ -62,14 +63,14 @@ def printed_by(command, folder):
     return done.stdout.decode(errors="replace").splitlines(), done.stderr.decode(errors="replace"), done.returncode
 
 
-def status_of(name, command, lines):
+def status_of(name, command, lines) -> int:
     """The status that a command ends with which prints these lines: that of `head` is 0."""
     if re.search(r"\| *head\b", command):
         return 0
     return int(any(re.match(FAULTS[name], line) for line in lines))
 
 
-def toured(folder, text, address):
+def toured(folder, text, address) -> list[list[str]]:
     """What the tour prints in this folder, and what it is said to print, each in order of lines; ports are left out."""
     lines = [line for block in re.findall(r"(?ms)^```\n(.*?)^```$", text) if "bin/tftpd " in block
              for line in block.replace(ADDRESS, address).splitlines()]
@@ -87,7 +88,7 @@ def toured(folder, text, address):
     return [sorted(PORTS.sub("", line) for line in it) for it in (printed.splitlines(), wanted)]
 
 
-def tour(folder):
+def tour(folder) -> int:
     """How many of two runs of the tour in README.md are not as it says, or leave something behind."""
     text, failures = (TOP / "README.md").read_text(), 0
     examples, address = sorted(os.listdir(TOP / "examples")), f"{own_address()}:6969"
@@ -100,7 +101,7 @@ def tour(folder):
     return failures
 
 
-def main():
+def main() -> int:
     documents = sorted([TOP / "README.md", *TOP.glob("docs/*.md"), *TOP.glob("crates/*/README.md"), *TOP.glob("man/*.[1-8]")])
     failures, compared, manuals = 0, 0, 0
     scripts = {path.name for path in TOP.glob("examples/*.script")}

@@ -30,7 +30,7 @@ MANUALS = ["man1/x-tftp.1", "man1/x-tftp-play.1", "man1/x-tftp-show.1", "man5/x-
 UNITS = ["x-tftpd.service", "x-tftpd@.service"]
 
 
-def wanted(library):
+def wanted(library) -> set[str]:
     """The paths of the files that are installed with these words."""
     found = {f"usr/share/doc/fanjuvery/{name}" for name in DOCUMENTS} | {f"usr/{name}" for name in library}
     found |= {f"usr/man/{name}" for name in MANUALS} | {f"usr/units/{name}" for name in UNITS}
@@ -44,14 +44,14 @@ def wanted(library):
     return found
 
 
-def files_below(folder):
+def files_below(folder) -> set[str]:
     return {str(path.relative_to(folder)) for path in folder.rglob("*") if path.is_file()}
 
 
 class Trial:
     """A copy of the repository without its crates, and what was wrong there."""
 
-    def __init__(self, room):
+    def __init__(self, room) -> None:
         self.room, self.top, self.wrong, self.skipped = room, room / "top", [], []
         for name in COPIED:
             place = self.top / name
@@ -73,7 +73,7 @@ class Trial:
         (room / "path" / "rt").write_text(f"#!/bin/sh\ntouch '{room}/built'\nexit 1\n")
         (room / "path" / "rt").chmod(0o755)
 
-    def copy_library(self):
+    def copy_library(self) -> list[str]:
         """Makes the library for C of the archive that was built. Returns which files of it are installed."""
         built = TOP / "crates/tftp_c/out/libtftp_c.a"
         if not built.is_file() or not shutil.which("cc"):
@@ -82,7 +82,7 @@ class Trial:
         subprocess.run([TOP / "tools/library.sh", self.top / "bin"], check=True)
         return LIBRARY
 
-    def run(self, *words, folder=None, status=0):
+    def run(self, *words, folder=None, status=0) -> str:
         """Runs a command, and says so if it ends otherwise. Returns what it prints."""
         env = {**os.environ, "PATH": f"{self.room}/path:{os.environ['PATH']}", "LC_ALL": "C"}
         for name in ["MAKEFLAGS", "MAKELEVEL", "MFLAGS"]:
@@ -93,11 +93,11 @@ class Trial:
             self.wrong.append(f"{' '.join(map(str, words))}: status {done.returncode}: {done.stdout}{done.stderr}")
         return done.stdout
 
-    def expect(self, found, expected, what):
+    def expect(self, found, expected, what) -> None:
         if found != expected:
             self.wrong.append(f"{what}: {found}; expected {expected}")
 
-    def check_install(self):
+    def check_install(self) -> None:
         """Each file is there, the programs unchanged, and uninstall removes those alone."""
         root = self.room / "root"
         words = [f"DESTDIR={root}", *WORDS]
@@ -123,7 +123,7 @@ class Trial:
         self.run("make", "uninstall", *words)
         self.expect(sorted(files_below(root)), ["usr/bin/other"], "the files that uninstall leaves")
 
-    def check_links(self, folder):
+    def check_links(self, folder) -> None:
         """What the documents link to is installed, and the first names the programs as they are installed."""
         for document in folder.glob("*.md"):
             links = re.findall(r"\]\(([^)#:]+)[^):]*\)", document.read_text())
@@ -132,7 +132,7 @@ class Trial:
         named = set(re.findall(r"`(?:man \d )?([\w-]*tftp[\w-]*)`", (folder / "README.md").read_text()))
         self.expect(named, {f"x-{name}" for name in PROGRAMS}, "the programs that README.md names")
 
-    def check_no_build(self):
+    def check_no_build(self) -> None:
         """Without a program nothing is installed, and nothing is built."""
         moved = self.top / "bin/tftp-play"
         moved.rename(self.room / "moved")
@@ -141,7 +141,7 @@ class Trial:
         self.expect((self.room / "built").exists(), False, "whether install builds")
         (self.room / "moved").rename(moved)
 
-    def check_archive(self):
+    def check_archive(self) -> None:
         """The archive is the same each time; its script installs the same files, and its programs run without the kit."""
         archive = self.top / self.run("tools/install.sh", "dist", "9").strip()
         before = archive.read_bytes()
@@ -164,7 +164,7 @@ class Trial:
         told = self.run(*check, folder=unpacked)
         self.expect(len(re.findall(r"(?m)^complete 236$", told)), 2, f"the transfers in {told}")
 
-    def check_package(self):
+    def check_package(self) -> None:
         """The package has the programs, compressed manuals, a unit, and the documents that Debian asks for."""
         if not shutil.which("dpkg-deb"):
             self.skipped.append("the package (no dpkg-deb)")
@@ -182,7 +182,7 @@ class Trial:
             self.run("sh", "-n", control / name)
         self.check_removal(package)
 
-    def check_removal(self, package):
+    def check_removal(self, package) -> None:
         """The package is installed below a folder, where its scripts start nothing, and a purge leaves nothing of it."""
         root = self.room / "debian"
         (root / "var/lib/dpkg").mkdir(parents=True)
@@ -199,7 +199,7 @@ class Trial:
         left = [name for name in files_below(root) if "tftp" in name or "fanjuvery" in name]
         self.expect(left, [], "what a purge leaves")
 
-    def check_library(self):
+    def check_library(self) -> None:
         """With the package for development and a compiler an example is built as any program is, and runs."""
         if not self.library or not shutil.which("dpkg-deb") or not shutil.which("pkg-config"):
             self.skipped.append("a program over the library")
@@ -215,7 +215,7 @@ class Trial:
         self.run("cc", "examples/c/get.c", "-o", example, *flags, f"-Wl,-rpath,{found.parent.parent}")
         self.run(example, status=2)
 
-    def check_completions(self):
+    def check_completions(self) -> None:
         """Each shell that is there reads its completions."""
         for shell, words in SHELLS.items():
             if not shutil.which(shell):
@@ -225,7 +225,7 @@ class Trial:
                 self.run(*words, f"completions/{name}.{shell}")
 
 
-def main():
+def main() -> None:
     with tempfile.TemporaryDirectory(prefix="tftp-install-") as room:
         trial = Trial(Path(room))
         for check in [trial.check_install, trial.check_no_build, trial.check_archive, trial.check_package,

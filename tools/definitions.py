@@ -6,6 +6,7 @@ definitions.py --write writes the document; without a word it is compared, and t
 import re
 import sys
 from textwrap import wrap
+from typing import Any, Iterator
 
 from specs import TOP, all_files
 
@@ -26,7 +27,7 @@ crate and file, in the words that stand above it there. The line of a file names
 """
 
 
-def public_words(lines):
+def public_words(lines) -> set[str]:
     """The words of the contracts that a caller reads: of public functions, and of traits and their impls."""
     words, indent = set(), None
     for line in lines:
@@ -40,7 +41,7 @@ def public_words(lines):
     return words
 
 
-def cited():
+def cited() -> Iterator[Any]:
     """The definitions that public contracts cite, as crate, file and name."""
     for path in sorted(TOP.glob("crates/*/src/**/*.rt")):
         lines = path.read_text().splitlines()
@@ -53,7 +54,7 @@ def cited():
                     yield used[1], used[2], name
 
 
-def file_words(path):
+def file_words(path) -> str:
     """The comment at the head of a file of definitions."""
     words = []
     for line in path.read_text().splitlines():
@@ -63,7 +64,7 @@ def file_words(path):
     return " ".join(words)
 
 
-def parted(comment):
+def parted(comment) -> tuple[str, str]:
     """The heading above a comment, if it has one, and its words: `---- heading` is a line of its own."""
     words = [line.removeprefix("---- ") for line in comment]
     if len(words) > 1 and words[0] != comment[0] and len(words[0]) + len(words[1].split()[0]) < HEADING_AT_MOST:
@@ -71,7 +72,7 @@ def parted(comment):
     return "", " ".join(words)
 
 
-def rows(definitions, names):
+def rows(definitions, names) -> Iterator[Any]:
     """A line for each of these definitions that has words of its own, and for those that share the words before them,
     under the headings that stand above them."""
     found = []
@@ -91,14 +92,14 @@ def rows(definitions, names):
         yield "\n".join(wrap(row, 120, subsequent_indent="  ", break_on_hyphens=False, break_long_words=False))
 
 
-def in_order(files):
+def in_order(files) -> list[Any]:
     """The files of definitions, by the order of their crates in crates.txt."""
     # (a line may have a word on its crate before the colon)
     crates = [line.split(":")[0].split(" ")[0] for line in (TOP / "crates.txt").read_text().splitlines()]
     return sorted(files.items(), key=lambda item: (crates.index(item[0][0]), item[0][1]))
 
 
-def document():
+def document() -> str:
     """The whole text."""
     wanted = {}
     for crate, file, name in cited():
@@ -120,7 +121,7 @@ def document():
     return re.sub(r"\n{3,}", "\n\n", "\n".join(lines)).rstrip() + "\n"
 
 
-def main():
+def main() -> int:
     text = document()
     if sys.argv[1:] == ["--write"]:
         DOCUMENT.write_text(text)

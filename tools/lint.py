@@ -1,41 +1,76 @@
 #!/usr/bin/env python3
 """Looks at the tools and documents: lint.py
 
-ruff, or else pyflakes, at the Python files of tools/ and bench/, mypy at those with types, and shellcheck at the shell
-scripts; each is skipped where it is not installed, and the last line but one says so. Each Python file compiles. Lines of
-README.md, CONTRIBUTING.md and docs/ are at most 120 columns wide, but those of tables and code.
+ruff, or else pyflakes, at the Python files of tools/, bench/ and examples/, mypy at their types, and shellcheck at the
+shell scripts; each is skipped where it is not installed, and the last line but one says so. Each Python file compiles,
+and each function says what it returns. Lines of README.md, CONTRIBUTING.md and docs/ are at most 120 columns wide, but
+those of tables and code.
 """
+import ast
+import os
 import re
 import shutil
 import subprocess
 import sys
+import tempfile
 from pathlib import Path
 
 from lib.programs import TOP
 
 COLUMNS = 120
+PYTHON = ["tools", "bench", "examples"]
 SHELL = ["tools/*.sh", ".ci/*", "debian/*.sh", "bench/*/*.sh", "examples/*.sh", "examples/*/*.sh"]
-RUFF = ["ruff", "check", "--quiet", "--select", "E9,F", "tools", "bench"]
-# the typed files: lib/ and the newer tools; types of what they import from others are not looked at
-MYPY = ["mypy", "--explicit-package-bases", "--ignore-missing-imports", "--follow-imports=silent", "--no-error-summary",
-        "--disallow-incomplete-defs", "--cache-dir=/dev/null"]
-TYPED = ["lib/*.py", "gate.py", "slips.py", "processors.py", "lint.py", "mutants.py"]
+RUFF = ["ruff", "check", "--quiet", "--select", "E9,F", *PYTHON]
+# types of what a file imports from others are not looked at
+MYPY = ["mypy", "--explicit-package-bases", "--ignore-missing-imports", "--follow-imports=silent", "--no-error-summary"]
+# the files whose functions say the types of their parameters too
+TYPED = ["lib/*.py", "gate.py", "slips.py", "processors.py", "lint.py", "mutants.py", "out_of_memory.py"]
+# the folders of the others, from each of which its files import, and what needs the types of parameters to be known
+FOLDERS = ["tools", "tools/soak", "tools/loopback", "tools/tests", "bench/*", "examples/python"]
+UNKNOWN = ["arg-type", "assignment", "attr-defined", "call-overload", "dict-item", "func-returns-value", "has-type", "index",
+           "list-item", "misc", "operator", "str-bytes-safe", "union-attr", "var-annotated"]
 
 
-def printed_by(words: list[str], folder: Path = TOP) -> list[str]:
+def printed_by(words: list[str], folder: Path = TOP, **more: str) -> list[str]:
     """What a command finds: its lines where it fails."""
-    done = subprocess.run(words, cwd=folder, stdin=subprocess.DEVNULL, capture_output=True, text=True, timeout=600)
+    done = subprocess.run(words, cwd=folder, stdin=subprocess.DEVNULL, capture_output=True, text=True, timeout=600,
+                          env={**os.environ, **more})
     return (done.stdout + done.stderr).splitlines() if done.returncode else []
 
 
-def compiled() -> list[str]:
+def python_files() -> list[Path]:
+    return sorted(path for folder in PYTHON for path in (TOP / folder).rglob("*.py"))
+
+
+def untyped() -> list[str]:
+    """Files that do not compile, and functions that do not say what they return."""
     found = []
-    for path in [*TOP.glob("tools/**/*.py"), *TOP.glob("bench/**/*.py")]:
+    for path in python_files():
         try:
-            compile(path.read_text(), str(path), "exec")
+            tree = ast.parse(path.read_text(), str(path))
         except SyntaxError as fault:
-            found.append(f"{path}: {fault}")
+            found.append(f"{path.relative_to(TOP)}: {fault}")
+            continue
+        found += [f"{path.relative_to(TOP)}:{node.lineno}: {node.name} does not say what it returns"
+                  for node in ast.walk(tree) if isinstance(node, ast.FunctionDef) and node.returns is None]
     return found
+
+
+def mistyped() -> list[str]:
+    """What mypy finds."""
+    with tempfile.TemporaryDirectory(prefix="lint-") as room:
+        cache = f"--cache-dir={room}"
+
+        def found_in(folder: Path) -> list[str]:
+            paths = map(str, sorted(folder.glob("*.py")))
+            return printed_by([*MYPY, cache, *(f"--disable-error-code={code}" for code in UNKNOWN), *paths],
+                              MYPYPATH=f"{folder}:{TOP}/tools:{TOP}/tools/soak")
+
+        paths = sorted(str(path) for pattern in TYPED for path in TOP.glob(f"tools/{pattern}"))
+        found = printed_by([*MYPY, cache, "--disallow-untyped-defs", *paths], TOP / "tools")
+        folders = sorted(path for pattern in FOLDERS for path in TOP.glob(pattern) if [*path.glob("*.py")])
+        # (one after another: they share a cache)
+        return found + [line for folder in folders for line in found_in(folder)]
 
 
 def scripts() -> list[str]:
@@ -57,19 +92,17 @@ def wide_lines() -> list[str]:
 
 
 def main() -> int:
-    found, skipped, looked = wide_lines(), [], ["documents"]
-    typed = sorted(str(path.relative_to(TOP / "tools")) for pattern in TYPED for path in TOP.glob(f"tools/{pattern}"))
-    for words, folder in [(RUFF, TOP), ([*MYPY, *typed], TOP / "tools"), (["shellcheck", "-x", "-S", "warning", *scripts()], TOP)]:
-        if not shutil.which(words[0]):
-            skipped.append(words[0])
-            continue
-        looked.append(words[0])
-        found += printed_by(words, folder)
-    if "ruff" in skipped and shutil.which("pyflakes3"):
-        skipped.remove("ruff")
-        looked.append("pyflakes")
-        found += printed_by(["pyflakes3", "tools", "bench"])
-    found += compiled()
+    found, skipped, looked = [*wide_lines(), *untyped()], [], ["documents", "return types"]
+    for name, look in [("ruff", lambda: printed_by(RUFF)), ("mypy", mistyped),
+                       ("shellcheck", lambda: printed_by(["shellcheck", "-x", "-S", "warning", *scripts()]))]:
+        if shutil.which(name):
+            looked.append(name)
+            found += look()
+        elif name == "ruff" and shutil.which("pyflakes3"):
+            looked.append("pyflakes")
+            found += printed_by(["pyflakes3", *PYTHON])
+        else:
+            skipped.append(name)
     for line in found:
         print(line)
     if skipped:

@@ -15,6 +15,7 @@ import sys
 import tempfile
 import time
 from pathlib import Path
+from typing import Optional
 
 from lib.addresses import own_address
 from lib.packets import ack, data, rrq
@@ -32,12 +33,12 @@ LOST = re.compile(rb"^lost ", re.M)
 class Watched:
     """A server, and what it has written so far."""
 
-    def __init__(self, process):
+    def __init__(self, process) -> None:
         self.process, self.deadline = process, time.monotonic() + PATIENCE
         self.texts = {process.stdout: b"", process.stderr: b""}
         self.open = set(self.texts)
 
-    def wait(self, client=None):
+    def wait(self, client=None) -> bool:
         """Waits until something comes from the server. Returns whether a datagram for the client is there."""
         left = self.deadline - time.monotonic()
         ready, _, _ = select.select([*self.open, *([client] if client else [])], [], [], max(left, 0))
@@ -50,19 +51,19 @@ class Watched:
                 self.open.discard(pipe)
         return client in ready
 
-    def printed(self):
+    def printed(self) -> str:
         return self.texts[self.process.stdout].decode()
 
-    def log(self):
+    def log(self) -> str:
         return self.texts[self.process.stderr].decode()
 
-    def port(self):
+    def port(self) -> int:
         while "\n" not in self.printed() and self.open:
             self.wait()
         return int(self.printed().split("\n")[0].rsplit(":", 1)[1])
 
 
-def fetched(server, port):
+def fetched(server, port) -> Optional[int]:
     """How often a client asks until it has the file, or None where the server has ended. It asks again where the log
     says that its request was lost: no time passes for nothing, and a slow server is not asked twice."""
     with socket.socket(socket.AF_INET, socket.SOCK_DGRAM) as client:
@@ -81,7 +82,7 @@ def fetched(server, port):
     sys.exit("lost requests: no answer")
 
 
-def served(program, counter, folder, refused):
+def served(program, counter, folder, refused) -> tuple[Optional[int], str, int, int]:
     """How often the client asks, the log, and how many requests for memory were made and refused. None in place of
     the first for a server that was refused its buffers and has ended."""
     words = [program, folder, "--listen", f"{HOST}:0", "--log", *LIMITS]
@@ -108,7 +109,7 @@ def served(program, counter, folder, refused):
     return requests, log, int(counts[1]), int(counts[2])
 
 
-def begun(program, counter, folder, refused):
+def begun(program, counter, folder, refused) -> tuple[tuple[int, str, str], int]:
     """What a server says that is refused a request for memory before it serves, and how many such requests there are."""
     words = [program, folder, "--listen", f"{HOST}:0", "--rounds", "1"]
     env = {"LD_PRELOAD": str(counter), "REFUSED": str(refused), "FROM_START": "1"}
@@ -117,7 +118,7 @@ def begun(program, counter, folder, refused):
     return (done.returncode, done.stdout, said), int(counts)
 
 
-def unbegun(program, counter, folder):
+def unbegun(program, counter, folder) -> tuple[int, int]:
     """How many requests for memory a server makes before it serves, and how many of them do not end it as they should."""
     wrong = 0
     _, count = begun(program, counter, folder, 0)
@@ -129,7 +130,7 @@ def unbegun(program, counter, folder):
     return count, wrong
 
 
-def main():
+def main() -> None:
     if len(sys.argv) > 2:
         sys.exit(__doc__)
     program = programs(["tftpd"], sys.argv[1:])["tftpd"]

@@ -13,6 +13,7 @@ import subprocess
 import sys
 import tempfile
 from pathlib import Path
+from typing import Optional
 
 from lib.preload import compiled
 
@@ -52,7 +53,7 @@ n 42
 """.splitlines()
 
 
-def played(program, counter, refused):
+def played(program, counter, refused) -> tuple[list[str], int, int]:
     """What the program prints where this request is refused, how many it made, and how many were refused."""
     ran = subprocess.run(
         [program], env={"LD_PRELOAD": str(counter), "REFUSED": str(refused)}, stdin=subprocess.DEVNULL,
@@ -64,13 +65,13 @@ def played(program, counter, refused):
     return ran.stdout.splitlines(), int(counts[1]), int(counts[2])
 
 
-def with_full_disk(expected):
+def with_full_disk(expected) -> list[str]:
     """What is printed where the memory of a commit is refused."""
     start = expected.index("deliver 4:", expected.index(RACE))
     return expected[:start] + FULL + expected[expected.index("a busy server"):]
 
 
-def call_of(lines, expected):
+def call_of(lines, expected) -> Optional[str]:
     """The call that was out of memory and left all as before, if all else is as expected."""
     if lines.count(AS_BEFORE) != 1:
         return None
@@ -80,7 +81,7 @@ def call_of(lines, expected):
     return lines[place - 1].rstrip(":") if again == expected else None
 
 
-def main():
+def main() -> None:
     if len(sys.argv) not in (1, 3):
         sys.exit(__doc__)
     program, printed = sys.argv[1:] or [SCENES / "out" / SCENES.name, SCENES / "stdout"]

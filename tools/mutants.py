@@ -11,17 +11,16 @@ On a failure the input is printed, and the seed. The last line is a count. `make
 """
 import random
 import re
-import socket
 import subprocess
 import sys
 import tempfile
-import threading
 import time
 from collections import Counter
 from pathlib import Path
 from typing import Callable, Optional
 
 from lib.addresses import own_address
+from lib.answerer import Answerer
 from lib.packets import error
 from lib.process import Failure
 from lib.programs import NAMES, TOP, programs
@@ -164,21 +163,6 @@ class Mutants:
             self.rng.choice(kinds)()
 
 
-class Refuser:
-    """A server that answers whatever comes by an ERROR, so that a client ends soon."""
-
-    def __init__(self) -> None:
-        self.port = socket.socket(socket.AF_INET, socket.SOCK_DGRAM)
-        self.port.bind((HOST, 0))
-        self.word = f"{HOST}:{self.port.getsockname()[1]}"
-        threading.Thread(target=self.run, daemon=True).start()
-
-    def run(self) -> None:
-        while True:
-            _, client = self.port.recvfrom(65_536)
-            self.port.sendto(error(1, "no"), client)
-
-
 def main() -> int:
     if sys.argv[1:2] in (["-h"], ["--help"]):
         sys.exit(__doc__)
@@ -186,7 +170,9 @@ def main() -> int:
     seed = int(sys.argv[2]) if sys.argv[2:] else commit_seed()
     fault: Optional[Failure] = None
     with tempfile.TemporaryDirectory(prefix="mutants-") as room:
-        mutants = Mutants(programs(NAMES), Path(room), random.Random(seed), Refuser().word)
+        # (a client that is answered by an ERROR ends soon)
+        server = Answerer(HOST, lambda _: error(1, "no"))
+        mutants = Mutants(programs(NAMES), Path(room), random.Random(seed), server.word)
         try:
             mutants.run(seconds)
         except Failure as failure:

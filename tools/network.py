@@ -35,19 +35,19 @@ class Fault(Exception):
     """Something is not as the page says."""
 
 
-def expect(found, expected, what):
+def expect(found, expected, what) -> None:
     if found != expected:
         raise Fault(f"{what}: {found}; expected {expected}")
 
 
-def block_of(part):
+def block_of(part) -> str:
     """The one piece of code of the page that has this part."""
     blocks = [it for it in re.findall(r"(?ms)^```\n(.*?)^```$", PAGE.read_text()) if part in it]
     expect(len(blocks), 1, f"how many pieces of code of the page have {part!r}")
     return blocks[0]
 
 
-def started_by(unit):
+def started_by(unit) -> list[str]:
     """The words of a unit's command line, without the program."""
     line = re.search(r'(?m)^ExecStart="[^"]+" (.*)$', (TOP / "packaging" / unit).read_text())
     return line[1].split()
@@ -56,7 +56,7 @@ def started_by(unit):
 class Host:
     """A namespace, as long as a process of its own runs in it."""
 
-    def __init__(self, stack):
+    def __init__(self, stack) -> None:
         # (it says that it is there: before that, its namespace is still ours)
         self.process = subprocess.Popen(["unshare", "--net", "sh", "-c", "echo; exec sleep 3600"], stdout=subprocess.PIPE)
         stack.callback(self.process.wait)
@@ -64,21 +64,21 @@ class Host:
         self.process.stdout.readline()
         self.run("ip link set lo up")
 
-    def words(self, *words):
+    def words(self, *words) -> list[str]:
         return ["nsenter", "--target", str(self.process.pid), "--net", *words]
 
-    def run(self, script):
+    def run(self, script) -> None:
         """Runs shell commands here."""
         done = subprocess.run(self.words("sh", "-e", "-c", script), capture_output=True, text=True, timeout=PATIENCE)
         if done.returncode:
             raise Fault(f"{script}: {done.stderr}")
 
-    def rules(self, text):
+    def rules(self, text) -> None:
         """Has these rules alone: commands, or a text for `nft -f`."""
         self.run("nft flush ruleset")
         self.run(text if text.startswith("nft ") else f"nft -f - << 'END'\n{text}\nEND")
 
-    def link(self, other, name):
+    def link(self, other, name) -> None:
         """Joins this host and another by a link, of this name at both."""
         subprocess.run(["ip", "link", "add", f"{name}0", "type", "veth", "peer", "name", f"{name}1"], check=True)
         for host, end in [(self, f"{name}0"), (other, f"{name}1")]:
@@ -89,7 +89,7 @@ class Host:
 class Scene:
     """The three hosts, a folder to serve, and the servers that run."""
 
-    def __init__(self, tftp, tftpd, stack):
+    def __init__(self, tftp, tftpd, stack) -> None:
         self.tftp, self.tftpd, self.stack, self.servers = tftp, tftpd, stack, []
         self.client, self.router, self.server = (Host(stack) for _ in range(3))
         self.client.link(self.router, "inner")
@@ -107,7 +107,7 @@ class Scene:
         self.content = os.urandom(12 * BLOCK + 7)
         (self.root / "a").write_bytes(self.content)
 
-    def serve(self, words):
+    def serve(self, words) -> None:
         """Starts a server at the server's host, and waits until it listens."""
         log = tempfile.TemporaryFile("w+")
         process = subprocess.Popen(self.server.words(self.tftpd, *words), stdout=subprocess.PIPE, stderr=log)
@@ -115,7 +115,7 @@ class Scene:
         self.servers.append((process, log))
         expect(process.stdout.readline()[:10], b"listening ", f"the first word of the server {words}")
 
-    def stop(self):
+    def stop(self) -> list[str]:
         """Stops the servers. Returns their logs."""
         logs = []
         for process, log in self.servers:
@@ -128,7 +128,7 @@ class Scene:
         self.servers = []
         return logs
 
-    def is_served(self, port=69, options=("--retries", "10"), address=SERVER):
+    def is_served(self, port=69, options=("--retries", "10"), address=SERVER) -> bool:
         """Whether the client gets the file from this port. It asks once where it is to get nothing."""
         local = self.root / "local"
         words = [self.tftp, "get", f"{address}:{port}", "a", local, "--blksize", f"{BLOCK}", "--no-dally", *options]
@@ -139,7 +139,7 @@ class Scene:
         expect(is_whole, done.returncode == 0, f"whether the file is whole where {done} says so")
         return is_whole
 
-    def received(self, name, address):
+    def received(self, name, address) -> bytes:
         """The bytes of the file that the client gets from port 69 of this address."""
         local = self.root / "local"
         words = [self.tftp, "get", f"{address}:69", name, local, "--blksize", f"{BLOCK}", "--no-dally", "--retries", "10"]
@@ -148,7 +148,7 @@ class Scene:
         local.unlink()
         return content
 
-    def ask(self, *words):
+    def ask(self, *words) -> list[str]:
         """What this script prints as the client, with these words."""
         words = [sys.executable, __file__, *map(str, words)]
         done = subprocess.run(self.client.words(*words), capture_output=True, text=True, timeout=PATIENCE * 4)
@@ -156,7 +156,7 @@ class Scene:
         return done.stdout.split()
 
 
-def try_unit(scene):
+def try_unit(scene) -> None:
     """The unit's own command line serves port 69, and refuses writes."""
     scene.serve(started_by("tftpd.service"))
     expect(scene.is_served(), True, "whether the unit's command line serves")
@@ -168,7 +168,7 @@ def try_unit(scene):
     expect([line.split()[0] for line in lines], ["listening", "opened", "closed", "refused"], "the lines of the log")
 
 
-def try_redirection(scene):
+def try_redirection(scene) -> None:
     """The redirection serves one address of two, and with a line for each a server for each: a request to one is never
     answered for another."""
     scene.serve([scene.root, "--listen", f"{SERVER}:6969", "--forever"])
@@ -187,7 +187,7 @@ def try_redirection(scene):
     expect(scene.is_served(), True, "whether the first address is served beside it")
 
 
-def try_firewall(scene):
+def try_firewall(scene) -> None:
     """The firewall of the server, with and without the redirection."""
     both = block_of("dnat to") + f"nft -f - << 'END'\n{block_of('ct original proto-dst 69')}END"
     scene.server.rules(both)
@@ -199,7 +199,7 @@ def try_firewall(scene):
     expect(scene.is_served(), True, "whether the firewall admits requests")
 
 
-def try_translation(scene):
+def try_translation(scene) -> None:
     """A client behind a router that translates its address is served by the help of the kernel alone."""
     scene.server.rules("")
     hidden = "table ip hidden {\nchain last {\ntype nat hook postrouting priority srcnat\noifname outer masquerade\n}\n}\n"
@@ -219,7 +219,7 @@ def try_translation(scene):
     scene.stop()
 
 
-def try_limit(scene):
+def try_limit(scene) -> None:
     """Of 50 requests of one address 30 are answered, behind the redirection, too; another address is not limited. A
     port of system services is never answered, so that a service which answers everything is not, either."""
     scene.serve([scene.root, "--listen", f"{SERVER}:6969", "--cap", "64", "--retries", "0", "--forever"])
@@ -233,7 +233,7 @@ def try_limit(scene):
     scene.stop()
 
 
-def try_many(scene):
+def try_many(scene) -> None:
     """Eight servers by the command line of their unit, and 200 clients at once, each of which asks twice: none is
     refused or opened twice, each file is whole, and each server has some of them."""
     for port in range(6901, 6909):
@@ -248,11 +248,11 @@ def try_many(scene):
     expect([log for log in logs if len(log) < 2], [], "the logs of servers that were not asked")
 
 
-def request(name):
+def request(name) -> bytes:
     return b"\0\1" + name.encode() + b"\0octet\0blksize\0%d\0timeout\0%d\0" % (BLOCK, INTERVAL)
 
 
-def answers(address, count, wanted):
+def answers(address, count, wanted) -> None:
     """Sends requests, each from a port of its own, and waits until so many are answered, and some time for one more.
     Prints how many are, and how many seconds the sending took."""
     ends, began = [], time.monotonic()
@@ -276,7 +276,7 @@ def answers(address, count, wanted):
     print(len(found), int(seconds))
 
 
-def chatter(address, port):
+def chatter(address, port) -> None:
     """Sends a datagram that is no packet, and another to each answer, ten at most. Prints how many answers there are."""
     count = 0
     with socket.socket(socket.AF_INET, socket.SOCK_DGRAM) as end:
@@ -295,19 +295,19 @@ def chatter(address, port):
 class Fetch:
     """A client that reads a file, from an address of its own."""
 
-    def __init__(self, address):
+    def __init__(self, address) -> None:
         self.end = socket.socket(socket.AF_INET, socket.SOCK_DGRAM)
         self.end.bind((address, 0))
         self.peer, self.content, self.number, self.is_begun, self.is_done = None, b"", 0, False, False
 
-    def ask(self, name):
+    def ask(self, name) -> None:
         self.end.sendto(request(name), (SERVER, 69))
 
-    def acknowledge(self):
+    def acknowledge(self) -> None:
         self.is_begun = True
         self.end.sendto(b"\0\4" + self.number.to_bytes(2, "big"), self.peer)
 
-    def take(self):
+    def take(self) -> bool:
         """Receives a datagram. Returns whether it is the answer to the request."""
         datagram, peer = self.end.recvfrom(65_536)
         if datagram[:2] == b"\0\6":
@@ -325,7 +325,7 @@ class Fetch:
         return False
 
 
-def fetch(path):
+def fetch(path) -> None:
     """Reads a file by all clients at once: each transfer is open before any goes on. Prints how many are whole."""
     path = Path(path)
     fetches = [Fetch(address) for address in MANY]
@@ -373,7 +373,7 @@ KERNEL = """table ip a {
 TRIALS = [try_unit, try_redirection, try_firewall, try_translation, try_limit, try_many]
 
 
-def run(tftp, tftpd):
+def run(tftp, tftpd) -> int:
     """All trials, in the namespaces of this process. Returns the status."""
     began = time.monotonic()
     with ExitStack() as stack:
@@ -388,7 +388,7 @@ def run(tftp, tftpd):
     return 0
 
 
-def missing():
+def missing() -> str:
     """Why there is nothing to try here, or nothing."""
     for name in ["ip", "nft", "unshare", "nsenter"]:
         if not shutil.which(name):
@@ -398,7 +398,7 @@ def missing():
     return "" if done.returncode == 0 else "no namespaces"
 
 
-def main():
+def main() -> None:
     if sys.argv[1:2] == ["--in"]:
         # whatever this was started by: the servers are ended by it
         signal.pthread_sigmask(signal.SIG_SETMASK, [])

@@ -3,6 +3,7 @@
 import re
 import sys
 from pathlib import Path
+from typing import Iterator
 
 TOP = Path(__file__).resolve().parent.parent
 MADE = re.compile(r"\bJournal\s*::\s*new\b")
@@ -13,7 +14,7 @@ PLACES = {"crates/tftp_client/src/program.rt": 1, "crates/tftp_daemon/src/progra
 PROGRAMS = ("crates/serve_memory/",)
 
 
-def made():
+def made() -> Iterator[tuple[str, int]]:
     """The files that make journals or rename them, and how many."""
     for path in sorted(TOP.glob("crates/*/src/**/*.rt")):
         text = "\n".join(line.split("//")[0] for line in path.read_text().splitlines())
@@ -22,7 +23,7 @@ def made():
             yield str(path.relative_to(TOP)), count
 
 
-def main():
+def main() -> int:
     found = dict(made())
     shared = {file: count for file, count in found.items() if not file.startswith(PROGRAMS)}
     more = [file for file, count in found.items() if file.startswith(PROGRAMS) and count > 1]

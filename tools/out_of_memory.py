@@ -9,14 +9,14 @@ so. A file that tftp was to make is whole, or has no name. (tftpd is tried by lo
 refuse_memory.c, compiled into a temporary folder; a run has two minutes.
 """
 import re
-import socket
 import subprocess
 import sys
 import tempfile
-import threading
 from pathlib import Path
+from typing import Optional
 
 from lib.addresses import own_address
+from lib.answerer import Answerer
 from lib.packets import ack, data
 from lib.preload import compiled
 from lib.programs import programs
@@ -43,21 +43,9 @@ def goes_on(found: tuple[int, str, str, int], printed: str) -> bool:
     return found[0] in (0, 1) and not found[2] and bool(re.fullmatch(EVENT, first))
 
 
-class Answerer:
-    """A server that answers each request by the only block of a file, and each block by its ACK."""
-
-    def __init__(self) -> None:
-        self.port = socket.socket(socket.AF_INET, socket.SOCK_DGRAM)
-        self.port.bind((HOST, 0))
-        self.word = f"{HOST}:{self.port.getsockname()[1]}"
-        threading.Thread(target=self.run, daemon=True).start()
-
-    def run(self) -> None:
-        while True:
-            datagram, client = self.port.recvfrom(65_536)
-            answer = {b"\0\1": data(1, CONTENT), b"\0\2": ack(0), b"\0\3": ack(1)}.get(datagram[:2])
-            if answer:
-                self.port.sendto(answer, client)
+def answer_to(datagram: bytes) -> Optional[bytes]:
+    """A read is answered by the only block of a file, a write by ACK 0, and its block by ACK 1."""
+    return {b"\0\1": data(1, CONTENT), b"\0\2": ack(0), b"\0\3": ack(1)}.get(datagram[:2])
 
 
 class Trial:
@@ -102,15 +90,16 @@ class Trial:
 def main() -> int:
     if len(sys.argv) not in (1, 4):
         sys.exit(__doc__)
-    paths, server, failed = programs(NAMES, sys.argv[1:]), Answerer(), 0
+    paths, server, failed = programs(NAMES, sys.argv[1:]), Answerer(HOST, answer_to), 0
     with tempfile.TemporaryDirectory(prefix="out-of-memory-") as room:
         folder = Path(room)
         counter = compiled(folder)
         (folder / "abc").write_bytes(b"ABC")
-        for name, words, given in [
+        trials: list[tuple[str, list[str], bytes]] = [
             ("tftp-show", [], LINES), ("tftp-show", ["--flow"], FLOW), ("tftp-play", [], SCRIPT),
             ("tftp", ["get", server.word, "a", "local", "--no-dally"], b""), ("tftp", ["put", server.word, "abc", "a"], b""),
-        ]:
+        ]
+        for name, words, given in trials:
             count, said, wrong = Trial(paths[name], words, given, folder, counter).run()
             print(f"out of memory: {name} {' '.join(words[:1])}: {count} requests, each refused in turn: {said} times it "
                   f"says so, {wrong} wrong", flush=True)

@@ -18,13 +18,13 @@ COLUMNS = ["refused", "same", "not-judged", "proves"]
 TOLD = ("proves", "not-judged", "not-run", "elsewhere")
 
 
-def without_comments(text):
+def without_comments(text) -> str:
     """The text without the comments inside its enums."""
     return re.sub(r"^pub enum .*?^\}", lambda enum: re.sub(r"^ +///.*\n", "", enum[0], flags=re.M), text,
                   flags=re.M | re.S)
 
 
-def shared(source, copy):
+def shared(source, copy) -> None:
     """What was proved is linked, as tools/build.sh does it; the rest is copied."""
     try:
         (os.link if "/out/" in source else shutil.copy2)(source, copy)
@@ -32,7 +32,7 @@ def shared(source, copy):
         shutil.copy2(source, copy)
 
 
-def copied(folder):
+def copied(folder) -> None:
     """A copy of the repository, with what was proved."""
     ignored = shutil.ignore_patterns(".git")
     shutil.copytree(TOP, folder, symlinks=True, ignore=ignored, copy_function=shared, dirs_exist_ok=True)
@@ -40,7 +40,7 @@ def copied(folder):
         source.write_text(without_comments(source.read_text()))
 
 
-def plants(crate, folder, words):
+def plants(crate, folder, words) -> dict[str, int]:
     """How many bodies there were of each kind."""
     ran = subprocess.run(["rt", "plant", crate, "--all", "--max", "400", "--minutes", "60", *words],
                          cwd=Path(folder, "crates", crate), capture_output=True, text=True)
@@ -53,7 +53,7 @@ def plants(crate, folder, words):
     return {kind: int(count) for kind, count in re.findall(r"([\w-]+)=(\d+)", lines[-1])}
 
 
-def main():
+def main() -> None:
     crate, *words = sys.argv[1:]
     with tempfile.TemporaryDirectory() as folder:
         copied(folder)

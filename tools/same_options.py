@@ -31,17 +31,17 @@ VERBS = {"tftp-show": [""], "tftp-play": [""], "tftp": ["", "get", "put"], "tftp
 OPTION = re.compile(r"(?<![\w-])--?[A-Za-z][\w-]*")
 
 
-def printed(path, *words):
+def printed(path, *words) -> str:
     """What a program prints on standard output."""
     done = subprocess.run([path, *words], stdin=subprocess.DEVNULL, capture_output=True, text=True, timeout=600)
     return done.stdout
 
 
-def long_ones(options):
+def long_ones(options) -> set[str]:
     return {option for option in options if option.startswith("--")}
 
 
-def help_options(text):
+def help_options(text) -> set[str]:
     """The options that a help text lists."""
     listed = re.search(r"^Options:\n((?:.+\n)+)", text, re.M)
     found = set()
@@ -52,7 +52,7 @@ def help_options(text):
     return found
 
 
-def flags_of(line):
+def flags_of(line) -> set[str]:
     """The options of a line of mdoc: the words behind each `Fl`, up to the next macro. `Fl -log` and `Fl Fl log` are
     one option, as are `Fl h` and `-h`."""
     found, is_flag, dashes = set(), False, ""
@@ -68,14 +68,14 @@ def flags_of(line):
     return found
 
 
-def bash_options(text, verb, has_verbs):
+def bash_options(text, verb, has_verbs) -> set[str]:
     """The words of the line that sets `options`, for a subcommand."""
     label = re.escape(f"{verb or '*'})") if has_verbs else ""
     line = re.search(rf"^\s*{label}\s*options='([^']*)'", text, re.M)
     return set(line[1].split()) if line else set()
 
 
-def zsh_options(text, verb, has_verbs):
+def zsh_options(text, verb, has_verbs) -> set[str]:
     """The specifications that `_arguments` is given, for a subcommand."""
     given = text
     if has_verbs:
@@ -92,7 +92,7 @@ def zsh_options(text, verb, has_verbs):
     return found
 
 
-def fish_options(text, verb, has_verbs):
+def fish_options(text, verb, has_verbs) -> set[str]:
     """The options of the lines whose condition is that of a subcommand."""
     found = set()
     for line in text.splitlines():
@@ -107,7 +107,7 @@ def fish_options(text, verb, has_verbs):
     return found
 
 
-def code_of(text):
+def code_of(text) -> list[str]:
     """The pieces of code in a page: the lines of its blocks, and its spans. Where the head of a table's first column is a
     program that is none of ours, that column is left out."""
     parts = re.split(r"^```.*$", text, flags=re.M)
@@ -125,7 +125,7 @@ def code_of(text):
 class Comparison:
     """The options of each help text, and what differs from them."""
 
-    def __init__(self, paths):
+    def __init__(self, paths) -> None:
         self.differences, self.skipped = [], []
         self.paths = paths
         self.toolchain = printed("rt", "version").strip() if shutil.which("rt") else ""
@@ -137,16 +137,16 @@ class Comparison:
         # those of a program with its subcommands
         self.known = {name: set().union(*(self.options[name, it] for it in verbs)) for name, verbs in VERBS.items()}
 
-    def differ(self, place, wanted, found):
+    def differ(self, place, wanted, found) -> None:
         """These options are wanted at a place, and those are there."""
         self.differences += [f"{place}: {option} is missing" for option in sorted(wanted - found)]
         self.differences += [f"{place}: {option} is not in the help" for option in sorted(found - wanted)]
 
-    def name_no_other(self, place, known, found):
+    def name_no_other(self, place, known, found) -> None:
         """No option is named at a place but these."""
         self.differ(place, set(), found - known)
 
-    def check_program(self, name, version):
+    def check_program(self, name, version) -> None:
         """A program's help and its version."""
         for verb in VERBS[name]:
             if not {"-h", "--help"} <= self.options[name, verb]:
@@ -155,7 +155,7 @@ class Comparison:
         if not printed(self.paths[name], "--version").startswith(wanted):
             self.differences.append(f"{name} --version: is not `{wanted}`, as by the Makefile and `rt version`")
 
-    def check_manual(self, name):
+    def check_manual(self, name) -> None:
         """The manual has an item for each option, and names no other anywhere."""
         place, known = MANUALS[name], self.known[name]
         text = (TOP / place).read_text()
@@ -170,7 +170,7 @@ class Comparison:
         long = [line for line in re.findall(r"(?m)^(?:\.Dl )?([#$] .*)$", text) if len(line) > COLUMNS]
         self.differences += [f"{place}: longer than {COLUMNS}: {line}" for line in long]
 
-    def check_completions(self, name):
+    def check_completions(self, name) -> None:
         """The completions of each shell have the options of each subcommand."""
         for shell, read in {"bash": bash_options, "zsh": zsh_options, "fish": fish_options}.items():
             place = f"completions/{name}.{shell}"
@@ -180,7 +180,7 @@ class Comparison:
                 self.differ(f"{place} {verb}".rstrip(), self.options[name, verb], found)
             self.name_no_other(place, self.known[name], long_ones(OPTION.findall(text)))
 
-    def check_commands(self, place, commands):
+    def check_commands(self, place, commands) -> set[str]:
         """A command that runs a program of ours gives it options of its own. Returns those that are given to tftpd."""
         given = set()
         for command in commands:
@@ -192,7 +192,7 @@ class Comparison:
                 given |= found if name == "tftpd" else set()
         return given
 
-    def check_operating(self):
+    def check_operating(self) -> None:
         """The page for operators names each long option of tftpd, and none that no program of ours has."""
         pieces = code_of((TOP / OPERATING).read_text())
         alone = {it for piece in pieces if piece.startswith("--") for it in long_ones(OPTION.findall(piece))}
@@ -200,7 +200,7 @@ class Comparison:
         named = alone | self.check_commands(OPERATING, pieces)
         self.differ(OPERATING, long_ones(self.known["tftpd"]), named & self.known["tftpd"])
 
-    def check_units(self):
+    def check_units(self) -> None:
         """The units start tftpd with options that it has, and systemd finds nothing in them."""
         for place in UNITS:
             lines = (TOP / place).read_text().splitlines()
@@ -213,7 +213,7 @@ class Comparison:
         for place in UNITS:
             self.differences += [f"{place}: {line}" for line in found_in_unit(TOP / place)]
 
-    def check_form(self):
+    def check_form(self) -> None:
         """mandoc finds no error in the manuals, and each manual of ours that they refer to is there. Remarks below an error
         differ from one mandoc to the next, and depend on what is installed."""
         manuals = sorted(str(it.relative_to(TOP)) for it in (TOP / "man").glob("*.[1-8]"))
@@ -229,7 +229,7 @@ class Comparison:
         self.differences += errors or [f"mandoc ends with {done.returncode}: {done.stdout}{done.stderr}"] * (done.returncode > 2)
 
 
-def missing_systemd():
+def missing_systemd() -> str:
     """Why systemd cannot look at the units on this host, or nothing if it can."""
     if not shutil.which("systemd-analyze"):
         return "no systemd-analyze"
@@ -243,12 +243,12 @@ def missing_systemd():
         return "systemd-analyze verify does not work here" if verified(sound).returncode else ""
 
 
-def verified(unit):
+def verified(unit) -> "subprocess.CompletedProcess[str]":
     words = ["systemd-analyze", "verify", "--man=no", unit]
     return subprocess.run(words, stdin=subprocess.DEVNULL, capture_output=True, text=True, timeout=600)
 
 
-def found_in_unit(place):
+def found_in_unit(place) -> list[str]:
     """What systemd finds in a unit."""
     with tempfile.TemporaryDirectory() as room:
         unit = Path(room) / place.name.replace("@", "@6901")
@@ -262,7 +262,7 @@ def found_in_unit(place):
     return found
 
 
-def main():
+def main() -> int:
     it = Comparison({name: program(name) for name in VERBS})
     version = re.search(r"^VERSION := (\S+)$", (TOP / "Makefile").read_text(), re.M)[1]
     for name in VERBS:

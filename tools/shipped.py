@@ -13,6 +13,7 @@ import sys
 import tempfile
 from concurrent.futures import ThreadPoolExecutor
 from pathlib import Path
+from typing import Any
 
 from lib.programs import NAMES, TOP, of_crate
 
@@ -23,20 +24,20 @@ sys.path.append(str(KIT / "bin"))
 import rtlib
 
 
-def crate_of(name):
+def crate_of(name) -> Any:
     """The crate of a program, as rt has it."""
     wanted = name.replace("-", "_") + "_main"
     return next(crate for crate in rtlib.crates_below(str(TOP)) if crate.name == wanted)
 
 
-def has_libraries(crate):
+def has_libraries(crate) -> bool:
     """Whether all libraries below are those of `rt ci`, which have no stamp, or all of the text as it stands."""
     stamps = [Path(it.folder, "out/rlib/stamp").is_file() for it in crate.below()]
     is_there = all(Path(it.rlib, "format").is_file() for it in crate.below())
     return is_there and (not any(stamps) or all(it.is_built() for it in crate.below()))
 
 
-def compiled(crate, room):
+def compiled(crate, room) -> Path:
     """Proves a program's own crate and compiles it. Returns the path, or stops."""
     made, to, toolchain = f"{room}/{crate.name}.o", Path(room, crate.name), f"{KIT}/toolchain"
     words = [*crate.words(["--jobs", "2"], keeps=False), FLAG, "--toolchain", toolchain, "--backend", "llvm"]
@@ -50,7 +51,7 @@ def compiled(crate, room):
     return to
 
 
-def built(name, room):
+def built(name, room) -> tuple[Path, str]:
     """Where a program is, and how it was built."""
     crate = crate_of(name)
     if name not in PLAIN:
@@ -61,7 +62,7 @@ def built(name, room):
     return of_crate(crate.name), "by tools/build.sh"
 
 
-def main():
+def main() -> None:
     folder = Path(sys.argv[1] if sys.argv[1:] else TOP / "bin")
     folder.mkdir(exist_ok=True)
     # (tools/build.sh lets in one run at a time)

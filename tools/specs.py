@@ -1,7 +1,7 @@
 """The definitions of `crates/*/specs/*.antt`: their comments, their text, and what each of them names."""
 import re
 from pathlib import Path
-from typing import NamedTuple
+from typing import NamedTuple, Union
 
 TOP = Path(__file__).resolve().parent.parent
 HEAD = re.compile(r"^( *)(?:unfoldable |opaque )?(?:pub )?(?:abbrev|record|data|def|let)\b(?: pub)? ([^\s:(\[{]+)")
@@ -18,7 +18,7 @@ class Definition(NamedTuple):
     module: str
     text: tuple
 
-    def words(self):
+    def words(self) -> set[str]:
         lines = [line.split(" --")[0] for line in (self.module, *self.text) if not line.strip().startswith("--")]
         return set(WORD.findall("\n".join(lines)))
 
@@ -29,7 +29,7 @@ class File(NamedTuple):
     imports: dict
 
 
-def module_head(lines, at):
+def module_head(lines, at) -> tuple[str, int]:
     """The head of a module, which may go over some lines, without `where`."""
     end = at
     while not lines[end].rstrip().endswith("where"):
@@ -37,7 +37,7 @@ def module_head(lines, at):
     return " ".join(line.strip() for line in lines[at:end + 1]).removesuffix(" where"), end
 
 
-def read(crate, path):
+def read(crate, path) -> File:
     """The definitions and imports of a file."""
     lines, definitions, imports = path.read_text().splitlines(), {}, {}
     modules, comment, at = [], [], 0
@@ -75,19 +75,19 @@ def read(crate, path):
     return File(definitions, imports)
 
 
-def belongs(line, indent, name):
+def belongs(line, indent, name) -> bool:
     """Whether a line goes on with the definition of this name, at this indentation."""
     own = len(line) - len(line.lstrip())
     return not line.strip() or own > indent or (own == indent and line.strip().split()[0] == name)
 
 
-def all_files():
+def all_files() -> dict[tuple[str, str], File]:
     """Each file of definitions by crate and name."""
     return {(path.parent.parent.name, path.stem): read(path.parent.parent.name, path)
             for path in sorted(TOP.glob("crates/*/specs/*.antt")) if path.stem != "Lib"}
 
 
-def source_of(files, crate, file, word):
+def source_of(files, crate, file, word) -> Union[Definition, str, None]:
     """The definition that a word means in a file, or the name of a type of the code, or None."""
     here = files[crate, file]
     if word in here.definitions:

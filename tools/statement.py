@@ -5,6 +5,7 @@ statement.py --write writes the document; without a word it is compared, and the
 """
 import sys
 from textwrap import wrap
+from typing import Any
 
 from specs import TOP, all_files, source_of
 
@@ -65,11 +66,11 @@ HEADLINES = [
 ]
 
 
-def needed(files, root, opaque, shown):
+def needed(files, root, opaque, shown) -> list[Any]:
     """The definitions that this one needs, each after those that it needs, and those that stay opaque."""
     order = []
 
-    def visit(definition):
+    def visit(definition) -> None:
         key = (definition.crate, definition.file, definition.name)
         if key in shown:
             return
@@ -85,13 +86,13 @@ def needed(files, root, opaque, shown):
     return order
 
 
-def by_file(files, definitions):
+def by_file(files, definitions) -> list[Any]:
     """The definitions in the order of their files, each file after those that it needs, and as they stand there."""
     wanted, order = {}, []
     for each in definitions:
         wanted.setdefault((each.crate, each.file), []).append(each)
 
-    def visit(place):
+    def visit(place: tuple[str, str]) -> None:
         if place not in wanted:
             return
         found = wanted.pop(place)
@@ -107,7 +108,7 @@ def by_file(files, definitions):
     return order
 
 
-def shown_text(definitions):
+def shown_text(definitions) -> list[str]:
     """The definitions as one text, with their file and the module that they stand in, where these change."""
     lines, place, module = ["```"], None, ""
     for each in definitions:
@@ -123,7 +124,7 @@ def shown_text(definitions):
     return [*lines[:-1], "```", ""]
 
 
-def document():
+def document() -> str:
     files, shown, lines = all_files(), set(), [HEAD]
     for title, crate, file, name, says, opaque in HEADLINES:
         definitions = needed(files, files[crate, file].definitions[name], opaque, shown)
@@ -134,7 +135,7 @@ def document():
     return "\n".join(lines).rstrip() + "\n"
 
 
-def main():
+def main() -> int:
     text = document()
     if "--write" in sys.argv:
         DOCUMENT.write_text(text)

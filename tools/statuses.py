@@ -18,6 +18,7 @@ import threading
 import time
 from contextlib import contextmanager
 from pathlib import Path
+from typing import Any, Callable, Iterator
 
 from lib.addresses import own_address
 from lib.process import PATIENCE, Failure, Server, next_line
@@ -39,11 +40,11 @@ HELP = Path(__file__).resolve().parent / "help"
 class Check:
     """The runs, and what was wrong in them."""
 
-    def __init__(self, programs, folder):
+    def __init__(self, programs, folder) -> None:
         self.programs, self.folder = programs, folder
         self.runs, self.wrong = 0, []
 
-    def ends(self, program, words, status, errors="", output=None, at_start=False, **how):
+    def ends(self, program, words, status, errors="", output=None, at_start=False, **how) -> str:
         """The program ends with this status, and writes that: all of it, or what it begins with. Returns its output."""
         self.runs += 1
         how = {"stdin": subprocess.DEVNULL, "stdout": subprocess.PIPE, "cwd": self.folder, **how}
@@ -63,15 +64,15 @@ class Check:
             self.wrong.append(f"{program} {words}: status {done.returncode}, {wrote!r}, {told!r}; wanted {wanted}")
         return wrote
 
-    def has_file(self, name, content):
+    def has_file(self, name, content) -> None:
         """A file has this content."""
         if (self.folder / name).read_bytes() != content:
             self.wrong.append(f"{name}: has {(self.folder / name).read_bytes()!r}; wanted {content!r}")
 
-    def is_usage_fault(self, program, *words, **how):
+    def is_usage_fault(self, program, *words, **how) -> None:
         self.ends(program, words, 2, USAGE, "", at_start=True, **how)
 
-    def has_help(self, program, *words):
+    def has_help(self, program, *words) -> None:
         """Help and version end with 0, and write on standard output alone. Where a text was read, the help is that."""
         text = HELP / f"{'-'.join([program, *words])}.txt"
         told = self.ends(program, [*words, "--help"], 0, "", text.read_text() if text.exists() else None)
@@ -82,13 +83,13 @@ class Check:
 
 
 @contextmanager
-def serving(check, *words):
+def serving(check, *words) -> Iterator[Any]:
     """A tftpd of the folder `served`, and its address; it is killed at the end, whatever happened."""
     with Server(check.programs["tftpd"], HOST, check.folder, [*LIMITS, *words], LIFE, root="served") as server:
         yield server, server.word
 
 
-def has_ended(check, server, status, lines):
+def has_ended(check, server, status, lines) -> None:
     """A server has ended by itself with this status, and its last words on each line are these."""
     check.runs += 1
     code, wrote, told = server.ended()
@@ -97,20 +98,20 @@ def has_ended(check, server, status, lines):
         check.wrong.append(f"tftpd: status {code}, {wrote!r}, {told!r}; wanted {status}, {lines}")
 
 
-def few_files(count):
+def few_files(count) -> Callable[[], None]:
     """Has the program start with room for so many open files."""
     return lambda: resource.setrlimit(resource.RLIMIT_NOFILE, (count, count))
 
 
-def short_files(length):
+def short_files(length) -> Callable[[], None]:
     """Has the program write no file beyond so many bytes: the write is refused, and the signal of it ignored."""
-    def limit():
+    def limit() -> None:
         signal.signal(signal.SIGXFSZ, signal.SIG_IGN)
         resource.setrlimit(resource.RLIMIT_FSIZE, (length, length))
     return limit
 
 
-def first_line_of(path):
+def first_line_of(path) -> bytes:
     """The first line of a file that another process writes, once it is whole."""
     end = time.monotonic() + PATIENCE
     while not path.read_bytes().endswith(b"\n") and time.monotonic() < end:
@@ -119,7 +120,7 @@ def first_line_of(path):
 
 
 @contextmanager
-def left_open(address):
+def left_open(address) -> Iterator[Any]:
     """A transfer of a server that waits for its client, which never comes back."""
     host, port = address.split(":")
     with socket.socket(socket.AF_INET, socket.SOCK_DGRAM) as client:
@@ -130,7 +131,7 @@ def left_open(address):
 
 
 @contextmanager
-def answering(answer, first=lambda: None):
+def answering(answer, first=lambda: None) -> Iterator[Any]:
     """A port whose first datagram is answered by this, from another port, or by nothing, once `first` is done."""
     with socket.socket(socket.AF_INET, socket.SOCK_DGRAM) as port, \
             socket.socket(socket.AF_INET, socket.SOCK_DGRAM) as transfer:
@@ -138,7 +139,7 @@ def answering(answer, first=lambda: None):
         transfer.bind((HOST, 0))
         port.settimeout(PATIENCE)
 
-        def answer_once():
+        def answer_once() -> None:
             try:
                 _, client = port.recvfrom(600)
             except OSError:
@@ -158,7 +159,7 @@ def answering(answer, first=lambda: None):
 
 
 @contextmanager
-def closed_pipe():
+def closed_pipe() -> Iterator[Any]:
     """The end of a pipe that nobody reads any more."""
     read, write = os.pipe()
     os.close(read)
@@ -166,7 +167,7 @@ def closed_pipe():
     os.close(write)
 
 
-def test_show(check):
+def test_show(check) -> None:
     check.has_help("tftp-show")
     check.is_usage_fault("tftp-show", "--verbose")
     check.is_usage_fault("tftp-show", "packets.hex", "more.hex")
@@ -182,7 +183,7 @@ def test_show(check):
         check.ends("tftp-show", [], 2, input=b"00040000\n", stdout=write)
 
 
-def has_state(pid, wanted):
+def has_state(pid, wanted) -> bool:
     """Waits until a process is in this state of proc(5), and says whether it came to be before it ended."""
     state, end = "", time.monotonic() + PATIENCE
     while state not in (wanted, "Z") and time.monotonic() < end:
@@ -199,7 +200,7 @@ INTERRUPTED = [
 ]
 
 
-def test_interrupted_reads(check):
+def test_interrupted_reads(check) -> None:
     """A read that a signal interrupts is made again. No handler can be had from outside, but a read of a socket with a
     timeout also fails with EINTR where its process is stopped and goes on, on Linux (signal(7))."""
     for words, parts, output in INTERRUPTED:
@@ -228,7 +229,7 @@ def test_interrupted_reads(check):
             check.wrong.append(f"tftp-show {words}, stopped: status {show.returncode}, {wrote!r}, {told!r}")
 
 
-def test_play(check):
+def test_play(check) -> None:
     (check.folder / "read.script").write_text("file a 414243\nget a octet\nsettle 0\n")
     check.has_help("tftp-play")
     check.is_usage_fault("tftp-play", "--verbose")
@@ -281,7 +282,7 @@ READ_ANSWERS = [
 TOO_LARGE = "more than 65,535 blocks; try a larger --blksize\n"
 
 
-def test_transfers(check):
+def test_transfers(check) -> None:
     """Statuses 0 and 1: a transfer that completes, and each way in which a client may end."""
     (check.folder / "abc").write_bytes(b"ABC")
     with serving(check, "--transfers", "6") as (server, address):
@@ -321,7 +322,7 @@ def test_transfers(check):
         check.ends("tftp", words, 1, f"tftp: TooLarge\ntftp: longer: {TOO_LARGE}", "")
 
 
-def test_client_faults(check):
+def test_client_faults(check) -> None:
     """Status 2, in the order command line, LOCAL, socket, opening: each fault also where the later ones hold, too."""
     nowhere, long = "127.0.0.1:9", "a" * 513
     (check.folder / "long").touch()
@@ -367,7 +368,7 @@ def test_client_faults(check):
     check.ends("tftp", words, 2, f"tftp: TooLarge\ntftp: long: {TOO_LARGE}", "")
 
 
-def test_server_faults(check):
+def test_server_faults(check) -> None:
     """Status 2, in the order command line, ROOT, port: each fault also where the later ones hold, too."""
     with socket.socket(socket.AF_INET, socket.SOCK_DGRAM) as used:
         used.bind((HOST, 0))
@@ -391,7 +392,7 @@ def test_server_faults(check):
     check.ends("tftpd", words, 0, "", f"listening {HOST}:", at_start=True)
 
 
-def test_unprinted_close(check):
+def test_unprinted_close(check) -> None:
     """Status 2 where the line of a close cannot be printed, though `listening` was: the reader of a pipe has gone, or a
     file may not grow to hold it. The client has its file by then; another transfer that is open is given up."""
     words = [check.programs["tftpd"], "served", "--listen", f"{HOST}:0", *LIMITS, "--log"]
@@ -433,7 +434,7 @@ RANGES = {
 }
 
 
-def test_usage(check):
+def test_usage(check) -> None:
     check.has_help("tftp")
     check.has_help("tftp", "get")
     check.has_help("tftp", "put")
@@ -455,7 +456,7 @@ def test_usage(check):
         check.is_usage_fault(program, *words, b"caf\xe9")
 
 
-def main():
+def main() -> None:
     if len(sys.argv) not in (1, 5):
         sys.exit(__doc__)
     paths = programs(NAMES, sys.argv[1:])

@@ -17,6 +17,7 @@ import tempfile
 import time
 from contextlib import ExitStack, suppress
 from pathlib import Path
+from typing import Any
 
 import network
 from network import CLIENT, MANY, PATIENCE, SERVER, TOP, Fault, Host, expect
@@ -33,7 +34,7 @@ LATE = "192.0.2.9"
 APART = ["unshare", "--net", "--mount", "--pid", "--fork", "--kill-child", "--mount-proc"]
 
 
-def own_group(stack):
+def own_group(stack) -> None:
     """Puts this process into a control group of its own, below which systemd makes others."""
     name = f"units-{time.monotonic_ns()}"
     for top in map(Path, ["/sys/fs/cgroup/systemd", "/sys/fs/cgroup/unified", "/sys/fs/cgroup"]):
@@ -44,7 +45,7 @@ def own_group(stack):
             stack.callback(remove_group, top, group)
 
 
-def remove_group(top, group):
+def remove_group(top, group) -> None:
     """Removes a control group and those below, once what ran there has ended."""
     (top / "cgroup.procs").write_text("0")
     end = time.monotonic() + PATIENCE
@@ -55,7 +56,7 @@ def remove_group(top, group):
         time.sleep(0.1)
 
 
-def until(what, test, seconds=PATIENCE):
+def until(what, test, seconds=PATIENCE) -> Any:
     """Waits until this is so, and returns what it gave."""
     end = time.monotonic() + seconds
     while time.monotonic() < end:
@@ -66,14 +67,14 @@ def until(what, test, seconds=PATIENCE):
     raise Fault(f"not so after {seconds} seconds: {what}")
 
 
-def for_writes(unit, user):
+def for_writes(unit, user) -> str:
     """The lines in the comments of a unit, as `systemctl edit` takes them."""
     text = (TOP / "packaging" / unit).read_text()
     lines = re.search(r"(?m)^# For writes these lines .*\n((?:#\S.*\n)+)", text)
     return "[Service]\n" + lines[1].replace("#", "").replace("User=USER", f"User={user}")
 
 
-def packed(version):
+def packed(version) -> bytes:
     """The bytes of a package of this version."""
     words = [TOP / "debian/pack.sh", version]
     done = subprocess.run(words, check=True, stdout=subprocess.PIPE, text=True)
@@ -87,7 +88,7 @@ def packed(version):
 class Container:
     """A Debian whose systemd runs, at the server's end of a link, and a client at the other."""
 
-    def __init__(self, folder, room, stack):
+    def __init__(self, folder, room, stack) -> None:
         self.room, self.content, self.first = Path(room), os.urandom(12 * network.BLOCK + 7), ""
         (self.room / "a").write_bytes(self.content)
         installed = self.room / "installed"
@@ -108,7 +109,7 @@ class Container:
         stack.callback(self.end)
         until("systemd has started", self.is_running, BOOT)
 
-    def end(self):
+    def end(self) -> None:
         # all in the container ends with its first process
         if self.first:
             os.kill(int(self.first), signal.SIGKILL)
@@ -117,31 +118,31 @@ class Container:
         self.process.wait(PATIENCE)
         self.console.close()
 
-    def is_running(self):
+    def is_running(self) -> bool:
         if self.process.poll() is not None:
             raise Fault(f"the container ended: {(self.room / 'console').read_text()}")
         self.first = Path(f"/proc/{self.process.pid}/task/{self.process.pid}/children").read_text().strip()
-        return self.first and self.told("systemctl is-system-running").strip() in ("running", "degraded")
+        return bool(self.first) and self.told("systemctl is-system-running").strip() in ("running", "degraded")
 
-    def words(self, *words):
+    def words(self, *words) -> list[str]:
         return ["nsenter", "--target", self.first, "--mount", "--uts", "--ipc", "--net", "--pid", "--cgroup", *words]
 
-    def told(self, script, **how):
+    def told(self, script, **how) -> str:
         """What a shell prints in the container, whatever its status is."""
         done = subprocess.run(self.words("sh", "-c", script), capture_output=True, text=True, timeout=PATIENCE, **how)
         return done.stdout + done.stderr
 
-    def run(self, script, **how):
+    def run(self, script, **how) -> str:
         """Runs shell commands in the container."""
         done = subprocess.run(self.words("bash", "-ec", script), capture_output=True, timeout=3 * PATIENCE, **how)
         if done.returncode:
             raise Fault(f"{script}: {done.stderr.decode()}")
         return done.stdout.decode()
 
-    def property(self, unit, name):
+    def property(self, unit, name) -> str:
         return self.run(f"systemctl show --value --property {name} {unit}").strip()
 
-    def begin(self, unit, change=""):
+    def begin(self, unit, change="") -> None:
         """Starts a unit, with these lines of `systemctl edit`."""
         if change:
             place = f"/etc/systemd/system/{unit}.service.d"
@@ -149,20 +150,20 @@ class Container:
         # (where the program ends at once, this fails, and systemd starts it again)
         self.told(f"systemctl restart {unit}")
 
-    def revert(self, unit):
+    def revert(self, unit) -> None:
         """Stops a unit, and forgets what was changed in it."""
         change = f"/etc/systemd/system/{unit}.service.d"
         self.run(f"systemctl disable --now {unit}; rm -rf {change}; systemctl daemon-reload")
 
-    def log(self, unit):
+    def log(self, unit) -> list[str]:
         return self.run(f"journalctl --quiet --output=cat _SYSTEMD_UNIT={unit}").splitlines()
 
-    def process_of(self, unit):
+    def process_of(self, unit) -> dict[str, str]:
         """What the system has of a unit's process, by the names in /proc/PID/status."""
         text = self.run(f"cat /proc/{self.property(unit, 'MainPID')}/status")
         return dict(line.split(":\t", 1) for line in text.splitlines() if ":\t" in line)
 
-    def may(self, unit, user, capabilities=BIND):
+    def may(self, unit, user, capabilities=BIND) -> str:
         """The unit's process has this user, a dynamic one for none, these capabilities, and cannot get others."""
         found = self.process_of(unit)
         number = found["Uid"].split()[0]
@@ -172,7 +173,7 @@ class Container:
         expect([found[name] for name in names], [capabilities] * 3 + ["1", "2"], f"{names} of {unit}")
         return number
 
-    def sees(self, unit, writable):
+    def sees(self, unit, writable) -> None:
         """The unit's process sees one folder of /srv, and can write nowhere else than there, if there."""
         inside = f"nsenter --target {self.property(unit, 'MainPID')} --mount"
         expect(self.run(f"{inside} ls /srv").split(), ["tftp"], "what is in /srv")
@@ -181,7 +182,7 @@ class Container:
             told = self.told(f"{inside} sh -c 'touch {folder}/x && rm {folder}/x'")
             expect("Read-only file system" not in told, wanted, f"whether {folder} is writable: {told}")
 
-    def is_served(self, address=SERVER, port=69):
+    def is_served(self, address=SERVER, port=69) -> bool:
         """Whether the client gets the file."""
         local = self.room / "local"
         words = [TOP / "bin/tftp", "get", f"{address}:{port}", "a", local, "--blksize", network.BLOCK, "--no-dally",
@@ -193,14 +194,14 @@ class Container:
         expect(is_whole, done.returncode == 0, f"whether the file is whole where {done} says so")
         return is_whole
 
-    def put(self, name, port=69):
+    def put(self, name, port=69) -> str:
         """What the client says that puts the file."""
         words = [TOP / "bin/tftp", "put", f"{SERVER}:{port}", self.room / "a", name, "--blksize", network.BLOCK]
         done = subprocess.run(self.client.words(*map(str, words)), capture_output=True, text=True, timeout=PATIENCE)
         return done.stdout + done.stderr
 
 
-def try_no_folder(it):
+def try_no_folder(it) -> None:
     """Without its folder a start fails, and says so."""
     for unit in ["tftpd", "tftpd@6901"]:
         told = it.told(f"systemctl enable --now {unit} 2>&1 || echo status $?")
@@ -210,7 +211,7 @@ def try_no_folder(it):
         it.run(f"systemctl disable {unit}")
 
 
-def try_reading(it):
+def try_reading(it) -> None:
     """It serves the folder, refuses writes, and has no more than it needs. The journal has each transfer once."""
     it.run("mkdir /srv/tftp /srv/other; cat > /srv/tftp/a", input=it.content)
     it.run("systemctl enable --now tftpd")
@@ -222,14 +223,14 @@ def try_reading(it):
     it.sees("tftpd", False)
 
 
-def try_kill(it):
+def try_kill(it) -> None:
     """It is started again when it was killed."""
     before = it.property("tftpd", "MainPID")
     it.run(f"kill -KILL {before}")
     until("another process serves", lambda: it.property("tftpd", "MainPID") not in ("0", before) and it.is_served())
 
 
-def try_late_address(it):
+def try_late_address(it) -> None:
     """It is started again and again, more often than systemd's limit of five, until its address is there."""
     line = network.started_by("tftpd.service")
     line[line.index("0.0.0.0:69")] = f"{LATE}:69"
@@ -243,7 +244,7 @@ def try_late_address(it):
     it.revert("tftpd")
 
 
-def takes_writes(it, unit, template, port, capabilities):
+def takes_writes(it, unit, template, port, capabilities) -> None:
     """With the lines of the comments it takes writes, as the user whose folder it is."""
     it.begin(unit, for_writes(template, "uploader"))
     until("the port is served", lambda: it.is_served(port=port))
@@ -258,13 +259,13 @@ def takes_writes(it, unit, template, port, capabilities):
     it.revert(unit)
 
 
-def try_writing(it):
+def try_writing(it) -> None:
     it.run("useradd --system uploader; chown uploader /srv/tftp")
     takes_writes(it, "tftpd", "tftpd.service", 69, BIND)
     takes_writes(it, "tftpd@6901", "tftpd@.service", 6901, NOTHING)
 
 
-def try_instances(it):
+def try_instances(it) -> None:
     """Eight instances behind the rules of tftpd.nft serve 200 clients that ask port 69 at once. They share a user."""
     units = [f"tftpd@{port}" for port in range(6901, 6909)]
     it.run("systemctl enable --now tftpd@{6901..6908}; nft -f /usr/local/share/doc/fanjuvery/tftpd.nft")
@@ -281,7 +282,7 @@ def try_instances(it):
     expect(it.run("systemctl is-enabled tftpd@{6901..6908}").split(), ["enabled"] * 8, "whether they start at boot")
 
 
-def try_grade(it):
+def try_grade(it) -> None:
     """What `systemd-analyze security` says of both, from 0.0 to 10.0 where all is exposed."""
     for unit in ["tftpd", "tftpd@6901"]:
         told = it.told(f"systemd-analyze --no-pager security {unit}")
@@ -289,11 +290,11 @@ def try_grade(it):
         print(f"units: exposure of {unit}: {found and found[1]}")
 
 
-def process_ids(it, *units):
+def process_ids(it, *units) -> list[str]:
     return [it.property(unit, "MainPID") for unit in units]
 
 
-def try_package(it):
+def try_package(it) -> None:
     """An installation starts nothing, an upgrade starts again what runs, a removal stops it, a purge leaves no link."""
     units = ["tftpd", "tftpd@6901"]
     it.run("nft flush ruleset; systemctl disable --now tftpd tftpd@{6901..6908}; umount /usr/local; "
@@ -319,7 +320,7 @@ def try_package(it):
 TRIALS = [try_no_folder, try_reading, try_kill, try_late_address, try_writing, try_instances, try_grade, try_package]
 
 
-def run(folder):
+def run(folder) -> int:
     """All trials. Returns the status."""
     began = time.monotonic()
     with tempfile.TemporaryDirectory(prefix="units-") as room, ExitStack() as stack:
@@ -336,7 +337,7 @@ def run(folder):
     return 0
 
 
-def main():
+def main() -> None:
     if sys.argv[1:2] == ["--in"]:
         sys.exit(run(sys.argv[2]))
     if len(sys.argv) > 2 or sys.argv[1:2] == ["--help"]:

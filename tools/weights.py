@@ -12,13 +12,13 @@ TOP = Path(__file__).resolve().parent.parent
 HEAD = "| Crate | routines | MB of generated proof | edits |\n|---|---|---|---|\n"
 
 
-def crates():
+def crates() -> list[str]:
     """The crates of crates.txt, in its order."""
     lines = (TOP / "crates.txt").read_text().splitlines()
     return [line.split(":")[0] for line in lines if re.match(r"\w+:", line)]
 
 
-def row(crate):
+def row(crate) -> str:
     folder = TOP / "crates" / crate
     sizes = [file.stat().st_size for file in folder.glob("out/incremental/**/*.Lts.oantt")]
     edits = len(list(folder.glob("must-fail/*.edit")))

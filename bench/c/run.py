@@ -18,12 +18,12 @@ FEW, MANY = 1_000, 4_000
 BLOCK = 512
 
 
-def run(*words, folder):
+def run(*words, folder) -> "subprocess.CompletedProcess[str]":
     return subprocess.run([str(word) for word in words], cwd=folder, check=True, stdin=subprocess.DEVNULL,
                           capture_output=True, text=True)
 
 
-def sizes(path):
+def sizes(path) -> list[int]:
     """The bytes of code and constants, of data, and of zeroed data, as `size` says."""
     return list(map(int, run("size", path, folder=TOP).stdout.splitlines()[1].split()[:3]))
 
@@ -31,20 +31,20 @@ def sizes(path):
 class Server:
     """tftpd over a folder, for one transfer."""
 
-    def __init__(self, tftpd, folder):
+    def __init__(self, tftpd, folder) -> None:
         self.process = subprocess.Popen([tftpd, folder, "--listen", "127.0.0.1:0", "--transfers", "1"],
                                         stdout=subprocess.PIPE, text=True)
         self.host, self.port = self.process.stdout.readline().split()[1].split(":")
 
-    def __enter__(self):
+    def __enter__(self) -> "Server":
         return self
 
-    def __exit__(self, *_):
+    def __exit__(self, *_) -> None:
         self.process.terminate()
         self.process.communicate()
 
 
-def instructions(tftpd, room, words):
+def instructions(tftpd, room, words) -> list[int]:
     """The instructions of a client, for each file."""
     found = []
     for blocks in [FEW, MANY]:
@@ -55,7 +55,7 @@ def instructions(tftpd, room, words):
     return found
 
 
-def main():
+def main() -> None:
     tftpd = Path(sys.argv[1]).resolve()
     with tempfile.TemporaryDirectory() as name:
         room = Path(name)

@@ -11,28 +11,29 @@ import subprocess
 import sys
 import tempfile
 import time
+from typing import Optional
 
 LENGTH = 32_000_000
 SIZES = [512, 1428, 65464]
 
 
-def seconds(program, size, rounds):
+def seconds(program, size, rounds) -> float:
     """The least time of five runs."""
-    best = None
+    best = float("inf")
     for _ in range(5):
         start = time.perf_counter()
         subprocess.run([program, str(size), str(LENGTH), str(rounds)], check=True, stdout=subprocess.DEVNULL)
         spent = time.perf_counter() - start
-        best = spent if best is None else min(best, spent)
+        best = min(best, spent)
     return best
 
 
-def a_round(program, size, rounds=20):
+def a_round(program, size, rounds=20) -> float:
     """The time of one round."""
     return (seconds(program, size, rounds) - seconds(program, size, 0)) / rounds
 
 
-def allocations(program, size, blocks):
+def allocations(program, size, blocks) -> Optional[int]:
     """How often memory is asked for in a read of so many blocks, or None where valgrind is not installed."""
     if shutil.which("valgrind") is None:
         return None
@@ -41,7 +42,7 @@ def allocations(program, size, blocks):
     return int(re.search(r"total heap usage: ([\d,]+) allocs", text).group(1).replace(",", ""))
 
 
-def main():
+def main() -> None:
     program = sys.argv[1]
     with tempfile.TemporaryDirectory() as folder:
         copy = folder + "/memcpy"

@@ -16,7 +16,7 @@ PLAYS = [
 RUNS = 3
 
 
-def run(program, script, trace):
+def run(program, script, trace) -> tuple[float, float, float]:
     """The seconds of a run on the clock and of processors, and its peak memory in bytes."""
     start = time.monotonic()
     child = subprocess.Popen([program, script], stdout=trace)
@@ -25,7 +25,7 @@ def run(program, script, trace):
     return time.monotonic() - start, used.ru_utime + used.ru_stime, used.ru_maxrss * 1024
 
 
-def best(program, text, trace):
+def best(program, text, trace) -> list[float]:
     """The best of some runs of a script, each figure for itself."""
     with tempfile.NamedTemporaryFile("w", suffix=".script") as script:
         script.write(text)
@@ -38,7 +38,7 @@ def best(program, text, trace):
         return [min(figures) for figures in zip(*runs)]
 
 
-def measure(program, name, lines, length, datagrams):
+def measure(program, name, lines, length, datagrams) -> None:
     lines = lines.format(length=length)
     with tempfile.TemporaryFile() as trace:
         _, opening, _ = best(program, lines, trace)

@@ -3,11 +3,11 @@ import random
 import sys
 
 
-def text(rng, most):
+def text(rng, most) -> bytes:
     return bytes(rng.choice(b"abcdefghijklmnopqrstuvwxyz./_-0123456789") for _ in range(rng.randint(1, most)))
 
 
-def packet(rng):
+def packet(rng) -> bytes:
     kind = rng.randrange(8)
     number = rng.randint(1, 65535).to_bytes(2, "big")
     if kind < 3:

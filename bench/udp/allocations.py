@@ -17,29 +17,29 @@ HOST = "127.0.0.1"
 PATIENCE = 60
 
 
-def free_port():
+def free_port() -> int:
     with socket.socket(socket.AF_INET, socket.SOCK_DGRAM) as free:
         free.bind((HOST, 0))
         return free.getsockname()[1]
 
 
 class Bench:
-    def __init__(self, tftpd, tftp, room):
+    def __init__(self, tftpd, tftp, room) -> None:
         self.tftpd, self.tftp, self.room = tftpd, tftp, room
         self.library = f"{room}/allocations.so"
         words = ["cc", "-O2", "-shared", "-fPIC", "-o", self.library, HERE / "allocations.c"]
         subprocess.run(words, check=True)
 
-    def started(self, name, *words):
+    def started(self, name, *words) -> "subprocess.Popen[bytes]":
         env = {"LD_PRELOAD": self.library, "COUNTS": f"{self.room}/{name}"}
         quiet = subprocess.DEVNULL
         return subprocess.Popen(words, env=env, stdin=quiet, stdout=quiet, stderr=quiet)
 
-    def counts(self, name):
+    def counts(self, name) -> str:
         allocations, reallocations = Path(self.room, name).read_text().split()
         return f"{name}: {allocations} allocations, {reallocations} reallocations"
 
-    def server(self, *words):
+    def server(self, *words) -> "tuple[subprocess.Popen[bytes], str]":
         """A server that ends by itself, and its port, once it is bound."""
         port = free_port()
         child = self.started("tftpd", self.tftpd, f"{self.room}/served", "--listen", f"{HOST}:{port}", *words)
@@ -50,12 +50,12 @@ class Bench:
                     sys.exit("allocations: tftpd has not begun")
         return child, f"{HOST}:{port}"
 
-    def wait_once(self):
+    def wait_once(self) -> None:
         server, _ = self.server("--rounds", "1")
         assert server.wait(PATIENCE) == 0
         print("no transfer", self.counts("tftpd"), sep="; ")
 
-    def transfer(self, verb, length):
+    def transfer(self, verb, length) -> None:
         names = [f"{length}", f"{self.room}/got"] if verb == "get" else [f"{self.room}/served/{length}", "put"]
         server, address = self.server("--transfers", "1")
         client = self.started("tftp", self.tftp, verb, address, *names)
@@ -65,7 +65,7 @@ class Bench:
         print(f"{verb} of {length} bytes", self.counts("tftpd"), self.counts("tftp"), sep="; ")
 
 
-def main():
+def main() -> None:
     tftpd, tftp = (os.path.abspath(word) for word in sys.argv[1:3])
     with tempfile.TemporaryDirectory() as room:
         served = Path(room, "served")

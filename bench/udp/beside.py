@@ -19,12 +19,12 @@ LENGTH = 12 * MB
 STILL = 0.8
 
 
-def get(running, room):
+def get(running, room) -> float:
     """The processor seconds of a get."""
     client = peers.Busybox()
     local = f"{room}/local"
 
-    def run():
+    def run() -> None:
         words = client.get(running.port, "file", local, 512)
         assert started(CLIENT_CPU, words).wait() == 0
         os.remove(local)
@@ -32,14 +32,14 @@ def get(running, room):
     return running.clocked(run)[1]
 
 
-def put(running, room):
+def put(running, room) -> None:
     """A put that has finished."""
     words = peers.Busybox().put(running.port, "new", f"{room}/file", 512)
     assert started(CLIENT_CPU, words).wait() == 0
     Path(room, "new").unlink(missing_ok=True)
 
 
-def main():
+def main() -> None:
     tftpd = os.path.abspath(sys.argv[1])
     rounds = int(sys.argv[2]) if len(sys.argv) > 2 else 3
     have_priority()

@@ -23,7 +23,7 @@ SIZES = {512: MB // 4, 1428: MB // 2, 8192: 2 * MB, 65464: 8 * MB}
 COUNT = ["perf", "stat", "-x,", "-e", "raw_syscalls:sys_enter"]
 
 
-def calls(running, many, file, block):
+def calls(running, many, file, block) -> float:
     """The calls a block of a server while the clients get the file."""
     log = f"{file}.log"
     time.sleep(0.8)  # what asked whether it runs is active no more
@@ -39,7 +39,7 @@ def calls(running, many, file, block):
     return counted / (CLIENTS * (os.path.getsize(file) // block + 1))
 
 
-def main():
+def main() -> None:
     tftpd = os.path.abspath(sys.argv[1])
     rounds = int(sys.argv[2]) if len(sys.argv) > 2 else 3
     have_priority()

@@ -11,6 +11,7 @@ import sys
 import tempfile
 from collections import namedtuple
 from pathlib import Path
+from typing import Any, Optional
 
 import peers
 from measure import CLIENT_CPU, GIB, MB, OWN_CPU, SHORTER, Running, compiled, have_priority, started
@@ -29,11 +30,11 @@ PROCESSES = 1
 class Row:
     """A row: its title, the file, the block size, the clients, and the words of many.c."""
 
-    def __init__(self, title, name, block, count, words=(), disk=False, cold=False, put=False):
+    def __init__(self, title, name, block, count, words=(), disk=False, cold=False, put=False) -> None:
         self.title, self.name, self.block, self.count = title, name, block, count
         self.words, self.disk, self.cold, self.put = list(words), disk, cold, put
 
-    def is_for(self, server):
+    def is_for(self, server) -> bool:
         """Whether the server can do it: the floor neither converts nor repeats."""
         is_plain = not any(word.startswith(("netascii", "loss")) for word in self.words)
         return (server.writes or not self.put) and (is_plain or not server.name.startswith("floor"))
@@ -56,13 +57,13 @@ ROWS = [
 
 
 class Bench:
-    def __init__(self, tftpd, room, disk):
+    def __init__(self, tftpd, room, disk) -> None:
         self.room, self.disk = room, disk
         self.many, floor = compiled("many", room), compiled("floor", room)
         servers = [peers.Tftpd(tftpd), peers.TftpdHpa(), peers.Atftpd(), peers.Dnsmasq(), *peers.floors(floor)]
         self.servers = {server.name: server for server in peers.installed(servers)}
 
-    def make(self, rows):
+    def make(self, rows) -> None:
         """The files that are served, in memory and on the disk, and what is to arrive of each."""
         for folder in [self.room, self.disk]:
             os.chmod(folder, 0o777)
@@ -76,11 +77,11 @@ class Bench:
                 os.chmod(f"{folder}/{name}", 0o644)
         os.sync()
 
-    def words(self, running, row, name, *words):
+    def words(self, running, row, name, *words) -> list[str]:
         many = [self.many, peers.HOST, running.port, name, row.block, FIRST, row.count, PROCESSES]
         return [str(word) for word in [*many, f"{self.room}/wire/{row.name}", *words]]
 
-    def run(self, running, row):
+    def run(self, running, row) -> tuple[Told, Any]:
         """The clients of a row, and what they print. A put beside them is one more client, at another processor."""
         seconds = None
         words, pipe = list(row.words), {"stdout": subprocess.PIPE, "text": True}
@@ -93,7 +94,7 @@ class Bench:
             seconds = told.seconds if told.whole == 1 else None
         return told_by(clients), seconds
 
-    def measure(self, running, row):
+    def measure(self, running, row) -> Optional[Result]:
         if row.cold:
             chill(f"{self.disk}/{row.name}")
         (told, seconds), cpu = running.clocked(lambda: self.run(running, row))
@@ -103,7 +104,7 @@ class Bench:
         is_whole = told.whole >= row.count and told.bytes == told.whole * length
         return Result(told, cpu, seconds) if is_whole and (seconds or not row.put) else None
 
-    def compare(self, row, rounds):
+    def compare(self, row, rounds) -> None:
         print(f"\n{row.title}\n{'':14}    MB/s  files/s    s/GiB   us/file   99% ms  most ms  datagrams a block",
               "seconds of the put" if row.put else "")
         done, names = {name: [] for name in self.servers}, list(self.servers)
@@ -122,12 +123,12 @@ class Bench:
             show(name, row, [result for result in results if result], len(results))
 
 
-def told_by(process):
+def told_by(process) -> Told:
     """What a process of many.c prints at its end."""
     return Told(*map(float, process.communicate()[0].split()))
 
 
-def chill(path):
+def chill(path) -> None:
     """Has the kernel forget what it keeps of a file in memory."""
     with open(path, "rb") as file:
         os.fsync(file.fileno())
@@ -138,12 +139,12 @@ def chill(path):
         sys.exit(f"felt: {kept.stdout.strip()} bytes of {path} are still in memory")
 
 
-def show(name, row, results, runs):
+def show(name, row, results, runs) -> None:
     """A line of medians."""
     if not results:
         print(f"  {name:12}", "failed, or not supported" if runs else "not supported")
         return
-    def median(of):
+    def median(of) -> float:
         return statistics.median(map(of, results))
 
     numbers = [
@@ -161,12 +162,12 @@ def show(name, row, results, runs):
     print(f"  {name:12}", *numbers, lost, flush=True)
 
 
-def blocks_of(told, row):
+def blocks_of(told, row) -> float:
     """The number of blocks that arrived whole, once each."""
     return told.whole * (told.bytes / told.whole // row.block + 1)
 
 
-def main():
+def main() -> None:
     tftpd, disk = os.path.abspath(sys.argv[1]), sys.argv[2]
     rounds = int(sys.argv[3]) if len(sys.argv) > 3 else 3
     rows = [row for row in ROWS if not sys.argv[4:] or any(word in row.title for word in sys.argv[4:])]

@@ -24,7 +24,7 @@ OPTIONS = b"blksize\0%d\0" % SIZE
 LIMIT = 120
 
 
-def command(server, root, port):
+def command(server, root, port) -> list[str]:
     """The command line of a server at this port of the loopback address."""
     name = os.path.basename(server)
     if name == "in.tftpd":
@@ -36,12 +36,12 @@ def command(server, root, port):
     return [server, root, "--listen", f"127.0.0.1:{port}", "--cap", "64", "--forever"]
 
 
-def name_of(server, name):
+def name_of(server, name) -> bytes:
     """A file's name in a request: in.tftpd asks for absolute ones."""
     return b"/" + name if os.path.basename(server) == "in.tftpd" else name
 
 
-def put(address, name):
+def put(address, name) -> None:
     """Writes PUT_BYTES to the server, block by block."""
     port = socket.socket(socket.AF_INET, socket.SOCK_DGRAM)
     port.bind(("127.0.0.1", 0))
@@ -73,11 +73,11 @@ def put(address, name):
 class Get:
     """A get that begins again whenever it has read the whole file."""
 
-    def __init__(self, address, name):
+    def __init__(self, address, name) -> None:
         self.address, self.request = address, b"\0\1" + name + b"\0octet\0" + OPTIONS
         self.port = None
 
-    def begin(self):
+    def begin(self) -> None:
         self.port = socket.socket(socket.AF_INET, socket.SOCK_DGRAM)
         self.port.bind(("127.0.0.1", 0))
         self.port.setblocking(False)
@@ -86,7 +86,7 @@ class Get:
         self.port.sendto(self.last, self.peer)
         self.sent_at = time.monotonic()
 
-    def receive(self, gaps):
+    def receive(self, gaps) -> bool:
         """Takes a datagram. Returns whether the file is whole."""
         block, sender = self.port.recvfrom(2048)
         if block[:2] == b"\0\5":
@@ -104,7 +104,7 @@ class Get:
         return number > 0 and len(block) < SIZE + 4
 
 
-def measured(server, root, port):
+def measured(server, root, port) -> tuple[list[float], float]:
     """The gaps of gets until a put is over, and its seconds."""
     address = ("127.0.0.1", port)
     process = subprocess.Popen(command(server, root, port), stdout=subprocess.DEVNULL)
@@ -140,7 +140,7 @@ def measured(server, root, port):
         process.wait()
 
 
-def main():
+def main() -> None:
     if len(sys.argv) < 2:
         sys.exit(__doc__)
     rounds = int(sys.argv[2]) if len(sys.argv) > 2 else 3

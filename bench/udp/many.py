@@ -33,7 +33,7 @@ PLACES = {1: "0", 2: "0-1", 4: "0-3"}
 START = 0.5
 
 
-def nft(count):
+def nft(count) -> str:
     """The rules of tftpd.nft for so many servers."""
     text = (HERE.parent.parent / "packaging/tftpd.nft").read_text()
     places = ", ".join(f"{place} : {6901 + place}" for place in range(count))
@@ -41,7 +41,7 @@ def nft(count):
 
 
 class Bench:
-    def __init__(self, tftpd, room, stack):
+    def __init__(self, tftpd, room, stack) -> None:
         self.tftpd, self.room = tftpd, room
         self.client, self.server = network.Host(stack), network.Host(stack)
         self.client.link(self.server, "link")
@@ -50,18 +50,18 @@ class Bench:
         self.client.run(f"{addresses}; ip route add 192.0.2.0/24 dev link")
         self.many, self.floor = compiled("many", room), compiled("floor", room)
 
-    def peers(self):
+    def peers(self) -> dict[str, list[list[str]]]:
         peers.HOST = SERVER
         found = [peers.TftpdHpa(), peers.Atftpd(), peers.Dnsmasq(), *peers.floors(self.floor)]
         return {it.name: [it.words(self.room, 69)] for it in peers.installed(found)}
 
-    def ours(self, count):
+    def ours(self, count) -> list[list[str]]:
         words = [self.tftpd, self.room, "--cap", "64", "--forever", "--read-only", "--listen"]
         if count == 1:
             return [[*words, f"{SERVER}:69"]]
         return [[*words, f"0.0.0.0:{6901 + place}"] for place in range(count)]
 
-    def measure(self, name, commands, rules, block, clients, place):
+    def measure(self, name, commands, rules, block, clients, place) -> tuple[float, float, int]:
         """MB/s, the servers' processor seconds a GiB, and how many files were whole."""
         self.server.rules(rules)
         group = Group(name.replace(" ", "-"))
@@ -80,7 +80,7 @@ class Bench:
         count, whole, seconds, *_ = done.stdout.split()
         return int(count) / 1e6 / float(seconds), spent * GIB / max(int(count), 1), int(whole)
 
-    def compare(self, rounds, block, clients, processors):
+    def compare(self, rounds, block, clients, processors) -> None:
         cases = {name: (commands, "") for name, commands in self.peers().items()}
         for count in SEVERAL:
             cases[f"{count} tftpd"] = self.ours(count), nft(count) if count > 1 else ""
@@ -95,7 +95,7 @@ class Bench:
                   f"{min(whole):5}", flush=True)
 
 
-def main():
+def main() -> None:
     tftpd = os.path.abspath(sys.argv[1])
     if sys.argv[-1] != "--in":
         apart = ["unshare", "--net", "--mount", "--pid", "--fork", "--kill-child", "--mount-proc"]

@@ -9,6 +9,7 @@ import sys
 import time
 from contextlib import suppress
 from pathlib import Path
+from typing import Any, Optional
 
 import peers
 
@@ -21,13 +22,13 @@ SHORTER = int(os.environ.get("SHORTER", "1"))
 SERVER_CPU, CLIENT_CPU, OWN_CPU = 0, min(1, LAST_CPU), min(2, LAST_CPU)
 
 
-def compiled(name, room):
+def compiled(name, room) -> str:
     """The path of a C program of this folder, compiled."""
     subprocess.run(["cc", "-O2", "-o", f"{room}/{name}", HERE / f"{name}.c"], check=True)
     return f"{room}/{name}"
 
 
-def have_priority():
+def have_priority() -> None:
     """This process stays at one processor; all that it starts precedes other work on the machine."""
     os.sched_setaffinity(0, {OWN_CPU})
     if os.geteuid() == 0 and not os.environ.get("QUIETLY"):
@@ -37,7 +38,7 @@ def have_priority():
 class Group:
     """A control group, whose processor time the kernel counts. `folder` is None where none can be had."""
 
-    def __init__(self, name):
+    def __init__(self, name) -> None:
         with open("/proc/self/mounts") as mounts:
             tops = [line.split()[1] for line in mounts if line.split()[2] == "cgroup2"]
         self.folder = Path(tops[0], f"bench-{os.getpid()}-{name}") if tops else None
@@ -48,19 +49,19 @@ class Group:
         except OSError:
             self.folder = None
 
-    def words(self, words):
+    def words(self, words) -> list[str]:
         """A command line that runs these words in the group."""
         if not self.folder:
             return words
         return ["sh", "-c", 'echo 0 > "$0"; exec "$@"', f"{self.folder}/cgroup.procs", *words]
 
-    def seconds(self):
+    def seconds(self) -> Optional[float]:
         """The processor seconds of all that has run in it so far, or None."""
         if not self.folder:
             return None
         return int(re.search(r"usage_usec (\d+)", (self.folder / "cpu.stat").read_text())[1]) / 1e6
 
-    def remove(self):
+    def remove(self) -> None:
         for _ in range(50):
             with suppress(OSError):
                 self.folder.rmdir()
@@ -69,20 +70,20 @@ class Group:
             time.sleep(0.02)
 
 
-def started(cpu, words, **how):
+def started(cpu, words, **how) -> "subprocess.Popen[bytes]":
     """Starts a program at this processor, or these, as "0" or "0-3"."""
     quiet = subprocess.DEVNULL
     how = {"stdin": quiet, "stdout": quiet, "stderr": quiet, **how}
     return subprocess.Popen(["taskset", "-c", str(cpu), *words], **how)
 
 
-def request(verb, name, block=None, mode="octet"):
+def request(verb, name, block=None, mode="octet") -> bytes:
     option = [b"blksize", str(block).encode()] if block else []
     opcode = {"get": b"\0\1", "put": b"\0\2"}[verb]
     return opcode + b"\0".join([name.encode(), mode.encode(), *option, b""])
 
 
-def answer(port, datagram, wait=1.0):
+def answer(port, datagram, wait=1.0) -> Optional[bytes]:
     """The answer to a request, if one comes; what it opened is given up."""
     with socket.socket(socket.AF_INET, socket.SOCK_DGRAM) as end:
         end.settimeout(wait)
@@ -95,7 +96,7 @@ def answer(port, datagram, wait=1.0):
         return answered
 
 
-def children_seconds():
+def children_seconds() -> float:
     usage = resource.getrusage(resource.RUSAGE_CHILDREN)
     return usage.ru_utime + usage.ru_stime
 
@@ -103,12 +104,12 @@ def children_seconds():
 class Running:
     """A server of a folder, in a control group of its own."""
 
-    def __init__(self, server, room, cpu=SERVER_CPU):
+    def __init__(self, server, room, cpu=SERVER_CPU) -> None:
         self.server, self.group = server, Group(server.name.replace(" ", "-"))
         self.room, self.cpu = room, cpu
         self.start()
 
-    def start(self):
+    def start(self) -> None:
         """Starts it, and waits until it answers."""
         with socket.socket(socket.AF_INET, socket.SOCK_DGRAM) as free:
             free.bind((peers.HOST, 0))
@@ -117,17 +118,17 @@ class Running:
         if not any(answer(self.port, request("get", "absent"), 0.1) or time.sleep(0.05) for _ in range(50)):
             sys.exit(f"{self.server.name} gives no answer")
 
-    def stop(self):
+    def stop(self) -> None:
         self.process.terminate()
         self.process.wait()
 
-    def restarted(self):
+    def restarted(self) -> "Running":
         """The server, started anew: a run does not depend on what earlier ones left in its memory."""
         self.stop()
         self.start()
         return self
 
-    def clocked(self, run):
+    def clocked(self, run) -> tuple[Any, float]:
         """Runs, and returns what that gave with the processor seconds of the server and its children: by its group, or
         else those until its end, at which the kernel counts them; it is started again then."""
         before = self.group.seconds()
@@ -142,15 +143,15 @@ class Running:
         self.start()
         return gave, spent
 
-    def memory(self):
+    def memory(self) -> float:
         return memory(self.process)
 
-    def forget_memory(self):
+    def forget_memory(self) -> None:
         with suppress(OSError), open(f"/proc/{self.process.pid}/clear_refs", "w") as refs:
             refs.write("5")
 
 
-def memory(process):
+def memory(process) -> float:
     """The greatest memory of a process so far, in MB."""
     try:
         with open(f"/proc/{process.pid}/status") as status:

@@ -17,6 +17,7 @@ import tempfile
 import time
 from collections import namedtuple
 from contextlib import ExitStack, contextmanager
+from typing import Any, Iterator, Optional
 
 import peers
 from measure import (CLIENT_CPU, GIB, MB, SHORTER, Running, answer, children_seconds, compiled, have_priority, memory,
@@ -53,12 +54,12 @@ STILL = 0.8
 GATE = 'read _ <&"$0"; exec "$@"'
 
 
-def title(case):
+def title(case) -> str:
     return f"{case.verb} {case.block}" + (f", {case.count} at once" if case.count > 1 else "")
 
 
 @contextmanager
-def watched(words, log, process):
+def watched(words, log, process) -> Iterator[None]:
     """A tool that watches a process and its children, and writes its log at the end."""
     words = [*words, "-o", log, "-p", str(process.pid)]
     tool = subprocess.Popen(words, stdout=subprocess.DEVNULL, stderr=subprocess.DEVNULL)
@@ -68,7 +69,7 @@ def watched(words, log, process):
     tool.wait()
 
 
-def launch(client, port, case, room, at, before, gate):
+def launch(client, port, case, room, at, before, gate) -> "tuple[subprocess.Popen[bytes], str]":
     """Starts a client, which begins once the gate is closed at its other end. Returns it and the file that it makes."""
     if case.verb == "get":
         made = f"{room}/local/{at}"
@@ -80,7 +81,7 @@ def launch(client, port, case, room, at, before, gate):
     return started(CLIENT_CPU, words, pass_fds=[gate]), made
 
 
-def transfer(client, port, case, room, before=()):
+def transfer(client, port, case, room, before=()) -> Optional[tuple[float, float, float]]:
     """Runs the clients of a case, which begin together: the seconds until the files are there, the clients' processor
     seconds, and the peak memory of the first; None where one fails."""
     # what watches a client ends with it
@@ -111,7 +112,7 @@ def transfer(client, port, case, room, before=()):
     return (seconds, spent, peak) if all(whole) else None
 
 
-def agrees(oack, block):
+def agrees(oack, block) -> bool:
     """Whether an answer is an OACK with this block size."""
     if not oack or oack[:2] != b"\0\6":
         return False
@@ -119,7 +120,7 @@ def agrees(oack, block):
     return str(block).encode() in words[1:-1:2]
 
 
-def supports(client, server, port, case, room):
+def supports(client, server, port, case, room) -> bool:
     """Whether the pair carries a short file so."""
     if case.block not in client.blocks or case.verb == "put" and not server.writes:
         return False
@@ -132,20 +133,20 @@ def supports(client, server, port, case, room):
     return transfer(client, port, case._replace(count=1, size=100), room) is not None
 
 
-def measure_server(client, running, case, room):
+def measure_server(client, running, case, room) -> Optional[Result]:
     running.forget_memory()
     gave, cpu = running.clocked(lambda: transfer(client, running.port, case, room))
     total = case.count * case.size
     return gave and Result(total / MB / gave[0], cpu * GIB / total, running.memory())
 
 
-def measure_client(client, running, case, room):
+def measure_client(client, running, case, room) -> Optional[Result]:
     gave = transfer(client, running.port, case, room)
     total = case.count * case.size
     return gave and Result(total / MB / gave[0], gave[1] * GIB / total, gave[2])
 
 
-def compare(names, rounds, run):
+def compare(names, rounds, run) -> None:
     """Runs each peer once a round, and prints a line for each. The first is ours, and the floor is no peer."""
     results = {name: [] for name in names}
     for turn in range(rounds):
@@ -170,13 +171,13 @@ def compare(names, rounds, run):
     sys.stdout.flush()
 
 
-def ratio_to_best(rates, ours):
+def ratio_to_best(rates, ours) -> float:
     """Our rate as a multiple of the best of the peers."""
     others = [rate for name, rate in rates.items() if name != ours and not name.startswith("floor")]
     return rates[ours] / max(others) if others else float("nan")
 
 
-def read_tiny(port):
+def read_tiny(port) -> float:
     """Reads a small file many times, each from a port of its own, and returns the seconds."""
     start = time.monotonic()
     for _ in range(TINY_FILES):
@@ -189,13 +190,13 @@ def read_tiny(port):
     return time.monotonic() - start
 
 
-def measure_tiny(running):
+def measure_tiny(running) -> Optional[Result]:
     running.forget_memory()
     seconds, cpu = running.clocked(lambda: read_tiny(running.port))
     return Result(TINY_FILES / seconds, cpu / TINY_FILES * 1e6, running.memory())
 
 
-def measure_start(client, running, room):
+def measure_start(client, running, room) -> Optional[Result]:
     done = [transfer(client, running.port, TINY, room) for _ in range(5)]
     if not all(done):
         return None
@@ -203,20 +204,20 @@ def measure_start(client, running, room):
     return Result(1 / seconds, cpu * 1e6, peak)
 
 
-def counted(log):
+def counted(log) -> int:
     """The system calls that perf counted, which slows nothing."""
     with open(log) as lines:
         return int(re.search(r"^(\d+),", lines.read(), re.M)[1])
 
 
-def calls(log):
+def calls(log) -> dict[str, int]:
     """The system calls that strace counted, by their names."""
     with open(log) as lines:
         rows = re.findall(r"^\s*[\d.]+\s+[\d.]+\s+\d+\s+(\d+)(?:\s+\d+)?\s+(\w+)$", lines.read(), re.M)
     return {name: int(count) for count, name in rows if name != "total"}
 
 
-def show_calls(name, case, traced):
+def show_calls(name, case, traced) -> None:
     """Prints the calls a block by each tool: perf's sum, and those of strace by their names."""
     blocks = case.count * (case.size // case.block + 1)
     made = traced.get("strace", {})
@@ -233,7 +234,7 @@ TRACERS = {
 }
 
 
-def trace_server(client, running, case, log, room):
+def trace_server(client, running, case, log, room) -> Any:
     traced = {}
     for tool, (words, read) in installed_tracers():
         time.sleep(STILL)
@@ -243,7 +244,7 @@ def trace_server(client, running, case, log, room):
     return traced
 
 
-def trace_client(client, running, case, log, room):
+def trace_client(client, running, case, log, room) -> Any:
     traced = {}
     for tool, (words, read) in installed_tracers():
         transfer(client, running.port, case, room, [*words, "-o", log])
@@ -251,14 +252,14 @@ def trace_client(client, running, case, log, room):
     return traced
 
 
-def installed_tracers():
+def installed_tracers() -> list[tuple[str, Any]]:
     return [(tool, how) for tool, how in TRACERS.items() if shutil.which(tool)]
 
 
 class Bench:
     """The peers of this machine, with their servers running."""
 
-    def __init__(self, tftpd, tftp, room, stack):
+    def __init__(self, tftpd, tftp, room, stack) -> None:
         self.room = room
         floor = compiled("floor", room)
         servers = [peers.Tftpd(tftpd), peers.TftpdHpa(), peers.Atftpd(), peers.Dnsmasq(), *peers.floors(floor)]
@@ -270,26 +271,26 @@ class Bench:
         self.clients = {client.name: client for client in peers.installed(clients)}
         self.able = {}
 
-    def has(self, client, server, case):
+    def has(self, client, server, case) -> bool:
         key = client, server, case.verb, case.block
         if key not in self.able:
             port = self.running[server].port
             self.able[key] = supports(self.clients[client], self.servers[server], port, case, self.room)
         return self.able[key]
 
-    def client_for(self, case):
+    def client_for(self, case) -> Any:
         """The client under which servers are measured: a peer where one can do the case."""
         ours, *others = self.clients
         can = (name for name in [*others, ours] if any(self.has(name, server, case) for server in self.servers))
         return next(can, None)
 
-    def server_for(self, case):
+    def server_for(self, case) -> Any:
         """The server over which clients are measured: a peer where one can do the case."""
         ours, *others = self.servers
         can = (name for name in [*others, ours] if any(self.has(client, name, case) for client in self.clients))
         return next(can, None)
 
-    def transfers(self, rounds, word):
+    def transfers(self, rounds, word) -> None:
         for case in CASES:
             if word not in title(case):
                 continue
@@ -314,7 +315,7 @@ class Bench:
                 and measure_client(self.clients[name], self.running[server], case, self.room),
             )
 
-    def tiny(self, rounds):
+    def tiny(self, rounds) -> None:
         print(f"\n{TINY_FILES} files of {TINY.size} bytes: servers  files/s  ratio  us/file      MB")
         compare(list(self.servers), rounds, lambda name: measure_tiny(self.running[name]))
         server = self.server_for(TINY)
@@ -325,7 +326,7 @@ class Bench:
             lambda name: measure_start(self.clients[name], self.running[server], self.room),
         )
 
-    def traces(self):
+    def traces(self) -> None:
         log = f"{self.room}/strace.log"
         for case in TRACED:
             client, server = self.client_for(case), self.server_for(case)
@@ -340,7 +341,7 @@ class Bench:
                     show_calls(name, case, made)
 
 
-def make_files(room, sizes):
+def make_files(room, sizes) -> None:
     os.chmod(room, 0o777)
     os.mkdir(f"{room}/local")
     for size in sizes:
@@ -348,7 +349,7 @@ def make_files(room, sizes):
             file.write((os.urandom(min(size, MB)) * (size // MB + 1))[:size])
 
 
-def main():
+def main() -> None:
     tftpd, tftp = (os.path.abspath(word) for word in sys.argv[1:3])
     rounds = int(sys.argv[3]) if len(sys.argv) > 3 else 3
     word = sys.argv[4] if len(sys.argv) > 4 else ""

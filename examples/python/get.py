@@ -25,11 +25,11 @@ class End(Structure):
     _fields_ = [("is_open", c_bool), ("opaque", c_void_p)]
 
 
-def endpoint(address):
+def endpoint(address) -> Endpoint:
     return Endpoint((c_uint8 * 4)(*socket.inet_aton(address[0])), address[1])
 
 
-def get(tftp, server, name, local, blksize):
+def get(tftp, server, name, local, blksize) -> tuple[int, Event]:
     """Writes the file to `local`, and returns the last event."""
     end, event, options = End(), Event(), Options(max_file=2**63, blksize=blksize, retries=5, asks_tsize=True)
     reply, block, name = create_string_buffer(512), create_string_buffer(65464), name.encode()
@@ -56,7 +56,7 @@ def get(tftp, server, name, local, blksize):
     return fault, event
 
 
-def main():
+def main() -> None:
     library, ip, port, name, place, *rest = sys.argv[1:]
     tftp = CDLL(library)
     tftp.tftp_close.restype = None

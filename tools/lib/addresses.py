@@ -6,11 +6,11 @@ given to a test since: what comes to an address of this run's own is of this run
 import random
 
 
-def own_network():
+def own_network() -> str:
     """The first three numbers of such addresses, another for each run."""
     return f"127.{random.randrange(1, 255)}.{random.randrange(256)}"
 
 
-def own_address():
+def own_address() -> str:
     """One address."""
     return f"{own_network()}.{random.randrange(1, 255)}"

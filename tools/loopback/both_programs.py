@@ -1,6 +1,7 @@
 """`tftp` gets files from `tftpd`, and puts files to it."""
 import re
 from itertools import product
+from typing import Any
 
 from datagrams import expect, free_ports, is_bound, text_of
 from scene import LIFE, RETRIES, Server, first_line
@@ -15,17 +16,17 @@ EXISTS = "tftp: local: exists (--replace replaces it)\n"
 SERVE_MEMORY = of_crate("serve_memory")
 
 
-def bytes_of(length):
+def bytes_of(length) -> bytes:
     """Test bytes of this length, among them CR, LF and NUL."""
     return bytes(at % 251 for at in range(length))
 
 
-def length_on_wire(content, mode):
+def length_on_wire(content, mode) -> int:
     """The bytes of the DATA of a file: in netascii LF is CR LF, and CR is CR NUL (RFC 764)."""
     return len(content) + (mode == "netascii") * (content.count(b"\n") + content.count(b"\r"))
 
 
-def test_failures_are_reported(scene):
+def test_failures_are_reported(scene) -> None:
     """A missing name, a put of an existing one, a get, and an existing local file."""
     scene.make("a", b"ABC")
     server = scene.serve()
@@ -37,7 +38,7 @@ def test_failures_are_reported(scene):
     scene.has(a=b"ABC", local=b"ABC")
 
 
-def test_a_server_over_memory(scene):
+def test_a_server_over_memory(scene) -> None:
     """The example of a server whose files are in memory: its text is got, and a file is put and got."""
     scene.make("a", bytes_of(1_000))
     server = Server(scene.start(SERVE_MEMORY, [f"{scene.address}:0", "3"]))
@@ -48,7 +49,7 @@ def test_a_server_over_memory(scene):
     scene.has(a=bytes_of(1_000), copy=bytes_of(1_000), text=b"This file is in memory.\n")
 
 
-def test_sixteen_at_once(scene):
+def test_sixteen_at_once(scene) -> None:
     """Sixteen clients at once, each with a file of its own length, at the boundaries of blocks of 512 bytes."""
     lengths = [0, 1, 2, 511, 512, 513, 1023, 1024, 1025, 1535, 1536, 1537, 5119, 5120, 5121, 40_000]
     for length in lengths:
@@ -63,7 +64,7 @@ def test_sixteen_at_once(scene):
     scene.has_files({f"{length}{ending}": bytes_of(length) for length, ending in names})
 
 
-def transfers_at_once(scene, server, way, mode, size, files):
+def transfers_at_once(scene, server, way, mode, size, files) -> tuple[Any, list[str]]:
     """Gets or puts these files at once, in blocks of this size. Returns the copies, and for each the end of its line in
     the log."""
     clients, copies, lines = [], {}, []
@@ -80,7 +81,7 @@ def transfers_at_once(scene, server, way, mode, size, files):
     return copies, lines
 
 
-def serves_blocks(scene, size, lengths):
+def serves_blocks(scene, size, lengths) -> None:
     """Files of these lengths arrive in blocks of this size, in both modes, those of a mode and a direction at once."""
     files = {f"file{length}": bytes_of(length) for length in lengths}
     for name, content in files.items():
@@ -96,19 +97,19 @@ def serves_blocks(scene, size, lengths):
     expect(sorted(line[1] for line in found if line), sorted(lines), "the transfers in the log")
 
 
-def test_blocks_of_512(scene):
+def test_blocks_of_512(scene) -> None:
     serves_blocks(scene, 512, [0, 1, 511, 512, 513, 1_536])
 
 
-def test_blocks_of_1428(scene):
+def test_blocks_of_1428(scene) -> None:
     serves_blocks(scene, 1428, [0, 1, 1_427, 1_428, 1_429, 4_284])
 
 
-def test_blocks_of_8192(scene):
+def test_blocks_of_8192(scene) -> None:
     serves_blocks(scene, 8192, [0, 1, 8_191, 8_192, 8_193, 24_576])
 
 
-def test_blocks_of_65464(scene):
+def test_blocks_of_65464(scene) -> None:
     serves_blocks(scene, 65_464, [0, 1, 65_463, 65_464, 65_465, 196_392])
 
 
@@ -116,7 +117,7 @@ def test_blocks_of_65464(scene):
 LOSSY = ["--timeout", "3"]
 
 
-def test_gets_survive(scene):
+def test_gets_survive(scene) -> None:
     """Ten retries are enough for each get through a network that loses, duplicates and reorders."""
     content = bytes_of(2_500)
     scene.make("file", content)
@@ -130,7 +131,7 @@ def test_gets_survive(scene):
     scene.has(file=content, got1=content, got2=content, got3=content)
 
 
-def test_puts_survive(scene):
+def test_puts_survive(scene) -> None:
     """A file that is put through such a network is whole or missing, and whole if the client reports completion, which the
     server then reports, too. It may close before the client has its last ACK, but not half of the times."""
     content, seeds = bytes_of(2_500), range(4, 14)
@@ -150,7 +151,7 @@ def test_puts_survive(scene):
         expect(found, content, name)
 
 
-def test_serves_forever(scene):
+def test_serves_forever(scene) -> None:
     """No count ends the server. By default it ends with the first transfer."""
     scene.make("a", b"ABC")
     server = scene.serve("--forever")
@@ -159,7 +160,7 @@ def test_serves_forever(scene):
     expect(server.process.poll(), None, "the status of the server")
 
 
-def test_refuses_writes(scene):
+def test_refuses_writes(scene) -> None:
     """Puts of a new name and of an existing file are access violations (RFC 1350, appendix I), leave no draft and change
     no file; a get still succeeds."""
     scene.make("served/a", b"ABC")
@@ -172,7 +173,7 @@ def test_refuses_writes(scene):
     scene.has_files({"served/a": b"ABC", "local": b"newer", "got": b"ABC"})
 
 
-def test_a_file_is_replaced(scene):
+def test_a_file_is_replaced(scene) -> None:
     """With `--overwrite` a put replaces the existing file."""
     scene.make("a", b"old")
     scene.make("local", b"newer")
@@ -182,7 +183,7 @@ def test_a_file_is_replaced(scene):
     scene.has(a=b"newer", local=b"newer")
 
 
-def test_the_disk_is_full(scene):
+def test_the_disk_is_full(scene) -> None:
     """Puts to a server with a limit of file sizes, in units of 512 bytes: the client receives the ERROR of a full disk,
     and no file gets the name. The first file is written at the commit, the second as it arrives; of the third only the
     last bytes are refused."""
@@ -194,7 +195,7 @@ def test_the_disk_is_full(scene):
         scene.lacks("n")
 
 
-def test_closed_streams_of_a_client(scene):
+def test_closed_streams_of_a_client(scene) -> None:
     """With standard input, output or error closed, what would be printed there goes into no file."""
     scene.make("served/a", b"ABC")
     server = scene.serve("--transfers", "3", root="served")
@@ -207,7 +208,7 @@ def test_closed_streams_of_a_client(scene):
     scene.has_files({"served/a": b"ABC", **{f"got{number}": b"ABC" for number in range(3)}})
 
 
-def test_closed_streams_of_a_server(scene):
+def test_closed_streams_of_a_server(scene) -> None:
     """The same of a server: it takes a file and gives it back."""
     scene.make("local", b"ABC")
     for number in range(3):
@@ -224,13 +225,13 @@ def test_closed_streams_of_a_server(scene):
     scene.has_files(dict.fromkeys(["local", *copies], b"ABC"))
 
 
-def logs(log, patterns):
+def logs(log, patterns) -> None:
     """A log has exactly these lines."""
     fits = len(log) == len(patterns) and all(map(re.fullmatch, patterns, log))
     expect(bool(fits), True, f"the log {log}")
 
 
-def test_log_lines(scene):
+def test_log_lines(scene) -> None:
     """An invalid name, and a get: a line for each request, and one for the close."""
     scene.make("a", b"ABC")
     server = scene.serve("--log")
@@ -243,7 +244,7 @@ def test_log_lines(scene):
     ])
 
 
-def test_the_log_says_why(scene):
+def test_the_log_says_why(scene) -> None:
     """The log has the system's reason why a file was not stored."""
     scene.make("long", bytes_of(20_000))
     server = scene.serve("--log", limit="-f 8")

@@ -8,7 +8,7 @@ from contextlib import suppress
 
 from both_programs import bytes_of
 from datagrams import PATIENT, End, ack, data, error, expect, oack, rrq, wrq
-from scene import first_line, preloaded
+from scene import Client, first_line, preloaded
 from server_alone import CUT_FILE, CUT_SIZE, is_given_up
 
 ABC = data(1, b"ABC")
@@ -16,14 +16,14 @@ ABC = data(1, b"ABC")
 PATIENTLY = ["--timeout", f"{PATIENT['timeout']}"]
 
 
-def asked(scene, requests, expected):
+def asked(scene, requests, expected) -> End:
     """Receives a request at the port `requests`. Returns the server's end of the transfer."""
     request, client = requests.receive()
     expect(request, expected, "the request")
     return End(scene.port(), client)
 
 
-def file_of(end):
+def file_of(end) -> bytes:
     """Receives and acknowledges blocks of 512 bytes until one is shorter. Returns the file."""
     content, newest = b"", 0
     while True:
@@ -38,7 +38,7 @@ def file_of(end):
             return content
 
 
-def test_files_arrive(scene):
+def test_files_arrive(scene) -> None:
     """Puts of lengths at the boundaries of blocks, after a write request without options."""
     for length in [0, 512, 1025]:
         scene.make("local", bytes_of(length))
@@ -50,7 +50,7 @@ def test_files_arrive(scene):
         client.completes(length)
 
 
-def test_an_error_to_the_client_is_seen_soon(scene):
+def test_an_error_to_the_client_is_seen_soon(scene) -> None:
     """An ERROR immediately after an acknowledgement is handled long before the timeout of 255 seconds."""
     scene.make("local", bytes_of(1_000))
     requests = scene.port()
@@ -62,7 +62,7 @@ def test_an_error_to_the_client_is_seen_soon(scene):
     client.fails("PeerError(0)")
 
 
-def patient_get(scene, *words, **how):
+def patient_get(scene, *words, **how) -> tuple[Client, End]:
     """Starts a get with more words, in which nothing is sent again. Returns the client and the server's end."""
     requests = scene.port()
     client = scene.tftp("get", requests.word, "a", "local", *PATIENTLY, *words, **how)
@@ -71,7 +71,7 @@ def patient_get(scene, *words, **how):
     return client, end
 
 
-def test_complete_is_printed_at_once(scene):
+def test_complete_is_printed_at_once(scene) -> None:
     """The line is printed while the client still acknowledges the last block again (RFC 1350, section 6)."""
     client, end = patient_get(scene)
     end.is_answered(ABC, ack(1))
@@ -81,7 +81,7 @@ def test_complete_is_printed_at_once(scene):
     expect(client.process.poll(), None, "the status of the client")
 
 
-def test_no_dally(scene):
+def test_no_dally(scene) -> None:
     """With `--no-dally` the client ends before its first timeout."""
     client, end = patient_get(scene, "--no-dally")
     end.is_answered(ABC, ack(1))
@@ -89,7 +89,7 @@ def test_no_dally(scene):
     scene.has(local=b"ABC")
 
 
-def is_got(scene, *words):
+def is_got(scene, *words) -> None:
     """A get of three bytes is complete, and `local.part` is removed."""
     client, end = patient_get(scene, "--no-dally", *words)
     end.is_answered(ABC, ack(1))
@@ -97,7 +97,7 @@ def is_got(scene, *words):
     scene.lacks("local.part")
 
 
-def test_a_link_is_replaced(scene):
+def test_a_link_is_replaced(scene) -> None:
     """A planted link of the name `local.part` is removed, and its target does not change."""
     scene.make("secret", b"another's")
     (scene.folder / "local.part").symlink_to("secret")
@@ -105,14 +105,14 @@ def test_a_link_is_replaced(scene):
     scene.has(local=b"ABC", secret=b"another's")
 
 
-def test_a_left_over_is_replaced(scene):
+def test_a_left_over_is_replaced(scene) -> None:
     """The part of an older transfer is removed."""
     scene.make("local.part", b"left over from a transfer")
     is_got(scene)
     scene.has(local=b"ABC")
 
 
-def test_another_file_is_not_named(scene):
+def test_another_file_is_not_named(scene) -> None:
     """If another file replaces `local.part` during the transfer, no file gets the name."""
     scene.make("other", b"another's")
     client, end = patient_get(scene, "--no-dally")
@@ -123,7 +123,7 @@ def test_another_file_is_not_named(scene):
     scene.has_files({"local.part": b"another's"})
 
 
-def test_replaces(scene):
+def test_replaces(scene) -> None:
     """With `--replace` a file has its old content until the new one is whole, and keeps its permissions."""
     scene.make("local", b"old")
     (scene.folder / "local").chmod(0o600)
@@ -136,14 +136,14 @@ def test_replaces(scene):
     expect((scene.folder / "local").stat().st_mode & 0o777, 0o600, "the permissions")
 
 
-def begun_get(scene, *words):
+def begun_get(scene, *words) -> tuple[Client, End]:
     """Starts a get, and receives its request. Returns the client and the server's end, which has not answered."""
     requests = scene.port()
     client = scene.tftp("get", requests.word, "a", "local", *PATIENTLY, *words)
     return client, asked(scene, requests, rrq("a", **PATIENT))
 
 
-def test_a_refused_get_changes_nothing(scene):
+def test_a_refused_get_changes_nothing(scene) -> None:
     """Before the first bytes arrive there is no `local.part`, and what has this name already is not changed: not by the
     request, an OACK or an ERROR."""
     for left_over in [{}, {"local.part": b"a file of the user"}]:
@@ -158,7 +158,7 @@ def test_a_refused_get_changes_nothing(scene):
         scene.has_files(left_over)
 
 
-def test_an_empty_file_replaces_a_left_over(scene):
+def test_an_empty_file_replaces_a_left_over(scene) -> None:
     scene.make("local.part", b"left over from a transfer")
     client, end = patient_get(scene, "--no-dally")
     end.is_answered(data(1, b""), ack(1))
@@ -166,7 +166,7 @@ def test_an_empty_file_replaces_a_left_over(scene):
     scene.has(local=b"")
 
 
-def test_a_folder_has_the_name_of_the_part(scene):
+def test_a_folder_has_the_name_of_the_part(scene) -> None:
     """Then nothing is sent."""
     scene.make_folder("local.part")
     requests = scene.port()
@@ -175,11 +175,11 @@ def test_a_folder_has_the_name_of_the_part(scene):
     expect(requests.waiting(), [], "the datagrams that were sent")
 
 
-def mode_of(scene, name):
+def mode_of(scene, name) -> int:
     return (scene.folder / name).stat().st_mode & 0o7777
 
 
-def test_bytes_from_the_network_get_no_other_user(scene):
+def test_bytes_from_the_network_get_no_other_user(scene) -> None:
     """With `--replace` neither the file nor `local.part` has the set-user-ID, set-group-ID or sticky bit of the file
     that is replaced."""
     scene.make("local", b"old")
@@ -192,7 +192,7 @@ def test_bytes_from_the_network_get_no_other_user(scene):
     expect(mode_of(scene, "local"), 0o751, "the mode of local")
 
 
-def test_the_mode_is_that_of_the_commit(scene):
+def test_the_mode_is_that_of_the_commit(scene) -> None:
     """A file that is replaced gives its successor the permissions that it has then."""
     scene.make("local", b"old")
     client, end = patient_get(scene, "--no-dally", "--replace")
@@ -203,7 +203,7 @@ def test_the_mode_is_that_of_the_commit(scene):
     expect(mode_of(scene, "local"), 0o440, "the mode of local")
 
 
-def test_only_a_regular_file_is_replaced(scene):
+def test_only_a_regular_file_is_replaced(scene) -> None:
     """What became a FIFO, a folder or a link during the transfer is not replaced by `--replace`."""
     become = {
         "FIFO": os.mkfifo,
@@ -224,7 +224,7 @@ def test_only_a_regular_file_is_replaced(scene):
         (scene.folder / "local").rename(scene.folder / kind)
 
 
-def test_replaces_nothing_after_a_failure(scene):
+def test_replaces_nothing_after_a_failure(scene) -> None:
     """With `--replace` a file stays if the transfer fails."""
     scene.make("local", b"old")
     client, end = patient_get(scene, "--replace")
@@ -234,7 +234,7 @@ def test_replaces_nothing_after_a_failure(scene):
     expect((scene.folder / "local").read_bytes(), b"old", "local")
 
 
-def test_is_synced_and_then_named(scene):
+def test_is_synced_and_then_named(scene) -> None:
     """The file is synced before it gets its name, and the folder after that. If either sync is refused, the transfer
     fails, and `local.part` stays alone."""
     for refused, calls in [(0, "fsync link fsync"), (1, "fsync"), (2, "fsync link fsync")]:
@@ -251,7 +251,7 @@ def test_is_synced_and_then_named(scene):
             (scene.folder / "local").unlink()
 
 
-def test_a_slow_commit_does_not_shorten_the_dally(scene):
+def test_a_slow_commit_does_not_shorten_the_dally(scene) -> None:
     """The first deadline of a dally counts from the end of the commit, also where the block was sent twice meanwhile:
     the client stays for two whole timeouts (RFC 1350, section 6)."""
     requests = scene.port()
@@ -266,7 +266,7 @@ def test_a_slow_commit_does_not_shorten_the_dally(scene):
     expect(lasted >= 2.8, True, f"whether {lasted} seconds are enough")
 
 
-def test_is_ended_by_signals(scene):
+def test_is_ended_by_signals(scene) -> None:
     """A client that is ended leaves `local.part` alone."""
     for number in [signal.SIGHUP, signal.SIGINT, signal.SIGTERM]:
         client, end = patient_get(scene)
@@ -276,7 +276,7 @@ def test_is_ended_by_signals(scene):
         expect(sorted(scene.files()), ["local.part"], "the files")
 
 
-def test_short_options(scene):
+def test_short_options(scene) -> None:
     """`-b` and `-v` are `--blksize` and `--verbose`."""
     requests = scene.port()
     client = scene.tftp("get", requests.word, "a", "local", "-vb", "8")
@@ -284,7 +284,7 @@ def test_short_options(scene):
     client.ends(1, "", "tftp: PeerError(0)\ntftp: the server says: stop\n")
 
 
-def written_to(terminal):
+def written_to(terminal) -> bytes:
     """All that was written to a terminal that no program has any more, which a read may return in parts."""
     parts = []
     # (behind the last part a read fails)
@@ -294,7 +294,7 @@ def written_to(terminal):
     return b"".join(parts)
 
 
-def test_progress_is_shown_on_a_terminal(scene):
+def test_progress_is_shown_on_a_terminal(scene) -> None:
     """With `--progress` standard error has the bytes and the share, if it is a terminal, and nothing else."""
     shown, terminal = pty.openpty()
     client, end = patient_get(scene, "--no-dally", "--progress", stderr=terminal)
@@ -307,7 +307,7 @@ def test_progress_is_shown_on_a_terminal(scene):
     is_got(scene, "--progress")
 
 
-def test_falls_back(scene):
+def test_falls_back(scene) -> None:
     """After ERROR 8 the client retries without options (RFC 2347), from a new port: the system may choose the old one
     again, and hardly does in each of three runs."""
     ports = []
@@ -325,7 +325,7 @@ def test_falls_back(scene):
     scene.has(first=b"ABC", second=b"ABC", third=b"ABC")
 
 
-def test_a_put_file_is_cut(scene):
+def test_a_put_file_is_cut(scene) -> None:
     scene.make("a", CUT_FILE)
     requests, options = scene.port(), {"blksize": CUT_SIZE, **PATIENT}
     client = scene.tftp("put", requests.word, "a", "n", "--blksize", f"{CUT_SIZE}", *PATIENTLY)

@@ -38,7 +38,7 @@ FAULTS = [
 ]
 
 
-def writes(scene, words, status, parts):
+def writes(scene, words, status, parts) -> None:
     """A command ends with this status, and what it writes to standard output and error has these parts, or is empty."""
     process = scene.start(words[0], words[1:])
     wrote = [text.decode() for text in process.communicate(timeout=PATIENCE)]
@@ -47,7 +47,7 @@ def writes(scene, words, status, parts):
         expect(part in text if part else not text, True, f"what {words} writes, {text!r}, has {part!r}")
 
 
-def test_help_and_faults(scene):
+def test_help_and_faults(scene) -> None:
     for words, part in HELP:
         writes(scene, words, 0, (part, ""))
     for words, part in FAULTS:

@@ -18,18 +18,18 @@ PATIENCE = 60
 PATIENT = {"timeout": 255}
 
 
-def expect(found, expected, what):
+def expect(found, expected, what) -> None:
     """Ends the test unless the two are equal."""
     if found != expected:
         raise AssertionError(f"{what}: {shortened(found)}; expected {shortened(expected)}")
 
 
-def shortened(value):
+def shortened(value) -> str:
     text = repr(value)
     return text if len(text) <= 300 else f"{text[:140]}..{text[-140:]} ({len(text)} characters)"
 
 
-def text_of(address):
+def text_of(address) -> str:
     """A socket address as a word of a command line."""
     return f"{address[0]}:{address[1]}"
 
@@ -37,19 +37,19 @@ def text_of(address):
 class Port:
     """A UDP port of an address, which the system chooses for 0."""
 
-    def __init__(self, address, number=0):
+    def __init__(self, address, number=0) -> None:
         self.socket = socket.socket(socket.AF_INET, socket.SOCK_DGRAM)
         self.socket.bind((address, number))
         self.address = self.socket.getsockname()
         self.word = text_of(self.address)
 
-    def close(self):
+    def close(self) -> None:
         self.socket.close()
 
-    def send(self, datagram, to):
+    def send(self, datagram, to) -> None:
         self.socket.sendto(datagram, to)
 
-    def receive(self, other_than=None):
+    def receive(self, other_than=None) -> tuple[bytes, tuple[str, int]]:
         """The next datagram and its sender. A copy of `other_than` is skipped."""
         end = time.monotonic() + PATIENCE
         while True:
@@ -58,7 +58,7 @@ class Port:
             if datagram != other_than:
                 return datagram, sender
 
-    def waiting(self):
+    def waiting(self) -> list[tuple[bytes, tuple[str, int]]]:
         """The datagrams that wait at this port, each with its sender."""
         found = []
         self.socket.setblocking(False)
@@ -69,7 +69,7 @@ class Port:
             return found
 
 
-def send_from_port_0(address, datagram, to):
+def send_from_port_0(address, datagram, to) -> None:
     """Sends a datagram that bears the source port 0, which takes a raw socket (RFC 768: no checksum is 0, too)."""
     header = struct.pack("!HHHH", 0, to[1], 8 + len(datagram), 0)
     with socket.socket(socket.AF_INET, socket.SOCK_RAW, socket.IPPROTO_UDP) as raw:
@@ -77,12 +77,12 @@ def send_from_port_0(address, datagram, to):
         raw.sendto(header + datagram, (to[0], 0))
 
 
-def taken_ports():
+def taken_ports() -> set[int]:
     """The UDP ports that some program of this host has at some address."""
     return {int(line.split()[1].split(":")[1], 16) for line in Path("/proc/net/udp").read_text().splitlines()[1:]}
 
 
-def free_ports(count):
+def free_ports(count) -> int:
     """The first of so many ports in a row that no program has at any address, and that the system chooses for none.
     None is bound to see whether it is free: what another test starts meanwhile would have it, too, until it executes
     its program, and the port would be in use."""
@@ -96,7 +96,7 @@ def free_ports(count):
     raise AssertionError(f"no {count} free ports in a row")
 
 
-def is_bound(word):
+def is_bound(word) -> None:
     """Waits until a program has bound this UDP port."""
     host, port = word.split(":")
     entry = f" {int.from_bytes(socket.inet_aton(host), sys.byteorder):08X}:{int(port):04X} "
@@ -110,19 +110,19 @@ class End:
     """The test's end of a transfer: a port, the endpoint of its peer, and what the peer sent last. Where the host is
     slow that is sent again at any time, and such a copy is skipped; the tests of retransmissions count them."""
 
-    def __init__(self, port, peer, newest=None):
+    def __init__(self, port, peer, newest=None) -> None:
         self.port, self.peer, self.newest = port, peer, newest
 
-    def send(self, datagram):
+    def send(self, datagram) -> None:
         self.port.send(datagram, self.peer)
 
-    def answer_to(self, datagram, expected=None):
+    def answer_to(self, datagram, expected=None) -> bytes:
         """Sends a datagram, and returns the answer of the peer."""
         self.send(datagram)
         self.newest, sender = self.port.receive(None if self.newest == expected else self.newest)
         expect(sender, self.peer, "the sender of the answer")
         return self.newest
 
-    def is_answered(self, datagram, expected):
+    def is_answered(self, datagram, expected) -> None:
         """The peer answers a datagram by this one."""
         expect(self.answer_to(datagram, expected), expected, "the answer")

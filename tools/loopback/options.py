@@ -11,7 +11,7 @@ from server_alone import is_refused, opened
 UNITS = Path(__file__).resolve().parent.parent.parent / "packaging"
 
 
-def test_retries_of_the_server(scene):
+def test_retries_of_the_server(scene) -> None:
     """A block that is not acknowledged is sent `--retries` times again."""
     scene.make("a", b"ABC")
     for retries in [0, 2]:
@@ -22,7 +22,7 @@ def test_retries_of_the_server(scene):
         expect(again, [data(1, b"ABC")] * retries, f"what is sent again with --retries {retries}")
 
 
-def test_retries_of_the_client(scene):
+def test_retries_of_the_client(scene) -> None:
     """A request that is not answered is sent `--retries` times again."""
     for retries in [0, 2]:
         requests = scene.port()
@@ -33,7 +33,7 @@ def test_retries_of_the_client(scene):
         expect(again, [rrq("a")] * retries, f"what is sent again with --retries {retries}")
 
 
-def test_max_file(scene):
+def test_max_file(scene) -> None:
     """A write that announces a longer file is refused, and one that announces one of this length is not."""
     server = scene.serve("--max-file", "1000")
     is_refused(scene, server, wrq("n", tsize=1001), error(3, "disk full"))
@@ -42,7 +42,7 @@ def test_max_file(scene):
     server.has_closed("PeerError(0)")
 
 
-def test_max_block(scene):
+def test_max_block(scene) -> None:
     """A larger block size is cut to `--max-block`, and blocks have it."""
     scene.make("a", bytes_of(250))
     server = scene.serve("--max-block", "100")
@@ -53,7 +53,7 @@ def test_max_block(scene):
     server.has_closed("Complete")
 
 
-def test_cap(scene):
+def test_cap(scene) -> None:
     """With `--cap 64` there are 64 transfers at once, and no more."""
     scene.make("a", b"ABC")
     server = scene.serve("--cap", "64", "--transfers", "64")
@@ -65,7 +65,7 @@ def test_cap(scene):
     server.has_closed(*["Complete"] * 64)
 
 
-def test_tsize(scene):
+def test_tsize(scene) -> None:
     """A get asks for the length, and a put states it (RFC 2349); with `--netascii` neither does."""
     scene.make("local", bytes_of(700))
     for words, request in [
@@ -80,7 +80,7 @@ def test_tsize(scene):
         client.fails("PeerError(0)")
 
 
-def test_no_fallback(scene):
+def test_no_fallback(scene) -> None:
     """Without `--fallback` a client ends whose options are refused."""
     requests = scene.port()
     client = scene.tftp("get", requests.word, "a", "local", "--blksize", "1428")
@@ -90,7 +90,7 @@ def test_no_fallback(scene):
     expect(others, [], "the other requests")
 
 
-def test_signals(scene):
+def test_signals(scene) -> None:
     """TERM, INT and HUP end the server at once."""
     for number in [signal.SIGTERM, signal.SIGINT, signal.SIGHUP]:
         server = scene.serve("--forever")
@@ -98,7 +98,7 @@ def test_signals(scene):
         expect(server.process.wait(PATIENCE), -number, "the status of the server")
 
 
-def test_nobody_reads_the_log(scene):
+def test_nobody_reads_the_log(scene) -> None:
     """A server whose standard error is a pipe that nobody reads any more serves on."""
     scene.make("a", b"ABC")
     server = scene.serve("--log", "--transfers", "2")
@@ -108,7 +108,7 @@ def test_nobody_reads_the_log(scene):
     expect(server.process.wait(PATIENCE), 0, "the status of the server")
 
 
-def test_a_name_appears(scene):
+def test_a_name_appears(scene) -> None:
     """If LOCAL appears during a get, the server receives ERROR 6, LOCAL is unchanged, and LOCAL.part stays."""
     client, end = patient_get(scene, "--no-dally")
     end.is_answered(data(1, b"\7" * 512), ack(1))
@@ -118,7 +118,7 @@ def test_a_name_appears(scene):
     scene.has_files({"local": b"another's", "local.part": b"\7" * 512 + b"ABC"})
 
 
-def test_units(scene):
+def test_units(scene) -> None:
     """The command lines of the units serve a folder to read, and refuse writes."""
     scene.make("a", b"ABC")
     for unit in ["tftpd.service", "tftpd@.service"]:

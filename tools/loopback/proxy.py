@@ -11,15 +11,15 @@ MOMENT = 0.05
 class Lane:
     """One direction. Of twenty datagrams three are lost, three duplicated, and three sent after the next one."""
 
-    def __init__(self, seed):
+    def __init__(self, seed) -> None:
         self.seed, self.late = seed, []
 
-    def number(self):
+    def number(self) -> int:
         """The next number below 20, by a linear congruential generator."""
         self.seed = (self.seed * 6_364_136_223_846_793_005 + 1_442_695_040_888_963_407) % 2**64
         return (self.seed >> 40) % 20
 
-    def sent_for(self, datagram):
+    def sent_for(self, datagram) -> list[bytes]:
         """What is sent once a datagram has come in this direction."""
         number = self.number()
         if number < 3:
@@ -35,7 +35,7 @@ class Lane:
 class Proxy:
     """Receives a client's request at `requests`, and answers from another port, in a thread until it is closed."""
 
-    def __init__(self, server, seed):
+    def __init__(self, server, seed) -> None:
         self.requests, self.answers, self.server_side = (Port(server[0]) for _ in range(3))
         self.word, self.server = self.requests.word, server
         self.client = self.transfer = None
@@ -44,13 +44,13 @@ class Proxy:
         self.thread = threading.Thread(target=self.run)
         self.thread.start()
 
-    def close(self):
+    def close(self) -> None:
         self.is_closed.set()
         self.thread.join()
         for port in (self.requests, self.answers, self.server_side):
             port.close()
 
-    def run(self):
+    def run(self) -> None:
         takers = {
             self.requests.socket: self.take_request,
             self.answers.socket: self.take_of_client,
@@ -60,18 +60,18 @@ class Proxy:
             for ready in select.select(list(takers), [], [], MOMENT)[0]:
                 takers[ready](*ready.recvfrom(65_536))
 
-    def take_request(self, datagram, sender):
+    def take_request(self, datagram, sender) -> None:
         """A request is lost or sent once: a copy that is late could open a second transfer."""
         self.client = sender
         if self.to_server.number() >= 3:
             self.server_side.send(datagram, self.server)
 
-    def take_of_client(self, datagram, _):
+    def take_of_client(self, datagram, _) -> None:
         if self.transfer:
             for each in self.to_server.sent_for(datagram):
                 self.server_side.send(each, self.transfer)
 
-    def take_of_transfer(self, datagram, sender):
+    def take_of_transfer(self, datagram, sender) -> None:
         self.transfer = self.transfer or sender
         if sender == self.transfer:
             for each in self.to_client.sent_for(datagram):

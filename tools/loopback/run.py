@@ -18,6 +18,7 @@ import time
 import traceback
 from contextlib import suppress
 from pathlib import Path
+from typing import Any, Optional
 
 import both_programs
 import client_alone
@@ -40,13 +41,13 @@ TEST_LIMIT = float(os.environ.get("LOOPBACK_SECONDS", "600"))
 LIMIT = 1_200
 
 
-def known_tests():
+def known_tests() -> dict[str, Any]:
     """Each test by its name."""
     found = [item for module in MODULES for item in vars(module).items()]
     return {name: test for name, test in found if name.startswith("test_")}
 
 
-def fault_of(test, scene):
+def fault_of(test, scene) -> Optional[str]:
     """Runs a test. Returns nothing if it passes, or else why and where it does not."""
     try:
         with scene:
@@ -61,14 +62,14 @@ def fault_of(test, scene):
 class Run:
     """The tests that wait, run and have failed."""
 
-    def __init__(self, programs, folder, tests):
+    def __init__(self, programs, folder, tests) -> None:
         self.programs, self.folder, self.network, self.stalls = programs, folder, own_network(), Stalls()
         self.todo, self.running, self.ran, self.faults, self.again = queue.SimpleQueue(), {}, 0, {}, []
         for host, item in enumerate(tests.items(), 1):
             self.todo.put((f"{self.network}.{host}", item))
         self.tests, self.began = tests, time.monotonic()
 
-    def run(self, name, test, address, folder):
+    def run(self, name, test, address, folder) -> tuple[Optional[str], float]:
         """Runs a test. Returns why it fails, and the longest stall of the host meanwhile."""
         begun = time.monotonic()
         self.running[name] = begun, threading.get_ident()
@@ -76,7 +77,7 @@ class Run:
         del self.running[name]
         return fault, self.stalls.longest_since(begun)
 
-    def work(self):
+    def work(self) -> None:
         with suppress(queue.Empty):
             while True:
                 address, (name, test) = self.todo.get_nowait()
@@ -87,7 +88,7 @@ class Run:
                     print(f"{name}: {fault}", flush=True)
                     self.again += [(name, stall)] * (stall > STALL)
 
-    def repeat(self):
+    def repeat(self) -> None:
         """Each test that failed while the host stalled, alone."""
         for at, (name, stall) in enumerate(self.again):
             fault, _ = self.run(name, self.tests[name], f"{self.network}.{201 + at % 50}", f"{name}.again")
@@ -95,7 +96,7 @@ class Run:
             if not fault:
                 del self.faults[name]
 
-    def watch(self):
+    def watch(self) -> None:
         """Ends all if a test takes too long, or all of them do, and says which ran and where they were."""
         while True:
             time.sleep(0.5)
@@ -110,7 +111,7 @@ class Run:
                 print(f"loopback: {self.ran} tests, and then one that hangs: {', '.join(late) or 'all together'}", flush=True)
                 os._exit(1)
 
-    def run_all(self):
+    def run_all(self) -> None:
         threading.Thread(target=self.watch, daemon=True).start()
         threads = [threading.Thread(target=self.work) for _ in range(AT_ONCE)]
         for thread in threads:
@@ -121,7 +122,7 @@ class Run:
         self.stalls.close()
 
 
-def run(folder, tftp, tftpd, *names):
+def run(folder, tftp, tftpd, *names) -> int:
     """Runs the named tests, or all, in this folder. Returns the status."""
     began, tests = time.monotonic(), known_tests()
     if names:
@@ -132,7 +133,7 @@ def run(folder, tftp, tftpd, *names):
     return 1 if it.faults or it.ran < (len(names) or TESTS_AT_LEAST) else 0
 
 
-def run_apart(folder, words):
+def run_apart(folder, words) -> int:
     """Runs the tests in a session of their own. Whatever happens, nothing of it is left running."""
     tests = subprocess.Popen([sys.executable, HERE, "--in", folder, *words], start_new_session=True)
     try:
@@ -146,7 +147,7 @@ def run_apart(folder, words):
         tests.wait()
 
 
-def main():
+def main() -> None:
     if sys.argv[1:2] == ["--in"]:
         # what a shell in the background or nohup has ignored, the programs would ignore, too
         signal.pthread_sigmask(signal.SIG_SETMASK, [])

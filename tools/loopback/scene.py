@@ -7,6 +7,7 @@ import subprocess
 import sys
 from contextlib import ExitStack
 from pathlib import Path
+from typing import Any
 
 from datagrams import PATIENCE, Port, expect
 from proxy import Proxy
@@ -24,25 +25,25 @@ RETRIES = ["--retries", "10"]
 LIMITED = "trap '' XFSZ; ulimit $1; shift; exec \"$@\""
 
 
-def next_line(stream):
+def next_line(stream) -> str:
     """The next line that a program writes to this stream, or nothing at its end."""
     if not select.select([stream], [], [], PATIENCE)[0]:
         raise AssertionError(f"no line after {PATIENCE} seconds")
     return stream.readline().decode()
 
 
-def first_line(process):
+def first_line(process) -> str:
     """The first line that a program prints."""
     return next_line(process.stdout)
 
 
-def preloaded(scene, source, **values):
+def preloaded(scene, source, **values) -> dict[str, str]:
     """The environment of a program with a library of this source, which reads these variables."""
     library = compiled(scene.folder.parent, HERE / source)
     return {**os.environ, "LD_PRELOAD": str(library), **{name: str(value) for name, value in values.items()}}
 
 
-def patiently(words):
+def patiently(words) -> list[Any]:
     """The words of a command line, with the most retries if they name none."""
     return [*words, *([] if "--retries" in words else RETRIES)]
 
@@ -50,19 +51,19 @@ def patiently(words):
 class Client:
     """A tftp that was started."""
 
-    def __init__(self, process):
+    def __init__(self, process) -> None:
         self.process = process
 
-    def ends(self, status, printed="", errors=""):
+    def ends(self, status, printed="", errors="") -> None:
         """It ends with this status, and has written exactly this; None is for a stream that the test reads."""
         wrote = [text if text is None else text.decode() for text in self.process.communicate(timeout=LIFE)]
         expect((self.process.returncode, *wrote), (status, printed, errors), "the client")
 
-    def completes(self, length):
+    def completes(self, length) -> None:
         """It reports a complete transfer of a file of this length."""
         self.ends(0, f"complete {length}\n")
 
-    def fails(self, outcome, cause=None):
+    def fails(self, outcome, cause=None) -> None:
         """It reports a transfer that failed with this outcome, and then its cause, in a line on standard error each."""
         printed, errors = [text.decode() for text in self.process.communicate(timeout=LIFE)]
         lines = errors.splitlines()
@@ -71,7 +72,7 @@ class Client:
         if cause:
             expect(lines[1], f"tftp: {cause}", "the cause")
 
-    def completes_or_times_out(self, length):
+    def completes_or_times_out(self, length) -> bool:
         """It reports either. Returns whether the transfer is complete."""
         if self.process.wait(LIFE) == 0:
             self.completes(length)
@@ -83,7 +84,7 @@ class Client:
 class Server:
     """A tftpd that listens: its address, also as a word of a command line."""
 
-    def __init__(self, process):
+    def __init__(self, process) -> None:
         self.process = process
         line = first_line(process)
         found = re.fullmatch(r"listening ((\d+\.\d+\.\d+\.\d+):(\d+))\n", line)
@@ -92,7 +93,7 @@ class Server:
         if "--log" in process.args:
             expect(next_line(process.stderr), line, "the first line of the log")
 
-    def has_closed(self, *outcomes):
+    def has_closed(self, *outcomes) -> list[str]:
         """It ends with status 0, and has printed a line for each closed transfer, with these outcomes. Returns the
         lines of its log, without those of requests that a client repeated because the host is slow."""
         printed, log = (text.decode().splitlines() for text in self.process.communicate(timeout=LIFE))
@@ -102,21 +103,21 @@ class Server:
         return [line for at, line in enumerate(log) if not line.startswith("ignored ")
                 and not (line.startswith("refused ") and line in log[:at])]
 
-    def has_logged(self, count):
+    def has_logged(self, count) -> list[str]:
         """Waits for so many lines of its log, and kills it. Returns them, and any that came behind."""
         lines = [next_line(self.process.stderr) for _ in range(count)]
         self.process.kill()
         return [line.strip() for line in lines] + self.process.communicate(timeout=LIFE)[1].decode().splitlines()
 
-    def stop(self):
+    def stop(self) -> None:
         """Stops it until `go_on`."""
         os.kill(self.process.pid, signal.SIGSTOP)
         os.waitid(os.P_PID, self.process.pid, os.WSTOPPED | os.WEXITED | os.WNOWAIT)
 
-    def go_on(self):
+    def go_on(self) -> None:
         os.kill(self.process.pid, signal.SIGCONT)
 
-    def kill(self):
+    def kill(self) -> None:
         self.process.kill()
         self.process.wait(PATIENCE)
 
@@ -124,45 +125,45 @@ class Server:
 class Scene:
     """The folder, and what runs for the test."""
 
-    def __init__(self, programs, folder, address):
+    def __init__(self, programs, folder, address) -> None:
         self.programs, self.folder, self.address, self.ending = programs, folder, address, ExitStack()
 
-    def __enter__(self):
+    def __enter__(self) -> "Scene":
         self.folder.mkdir()
         return self
 
-    def __exit__(self, *_):
+    def __exit__(self, *_) -> None:
         self.ending.close()
 
-    def make(self, name, content):
+    def make(self, name, content) -> None:
         """Makes a file, and the folders on its path."""
         path = self.folder / name
         path.parent.mkdir(parents=True, exist_ok=True)
         path.write_bytes(content)
 
-    def make_folder(self, name):
+    def make_folder(self, name) -> None:
         (self.folder / name).mkdir()
 
-    def files(self):
+    def files(self) -> dict[str, bytes]:
         """The regular files in the folder and below, with their bytes."""
         paths = [path for path in self.folder.rglob("*") if path.is_file() and not path.is_symlink()]
         return {str(path.relative_to(self.folder)): path.read_bytes() for path in paths}
 
-    def has(self, **files):
+    def has(self, **files) -> None:
         self.has_files(files)
 
-    def has_files(self, files):
+    def has_files(self, files) -> None:
         """The folder and those below have these regular files, with these bytes, and no other."""
         found = self.files()
         expect(sorted(found), sorted(files), "the files")
         for name, content in files.items():
             expect(found[name], content, name)
 
-    def lacks(self, name):
+    def lacks(self, name) -> None:
         """No file has this name."""
         expect(os.path.lexists(self.folder / name), False, f"whether there is {name}")
 
-    def start(self, program, words, limit=None, closed=None, **how):
+    def start(self, program, words, limit=None, closed=None, **how) -> "subprocess.Popen[bytes]":
         """Starts a program, under a limit, or with one of the standard streams closed."""
         command = [self.programs.get(program, program), *words]
         if limit:
@@ -174,47 +175,47 @@ class Scene:
         self.ending.callback(end, process)
         return process
 
-    def tftp(self, *words, **how):
+    def tftp(self, *words, **how) -> Client:
         """Starts a client with these words."""
         return Client(self.start("tftp", patiently(words), **how))
 
-    def serve(self, *words, root=".", listen=None, limit=None):
+    def serve(self, *words, root=".", listen=None, limit=None) -> Server:
         """Starts a server of a folder with these words, under a limit such as `-f 8`: 8 times 512 bytes in a file."""
         return Server(self.start("tftpd", self.server_words(root, listen or self.address, words), limit))
 
-    def server_words(self, root, address, words):
+    def server_words(self, root, address, words) -> list[Any]:
         if not {"--rounds", "--forever"} & set(words):
             # it ends by itself, whatever happens to the test
             words = [*words, "--rounds", "2000"]
         return [root, "--listen", f"{address}:0", *patiently(words)]
 
-    def watch(self, *words, unsent=0):
+    def watch(self, *words, unsent=0) -> Server:
         """Starts a server of the folder with these words, whose calls are counted; the datagram of that number, counted
         from 1, is refused by the system."""
         library = compiled(self.folder, HERE / "watch_calls.c")
         env = {**os.environ, "LD_PRELOAD": str(library), "UNSENT": str(unsent)}
         return Server(self.start("tftpd", self.server_words(".", self.address, words), env=env))
 
-    def delay(self, *words, millis):
+    def delay(self, *words, millis) -> Server:
         """Starts a server of the folder with these words, for which the opening of a file `slow` and each sync take so
         many milliseconds more."""
         library = compiled(self.folder, HERE / "slow_calls.c")
         env = {**os.environ, "LD_PRELOAD": str(library), "DELAY": str(millis)}
         return Server(self.start("tftpd", self.server_words(".", self.address, words), env=env))
 
-    def port(self, number=0):
+    def port(self, number=0) -> Port:
         """The UDP port of this number, which the system chooses for 0."""
         port = Port(self.address, number)
         self.ending.callback(port.close)
         return port
 
-    def proxy(self, server, seed):
+    def proxy(self, server, seed) -> Proxy:
         proxy = Proxy(server.address, seed)
         self.ending.callback(proxy.close)
         return proxy
 
 
-def end(process):
+def end(process) -> None:
     """Kills a program if it runs."""
     process.kill()
     process.wait(PATIENCE)

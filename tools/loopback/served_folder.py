@@ -7,9 +7,10 @@ import threading
 import time
 from contextlib import contextmanager
 from pathlib import Path
+from typing import Iterator
 
 from both_programs import logs
-from datagrams import PATIENCE, PATIENT, ack, data, error, expect, free_ports, oack, rrq, wrq
+from datagrams import PATIENCE, PATIENT, End, ack, data, error, expect, free_ports, oack, rrq, wrq
 from scene import Server
 from server_alone import ACCESS_VIOLATION, DISK_FULL, FILE_EXISTS, FILE_NOT_FOUND, first_block_of, is_refused, opened
 
@@ -17,17 +18,17 @@ LAST = data(1, b"new")
 TOO_LARGE = error(0, "file too large")
 
 
-def writing(scene, server, name):
+def writing(scene, server, name) -> End:
     """Requests to write a file, of which nothing is sent again. Returns the end of the transfer."""
     return opened(scene, server, wrq(name, **PATIENT), oack(**PATIENT))
 
 
-def drafts(scene):
+def drafts(scene) -> list[str]:
     """The drafts in the folder and below."""
     return sorted(str(path.relative_to(scene.folder)) for path in scene.folder.rglob(".tftp-*"))
 
 
-def test_a_folder_is_exchanged(scene):
+def test_a_folder_is_exchanged(scene) -> None:
     """Between the request and the last block the folder of a put becomes a link out of ROOT, or the folder above it,
     with the very folder behind the link. The put fails, and no file is outside."""
     for name in ["one", "two/deep"]:
@@ -47,7 +48,7 @@ def test_a_folder_is_exchanged(scene):
         scene.lacks(f"out/{name}")
 
 
-def test_a_text_is_read_once(scene):
+def test_a_text_is_read_once(scene) -> None:
     """A text whose lines are too many for ten block sizes, though its bytes are not, is read once for all of them."""
     scene.make("a", b"\n" * 1_000_000)
     server = scene.serve()
@@ -58,13 +59,13 @@ def test_a_text_is_read_once(scene):
     server.kill()
 
 
-def read_by(server):
+def read_by(server) -> int:
     """How many bytes a server has read."""
     text = Path(f"/proc/{server.process.pid}/io").read_text()
     return int(re.search(r"^rchar: (\d+)$", text, re.M)[1])
 
 
-def test_a_file_without_length(scene):
+def test_a_file_without_length(scene) -> None:
     """A file whose length is 0 and that has bytes, as those of /proc, is refused in both modes; an empty one is not."""
     server = scene.serve("--log", root="/proc")
     for mode in ["octet", "netascii"]:
@@ -79,11 +80,11 @@ def test_a_file_without_length(scene):
     server.has_closed("Complete")
 
 
-def mode_of(scene, name):
+def mode_of(scene, name) -> int:
     return stat.S_IMODE((scene.folder / name).stat().st_mode)
 
 
-def test_a_mode_is_kept(scene):
+def test_a_mode_is_kept(scene) -> None:
     """With `--overwrite` a file keeps its permissions, which its draft has before its first byte; a new file has those
     that the umask leaves."""
     mask = int(re.search(r"(?m)^Umask:\s+(\d+)$", Path("/proc/self/status").read_text())[1], 8)
@@ -101,7 +102,7 @@ def test_a_mode_is_kept(scene):
     scene.has(secret=b"new", open=b"new", run=b"new", n=b"new")
 
 
-def test_uploads(scene):
+def test_uploads(scene) -> None:
     """With `--uploads` only files below that folder are written, its drafts are there, and every file is read."""
     scene.make("served/a", b"ABC")
     scene.make("served/incoming/sub/b", b"BB")
@@ -122,7 +123,7 @@ def test_uploads(scene):
                      "served/incoming/n": b"new", "served/incoming/sub/n": b"new"})
 
 
-def test_a_group_is_that_of_the_drafts_folder(scene):
+def test_a_group_is_that_of_the_drafts_folder(scene) -> None:
     """A file that is put into a folder below has the group of the folder where its draft was made, though both give
     theirs to new files."""
     groups = [4242, 4343] if os.geteuid() == 0 else sorted({os.getgid(), *os.getgroups()})[:2]
@@ -137,7 +138,7 @@ def test_a_group_is_that_of_the_drafts_folder(scene):
     expect((scene.folder / "served/sub/n").stat().st_gid, groups[0], "the group of a new file in a folder below")
 
 
-def test_uploads_and_overwrite(scene):
+def test_uploads_and_overwrite(scene) -> None:
     """`--overwrite` replaces in the folder of uploads alone."""
     scene.make("served/a", b"old")
     scene.make("served/in/deep/a", b"old")
@@ -147,7 +148,7 @@ def test_uploads_and_overwrite(scene):
     scene.has_files({"served/a": b"old", "served/in/deep/a": b"new"})
 
 
-def test_the_log_says_why_it_refuses(scene):
+def test_the_log_says_why_it_refuses(scene) -> None:
     """The log has the reason of refusals by a rule of the folder."""
     scene.make("served/a", b"ABC")
     scene.make("secret", b"S")
@@ -175,7 +176,7 @@ def test_the_log_says_why_it_refuses(scene):
          [rf"refused {scene.address}:\d+ WRQ n octet: ERROR 2 \(access violation\), read-only server"])
 
 
-def test_the_log_says_that_a_file_was_cut(scene):
+def test_the_log_says_that_a_file_was_cut(scene) -> None:
     """A file that becomes shorter is told apart from one that cannot be read."""
     scene.make("a", bytes(100_000))
     server = scene.serve("--max-block", "65464", "--log")
@@ -192,19 +193,19 @@ def test_the_log_says_that_a_file_was_cut(scene):
 COMMONER = ["setpriv", "--inh-caps", "-all", "--bounding-set", "-dac_override,-dac_read_search,-net_bind_service"]
 
 
-def start_as_commoner(scene, words):
+def start_as_commoner(scene, words) -> "subprocess.Popen[bytes]":
     """Starts a tftpd without privileges."""
     program, *rest = [*(COMMONER if os.geteuid() == 0 else []), scene.programs["tftpd"], *words]
     return scene.start(program, rest)
 
 
-def ends_with(process, words, status, errors):
+def ends_with(process, words, status, errors) -> None:
     """A server ends at once with this status, and has written exactly this on standard error."""
     printed, wrote = (text.decode() for text in process.communicate(timeout=PATIENCE))
     expect((process.returncode, printed, wrote), (status, "", errors), f"tftpd {words}")
 
 
-def test_a_server_that_does_not_start(scene):
+def test_a_server_that_does_not_start(scene) -> None:
     """A second line says what was refused, and why."""
     scene.make("a", b"ABC")
     scene.make_folder("sub")
@@ -229,22 +230,22 @@ def test_a_server_that_does_not_start(scene):
                   f"tftpd: socket fault\ntftpd: {scene.address}:69: permission denied\n")
 
 
-def as_commoner(scene, *words, root="."):
+def as_commoner(scene, *words, root=".") -> Server:
     """Starts a server of a folder, which the modes of files bind."""
     return Server(start_as_commoner(scene, scene.server_words(root, scene.address, words)))
 
 
-def fifo_at(path):
+def fifo_at(path) -> None:
     path.unlink()
     os.mkfifo(path)
 
 
-def link_at(path):
+def link_at(path) -> None:
     path.unlink()
     path.symlink_to("other")
 
 
-def folder_at(path):
+def folder_at(path) -> None:
     path.unlink()
     path.mkdir()
 
@@ -258,7 +259,7 @@ CHANGES = [
 ]
 
 
-def test_what_is_replaced_is_looked_at_again(scene):
+def test_what_is_replaced_is_looked_at_again(scene) -> None:
     """With `--overwrite` the file at the name is looked at again at the commit: what is no regular file by then, or one
     that the server's user may not write, stays."""
     for place, (change, reason) in enumerate(CHANGES):
@@ -275,7 +276,7 @@ def test_what_is_replaced_is_looked_at_again(scene):
         expect((found.st_ino, found.st_mode), (before.st_ino, before.st_mode), f"what was there, {reason}")
 
 
-def test_the_mode_at_the_commit(scene):
+def test_the_mode_at_the_commit(scene) -> None:
     """With `--overwrite` the new file has the mode of the file that it replaces, as that is at the commit, without the
     bits that let it run as another user; it is made too where the file has gone."""
     for name, at_commit in [("narrower", 0o600), ("wider", 0o646), ("set", 0o4755)]:
@@ -294,11 +295,11 @@ def test_the_mode_at_the_commit(scene):
 
 
 @contextmanager
-def renamed_again_and_again(path, content):
+def renamed_again_and_again(path, content) -> Iterator[None]:
     """A file that is replaced by a rename all the time, as by an atomic update."""
     is_over = threading.Event()
 
-    def rename():
+    def rename() -> None:
         while not is_over.is_set():
             path.with_name("update").write_bytes(content)
             os.rename(path.with_name("update"), path)
@@ -313,7 +314,7 @@ def renamed_again_and_again(path, content):
         thread.join()
 
 
-def test_reads_meet_renames(scene):
+def test_reads_meet_renames(scene) -> None:
     """A read finds a file at each moment at which another is renamed over it: none is refused."""
     scene.make("served/a", b"ABC")
     server = scene.serve("--transfers", "400", root="served")
@@ -323,7 +324,7 @@ def test_reads_meet_renames(scene):
     server.has_closed(*["Complete"] * 400)
 
 
-def test_the_system_says_why(scene):
+def test_the_system_says_why(scene) -> None:
     """The log has the system's reason: a file, a folder on the path, and a folder of drafts that its mode forbids."""
     scene.make("served/a", b"ABC")
     scene.make("served/sub/a", b"ABC")
@@ -342,7 +343,7 @@ def test_the_system_says_why(scene):
 READ_ONLY = 'mount --bind "$1" "$1" && mount -o remount,ro,bind "$1" && shift && exec "$@"'
 
 
-def test_a_read_only_file_system(scene):
+def test_a_read_only_file_system(scene) -> None:
     """A write to a file system that is mounted read-only is refused, and a read is not."""
     apart = ["unshare", "--mount", *([] if os.geteuid() == 0 else ["--map-root-user"])]
     if subprocess.run([*apart, "true"], capture_output=True, check=False).returncode != 0:
@@ -359,11 +360,11 @@ def test_a_read_only_file_system(scene):
     server.has_closed("Complete")
 
 
-def next_log_line(server):
+def next_log_line(server) -> str:
     return server.process.stderr.readline().decode().strip()
 
 
-def test_a_draft_of_a_failed_transfer(scene):
+def test_a_draft_of_a_failed_transfer(scene) -> None:
     """It stays under its name, and the next server that has its port makes another in its place."""
     port = free_ports(1)
     words = ["--ports", f"{port}:{port}"]
@@ -380,7 +381,7 @@ def test_a_draft_of_a_failed_transfer(scene):
     scene.has(n=b"new")
 
 
-def test_links(scene):
+def test_links(scene) -> None:
     """A ROOT that is a link is the folder that it leads to; a link that leads nowhere is a file that is missing, and is
     in the way of a write."""
     scene.make("served/a", b"ABC")

@@ -28,7 +28,7 @@ REFUSALS = [
 ]
 
 
-def opened(scene, server, request, expected):
+def opened(scene, server, request, expected) -> End:
     """Sends a request, and expects this answer from a new port. Returns the end of the transfer."""
     port = scene.port()
     port.send(request, server.address)
@@ -38,19 +38,19 @@ def opened(scene, server, request, expected):
     return End(port, transfer, answer)
 
 
-def first_block_of(scene, server, name, block):
+def first_block_of(scene, server, name, block) -> End:
     """Requests a file, and receives its first block, which is not sent again. Returns the end of the transfer."""
     end = opened(scene, server, rrq(name, **PATIENT), oack(**PATIENT))
     end.is_answered(ack(0), data(1, block))
     return end
 
 
-def is_refused(scene, server, request, expected):
+def is_refused(scene, server, request, expected) -> None:
     """The request port answers a request by this ERROR."""
     End(scene.port(), server.address).is_answered(request, expected)
 
 
-def test_a_request_from_port_0_is_ignored(scene):
+def test_a_request_from_port_0_is_ignored(scene) -> None:
     """Nothing can be answered to port 0: such a request opens no transfer, which is tried where raw sockets are
     allowed."""
     scene.make("a", b"ABC")
@@ -69,7 +69,7 @@ def test_a_request_from_port_0_is_ignored(scene):
     expect(len(printed), 1, f"the transfers that closed, in {printed}")
 
 
-def test_requests_are_refused(scene):
+def test_requests_are_refused(scene) -> None:
     scene.make("served/a", b"ABC")
     scene.make("secret", b"S")
     scene.make_folder("served/sub")
@@ -85,7 +85,7 @@ def test_requests_are_refused(scene):
     scene.has_files({"served/a": b"ABC", "secret": b"S", "served-not/secret": b"S"})
 
 
-def test_a_server_is_busy(scene):
+def test_a_server_is_busy(scene) -> None:
     """At `--cap` another client receives the ERROR of a busy server. A repeated request gets no second answer."""
     scene.make("a", b"ABC")
     server = scene.serve("--cap", "1")
@@ -101,13 +101,13 @@ def test_a_server_is_busy(scene):
     expect(first.waiting(), [], "the other answers")
 
 
-def vanishes(scene, server):
+def vanishes(scene, server) -> None:
     """Requests to write the file `n`, sends one full block, and nothing more."""
     end = opened(scene, server, wrq("n"), ack(0))
     end.is_answered(data(1, b"\7" * 512), ack(1))
 
 
-def test_a_client_vanishes(scene):
+def test_a_client_vanishes(scene) -> None:
     """The transfer times out, and no file has its name."""
     server = scene.serve()
     vanishes(scene, server)
@@ -115,7 +115,7 @@ def test_a_client_vanishes(scene):
     scene.lacks("n")
 
 
-def test_a_server_is_killed(scene):
+def test_a_server_is_killed(scene) -> None:
     """The server is killed during the transfer, and no file has its name."""
     server = scene.serve()
     vanishes(scene, server)
@@ -123,7 +123,7 @@ def test_a_server_is_killed(scene):
     scene.lacks("n")
 
 
-def test_the_disk_is_full_in_mid_transfer(scene):
+def test_the_disk_is_full_in_mid_transfer(scene) -> None:
     """If the write of a block fails after its acknowledgement, a later block is answered by the ERROR of a full disk, long
     before the last."""
     server = scene.serve("--max-block", "8192", limit="-f 8")
@@ -139,7 +139,7 @@ def test_the_disk_is_full_in_mid_transfer(scene):
     scene.lacks("n")
 
 
-def test_few_open_files(scene):
+def test_few_open_files(scene) -> None:
     """A request that is lost or refused for lack of open files is in the log: no port can be bound; a port is bound, and
     the file cannot be opened."""
     scene.make("a", b"ABC")
@@ -152,7 +152,7 @@ def test_few_open_files(scene):
         logs(server.has_logged(1), [line])
 
 
-def only_block(port):
+def only_block(port) -> End:
     """Receives the answer to a request, and then the block. Returns the end of the transfer."""
     answer, transfer = port.receive()
     expect(answer, oack(**PATIENT), "the answer")
@@ -161,7 +161,7 @@ def only_block(port):
     return end
 
 
-def test_a_slot_is_freed_first(scene):
+def test_a_slot_is_freed_first(scene) -> None:
     """A server with one slot is never busy for a client that acknowledges before it requests again: first with the
     server stopped in between, then as fast as possible. Successive requests are of the same file, and of the other."""
     for name in ["a", "b"]:
@@ -183,7 +183,7 @@ def test_a_slot_is_freed_first(scene):
     server.has_closed(*["Complete"] * 105)
 
 
-def test_an_error_to_the_server_is_seen_soon(scene):
+def test_an_error_to_the_server_is_seen_soon(scene) -> None:
     """An ERROR immediately after an acknowledgement closes the transfer long before the timeout of 255 seconds."""
     scene.make("a", b"ABC")
     server = scene.serve()
@@ -195,7 +195,7 @@ def test_an_error_to_the_server_is_seen_soon(scene):
     server.has_closed("PeerError(0)")
 
 
-def test_two_addresses(scene):
+def test_two_addresses(scene) -> None:
     """The source of an answer is the address that the server listens at; with 0.0.0.0, that of the system's route to the
     client, whatever the destination of the request."""
     scene.make("a", b"ABC")
@@ -221,7 +221,7 @@ CUT_SIZE = 32_768
 CUT_FILE = bytes_of(200_000)
 
 
-def is_given_up(end, first, cut):
+def is_given_up(end, first, cut) -> None:
     """The datagram `first` is answered by block 1, and then the file is cut short. No short block follows, which would be
     mistaken for the last (RFC 1350, section 6): the sender gives up before."""
     blocks = [CUT_FILE[at:at + CUT_SIZE] for at in range(0, len(CUT_FILE), CUT_SIZE)]
@@ -235,7 +235,7 @@ def is_given_up(end, first, cut):
     raise AssertionError("blocks of a file that is cut short")
 
 
-def test_a_served_file_is_cut(scene):
+def test_a_served_file_is_cut(scene) -> None:
     scene.make("a", CUT_FILE)
     server = scene.serve("--max-block", "65464")
     asked = {"blksize": CUT_SIZE, **PATIENT}

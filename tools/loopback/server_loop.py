@@ -13,13 +13,13 @@ from server_alone import FILE_NOT_FOUND, first_block_of, is_refused, opened
 SO_TIMESTAMPNS = 35
 
 
-def watched(server):
+def watched(server) -> dict[str, int]:
     """The counts that `watch_calls.c` writes at the end of a server, by their names."""
     counts = re.fullmatch(r"watched (.*)\n", server.process.communicate(timeout=LIFE)[1].decode().splitlines(True)[-1])
     return {name: int(count) for count, name in (part.split(" ", 1) for part in counts[1].split(", "))}
 
 
-def test_no_line_beyond_the_count(scene):
+def test_no_line_beyond_the_count(scene) -> None:
     """The last datagrams of four transfers wait at their ports: a server that ends with the second close prints two
     lines."""
     scene.make("a", b"ABC")
@@ -32,7 +32,7 @@ def test_no_line_beyond_the_count(scene):
     server.has_closed("Complete", "Complete")
 
 
-def test_the_log_has_the_time_of_the_clock(scene):
+def test_the_log_has_the_time_of_the_clock(scene) -> None:
     """A server that was stopped for two seconds and a half logs them, though its deadlines age by a second a wait. It
     answers one request after a wait, so that it has read the clock again once it has answered two."""
     scene.make("a", b"ABC")
@@ -49,7 +49,7 @@ def test_the_log_has_the_time_of_the_clock(scene):
     expect(2_400 <= millis < 1_000 * LIFE, True, f"whether {millis} ms are those of the clock")
 
 
-def test_a_datagram_that_is_not_sent_is_logged(scene):
+def test_a_datagram_that_is_not_sent_is_logged(scene) -> None:
     """The system refuses one datagram of the server: the first of a transfer, a later one, an ERROR. It is logged with
     the port that it was to leave from, and a datagram of a transfer is sent again."""
     scene.make("a", bytes_of(600))
@@ -72,7 +72,7 @@ def test_a_datagram_that_is_not_sent_is_logged(scene):
     ])
 
 
-def test_a_transfer_that_waits_makes_no_polls(scene):
+def test_a_transfer_that_waits_makes_no_polls(scene) -> None:
     """A get whose client waits between its blocks costs a few polls a block, also beside a put that has finished and
     waits for its last block, and beside a client that is silent. However slow the host is, a poll that finds nothing
     takes a second, or half of one once after each block."""
@@ -93,7 +93,7 @@ def test_a_transfer_that_waits_makes_no_polls(scene):
     expect(polls < 41 * 4 + 60 + 3 * seconds, True, f"whether {polls} polls are few in {seconds:.1f} s")
 
 
-def test_requests_take_turns_with_transfers(scene):
+def test_requests_take_turns_with_transfers(scene) -> None:
     """Twenty requests wait at the request port. The server polls between two that it opens, so that no transfer waits for
     all of them."""
     scene.make("a", b"ABC")
@@ -112,7 +112,7 @@ def test_requests_take_turns_with_transfers(scene):
 PAUSE, MEGABYTE = 20, 17
 
 
-def test_a_sync_waits_until_no_port_is_ready(scene):
+def test_a_sync_waits_until_no_port_is_ready(scene) -> None:
     """A long put is synced before its last block, a megabyte at a time, and each time after a poll that found nothing.
     That comes for certain where the client sends nothing until then; where it is slow it may come earlier. Between two
     of its waits there are always enough bytes for one sync, and never for two."""
@@ -133,7 +133,7 @@ def test_a_sync_waits_until_no_port_is_ready(scene):
 LONG = 1_300
 
 
-def arrived(port, expected):
+def arrived(port, expected) -> tuple[float, tuple[str, int]]:
     """Waits for a datagram, and returns when it came to the port, in seconds by the clock of the kernel, and from
     where."""
     port.socket.settimeout(PATIENCE)
@@ -143,14 +143,14 @@ def arrived(port, expected):
     return seconds + nanos / 1e9, sender
 
 
-def timed_port(scene):
+def timed_port(scene) -> socket.socket:
     """A port whose datagrams have the time at which they came."""
     port = scene.port()
     port.socket.setsockopt(socket.SOL_SOCKET, SO_TIMESTAMPNS, 1)
     return port
 
 
-def test_a_deadline_runs_from_a_slow_opening(scene):
+def test_a_deadline_runs_from_a_slow_opening(scene) -> None:
     """The opening of a file takes longer than the timeout of its transfer: what answers the request is sent again a
     timeout after it was sent, not at once."""
     scene.make("slow", b"ABC")
@@ -163,7 +163,7 @@ def test_a_deadline_runs_from_a_slow_opening(scene):
     End(port, transfer).send(error(0, "stop"))
 
 
-def test_a_deadline_runs_from_a_slow_commit(scene):
+def test_a_deadline_runs_from_a_slow_commit(scene) -> None:
     """The commit of a put takes longer than the timeout of its transfer. The server still dallies for two timeouts
     after its last ACK."""
     server = scene.delay(millis=LONG)
@@ -177,7 +177,7 @@ def test_a_deadline_runs_from_a_slow_commit(scene):
     expect(lasted > 1.99, True, f"whether the server dallied for two seconds, not for {lasted:.3f} s")
 
 
-def served_ports(scene, server, count):
+def served_ports(scene, server, count) -> list[int]:
     """The ports of so many transfers, one after the other."""
     ports = []
     for _ in range(count):
@@ -187,7 +187,7 @@ def served_ports(scene, server, count):
     return ports
 
 
-def test_ports_are_used_each_once_before_any_again(scene):
+def test_ports_are_used_each_once_before_any_again(scene) -> None:
     """Transfers use the ports of `--ports` alone, each once before any again, and two servers in another order."""
     scene.make("a", b"ABC")
     first = free_ports(12)
@@ -202,7 +202,7 @@ def test_ports_are_used_each_once_before_any_again(scene):
     expect(orders[0] == orders[1], False, f"whether two servers have the same order {orders[0]}")
 
 
-def test_ports_in_use_are_passed_over(scene):
+def test_ports_in_use_are_passed_over(scene) -> None:
     """A port in use is passed over, also one of a transfer that is open. Where all are in use a request is lost."""
     scene.make("a", b"ABC")
     first = free_ports(4)

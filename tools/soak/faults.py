@@ -8,6 +8,7 @@ import signal
 import subprocess
 import time
 from contextlib import suppress
+from typing import Any, Optional
 
 from ports import PATIENCE, Failure, Program, Server
 
@@ -20,17 +21,17 @@ PATIENTLY = ["--timeout", "5", "--retries", "10"]
 STARTED = []
 
 
-def begun(program):
+def begun(program) -> Any:
     STARTED.append(program)
     return program
 
 
-def end_all():
+def end_all() -> None:
     while STARTED:
         STARTED.pop().end()
 
 
-def clients(programs, folder, server, count, words=PATIENTLY):
+def clients(programs, folder, server, count, words=PATIENTLY) -> list[tuple[Program, Any]]:
     """Starts so many gets and as many puts of a long file."""
     started = []
     for at in range(count):
@@ -42,13 +43,13 @@ def clients(programs, folder, server, count, words=PATIENTLY):
     return started
 
 
-def whole_or_absent(path):
+def whole_or_absent(path) -> bool:
     if path.exists() and path.read_bytes() != LONG:
         raise Failure(f"{path.name} has {path.stat().st_size} bytes, and is not whole")
     return path.exists()
 
 
-def all_end(started, may_fail):
+def all_end(started, may_fail) -> int:
     """Each client ends; of what completes the file is whole. Returns how many did."""
     complete = 0
     for client, path in started:
@@ -63,7 +64,7 @@ def all_end(started, may_fail):
     return complete
 
 
-def last_get(programs, folder, server):
+def last_get(programs, folder, server) -> tuple[int, str]:
     """A get of the long file. Returns its status and what it wrote on standard error."""
     target = folder / f"last{time.monotonic_ns()}"
     words = ["get", server.word, "long", target.name, "--no-dally", "--blksize", "1428", *PATIENTLY]
@@ -73,14 +74,14 @@ def last_get(programs, folder, server):
     return status, errors
 
 
-def serves(programs, folder, server):
+def serves(programs, folder, server) -> None:
     """A get succeeds."""
     status, errors = last_get(programs, folder, server)
     if status != 0:
         raise Failure(f"a get afterwards: status {status}: {errors!r}")
 
 
-def serves_again(programs, folder, server):
+def serves_again(programs, folder, server) -> None:
     """A get succeeds at some time, which it has to."""
     end = time.monotonic() + PATIENCE
     while last_get(programs, folder, server)[0] != 0:
@@ -89,12 +90,12 @@ def serves_again(programs, folder, server):
         time.sleep(0.2)
 
 
-def started_server(programs, folder, **more):
+def started_server(programs, folder, **more) -> Server:
     (folder / "long").write_bytes(LONG)
     return begun(Server(programs["tftpd"], folder, ["--cap", "64", "--retries", "10", "--forever"], LIFE, **more))
 
 
-def stop_and_go_on(programs, folder, rng):
+def stop_and_go_on(programs, folder, rng) -> None:
     """Server and clients are stopped for a while, by turns."""
     server = started_server(programs, folder)
     started = clients(programs, folder, server, 3)
@@ -110,7 +111,7 @@ def stop_and_go_on(programs, folder, rng):
     server.end()
 
 
-def kill_and_restart(programs, folder, rng):
+def kill_and_restart(programs, folder, rng) -> None:
     """The server is killed in mid-transfer, and another takes its place."""
     server = started_server(programs, folder)
     started = clients(programs, folder, server, 4, ["--retries", "0"])
@@ -124,7 +125,7 @@ def kill_and_restart(programs, folder, rng):
     server.end()
 
 
-def few_files(programs, folder, rng):
+def few_files(programs, folder, rng) -> None:
     """With few open files some requests are refused or lost, and then the server goes on."""
     server = started_server(programs, folder, limit=f"-n {rng.randrange(7, 16)}")
     all_end(clients(programs, folder, server, 4, ["--retries", "1"]), True)
@@ -133,7 +134,7 @@ def few_files(programs, folder, rng):
     server.end()
 
 
-def small_files(programs, folder, rng):
+def small_files(programs, folder, rng) -> None:
     """No file may be longer than some blocks of the disk."""
     server = started_server(programs, folder, limit=f"-f {rng.randrange(1, 1_500)}")
     all_end(clients(programs, folder, server, 2, ["--blksize", "1428", *PATIENTLY]), True)
@@ -141,7 +142,7 @@ def small_files(programs, folder, rng):
     server.end()
 
 
-def served_file_changes(programs, folder, rng):
+def served_file_changes(programs, folder, rng) -> None:
     """A served file is cut, or replaced by another, while it is sent: no client completes with a mixture of lengths."""
     server = started_server(programs, folder)
     started = [(begun(Program([programs["tftp"], "get", server.word, "long", f"got{at}", *PATIENTLY], folder, LIFE)),
@@ -163,7 +164,7 @@ def served_file_changes(programs, folder, rng):
     server.end()
 
 
-def folder_is_exchanged(programs, folder, rng):
+def folder_is_exchanged(programs, folder, rng) -> None:
     """A folder becomes a link out of ROOT while files are put into it: none arrives outside."""
     root, outside = folder / "root", folder / "outside"
     for path in (root, root / "sub", outside):
@@ -188,7 +189,7 @@ def folder_is_exchanged(programs, folder, rng):
     server.end()
 
 
-def closed_streams(programs, folder, rng):
+def closed_streams(programs, folder, rng) -> None:
     """A client whose standard streams are closed writes nothing of its own into a file."""
     server = started_server(programs, folder)
     for at, closed in enumerate(["<&-", ">&-", "2>&-", "<&- >&- 2>&-"]):
@@ -203,7 +204,7 @@ def closed_streams(programs, folder, rng):
     server.end()
 
 
-def full_disk(programs, folder, rng):
+def full_disk(programs, folder, rng) -> Optional[str]:
     """A put into a file system that is full is refused, and leaves no file with a name. Skipped where none can be made:
     by root, or by a user who runs the whole in a namespace (`unshare --map-root-user --mount`)."""
     root = folder / "small"
@@ -232,7 +233,7 @@ TRIALS = [stop_and_go_on, kill_and_restart, few_files, small_files, served_file_
           closed_streams, full_disk]
 
 
-def run(programs, folder, rng, seconds):
+def run(programs, folder, rng, seconds) -> dict[str, int]:
     """Runs each trial once, and then any until the time is over. Returns how many, and what was skipped."""
     end, counts, at = time.monotonic() + seconds, {"faults": 0}, 0
     while at < len(TRIALS) or time.monotonic() < end:

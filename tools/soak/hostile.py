@@ -5,6 +5,7 @@ status and its file are the model's, too.
 """
 import time
 from collections import Counter
+from typing import Any, Iterator, Optional
 
 import model
 from mutations import mutated, random_bytes
@@ -20,7 +21,7 @@ SIZES = [8, 100, 512, 1_428, 65_464]
 class Trial:
     """One client, and the ports of its server: where requests come, two others, and one of another address."""
 
-    def __init__(self, programs, folder, rng, name):
+    def __init__(self, programs, folder, rng, name) -> None:
         self.rng, self.folder, self.local = rng, folder, name
         self.kind, self.mode = rng.choice(["RRQ", "WRQ"]), rng.choice([b"octet", b"octet", b"netascii"])
         self.content = (b"a line\r\nof a file\n" * 90)[:rng.choice([0, 1, 511, 512, 1_500])] * rng.choice([1, 1, 9])
@@ -43,7 +44,7 @@ class Trial:
         self.began = time.time()
         self.client = Program([programs["tftp"], *command, *flags], folder, LIFE)
 
-    def options(self):
+    def options(self) -> tuple[dict[bytes, bytes], list[str]]:
         rng, asked, words = self.rng, {}, []
         length = len(model.wire_text(self.mode, self.content)) if self.kind == "WRQ" else 0
         for name, value in [(b"blksize", rng.choice(SIZES)), (b"timeout", rng.choice([1, 2])), (b"tsize", length)]:
@@ -52,12 +53,12 @@ class Trial:
                 words += [f"--{name.decode()}"] + [f"{value}"] * (name != b"tsize")
         return asked, words
 
-    def close(self):
+    def close(self) -> None:
         self.client.end()
         for port in self.ports:
             port.close()
 
-    def begin(self, asked):
+    def begin(self, asked) -> None:
         """Receives the request, which is the model's."""
         self.asked, self.older = asked, []
         spelled = [(name, b"%d" % value) for name, value in asked.items()
@@ -77,7 +78,7 @@ class Trial:
 
     # ---- what is sent
 
-    def right(self):
+    def right(self) -> bytes:
         """What a right server sends next."""
         end = self.model.end
         if not end and self.rng.random() < 0.6:
@@ -95,7 +96,7 @@ class Trial:
         number = end.number if end.is_complete else end.number + 1
         return model.data(number, self.text[(number - 1) * end.size:number * end.size])
 
-    def agreed(self, name, value):
+    def agreed(self, name, value) -> Any:
         """What a server may answer to this value of an option: smaller blocks, and some length of the file."""
         if name == b"blksize" and self.rng.random() < 0.3:
             return self.rng.randrange(8, value + 1)
@@ -103,12 +104,12 @@ class Trial:
             return self.rng.choice([0, 5, LIMIT, LIMIT, LIMIT + 1])
         return value
 
-    def text_to_send(self, size):
+    def text_to_send(self, size) -> bytes:
         content = self.rng.randbytes(self.rng.choice([0, 3, size, 9 * size + 1]))
         is_wrong = self.mode == b"netascii" and self.rng.random() < 0.2
         return content if is_wrong else model.wire_text(self.mode, content)
 
-    def datagram(self):
+    def datagram(self) -> bytes:
         rng, right = self.rng, self.right()
         dice = rng.random()
         if dice < 0.94:
@@ -118,21 +119,21 @@ class Trial:
         return rng.choice([self.request, model.error("disk full"), model.error("option refused"), b"\0\5",
                            b"\0\6blksize\x009\0", b"\0\6tsize\x005\0tsize\x005\0", random_bytes(rng, b"")])
 
-    def peer_port(self):
+    def peer_port(self) -> Port:
         """The port that the client has accepted, or one that it may."""
         end = self.model.end
         if end:
             return next(port for port in self.ports if port.address == end.peer)
         return self.rng.choice([self.requests, self.first])
 
-    def burst(self):
+    def burst(self) -> None:
         for _ in range(self.rng.choice([1, 1, 2, 3])):
             port = self.peer_port() if self.rng.random() < 0.93 else self.rng.choice(self.ports)
             self.say(port, self.datagram())
             if self.outcome() or (self.model.end and self.model.end.is_complete):
                 return
 
-    def say(self, port, datagram):
+    def say(self, port, datagram) -> None:
         end, moved = self.model.end, self.model.end.moved if self.model.end else 0
         newest = self.newest()
         when = port.send(datagram, self.address)
@@ -148,16 +149,16 @@ class Trial:
         if answer:
             self.expected[port].append(answer)
 
-    def outcome(self):
+    def outcome(self) -> Optional[str]:
         end = self.model.end
         return end.outcome if end else self.model.outcome
 
-    def newest(self):
+    def newest(self) -> Sent:
         """The datagram that the client sends again."""
         left, interval, _ = self.timers()
         return Sent(self.model.end.newest if self.model.end else self.request, self.began - EARLY, interval, left)
 
-    def timers(self):
+    def timers(self) -> tuple[int, float, float]:
         """The retries left, the interval, and the seconds until it closes without progress."""
         end = self.model.end
         if isinstance(end, model.Receiver) and end.is_complete:
@@ -168,7 +169,7 @@ class Trial:
 
     # ---- what is received
 
-    def take(self):
+    def take(self) -> None:
         """Receives until all that is expected has come."""
         end = time.monotonic() + PATIENCE
         while True:
@@ -182,7 +183,7 @@ class Trial:
                 raise Failure(f"{self.local}: no answer {self.expected[port][0][:60]}", port.seen)
             wait_for(self.ports, 0.2)
 
-    def arrived(self, port):
+    def arrived(self, port) -> Iterator[Any]:
         """The datagrams that wait at a port; where a request without options follows, those before it."""
         while port is not self.requests or not self.tries_again() or self.expected[port]:
             found = next(port.arrived(), None)
@@ -190,7 +191,7 @@ class Trial:
                 return
             yield found
 
-    def take_of(self, port, datagram, sender, when):
+    def take_of(self, port, datagram, sender, when) -> None:
         if sender != self.address:
             raise Failure(f"{datagram[:60]} from {sender} in place of {self.address}", port.seen)
         if self.expected[port] and datagram == self.expected[port][0]:
@@ -208,7 +209,7 @@ class Trial:
 
     # ---- the whole
 
-    def run(self):
+    def run(self) -> dict[str, int]:
         self.begin(self.asked)
         self.converse()
         if self.tries_again():
@@ -217,11 +218,11 @@ class Trial:
         self.finish()
         return self.counts
 
-    def tries_again(self):
+    def tries_again(self) -> bool:
         """Whether a request without options follows, at the first of the ports."""
         return self.falls_back and bool(self.asked) and self.outcome() == "PeerError(8)"
 
-    def converse(self):
+    def converse(self) -> None:
         silent = self.rng.random() < 0.05
         while not self.outcome() and not silent and self.timers()[2] > STALL:
             self.burst()
@@ -230,7 +231,7 @@ class Trial:
             silent = (end and end.is_complete and (not self.dallies or self.rng.random() < 0.5)) or \
                 self.rng.random() < 0.01
 
-    def finish(self):
+    def finish(self) -> None:
         """The client ends as the model says, once what it repeats until then has come."""
         end = time.monotonic() + PATIENCE + max(self.timers()[2], 0)
         while self.client.process.poll() is None and time.monotonic() < end:
@@ -254,13 +255,13 @@ class Trial:
         if self.kind == "RRQ":
             self.has_file(content if is_whole else None)
 
-    def has_file(self, content):
+    def has_file(self, content) -> None:
         path = self.folder / self.local
         if (path.read_bytes() if path.exists() else None) != content:
             raise Failure(f"{self.local}: the file is not the one that was sent", self.first.seen)
 
 
-def run(programs, folder, rng, seconds):
+def run(programs, folder, rng, seconds) -> dict[str, int]:
     """Runs trials for so long, one after another. Returns their counts together."""
     counts, end, at = Counter(), time.monotonic() + seconds, 0
     while time.monotonic() < end:

@@ -9,21 +9,21 @@ from lossy import LIFE, LONGEST
 PATIENTLY = ["--retries", "10", "--timeout", "5", "--blksize", "8"]
 
 
-def ends(client, status, printed, errors):
+def ends(client, status, printed, errors) -> None:
     found = client.ended(LIFE)
     client.end()
     if found != (status, printed, errors):
         raise Failure(f"a client at the limit of block numbers: {found}; expected {(status, printed, errors)}")
 
 
-def run(programs, folder, rng, seconds):
+def run(programs, folder, rng, seconds) -> dict[str, int]:
     """Returns the counts."""
     began, content = time.monotonic(), rng.randbytes(LONGEST)
     (folder / "longest").write_bytes(content)
     (folder / "longer").write_bytes(content + b"1")
     server = Server(programs["tftpd"], folder, ["--forever", "--retries", "10"], seconds + LAST)
 
-    def tftp(*words):
+    def tftp(*words) -> Program:
         return Program([programs["tftp"], words[0], server.word, *words[1:], *PATIENTLY], folder, LIFE)
 
     try:

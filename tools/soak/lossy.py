@@ -31,7 +31,7 @@ LEAST, SHARE = 1, 1 / 3
 class Network:
     """Between one client and a server. For each transfer that the client's requests open it has a port."""
 
-    def __init__(self, server, rng, rates, out_of):
+    def __init__(self, server, rng, rates, out_of) -> None:
         self.server, self.rng, self.rates, self.out_of = server, rng, rates, out_of
         self.requests, self.outside = Port(), Port()
         # strays are from another address: a client takes its first answer from any port of the server's
@@ -42,17 +42,17 @@ class Network:
         self.thread = threading.Thread(target=self.run)
         self.thread.start()
 
-    def close(self):
+    def close(self) -> None:
         self.is_closed.set()
         self.thread.join()
         for port in [self.requests, self.outside, self.elsewhere, *self.transfers.values()]:
             port.close()
 
-    def opened(self):
+    def opened(self) -> set[tuple[str, int]]:
         """The ports of the transfers that the server has opened for this client."""
         return {address[1] for address in list(self.transfers) if address != self.server}
 
-    def run(self):
+    def run(self) -> None:
         while not self.is_closed.is_set():
             ports = [self.requests, self.outside, *self.transfers.values()]
             wait_for(ports, 0.05)
@@ -67,7 +67,7 @@ class Network:
                 for datagram, _, _ in port.arrived():
                     self.carry(datagram, self.outside, transfer)
 
-    def carry(self, datagram, port, to):
+    def carry(self, datagram, port, to) -> None:
         """Sends what comes of a datagram: nothing, itself, twice, or later, and what was late."""
         self.counts["datagrams"] += 1
         number, was_late = self.rng.randrange(self.out_of), self.late.pop((port, to), [])
@@ -86,7 +86,7 @@ class Network:
             port.send(each, to)
 
 
-def words_of(rng, is_long):
+def words_of(rng, is_long) -> list[str]:
     if is_long:
         return ["--blksize", "8"]
     words = [] if rng.random() < 0.4 else ["--blksize", f"{rng.choice([8, 512, 1_428, 65_464])}"]
@@ -96,7 +96,7 @@ def words_of(rng, is_long):
 class Trial:
     """One client of the server, over a network of its own, and the lines of the server on it."""
 
-    def __init__(self, programs, folder, server, rng, name, is_read, life=LIFE, is_long=False):
+    def __init__(self, programs, folder, server, rng, name, is_read, life=LIFE, is_long=False) -> None:
         self.folder, self.name, self.is_read, self.life = folder, name, is_read, life
         length = LONGEST if is_long else rng.choice(EDGES)
         words = words_of(rng, is_long)
@@ -111,15 +111,15 @@ class Trial:
             ["put", self.network.requests.word(), self.target, self.source]
         self.client = Program([programs["tftp"], *command, *words], folder, life)
 
-    def close(self):
+    def close(self) -> None:
         self.client.end()
         self.network.close()
 
-    def has_ended(self):
+    def has_ended(self) -> bool:
         self.client.take()
         return self.client.process.poll() is not None
 
-    def finish(self):
+    def finish(self) -> None:
         """The client has ended. A file that it reports is whole."""
         status, printed, errors = self.client.ended()
         given = self.source if not self.is_read else self.target
@@ -133,13 +133,13 @@ class Trial:
             raise Failure(f"{self.name}: a file that is not whole")
         self.is_complete, self.since = status == 0, time.monotonic()
 
-    def take_line(self, transfer, outcome):
+    def take_line(self, transfer, outcome) -> None:
         """The server has closed a transfer of this client."""
         if outcome not in OUTCOMES or transfer not in self.network.opened():
             raise Failure(f"{self.name}: the server closes {transfer} of {self.network.opened()} as {outcome}")
         self.outcomes.setdefault(transfer, []).append(outcome)
 
-    def is_settled(self):
+    def is_settled(self) -> bool:
         """Whether the server has closed all transfers of this client, which it has to do in time; then each end has what
         the other reports."""
         if self.is_complete is None:
@@ -161,7 +161,7 @@ class Trial:
 class Trials:
     """The clients that run, those whose transfers the server has still open, and the counts."""
 
-    def __init__(self, programs, folder, rng, life, is_long):
+    def __init__(self, programs, folder, rng, life, is_long) -> None:
         self.programs, self.folder, self.rng, self.life, self.is_long = programs, folder, rng, life, is_long
         # (a request that comes late opens a transfer though its client has ended: those that have, by their ports)
         self.running, self.settling, self.past = [], [], {}
@@ -169,14 +169,14 @@ class Trials:
         words = ["--cap", "64", "--forever", "--max-block", "65464"]
         self.server = Server(programs["tftpd"], folder, words, life + LAST)
 
-    def begin(self):
+    def begin(self) -> None:
         name, own = f"{self.counts['transfers']}", random.Random(self.rng.random())
         is_read = self.is_long or self.counts["transfers"] % 2 == 0
         trial = Trial(self.programs, self.folder, self.server, own, name, is_read, self.life, self.is_long)
         self.running.append(trial)
         self.counts["transfers"] += 1
 
-    def step(self):
+    def step(self) -> None:
         """Looks at the clients and the lines of the server once."""
         time.sleep(0.05)
         for line in self.server.lines():
@@ -194,7 +194,7 @@ class Trials:
             for name, count in trial.network.counts.items():
                 self.counts[name] += count
 
-    def take_line(self, line):
+    def take_line(self, line) -> None:
         words = line.split()
         if len(words) != 3:
             raise Failure(f"a line of the server: {line!r}")
@@ -205,22 +205,22 @@ class Trials:
         elif client not in self.past or outcome not in OUTCOMES - {"Complete"}:
             raise Failure(f"a line of a transfer whose client has ended, or of none: {line}")
 
-    def complete(self, way):
+    def complete(self, way) -> int:
         return self.counts[f"{way} complete"]
 
-    def have_least(self):
+    def have_least(self) -> bool:
         """Whether enough transfers are complete."""
         ways = ["reads"] if self.is_long else ["reads", "writes"]
         return all(self.complete(way) >= LEAST for way in ways) and \
             self.complete("reads") + self.complete("writes") >= SHARE * self.counts["transfers"]
 
-    def close(self):
+    def close(self) -> None:
         for trial in self.running + self.settling:
             trial.close()
         self.server.end()
 
 
-def run(programs, folder, rng, seconds, is_long=False):
+def run(programs, folder, rng, seconds, is_long=False) -> dict[str, int]:
     """Runs clients side by side for so long, or one of 65,535 blocks. Returns the counts."""
     end = time.monotonic() + seconds
     # on a busy host so many blocks take some minutes

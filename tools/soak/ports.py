@@ -6,6 +6,7 @@ import sys
 import time
 from contextlib import suppress
 from pathlib import Path
+from typing import Any, Iterator
 
 sys.path.append(str(Path(__file__).resolve().parent.parent))
 from lib import process
@@ -30,10 +31,10 @@ class Sent:
     """A datagram that an end sends again while it has no answer: when the first copy may be due, how many seconds it
     is from one to the next, and how many there may be."""
 
-    def __init__(self, datagram, began, interval, left):
+    def __init__(self, datagram, began, interval, left) -> None:
         self.datagram, self.due, self.interval, self.left = datagram, began + interval, interval, left
 
-    def may_come(self, datagram, when):
+    def may_come(self, datagram, when) -> bool:
         """Whether a datagram that arrived then may be the next copy; then the one after it is due later."""
         if datagram != self.datagram or when < self.due or self.left == 0:
             return False
@@ -44,7 +45,7 @@ class Sent:
 class Port:
     """A port that the system chooses. `seen` has the last datagrams that it sent and received."""
 
-    def __init__(self, address=HOST):
+    def __init__(self, address=HOST) -> None:
         self.socket = socket.socket(socket.AF_INET, socket.SOCK_DGRAM)
         self.socket.setsockopt(socket.SOL_SOCKET, TIMESTAMP, 1)
         self.socket.setsockopt(socket.SOL_SOCKET, socket.SO_RCVBUF, 1 << 20)
@@ -53,20 +54,20 @@ class Port:
         self.address = self.socket.getsockname()
         self.seen = []
 
-    def word(self):
+    def word(self) -> str:
         return f"{self.address[0]}:{self.address[1]}"
 
-    def note(self, datagram):
+    def note(self, datagram) -> None:
         self.seen = self.seen[-11:] + [datagram]
 
-    def send(self, datagram, to):
+    def send(self, datagram, to) -> float:
         """Sends a datagram, and returns the time just before."""
         now = time.time()
         self.note(datagram)
         self.socket.sendto(datagram, to)
         return now
 
-    def arrived(self):
+    def arrived(self) -> Iterator[Any]:
         """The datagrams that wait, each with its sender and the time of its arrival."""
         with suppress(BlockingIOError):
             while True:
@@ -76,11 +77,11 @@ class Port:
                 self.note(datagram)
                 yield datagram, sender, when
 
-    def close(self):
+    def close(self) -> None:
         self.socket.close()
 
 
-def wait_for(ports, seconds):
+def wait_for(ports, seconds) -> None:
     """Waits until a datagram or a line is there, or so long."""
     with suppress(ValueError):
         select.select([each.socket if isinstance(each, Port) else each for each in ports], [], [], max(seconds, 0))
@@ -89,5 +90,5 @@ def wait_for(ports, seconds):
 class Server(process.Server):
     """A `tftpd` that listens at HOST."""
 
-    def __init__(self, program, folder, words, life, limit=None, root="."):
+    def __init__(self, program, folder, words, life, limit=None, root=".") -> None:
         super().__init__(program, HOST, folder, words, life, limit, root)

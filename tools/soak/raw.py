@@ -39,7 +39,7 @@ CUT, CUT_LENGTH = [f"cut{at}" for at in range(6)], 300_000
 FLAGS = {"replaces": "--overwrite", "is_read_only": "--read-only"}
 
 
-def words_of(limits):
+def words_of(limits) -> list[str]:
     """The words of a server with these limits."""
     words = [FLAGS[name] for name, value in limits.items() if name in FLAGS and value]
     for name, value in limits.items():
@@ -51,7 +51,7 @@ def words_of(limits):
 class Live:
     """A client's port, what the request port and the transfer owe it, and the model's end once a transfer opens."""
 
-    def __init__(self, port):
+    def __init__(self, port) -> None:
         self.port, self.end, self.transfer, self.text = port, None, None, None
         # whether the file that it reads was cut short meanwhile
         self.is_cut = False
@@ -60,33 +60,33 @@ class Live:
         # `began` is the earliest time at which the timer of the newest datagram may have begun
         self.refusals, self.expected, self.began = [], [], None
 
-    def opens(self, end, text, began):
+    def opens(self, end, text, began) -> None:
         self.end, self.text, self.began = end, text, began
         self.expected.append(end.newest)
 
-    def was_in_time(self):
+    def was_in_time(self) -> None:
         """Nothing can have closed the transfer before what was just sent to it was there."""
         if self.end and not self.end.outcome and self.left() < EARLY:
             raise Stalled
 
-    def is_owed(self):
+    def is_owed(self) -> bool:
         return bool(self.refusals or self.expected)
 
-    def may_close(self, seconds):
+    def may_close(self, seconds) -> bool:
         """Whether its transfer closes by itself within so many seconds."""
         return bool(self.end) and self.left() < seconds
 
-    def left(self):
+    def left(self) -> float:
         """How long it stays open without progress, in seconds."""
         end = self.end
         is_dallying = isinstance(end, model.Receiver) and end.is_complete
         timeouts = 2 - end.silences if is_dallying else end.left + 1
         return self.began + timeouts * end.interval - time.time()
 
-    def is_open(self):
-        return self.end and self.transfer and not self.end.outcome and self.left() > STALL
+    def is_open(self) -> bool:
+        return bool(self.end and self.transfer) and not self.end.outcome and self.left() > STALL
 
-    def next_datagram(self):
+    def next_datagram(self) -> bytes:
         """What a right client would send next."""
         end = self.end
         if isinstance(end, model.Sender):
@@ -94,7 +94,7 @@ class Live:
         number = end.number if end.is_complete else end.number + 1
         return model.data(number, self.text[(number - 1) * end.size:number * end.size])
 
-    def ends_with(self, datagram):
+    def ends_with(self, datagram) -> bool:
         """Whether the server commits a file by this datagram."""
         end, packet = self.end, model.decode(datagram)
         return (isinstance(end, model.Receiver) and isinstance(packet, model.Data)
@@ -104,7 +104,7 @@ class Live:
 class Trial:
     """A server with raw clients, for some seconds."""
 
-    def __init__(self, program, folder, rng, life, **limits):
+    def __init__(self, program, folder, rng, life, **limits) -> None:
         self.rng, self.folder, self.counts = rng, folder, Counter()
         self.files = self.make_files(folder)
         limits = {"cap": MOST_CLIENTS, **limits}
@@ -116,7 +116,7 @@ class Trial:
         # handled in a round that began after this time
         self.round = time.time()
 
-    def make_files(self, folder):
+    def make_files(self, folder) -> dict[bytes, bytes]:
         (folder / "sub").mkdir()
         files = {}
         for at, length in enumerate(LENGTHS):
@@ -128,14 +128,14 @@ class Trial:
             (folder / name.decode()).write_bytes(content)
         return files
 
-    def close(self):
+    def close(self) -> None:
         self.server.end()
         for port in [self.probe, self.stranger, *[each.port for each in self.live]]:
             port.close()
 
     # ---- what is sent
 
-    def options(self):
+    def options(self) -> list[tuple[bytes, bytes]]:
         rng, options = self.rng, []
         choices = [(b"blksize", rng.choice(SIZES + [7, 65_465])), (b"timeout", rng.choice([3, 3, 5, 0, 256])),
                    (b"tsize", rng.choice([0, 0, 100, 601, 2**64 - 1, 2**64])), (b"windowsize", 4), (b"BLKSIZE", 512),
@@ -144,7 +144,7 @@ class Trial:
             options.append((name, str(value).encode()))
         return options
 
-    def request(self):
+    def request(self) -> bytes:
         rng = self.rng
         mode = rng.choice([b"octet", b"octet", b"netascii", b"NetASCII", b"OcTeT", b"mail"])
         if rng.random() < 0.06:
@@ -160,7 +160,7 @@ class Trial:
         written = [each.end.path for each in self.live if isinstance(each.end, model.Receiver) and not each.end.outcome]
         return model.request("WRQ", rng.choice(names + written[-2:]), mode, self.options())
 
-    def ask(self):
+    def ask(self) -> None:
         """A burst at the request port. A request may come twice, and other datagrams with it. Where a client may be told
         that the server is busy, no transfer closes meanwhile."""
         self.is_near = len(self.port.held) + MOST_ASKED > self.port.cap
@@ -176,12 +176,12 @@ class Trial:
             live.was_in_time()
         self.was_near_in_time()
 
-    def was_near_in_time(self):
+    def was_near_in_time(self) -> None:
         """No transfer has closed by itself since the last requests, where one more or less decides about the answers."""
         if self.is_near and any(each.may_close(EARLY) for each in self.live):
             raise Stalled
 
-    def ask_once(self, live, datagram):
+    def ask_once(self, live, datagram) -> None:
         answer, end = self.port.on_datagram(live.port.address, datagram)
         self.sent(live.port, datagram, self.server.address)
         if end:
@@ -191,22 +191,22 @@ class Trial:
             live.refusals.append(answer)
             self.note(answer)
 
-    def note(self, answer):
+    def note(self, answer) -> None:
         """Counts the ERRORs by their texts."""
         if answer[:2] == b"\0\5":
             self.counts[answer[4:-1].decode()] += 1
 
-    def text_to_send(self, end):
+    def text_to_send(self, end) -> bytes:
         # (of random bytes most are not netascii)
         content = self.rng.randbytes(self.rng.choice([0, 1, 10, 100, end.size, 3 * end.size + 5]))
         is_wrong = end.mode == b"netascii" and self.rng.random() < 0.5
         return content if is_wrong else model.wire_text(end.mode, content)
 
-    def sent(self, port, datagram, to):
+    def sent(self, port, datagram, to) -> float:
         self.counts["datagrams"] += 1
         return port.send(datagram, to)
 
-    def datagram_for(self, live):
+    def datagram_for(self, live) -> bytes:
         rng, right = self.rng, live.next_datagram()
         dice = rng.random()
         if dice < 0.85 or live.is_cut:
@@ -218,7 +218,7 @@ class Trial:
         return rng.choice([right, self.request(), model.error("disk full"), b"\0\5", b"\0\6a\0b\0",
                            random_bytes(rng, b"")])
 
-    def converse(self, live):
+    def converse(self, live) -> None:
         """A burst at the port of a transfer, at times with a stranger's datagram."""
         # (one of a file that was cut may be the last, for all that the model knows)
         for _ in range(1 if live.is_cut else self.rng.choice([1, 1, 1, 2, 3])):
@@ -234,7 +234,7 @@ class Trial:
             if live.end.outcome:
                 return
 
-    def say(self, live, datagram):
+    def say(self, live, datagram) -> None:
         end, moved = live.end, live.end.moved
         older = Sent(end.newest, live.began - EARLY, end.interval, end.left)
         self.sent(live.port, datagram, live.transfer)
@@ -246,7 +246,7 @@ class Trial:
             live.expected.append(answer)
             self.note(answer)
 
-    def cut_file(self):
+    def cut_file(self) -> None:
         """A file is cut short behind what its reader has, and another takes its name. The reader gets what was read before,
         and then an ERROR: no short block, which would be mistaken for the last (RFC 1350, section 6)."""
         readers = [live for live in self.live if live.is_open() and isinstance(live.end, model.Sender)
@@ -260,7 +260,7 @@ class Trial:
             for each in self.live:
                 each.is_cut = each.is_cut or (isinstance(each.end, model.Sender) and each.end.path == live.end.path)
 
-    def from_stranger(self, live):
+    def from_stranger(self, live) -> None:
         datagram = self.rng.choice([live.next_datagram(), b"\0\5\0\0\0", b"\0\5", b"x"])
         answer = live.end.on_datagram(self.stranger.address, datagram)
         self.sent(self.stranger, datagram, live.transfer)
@@ -269,7 +269,7 @@ class Trial:
             self.note(answer)
             self.receive_exactly(self.stranger, answer, live.transfer)
 
-    def receive_exactly(self, port, answer, sender):
+    def receive_exactly(self, port, answer, sender) -> None:
         end = time.monotonic() + PATIENCE
         while time.monotonic() < end:
             wait_for([port], 0.5)
@@ -281,7 +281,7 @@ class Trial:
 
     # ---- what is received
 
-    def take(self, seconds):
+    def take(self, seconds) -> None:
         """Receives for so long, or until all that is expected has come."""
         end = time.monotonic() + seconds
         while True:
@@ -297,10 +297,10 @@ class Trial:
                 live = next(each for each in self.live if each.is_owed())
                 raise Failure(f"no answer {[*live.refusals, *live.expected][0][:60]}", live.port.seen)
 
-    def is_owed(self):
+    def is_owed(self) -> bool:
         return any(each.is_owed() for each in self.live)
 
-    def take_of(self, live, datagram, sender, when):
+    def take_of(self, live, datagram, sender, when) -> None:
         if sender == self.server.address:
             if not live.refusals or datagram != live.refusals.pop(0):
                 self.was_near_in_time()
@@ -319,7 +319,7 @@ class Trial:
         else:
             self.take_again(live, datagram, when)
 
-    def take_again(self, live, datagram, when):
+    def take_again(self, live, datagram, when) -> None:
         """The datagram is a retransmission that is due."""
         end = live.end
         if not any(each.may_come(datagram, when) for each in live.older):
@@ -331,7 +331,7 @@ class Trial:
             live.began += end.interval
         self.counts["retransmissions"] += 1
 
-    def take_lines(self):
+    def take_lines(self) -> None:
         for line in self.server.lines():
             transfer, client, outcome = line.split()
             found = [each for each in self.live if each.port.address[1] == int(client) and each.transfer
@@ -340,7 +340,7 @@ class Trial:
                 raise Failure(f"a line of no transfer: {line}")
             self.take_close(found[0], outcome, line)
 
-    def take_close(self, live, outcome, line):
+    def take_close(self, live, outcome, line) -> None:
         for found in live.port.arrived():
             self.take_of(live, *found)
         end, since = live.end, time.time() - live.began
@@ -356,11 +356,11 @@ class Trial:
         self.port.has_closed(end)
         self.forget(live)
 
-    def forget(self, live):
+    def forget(self, live) -> None:
         self.live.remove(live)
         live.port.close()
 
-    def is_quiet(self):
+    def is_quiet(self) -> None:
         """Nothing else has been sent: a datagram that has one answer is handled after all before. The server handles one
         in a round, so that the second is handled in a round that began after the first was sent."""
         begun = time.time()
@@ -375,7 +375,7 @@ class Trial:
 
     # ---- the whole
 
-    def run(self, seconds):
+    def run(self, seconds) -> None:
         end = time.monotonic() + seconds
         self.is_quiet()
         while time.monotonic() < end:
@@ -392,7 +392,7 @@ class Trial:
             self.take(PATIENCE)
             self.is_quiet()
 
-    def finish(self):
+    def finish(self) -> tuple[int, float]:
         """Every transfer closes in time, a get succeeds, and every file is equal."""
         while self.live:
             longest = max(each.left() for each in self.live)
@@ -403,7 +403,7 @@ class Trial:
         return self.server.usage()
 
 
-def run(programs, folder, rng, seconds, **limits):
+def run(programs, folder, rng, seconds, **limits) -> dict[str, int]:
     """Runs a trial, and others where this host stalled. Returns their counts together."""
     counts, end, at = Counter(stalls=0), time.monotonic() + seconds, 0
     while at == 0 or time.monotonic() < end:
@@ -419,7 +419,7 @@ def run(programs, folder, rng, seconds, **limits):
     return counts
 
 
-def run_once(programs, folder, rng, seconds, **limits):
+def run_once(programs, folder, rng, seconds, **limits) -> dict[str, int]:
     """Returns the counts of a trial."""
     trial = Trial(programs["tftpd"], folder, rng, seconds + LAST, **limits)
     try:
@@ -437,7 +437,7 @@ def run_once(programs, folder, rng, seconds, **limits):
         trial.close()
 
 
-def has_files(folder, files):
+def has_files(folder, files) -> None:
     """The folder and those below have these files, and no other but drafts of transfers that failed."""
     paths = [path for path in folder.rglob("*") if not path.is_dir() and not path.name.startswith(".tftp-")]
     found = {str(path.relative_to(folder)).encode(): path.read_bytes() for path in paths}

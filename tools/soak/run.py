@@ -51,7 +51,7 @@ TRIALS = {
 LONG = {"65,535 blocks": lambda *it: lossy.run(*it, is_long=True)}
 
 
-def run_one(name, number, seed, seconds, paths, place):
+def run_one(name, number, seed, seconds, paths, place) -> int:
     """Runs a trial in this process, and prints what it tried. The status is 0, or 1 where it failed, and 3 where it
     failed and the host stalled."""
     stalls, began = Stalls(), time.monotonic()
@@ -74,7 +74,7 @@ def run_one(name, number, seed, seconds, paths, place):
 class Trial:
     """A trial that runs in a process of its own."""
 
-    def __init__(self, name, number, seed, seconds, words, folder):
+    def __init__(self, name, number, seed, seconds, words, folder) -> None:
         self.name, self.folder = name, Path(folder)
         self.folder.mkdir()
         self.end = time.monotonic() + seconds + LAST
@@ -82,7 +82,7 @@ class Trial:
         # (an address of its own: a server or a client of another trial may still send to a port that is used again)
         self.process = subprocess.Popen(command, stdout=subprocess.PIPE, stderr=subprocess.STDOUT, text=True)
 
-    def ended(self):
+    def ended(self) -> tuple[int, str]:
         """Its status, and what it printed."""
         try:
             printed, _ = self.process.communicate(timeout=max(self.end - time.monotonic(), 1))
@@ -92,7 +92,7 @@ class Trial:
         return self.process.returncode, printed
 
 
-def counts_of(printed):
+def counts_of(printed) -> dict[str, int]:
     """The counts that trials have printed, by their names."""
     counts = Counter()
     for line in printed.splitlines():
@@ -102,14 +102,14 @@ def counts_of(printed):
     return counts
 
 
-def unseen(printed):
+def unseen(printed) -> list[str]:
     """The ERRORs of a server that no trial has seen, where so many transfers were opened that each had to come."""
     counts = counts_of(printed)
     missing = sorted(raw.ERRORS - {name for name, count in counts.items() if count})
     return missing if counts["transfers"] >= MANY else []
 
 
-def main():
+def main() -> int:
     if sys.argv[1:2] == ["--one"]:
         name, number, seed, seconds, tftp, tftpd, place = sys.argv[2:]
         return run_one(name, int(number), int(seed), float(seconds), {"tftp": tftp, "tftpd": tftpd}, place)

@@ -60,12 +60,12 @@ AGREEMENTS = [
 ]
 
 
-def equal(found, expected, what):
+def equal(found, expected, what) -> None:
     if found != expected:
         raise SystemExit(f"vectors: {what}: {found!r}; expected {expected!r}")
 
 
-def small_parts():
+def small_parts() -> None:
     for digits, packet in PACKETS:
         equal(decode(bytes.fromhex(digits)), packet, digits)
     for content, text in TEXTS:
@@ -82,7 +82,7 @@ def small_parts():
         equal(agrees({b"blksize": 1_428, b"tsize": 0}, "RRQ", b"octet", options, 1_000), expected, options)
 
 
-def exchanges():
+def exchanges() -> None:
     """A read with options in which DATA 2 is lost and ACK 1 comes twice; a write that is committed and repeated."""
     client, stranger, port = ("127.0.0.1", 1), ("127.0.0.1", 2), RequestPort({b"a": b"x" * 600}, [])
     request = b"\0\1a\0octet\0blksize\x00512\0"

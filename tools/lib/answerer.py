@@ -1,0 +1,22 @@
+"""A server in place of tftpd, for checks of a client: it answers each datagram by one, from the port that it came to."""
+import socket
+import threading
+from typing import Callable, Optional
+
+
+class Answerer:
+    """Answers at a port of this host, as long as its process lives. `word` names the port as a client's command line
+    does; `answer` gives the answer to a datagram, or None for none."""
+
+    def __init__(self, host: str, answer: Callable[[bytes], Optional[bytes]]) -> None:
+        self.port, self.answer = socket.socket(socket.AF_INET, socket.SOCK_DGRAM), answer
+        self.port.bind((host, 0))
+        self.word = f"{host}:{self.port.getsockname()[1]}"
+        threading.Thread(target=self.run, daemon=True).start()
+
+    def run(self) -> None:
+        while True:
+            datagram, client = self.port.recvfrom(65_536)
+            answer = self.answer(datagram)
+            if answer is not None:
+                self.port.sendto(answer, client)
