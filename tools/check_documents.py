@@ -102,7 +102,8 @@ def tour(folder) -> int:
 
 
 def main() -> int:
-    documents = sorted([TOP / "README.md", *TOP.glob("docs/*.md"), *TOP.glob("crates/*/README.md"), *TOP.glob("man/*.[1-8]")])
+    patterns = ["README.md", "docs/*.md", "crates/*/README.md", "examples/*/README.md", "man/*.[1-8]"]
+    documents = sorted(path for pattern in patterns for path in TOP.glob(pattern))
     failures, compared, manuals = 0, 0, 0
     scripts = {path.name for path in TOP.glob("examples/*.script")}
     with tempfile.TemporaryDirectory() as folder:

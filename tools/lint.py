@@ -3,8 +3,8 @@
 
 ruff, or else pyflakes, at the Python files of tools/, bench/ and examples/, mypy at their types, and shellcheck at the
 shell scripts; each is skipped where it is not installed, and the last line but one says so. Each Python file compiles,
-and each function says what it returns. Lines of README.md, CONTRIBUTING.md and docs/ are at most 120 columns wide, but
-those of tables and code.
+and each function says what it returns. Lines of documents, but of the READMEs of crates, are at most 120 columns wide,
+without those of tables and code.
 """
 import ast
 import os
@@ -82,7 +82,8 @@ def scripts() -> list[str]:
 def wide_lines() -> list[str]:
     """Lines of documents that are wider than they may be."""
     found = []
-    for path in [TOP / "README.md", TOP / "CONTRIBUTING.md", TOP / "SECURITY.md", *sorted(TOP.glob("docs/*.md"))]:
+    for path in [TOP / "README.md", TOP / "CONTRIBUTING.md", TOP / "SECURITY.md", *sorted(TOP.glob("docs/*.md")),
+                 *sorted(TOP.glob("examples/*/README.md"))]:
         is_code = False
         for number, line in enumerate(path.read_text().splitlines(), 1):
             is_code ^= line.startswith("```")

@@ -1,5 +1,5 @@
 #!/bin/sh
-# Compares the pictures of examples/, and docs/boot.svg, with what tftp-play and tftp-show draw now: those of bin/, or else
+# Compares the pictures of examples/ with what tftp-play and tftp-show draw now: those of bin/, or else
 # those that `rt ci` left. With --write it draws them anew. Each drawing has two minutes.
 set -eu
 cd "$(dirname "$0")/../examples"
@@ -17,7 +17,7 @@ for name in lossy race; do
 done
 timeout 120 "$show" --flow --svg "$room/wire.svg" < wire.txt > /dev/null
 timeout 120 "$show" --flow --svg "$room/boot.svg" < netboot/uefi.txt > /dev/null
-for picture in lossy.svg race.svg wire.svg ../docs/boot.svg; do
+for picture in lossy.svg race.svg wire.svg netboot/boot.svg; do
     drawn=$room/${picture##*/}
     if test "${1-}" = --write; then
         cp "$drawn" "$picture"
