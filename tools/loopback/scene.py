@@ -115,6 +115,7 @@ class Server:
         os.waitid(os.P_PID, self.process.pid, os.WSTOPPED | os.WEXITED | os.WNOWAIT)
 
     def go_on(self) -> None:
+        """(Its `epoll_wait` ends by EINTR once, which counts as a wait.)"""
         os.kill(self.process.pid, signal.SIGCONT)
 
     def kill(self) -> None:
