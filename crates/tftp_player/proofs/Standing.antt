@@ -79,6 +79,14 @@ open_is x e = open_in x.state.position.phase x e where
   open_in (Dallying terms number dally) y e = refl
   open_in (Closed terms number complete outcome) y e = absurd (true≢false e)
 
+-- a closed one has its record
+pub standing_ended : (x : OpenEnd) → is_some (outcome_of x.state.position.phase) ≡ true →
+    standing x ≡ Closed_end (closed_end x)
+standing_ended x e = by_case (outcome_of x.state.position.phase) e where
+  by_case : (o : Option Outcome) → is_some o ≡ true → by_outcome o x ≡ Closed_end (closed_end x)
+  by_case None closed = absurd (true≢false (sym closed))
+  by_case (Some outcome) closed = refl
+
 -- and so it is shown: a closed one without its request
 pub standing_shown :
     (first : List Rule) (views : List EndView) (messages : List Message) (k : ℕ) (d : EndView) (x : OpenEnd) →
@@ -87,20 +95,13 @@ pub standing_shown :
     IsShownWithin two_hosts 3 first (set views k (view_of_end (standing x))) messages
 standing_shown first views messages k d x at shown = elim (cases_Bool (is_some (outcome_of x.state.position.phase))) [
   | inl closed ↦
-      shown_forgets two_hosts 3 first views messages k d (open_view x) (view_of_end (standing x)) at (standing_view x)
+      shown_forgets two_hosts 3 first views messages k d (open_view x) (view_of_end (standing x)) at
+      (standing_view x ∙ ap (λ (e : WorldEnd). record (open_view x) { request = end_request e }) (standing_ended x closed))
       (closed_over x closed) shown
   | inr open_now ↦
       subst (λ (v : EndView). IsShownWithin two_hosts 3 first (set views k v) messages)
       (sym (ap view_of_end (standing_open x open_now) ∙ open_is x open_now)) shown
 ]
-
--- a closed one has its record
-pub standing_ended : (x : OpenEnd) → is_some (outcome_of x.state.position.phase) ≡ true →
-    standing x ≡ Closed_end (closed_end x)
-standing_ended x e = by_case (outcome_of x.state.position.phase) e where
-  by_case : (o : Option Outcome) → is_some o ≡ true → by_outcome o x ≡ Closed_end (closed_end x)
-  by_case None closed = absurd (true≢false (sym closed))
-  by_case (Some outcome) closed = refl
 
 -- it is closed if it has ended
 pub standing_closed : (x : OpenEnd) → is_closed (standing x) ≡ is_some (outcome_of x.state.position.phase)

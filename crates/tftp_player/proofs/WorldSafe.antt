@@ -121,6 +121,7 @@ module _ (strangers : Bool) (w : WorldState) (ok : Refines strangers w) where
   sender_at : (x : WorldEnd) (p : Endpoint) (v : EndView) →
       IsSenderAt safety_view (IsAmong (map view_of_end w.ends)) p (end_mode x) v →
       (z : WorldEnd) × IsSenderAt safety_of (IsIn w) p (end_mode x) z × (v.text ≡ wire_text (end_mode x) (end_file z))
+      × ((end_record z).peer ≡ v.peer)
   sender_at x p v sender =
       let y = end_of w v sender.is_end in
       let z = y.0 in
@@ -135,6 +136,7 @@ module _ (strangers : Bool) (w : WorldState) (ok : Refines strangers w) where
         },
         ap (λ (e : EndView). e.text) (sym y.2)
             ∙ (sends z y.1 sends_it ∙ ap (λ (m : Mode). wire_text m (end_file z)) mode),
+        ap (λ (e : EndView). e.peer) y.2,
       )
 
   at_server : (x : WorldEnd) (p : Endpoint) → IsIn w x → is_client (end_record x).side ≡ true → HasPeer x p →
@@ -166,8 +168,13 @@ module _ (strangers : Bool) (w : WorldState) (ok : Refines strangers w) where
           g.1,
           λ own.
               let h = g.2 own in
-              let z = sender_at x g.0 h.0 h.1 in
-              (z.0, z.1, wire_same (end_mode x) (end_stored x) (end_file z.0) (sym (whole x r d) ∙ (h.2 ∙ z.2)), refl),
+              let z = sender_at x g.0 h.0 h.1 in (
+                z.0,
+                z.1,
+                z.3 ∙ h.2,
+                wire_same (end_mode x) (end_stored x) (end_file z.0) (sym (whole x r d) ∙ (h.3 ∙ z.2)),
+                refl,
+              ),
         );
     sender_last = λ x i s d.
         let g = safe.sender_last (view_of_end x) (among x i) s d in (

@@ -16,6 +16,7 @@ pub record Grows (x y : Party) : Type 0 where
   pub sender : y.sender ≡ x.sender
   pub plain : y.plain ≡ x.plain
   pub mode : y.mode ≡ x.mode
+  pub request : y.request ≡ x.request
   pub peer : (p : Endpoint) → x.peer ≡ Some p → y.peer ≡ Some p
   pub size : (p : Endpoint) → x.peer ≡ Some p → y.size ≡ x.size
   pub number : x.number ≤ y.number
@@ -30,6 +31,7 @@ Grows-same x o =
       sender = refl;
       plain = refl;
       mode = refl;
+      request = refl;
       peer = λ p e. e;
       size = λ p e. refl;
       number = omega arith;
@@ -62,7 +64,13 @@ AllGrow-with ends a x g = record {
 pub Attests-grows : (x y : Party) → (x.is_open ≡ true → Grows x y) → (to : Endpoint) (k : Packet) → Attests x to k →
     Attests y to k
 Attests-grows x y f to (Request write request) h = let g = f h.is_open in
-    record { is_open = g.is_open; client = g.client ∙ h.client; sender = g.sender ∙ h.sender; mode = g.mode ∙ h.mode }
+    record {
+      is_open = g.is_open;
+      client = g.client ∙ h.client;
+      sender = g.sender ∙ h.sender;
+      mode = g.mode ∙ h.mode;
+      request = g.request ∙ h.request;
+    }
 Attests-grows x y f to (Data n bytes) h = let g = f h.is_open in
     record {
       is_open = g.is_open;
@@ -99,11 +107,18 @@ IsServing-grows a x y z g h =
       size = g.size a h.peer ∙ h.size;
       mode = g.mode ∙ h.mode;
       sender = g.sender ∙ h.sender;
+      request = g.request ∙ h.request;
     }
 
 pub HasAsked-grows : (x y z : Party) → Grows y z → HasAsked x y → HasAsked x z
 HasAsked-grows x y z g h =
-    record { is_open = g.is_open; client = g.client ∙ h.client; mode = g.mode ∙ h.mode; sender = g.sender ∙ h.sender }
+    record {
+      is_open = g.is_open;
+      client = g.client ∙ h.client;
+      mode = g.mode ∙ h.mode;
+      sender = g.sender ∙ h.sender;
+      request = g.request ∙ h.request;
+    }
 
 pub HasReceived-grows : (x y z : Party) → Grows y z → y.sender ≡ true → HasReceived x y → HasReceived x z
 HasReceived-grows x y z g s h = let e = g.text s in
@@ -143,9 +158,8 @@ module _ (network : Network) where
     received =
         λ s p e o. let y = peer_of ends a x h p e o in
         HasReceived-grows x (ends p) (new p) (g.grows p y.is_open) (rw s at y.sender) (h.received s p e o);
-    ended =
-        λ s d p e o. let k = g.grows p (peer_of ends a x h p e o).is_open in
-        let b = h.ended s d p e o in (k.peer a b.0, k.complete b.1);
+    returned = λ d p e o. (g.grows p (peer_of ends a x h p e o).is_open).peer a (h.returned d p e o);
+    ended = λ s d p e o. (g.grows p (peer_of ends a x h p e o).is_open).complete (h.ended s d p e o);
   }
 
   -- the end at a became x, and these messages were added

@@ -76,7 +76,16 @@ module _ (network : Network) where
       let x = m.party at in
       let y = record x { number = x.number + 1; complete = nat_lt (length bytes) x.size; text = x.text ++ bytes } in
       receives network m h at peer bytes g y
-      (record { is_open = refl; client = refl; sender = refl; plain = refl; mode = refl; peer = refl; size = refl })
+      (record {
+        is_open = refl;
+        client = refl;
+        sender = refl;
+        plain = refl;
+        mode = refl;
+        request = refl;
+        peer = refl;
+        size = refl;
+      })
       (omega arith)
       (λ z q. received_more x z bytes q)
       (message at peer (Ack (x.number + 1)) ∷ [])
@@ -92,7 +101,16 @@ module _ (network : Network) where
       let x = m.party at in
       let y = record x { number = x.number + 1 } in
       sends network m h at peer g.0 y
-      (record { is_open = refl; client = refl; sender = refl; plain = refl; mode = refl; peer = refl; size = refl })
+      (record {
+        is_open = refl;
+        client = refl;
+        sender = refl;
+        plain = refl;
+        mode = refl;
+        request = refl;
+        peer = refl;
+        size = refl;
+      })
       (omega arith) refl
       (λ d. absurd (true≢false (sym d ∙ g.0.0.1)))
       (message at peer (Data (x.number + 1) (block x.text x.size (x.number + 1))) ∷ [])
@@ -109,7 +127,16 @@ module _ (network : Network) where
       let x = m.party at in
       let y = record x { complete = true } in
       sends network m h at peer g.0 y
-      (record { is_open = refl; client = refl; sender = refl; plain = refl; mode = refl; peer = refl; size = refl })
+      (record {
+        is_open = refl;
+        client = refl;
+        sender = refl;
+        plain = refl;
+        mode = refl;
+        request = refl;
+        peer = refl;
+        size = refl;
+      })
       (omega arith) refl
       (λ _. last_acked network m h at peer g.0 g.1)
       [] (attested_none network (with_end m.party at y))
@@ -118,7 +145,16 @@ module _ (network : Network) where
       let x = m.party at in
       let y = record x { failed = true; text = x.text ++ bytes } in
       receives network m h at peer bytes g y
-      (record { is_open = refl; client = refl; sender = refl; plain = refl; mode = refl; peer = refl; size = refl })
+      (record {
+        is_open = refl;
+        client = refl;
+        sender = refl;
+        plain = refl;
+        mode = refl;
+        request = refl;
+        peer = refl;
+        size = refl;
+      })
       (omega arith)
       (λ z q. received_failed x z bytes g.0.1 q)
       [] (attested_none network (with_end m.party at y))

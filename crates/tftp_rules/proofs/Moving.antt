@@ -50,6 +50,7 @@ moves_grow x y v up done text o = record {
   sender = v.sender;
   plain = v.plain;
   mode = v.mode;
+  request = v.request;
   peer = λ p e. v.peer ∙ e;
   size = λ p e. v.size;
   number = up;
@@ -84,6 +85,10 @@ module _ (network : Network) where
       subst (λ (q : Endpoint). HasReceived x (new q)) same
       (HasReceived-grows x (m.party peer) (new peer) (all.grows peer t.is_open) t.sender
       (f (m.party peer) (next_block network m h at peer bytes g (rw same o)))))
+      (λ d p e o.
+      let same : peer ≡ p = (let k : Some peer ≡ Some p = sym has ∙ e in cc) in
+      let t = h.attested (message peer at (Data (old.number + 1) bytes)) g.3 (rw same o) in
+      subst (λ (q : Endpoint). (new q).peer ≡ Some at) same ((all.grows peer t.is_open).peer at t.peer))
       (λ s d p e o. absurd (true≢false (sym s ∙ receiver))))
       attested
 
@@ -113,10 +118,12 @@ module _ (network : Network) where
       (λ c s b n p e o. let same : peer ≡ p = (let k : Some peer ≡ Some p = sym has ∙ e in cc) in
       subst (λ (q : Endpoint). (new q).peer ≡ Some at) same (back (rw same o)))
       (λ s p e o. absurd (true≢false (sym sender ∙ s)))
+      (λ d p e o. let same : peer ≡ p = (let k : Some peer ≡ Some p = sym has ∙ e in cc) in
+      subst (λ (q : Endpoint). (new q).peer ≡ Some at) same (back (rw same o)))
       (λ s d p e o. let same : peer ≡ p = (let k : Some peer ≡ Some p = sym has ∙ e in cc) in
       let own : network.host_of peer ≢ Elsewhere = rw same o in
-      subst (λ (q : Endpoint). ((new q).peer ≡ Some at) × ((new q).complete ≡ true)) same
-      (back own, (all.grows peer (decoded own).is_open).complete (ends d own))))
+      subst (λ (q : Endpoint). (new q).complete ≡ true) same
+      ((all.grows peer (decoded own).is_open).complete (ends d own))))
       attested
 
   -- the peer of a sender whose last block is acknowledged is complete
@@ -155,7 +162,7 @@ module _ (network : Network) where
         so_far = λ _ f. absurd (true≢false f);
         room = r.room;
       })
-      s.ended)
+      s.returned s.ended)
       (attested_none network new)
 
   -- only the datagrams sent change

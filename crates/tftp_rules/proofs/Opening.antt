@@ -57,10 +57,11 @@ module _ (network : Network) where
         plain = λ c p. cc;
         begun = λ c s f n p e o. cc;
         received = λ s p e o. cc;
+        returned = λ d p e o. cc;
         ended = λ s d p e o. cc;
       })
       (attested_one network m.party at x network.request_port (Request write request)
-      (record { is_open = refl; client = refl; sender = refl; mode = refl }))
+      (record { is_open = refl; client = refl; sender = refl; mode = refl; request = refl }))
 
   pub opens : (m : Machine) → Holds network m →
       (at peer : Endpoint) (write plain : Bool) (request : WireRequest) (text : List ℕ) (size number : ℕ) →
@@ -95,12 +96,14 @@ module _ (network : Network) where
               client = grown.client ∙ asked_by.client;
               mode = grown.mode ∙ asked_by.mode;
               sender = grown.sender ∙ (asked_by.sender ∙ sym (not-not write));
+              request = grown.request ∙ asked_by.request;
             });
         plain = λ c p. small p;
         begun = λ c s f n p e o. absurd (let z = begins f in omega arith);
         received =
             λ s p e o. let w : write ≡ true = sym (not-not write) ∙ ap not s in
             received_nothing x (new p) (empty w).0 (empty w).1 refl;
+        returned = λ d p e o. cc;
         ended = λ s d p e o. cc;
       })
       (attested_one network m.party at x peer k t)
@@ -131,6 +134,7 @@ module _ (network : Network) where
         sender = refl;
         plain = refl;
         mode = refl;
+        request = refl;
         peer = λ p e. absurd (let k : None ≡ Some p = sym w.2 ∙ e in cc);
         size = λ p e. absurd (let k : None ≡ Some p = sym w.2 ∙ e in cc);
         number = let z = none.0 in omega arith;
@@ -147,6 +151,7 @@ module _ (network : Network) where
         size = sized;
         mode = sym a.mode;
         sender = flip old.sender (m.party peer).sender a.sender;
+        request = sym a.request;
       } in
       kept network m at x added h grows
       (λ o. record {
@@ -162,6 +167,7 @@ module _ (network : Network) where
         plain = λ c p. absurd (true≢false (sym w.1 ∙ c));
         begun = λ c z f n p e u. absurd (true≢false (sym w.1 ∙ c));
         received = λ z p e u. received_nothing x (new p) (none.2 z) (begins z) none.1;
+        returned = λ d p e u. absurd (true≢false (sym d ∙ none.1));
         ended = λ z d p e u. absurd (true≢false (sym d ∙ none.1));
       })
       attested

@@ -55,15 +55,31 @@ module _ (network : Network) where
     is_prefix = λ x y o s e own. (y, sender_of m h x y o s e own, ((h.ends x o).received s y e own).prefix);
     is_committed = λ x o s d. d;
     is_whole = λ x o s d.
-        let p = some_peer m h x o d (m.party x).peer refl in
-        (p.0, p.1, λ own. (p.0, sender_of m h x p.0 o s p.1 own, ((h.ends x o).received s p.0 p.1 own).whole d, refl));
+        let p = some_peer m h x o d (m.party x).peer refl in (
+          p.0,
+          p.1,
+          λ own. (
+            p.0,
+            sender_of m h x p.0 o s p.1 own,
+            (h.ends x o).returned d p.0 p.1 own,
+            ((h.ends x o).received s p.0 p.1 own).whole d,
+            refl,
+          ),
+        );
     sender_last = λ x o s d.
         let p = some_peer m h x o d (m.party x).peer refl in (
           p.0,
           p.1,
           λ own.
               let q = peer_of network m.party x (m.party x) (h.ends x o) p.0 p.1 own in
-              let b = (h.ends x o).ended s d p.0 p.1 own in
-              (p.0, record { is_end = q.is_open; address = refl; peer = b.0; complete = b.1 }),
+              let sound = h.ends x o in (
+                p.0,
+                record {
+                  is_end = q.is_open;
+                  address = refl;
+                  peer = sound.returned d p.0 p.1 own;
+                  complete = sound.ended s d p.0 p.1 own;
+                },
+              ),
         );
   }

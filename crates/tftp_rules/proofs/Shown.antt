@@ -12,7 +12,8 @@ use Rattle.tftp_rules.specs.Facts.{Holds}
 use Rattle.tftp_rules.specs.Recorded.{AreRecorded}
 use Rattle.tftp_rules.specs.Rules.{Rule, Asks, Opens_plainly, Opens_with, Says_error, Repeats, Strays, actor, MayAct}
 use Rattle.tftp_rules.specs.Rules.{Guard, OpensNoDuplicate, AreOver, packets, party_after, after, IsLegal, run}
-use Rattle.tftp_rules.specs.Shows.{EndView, party_of, Matches, requested, answered_by, IsInService, AreApart, NoneAt}
+use Rattle.tftp_rules.specs.Shows.{EndView, party_of, Matches, requested, answered_by, HasRequest, IsInService}
+use Rattle.tftp_rules.specs.Shows.{AreApart, NoneAt}
 use Rattle.tftp_rules.specs.Shows.{Shows, IsShownAt, IsShownWithin, IsShown, ActInTurn, party_then, sent_by, OpensEnd}
 use Rattle.tftp_rules.specs.Shows.{Speaks, NoneAnswers, AsksUnanswered}
 use Rattle.tftp_rules.proofs.Acting.{Unshown, with_unshown, KeepsOn, act_in_turn}
@@ -97,6 +98,18 @@ was_in_service e f x y m n g alive s =
       not_done (inl d) = absurd (true≢false (sym (g.complete (m.complete ∙ d)) ∙ (n.complete ∙ s.1)))
       not_done (inr d) = d
 
+-- an end whose request is shown is one of the server
+serves_by : (e : EndView) → HasRequest e → e.client ≡ false
+serves_by e (inl busy) = busy.0
+serves_by e (inr shown) = shown.0
+
+-- its request was shown before
+had_request : (e f : EndView) (x y : Party) → Matches e x → Matches f y → KeepsOn x y → e.failed ≡ false →
+    f.request ≡ e.request → HasRequest f → HasRequest e
+had_request e f x y m n g alive same (inl busy) = inl (was_in_service e f x y m n g alive busy)
+had_request e f x y m n g alive same (inr shown) =
+    inr (sym m.client ∙ (sym g.client ∙ (n.client ∙ shown.0)), λ none. shown.1 (same ∙ none))
+
 -- no end is open where none is shown
 none_open : (views : List EndView) (messages : List Message) (m : Machine) → Shows views messages m → (a : Endpoint) →
     NoneAt views a → (m.party a).is_open ≡ false
@@ -122,7 +135,7 @@ all_over views messages m s peer write request none a by =
           let t : Matches e (m.party a) =
           subst (λ (q : Endpoint). Matches e (m.party q)) there.3 (s.ends there.0 e there.2) in
           let busy : IsInService e = (sym t.client ∙ by.server, sym t.complete ∙ d, sym t.failed ∙ f) in
-          let says = s.asked there.0 e there.2 busy in
+          let says = s.asked there.0 e there.2 (inl busy) in
           let same : answered_by (m.party e.address) ≡ requested write request =
           ap (λ (q : Endpoint). answered_by (m.party q)) there.3
           ∙ (ap (λ (b : Bool). requested (not b) (m.party a).request) by.sender
@@ -150,17 +163,22 @@ answers_so : (write : Bool) (request : WireRequest) (bytes : List ℕ) → Spell
 answers_so write request bytes s = subst (λ (b : Bool). Spells (requested b request) bytes) (sym (not-not write)) s
 
 new_answer : (views : List EndView) (f : EndView) (r : Rule) → OpensEnd r → AsksUnanswered r f.request views →
-    Matches f (party_after r nobody) → IsInService f → Spells (answered_by (party_after r nobody)) f.request
-new_answer views f (Asks at write request text) o h t busy = absurd (true≢false (t.client ∙ busy.0))
-new_answer views f (Opens_plainly at peer write request text) o h t busy = answers_so write request f.request h.0
-new_answer views f (Opens_with at peer write request text size) o h t busy = answers_so write request f.request h.0
-new_answer views f r o h t busy = absurd o
+    Matches f (party_after r nobody) → f.client ≡ false → Spells (answered_by (party_after r nobody)) f.request
+new_answer views f (Asks at write request text) o h t server = absurd (true≢false (t.client ∙ server))
+new_answer views f (Opens_plainly at peer write request text) o h t server = answers_so write request f.request h.0
+new_answer views f (Opens_with at peer write request text size) o h t server = answers_so write request f.request h.0
+new_answer views f r o h t server = absurd o
 
 speaks_none : (r : Rule) → Speaks r → (m : Machine) → OpensNoDuplicate r m
 speaks_none (Says_error at to) o m = tt
 speaks_none (Repeats old) o m = tt
 speaks_none (Strays stray) o m = tt
 speaks_none r o m = absurd o
+
+-- an end that has closed, and whose request is not shown
+forgotten : (e : EndView) → HasRequest (record e { request = [] }) → (IsInService e → ⊥) → ⊥
+forgotten e (inl busy) over = over busy
+forgotten e (inr shown) over = shown.1 refl
 
 module _ (network : Network) where
   pub shown_start : IsShown network [] []
@@ -235,11 +253,11 @@ module _ (network : Network) where
       subst (λ (y : Party). Matches f y) (sym w.here.1)
       (match_unshown f w.here.0 (party_then rs (party_of e)) matches) in
       let at_new : Matches f (n.party f.address) = subst (λ (y : Party). Matches f y) (ap n.party (sym same)) now in
-      let asked_new : IsInService f → Spells (answered_by (n.party f.address)) f.request = λ busy.
+      let asked_new : HasRequest f → Spells (answered_by (n.party f.address)) f.request = λ has.
       subst (λ (bytes : List ℕ). Spells (answered_by (n.party f.address)) bytes) (sym asks)
       (subst (λ (p : WirePacket). Spells p e.request) (same_answer x (n.party a) w.keeps
       ∙ ap (λ (q : Endpoint). answered_by (n.party q)) (sym same))
-      (s.asked k e at (was_in_service e f x (n.party a) here now w.keeps alive busy))) in
+      (s.asked k e at (had_request e f x (n.party a) here now w.keeps alive asks has))) in
       let away : (j : ℕ) (y : EndView) → j ≢ k → slice_get views j ≡ Some y → y.address ≢ a =
       λ j y other i q. other (s.apart j k y e i at q) in
       shown_after first (set views k f) (messages ++ sent_by network rs (party_of e)) shown.0 rs acted.0
@@ -252,11 +270,11 @@ module _ (network : Network) where
         apart = apart_set views k e f at same s.apart;
         asked = λ j y i. elim (slice_get-set_cases views k j f y i) [
           | inl b ↦
-              subst (λ (z : EndView). IsInService z → Spells (answered_by (n.party z.address)) z.request)
+              subst (λ (z : EndView). HasRequest z → Spells (answered_by (n.party z.address)) z.request)
               (sym b.1) asked_new
           | inr b ↦
-              λ busy. subst (λ (z : Party). Spells (answered_by z) y.request)
-              (sym (w.others y.address (away j y b.0 b.1))) (s.asked j y b.1 busy)
+              λ has. subst (λ (z : Party). Spells (answered_by z) y.request)
+              (sym (w.others y.address (away j y b.0 b.1))) (s.asked j y b.1 has)
         ];
         only = λ b o. elim (cases_same b a) [
           | inl q ↦ (k, f, slice_get-set_same views k f e at, same ∙ sym q)
@@ -270,7 +288,7 @@ module _ (network : Network) where
 
   -- the request of an end that is complete or failed is not shown
   pub shown_forgets : (most : ℕ) (first : List Rule) (views : List EndView) (messages : List Message) (k : ℕ)
-      (d e f : EndView) → slice_get views k ≡ Some d → f ≡ record e { request = f.request } → (IsInService e → ⊥) →
+      (d e f : EndView) → slice_get views k ≡ Some d → f ≡ record e { request = [] } → (IsInService e → ⊥) →
       IsShownWithin network most first (set views k e) messages →
       IsShownWithin network most first (set views k f) messages
   shown_forgets most first views messages k d e f at same over shown =
@@ -278,12 +296,13 @@ module _ (network : Network) where
       let s = shown.2.1 in
       let here = slice_get-set_same views k e d at in
       let old = s.ends k e here in
-      let matches : Matches (record e { request = f.request }) (m.party e.address) =
+      let matches : Matches (record e { request = [] }) (m.party e.address) =
       search in
       let now : Matches f (m.party f.address) =
       subst (λ (z : EndView). Matches z (m.party z.address)) (sym same) matches in
       let address : f.address ≡ e.address = ap (λ (z : EndView). z.address) same in
-      let idle : IsInService f → ⊥ = subst (λ (z : EndView). IsInService z → ⊥) (sym same) over in (
+      let idle : HasRequest f → ⊥ =
+      subst (λ (z : EndView). HasRequest z → ⊥) (sym same) (λ has. forgotten e has over) in (
         shown.0,
         shown.1,
         (
@@ -304,7 +323,7 @@ module _ (network : Network) where
               | inr b ↦ (y, slice_get-set_other views k j e b.0 ∙ b.1, refl)
             ]) s.apart;
             asked = λ j y i. elim (slice_get-set_cases views k j f y i) [
-              | inl b ↦ λ busy. absurd (idle (subst IsInService b.1 busy))
+              | inl b ↦ λ has. absurd (idle (subst HasRequest b.1 has))
               | inr b ↦ s.asked j y (slice_get-set_other views k j e b.0 ∙ b.1)
             ];
             only = λ b o. let there = s.only b o in elim (slice_get-set_cases views k there.0 e there.1 there.2) [
@@ -372,12 +391,12 @@ module _ (network : Network) where
         apart = apart_push views f none s.apart;
         asked = λ j y i. elim (slice_get-push_cases views j f y i) [
           | inl b ↦
-              λ busy. subst (λ (z : Party). Spells (answered_by z) y.request)
-              (sym (with_other m.party a (party_after r x) y.address (away j y b))) (s.asked j y b busy)
+              λ has. subst (λ (z : Party). Spells (answered_by z) y.request)
+              (sym (with_other m.party a (party_after r x) y.address (away j y b))) (s.asked j y b has)
           | inr b ↦
-              subst (λ (z : EndView). IsInService z → Spells (answered_by (n.party z.address)) z.request) (sym b.1)
-              (λ busy. subst (λ (z : Party). Spells (answered_by z) f.request) (sym here)
-              (new_answer views f r opening asks matches busy))
+              subst (λ (z : EndView). HasRequest z → Spells (answered_by (n.party z.address)) z.request) (sym b.1)
+              (λ has. subst (λ (z : Party). Spells (answered_by z) f.request) (sym here)
+              (new_answer views f r opening asks matches (serves_by f has)))
         ];
         only = λ b o. elim (cases_same b a) [
           | inl q ↦ (length views, f, slice_get-push_new views f, same ∙ sym q)
@@ -427,7 +446,7 @@ module _ (network : Network) where
         ends = λ j y i. subst (λ (z : Party). Matches y z) (sym (stays y.address)) (s.ends j y i);
         apart = s.apart;
         asked =
-            λ j y i busy. subst (λ (z : Party). Spells (answered_by z) y.request) (sym (stays y.address))
-            (s.asked j y i busy);
+            λ j y i has. subst (λ (z : Party). Spells (answered_by z) y.request) (sym (stays y.address))
+            (s.asked j y i has);
         only = λ b o. s.only b (subst (λ (z : Party). z.is_open ≡ true) (stays b) o);
       })

@@ -35,6 +35,7 @@ pub record Moves (x y : Party) : Type 0 where
   pub sender : y.sender ≡ x.sender
   pub plain : y.plain ≡ x.plain
   pub mode : y.mode ≡ x.mode
+  pub request : y.request ≡ x.request
   pub peer : y.peer ≡ x.peer
   pub size : y.size ≡ x.size
 
@@ -93,10 +94,12 @@ module _ (network : Network) where
       (y.client ≡ false → y.sender ≡ true → y.plain ≡ false → 1 ≤ y.number → (p : Endpoint) → y.peer ≡ Some p →
       network.host_of p ≢ Elsewhere → (ends p).peer ≡ Some a) →
       (y.sender ≡ false → (p : Endpoint) → y.peer ≡ Some p → network.host_of p ≢ Elsewhere → HasReceived y (ends p)) →
+      (y.complete ≡ true → (p : Endpoint) → y.peer ≡ Some p → network.host_of p ≢ Elsewhere →
+      (ends p).peer ≡ Some a) →
       (y.sender ≡ true → y.complete ≡ true → (p : Endpoint) → y.peer ≡ Some p → network.host_of p ≢ Elsewhere →
-      ((ends p).peer ≡ Some a) × ((ends p).complete ≡ true)) →
+      (ends p).complete ≡ true) →
       IsSoundParty network ends a y
-  IsSound-moves ends a x y v h n b r d = record {
+  IsSound-moves ends a x y v h n b r u d = record {
     at_home = rw v.client h.at_home;
     positive = rw v.size h.positive;
     no_peer = n;
@@ -109,14 +112,22 @@ module _ (network : Network) where
         size = s.1.size ∙ sym v.size;
         mode = s.1.mode ∙ sym v.mode;
         sender = rw v.sender s.1.sender;
+        request = s.1.request ∙ sym v.request;
       },
     );
     has_peer = λ c. let s = h.has_peer (sym v.client ∙ c) in (s.0, v.peer ∙ s.1);
     asked = λ c p e o. let s = h.asked (sym v.client ∙ c) p (sym v.peer ∙ e) o in
-        record { is_open = s.is_open; client = s.client; mode = s.mode ∙ sym v.mode; sender = rw v.sender s.sender };
+        record {
+          is_open = s.is_open;
+          client = s.client;
+          mode = s.mode ∙ sym v.mode;
+          sender = rw v.sender s.sender;
+          request = s.request ∙ sym v.request;
+        };
     plain = λ c p. v.size ∙ h.plain (sym v.client ∙ c) (sym v.plain ∙ p);
     begun = b;
     received = r;
+    returned = u;
     ended = d;
   }
 

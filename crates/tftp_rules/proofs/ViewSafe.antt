@@ -48,6 +48,7 @@ module _ (network : Network) where
       (p q : Endpoint) → Matches x (m.party x.address) →
       IsSenderAt (λ a. party_view a (m.party a)) (λ a. (m.party a).is_open ≡ true) p (m.party x.address).mode q →
       (y : EndView) × IsSenderAt safety_view (IsAmong views) p x.mode y × (y.text ≡ (m.party q).text)
+      × (y.peer ≡ (m.party q).peer)
   sender_at views messages m s x p q a sender =
       let y = found views messages m s q sender.is_end in
       let b = y.1.matches in
@@ -60,6 +61,7 @@ module _ (network : Network) where
           mode = sym b.mode ∙ (sender.mode ∙ a.mode);
         },
         sym (b.sent sends),
+        sym b.peer,
       )
 
   pub shown_safe : (views : List EndView) (messages : List Message) → IsShown network views messages →
@@ -101,7 +103,7 @@ module _ (network : Network) where
               λ own.
                   let g = c.2 own in
                   let y = sender_at views messages m s x c.0 g.0 a g.1 in
-                  (y.0, y.1, sym (a.whole d) ∙ (g.2 ∙ sym y.2), refl),
+                  (y.0, y.1, y.3 ∙ g.2, sym (a.whole d) ∙ (g.3 ∙ sym y.2), refl),
             );
         sender_last = λ x i r d.
             let a = there x i in

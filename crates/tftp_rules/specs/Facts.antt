@@ -21,6 +21,7 @@ Attests x to (Request write request) =
       client : x.client ≡ true;
       sender : x.sender ≡ write;
       mode : x.mode ≡ request.mode;
+      request : x.request ≡ request;
     }
 Attests x to (Data n bytes) =
     record {
@@ -57,6 +58,7 @@ pub record IsServing (a : Endpoint) (x y : Party) : Type 0 where
   pub size : y.size ≡ x.size
   pub mode : y.mode ≡ x.mode
   pub sender : y.sender ≡ not x.sender
+  pub request : y.request ≡ x.request
 
 -- y is the peer of x, a server's end
 pub record HasAsked (x y : Party) : Type 0 where
@@ -64,6 +66,7 @@ pub record HasAsked (x y : Party) : Type 0 where
   pub client : y.client ≡ true
   pub mode : y.mode ≡ x.mode
   pub sender : y.sender ≡ not x.sender
+  pub request : y.request ≡ x.request
 
 -- the text of a receiver x, by its peer's text
 pub record HasReceived (x y : Party) : Type 0 where
@@ -97,9 +100,12 @@ module _ (network : Network) where
     -- a receiver has blocks of its peer's text
     pub received : x.sender ≡ false → (p : Endpoint) → x.peer ≡ Some p →
         network.host_of p ≢ Elsewhere → HasReceived x (ends p)
-    -- the peer of a sender that is complete has it as its own peer, and is complete
+    -- the peer of an end that is complete has it as its own peer
+    pub returned : x.complete ≡ true → (p : Endpoint) → x.peer ≡ Some p →
+        network.host_of p ≢ Elsewhere → (ends p).peer ≡ Some a
+    -- and that of a sender is complete
     pub ended : x.sender ≡ true → x.complete ≡ true → (p : Endpoint) → x.peer ≡ Some p →
-        network.host_of p ≢ Elsewhere → ((ends p).peer ≡ Some a) × ((ends p).complete ≡ true)
+        network.host_of p ≢ Elsewhere → (ends p).complete ≡ true
 
   -- every open end is sound, and every datagram of the server and its clients is true of its
   -- sender

@@ -59,10 +59,12 @@ module _ {E : Type 0} (view : E → SafetyView) (IsEnd : E → Type 0) where
     -- a receiver that is complete has committed what it has
     pub is_committed : (x : E) → IsEnd x → (view x).sender ≡ false → (view x).complete ≡ true →
         (view x).committed ≡ true
-    -- and that is all that its peer sends, which is as long as it was measured
+    -- and that is all that its peer sends, which is as long as it was measured; the peer has it as
+    -- its own peer
     pub is_whole : (x : E) → IsEnd x → (view x).sender ≡ false → (view x).complete ≡ true →
         (p : Endpoint) × ((view x).peer ≡ Some p)
-        × (IsOurs p → (y : E) × IsSenderAt p (view x).mode y × ((view x).has ≡ (view y).sent)
+        × (IsOurs p → (y : E) × IsSenderAt p (view x).mode y
+        × ((view y).peer ≡ Some (view x).address) × ((view x).has ≡ (view y).sent)
         × (length (view y).sent ≡ (view y).length))
     -- a sender that is complete has a peer that is complete, and has it as its own peer
     pub sender_last : (x : E) → IsEnd x → (view x).sender ≡ true → (view x).complete ≡ true →

@@ -1,5 +1,5 @@
 -- Which views of ends and which messages refine a state of the guarded machine.
-use Rattle.std.specs.Prelude.{◌≡◌, ◌≢◌, ℕ, ◌≤◌, Bool, true, false, not, List, [], ◌∷◌, ◌++◌, length}
+use Rattle.std.specs.Prelude.{◌≡◌, ◌≢◌, ◌⊎◌, ℕ, ◌≤◌, Bool, true, false, not, List, [], ◌∷◌, ◌++◌, length}
 use Rattle.std.specs.Prelude.{slice_get, Option, Some}
 use Rattle.tftp_wire.specs.Spelling.{Spells}
 use Rattle.tftp_wire.specs.declared.mode.Mode.{Mode}
@@ -104,12 +104,17 @@ AreApart views =
 abbrev pub NoneAt : List EndView → Endpoint → Type 0
 NoneAt views a = (k : ℕ) (e : EndView) → slice_get views k ≡ Some e → e.address ≢ a
 
+-- the view has the request that its end answers: an end in service, or one of the server that has
+-- closed and whose request is shown still
+abbrev pub HasRequest : EndView → Type 0
+HasRequest e = IsInService e ⊎ ((e.client ≡ false) × (e.request ≢ []))
+
 -- the views and the messages are those of the machine
 pub record Shows (views : List EndView) (messages : List Message) (m : Machine) : Type 0 where
   pub sent : m.sent ≡ messages
   pub ends : (k : ℕ) (e : EndView) → slice_get views k ≡ Some e → Matches e (m.party e.address)
   pub apart : AreApart views
-  pub asked : (k : ℕ) (e : EndView) → slice_get views k ≡ Some e → IsInService e →
+  pub asked : (k : ℕ) (e : EndView) → slice_get views k ≡ Some e → HasRequest e →
       Spells (answered_by (m.party e.address)) e.request
   pub only : (a : Endpoint) → (m.party a).is_open ≡ true →
       (k : ℕ) × (e : EndView) × (slice_get views k ≡ Some e) × (e.address ≡ a)
