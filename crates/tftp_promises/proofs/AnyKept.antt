@@ -15,25 +15,24 @@ use Rattle.tftp_ends.specs.declared.role.Role.{Role}
 use Rattle.tftp_ends.specs.End.{EndState, is_client, is_complete, is_sender, record_of}
 use Rattle.tftp_store.specs.Store.{StoreMeaning}
 use Rattle.tftp_server.specs.State.{TransferState}
-use Rattle.tftp_rules.specs.Facts.{IsServing}
-use Rattle.tftp_rules.specs.Machine.{Elsewhere, Endpoint, Machine, Party}
+use Rattle.tftp_rules.specs.Machine.{Elsewhere, Endpoint}
 use Rattle.tftp_rules.specs.OpenEnds.{OpenEnd, open_view, received_text}
 use Rattle.tftp_rules.specs.Safety.{IsCompleteAt, IsSenderAt}
-use Rattle.tftp_rules.specs.Shows.{EndView, Matches, Shows}
+use Rattle.tftp_rules.specs.Shows.{EndView}
 use Rattle.tftp_rules.specs.ViewSafety.{IsAmong, IsSafeViews, safety_view}
-use Rattle.tftp_rules.proofs.Shown.{shown_by}
 use Rattle.tftp_rules.proofs.ViewSafe.{shown_safe}
 use Rattle.tftp_promises.specs.ClientRuns.{moved_in}
-use Rattle.tftp_promises.specs.AnyFiles.{IsEnd, IsOurs, IsServingAt, KeepAnyFiles, ProgramEnd, WasOpened, client_end}
+use Rattle.tftp_promises.specs.AnyFiles.{IsEnd, IsOurs, KeepAnyFiles, ProgramEnd, WasOpened, client_end}
 use Rattle.tftp_promises.specs.AnyFiles.{has_of, peer_of}
 use Rattle.tftp_promises.specs.AnyFiles.{safety_of, transfer_end}
 use Rattle.tftp_promises.specs.Arrived.{ViewsEnd}
 use Rattle.tftp_promises.specs.Moved.{Moved}
-use Rattle.tftp_promises.specs.Openings.{moved_at, opened_at}
+use Rattle.tftp_promises.specs.Openings.{ArePortsFresh, moved_at, opened_at}
 use Rattle.tftp_promises.specs.Order.{Programs, IsStranger}
 use Rattle.tftp_promises.specs.Programs.{ClientProgram, endpoint, requests_at}
 use Rattle.tftp_promises.specs.Promises.{HasOpened, joined}
 use Rattle.tftp_promises.specs.Snapshots.{Has_asked, all_of}
+use Rattle.tftp_promises.proofs.ClientsServed.{one_there, served_by}
 use Rattle.tftp_promises.proofs.Kept.{By_run, ClientKept, GaveSo, HasFile, HasStored, IsKept, IsOpened, IsViewed}
 use Rattle.tftp_promises.proofs.Kept.{TookSo}
 use Rattle.tftp_promises.proofs.Kept.{length_of}
@@ -44,7 +43,7 @@ use Rattle.tftp_promises.proofs.Texts.{begin_each_other, begins_unpadded, pad_le
 
 module _ {S F D G K : Type 0} {stores : StoreMeaning S D} {sources : SourceMeaning F} {inputs : SourceMeaning G}
     {outputs : SinkMeaning K}
-    (programs : Programs stores sources inputs outputs) (kept : (pad : ℕ) →
+    (programs : Programs stores sources inputs outputs) (fresh : ArePortsFresh programs) (kept : (pad : ℕ) →
     IsKept programs (By_run pad) (all_of programs)) where
   abbrev Client : Type 0
   Client = ClientProgram inputs outputs (requests_at stores sources programs.server)
@@ -221,47 +220,6 @@ module _ {S F D G K : Type 0} {stores : StoreMeaning S D} {sources : SourceMeani
   abbrev CompletesAt : Endpoint → Endpoint → ProgramEnd → Type 0
   CompletesAt p other y = IsCompleteAt safety_of (IsEnd programs) p other y
 
-  -- the end of a view of the server's
-  is_serving : (v : EndView) (p a : Endpoint) → IsAmong (views 0) v → v.address ≡ p → v.client ≡ false →
-      v.peer ≡ Some a → (y : ProgramEnd) × IsServingAt programs p a y
-  is_serving v p a among at client peer =
-      let e = viewed_end 0 v among in
-      let t = stands 0 e.0 e.1 in
-      let told = says 0 e.0 t in
-      let is = own_view 0 e.0 t v among e.2 in (
-        e.0,
-        record {
-          is_end = e.1;
-          address = sym e.2 ∙ at;
-          server = sym told.client ∙ (ap (λ (w : EndView). w.client) (sym is) ∙ client);
-          peer = sym told.peer ∙ (ap (λ (w : EndView). w.peer) (sym is) ∙ peer);
-        },
-      )
-
-  -- a view of an end that serves
-  view_serving : (m : Machine) (x : Party) (p a : Endpoint) → Shows (views 0) (kept 0).messages m →
-      IsServing a x (m.party p) →
-      (v : EndView) × IsAmong (views 0) v × (v.address ≡ p) × (v.client ≡ false) × (v.peer ≡ Some a)
-  view_serving m x p a shows serves =
-      let there = shows.only p serves.is_open in
-      let matches : Matches there.1 (m.party p) =
-      subst (λ (e : Endpoint). Matches there.1 (m.party e)) there.3 (shows.ends there.0 there.1 there.2) in
-      (there.1, (there.0, there.2), there.3, sym matches.client ∙ serves.client, sym matches.peer ∙ serves.peer)
-
-  -- the peer of a client serves it
-  server_peer : (x : ProgramEnd) (p : Endpoint) → IsEnd programs x → is_client x.state.role.side ≡ true →
-      peer_of x ≡ Some p → (y : ProgramEnd) × IsServingAt programs p x.address y
-  server_peer x p is_end client peer =
-      let s = stands 0 x is_end in
-      let told = says 0 x s in
-      let by = shown_by (joined programs) (views 0) (kept 0).messages (kept 0).shown in
-      let m = by.3.ends s.viewed.index (view 0 x s) s.viewed.viewed in
-      let serves =
-      ((by.1.ends (view 0 x s).address m.is_open).serving (m.client ∙ (told.client ∙ client)) p
-      (m.peer ∙ (told.peer ∙ peer))).1 in
-      let v = view_serving by.0 (by.0.party (view 0 x s).address) p (view 0 x s).address by.3 serves in
-      is_serving v.0 p x.address v.1 v.2 v.3 (◌∙◌ {a = v.0.peer} v.4 (ap (λ (a : Endpoint). Some a) told.address))
-
   -- a transfer whose peer is ours is at its port
   at_its_port : (port : ℕ) (transfer : TransferState F D) (a p : Endpoint) → HasOpened programs port transfer a →
       peer_of (transfer_end programs transfer a) ≡ Some p → IsOurs programs p → a ≡ endpoint programs.server.ip port
@@ -351,12 +309,12 @@ module _ {S F D G K : Type 0} {stores : StoreMeaning S D} {sources : SourceMeani
               (begins 1 one.0 y there.sender.sends there.sender.is_end same one.2),
         )
 
-    -- what a sender gave is all that a complete receiver has
+    -- what a sender gave is all that a complete receiver has, which it has as its own peer
     all_given : (p : Endpoint) → peer_of x ≡ Some p → IsOurs programs p → (v : EndView) →
-        SendsThere 0 p (own 0).mode v → (own 0).text ≡ v.text →
-        (y : ProgramEnd) × SendsAt p x.state.role.mode y × (has_of x ≡ y.moved.bytes)
-        × (length y.moved.bytes ≡ y.state.role.length)
-    all_given p peer ours v at all_text =
+        SendsThere 0 p (own 0).mode v → v.peer ≡ Some (own 0).address → (own 0).text ≡ v.text →
+        (y : ProgramEnd) × SendsAt p x.state.role.mode y × (peer_of y ≡ Some x.address)
+        × (has_of x ≡ y.moved.bytes) × (length y.moved.bytes ≡ y.state.role.length)
+    all_given p peer ours v at back all_text =
         let begun = prefix p peer ours in
         let y = begun.0 in
         let s = stands 0 y begun.1.is_end in
@@ -370,7 +328,10 @@ module _ {S F D G K : Type 0} {stores : StoreMeaning S D} {sources : SourceMeani
         let gave = subst (λ (t : List ℕ). IsPrefixOf y.moved.bytes t) end_text (s.gave sender).prefix in
         let all_of_it : has_of x ≡ y.moved.bytes = begin_each_other (has_of x) y.moved.bytes begun.2 gave in
         let long = ap (λ (t : List ℕ). length t) (sym all_of_it ∙ text) in
-        (y, begun.1, all_of_it, long ∙ pad_length 0 y.state.role.length y.moved.bytes)
+        let its_peer =
+        sym (says 0 y s).peer ∙ (ap (λ (w : EndView). w.peer) (sym same)
+        ∙ (back ∙ ap (λ (a : Endpoint). Some a) (self 0).address)) in
+        (y, begun.1, its_peer, all_of_it, long ∙ pad_length 0 y.state.role.length y.moved.bytes)
 
     has_committed : is_complete x.state.position.phase ≡ true → x.moved.committed ≡ true
     has_committed complete =
@@ -379,14 +340,14 @@ module _ {S F D G K : Type 0} {stores : StoreMeaning S D} {sources : SourceMeani
         ((self 0).took receiver).committed ((self 0).viewed.kept.committed receiver ∙ is_so)
 
     whole : is_complete x.state.position.phase ≡ true → (p : Endpoint) × (peer_of x ≡ Some p)
-        × (IsOurs programs p → (y : ProgramEnd) × SendsAt p x.state.role.mode y × (has_of x ≡ y.moved.bytes)
-        × (length y.moved.bytes ≡ y.state.role.length))
+        × (IsOurs programs p → (y : ProgramEnd) × SendsAt p x.state.role.mode y × (peer_of y ≡ Some x.address)
+        × (has_of x ≡ y.moved.bytes) × (length y.moved.bytes ≡ y.state.role.length))
     whole complete =
         let told = says 0 x (self 0) in
         let all = (safe 0).is_whole (own 0) (among 0 x (self 0)) (not_sender 0) (told.complete ∙ complete) in
         let p = all.0 in
         let peer : peer_of x ≡ Some p = sym told.peer ∙ all.1 in
-        (p, peer, λ ours. let v = all.2 (not_elsewhere p ours) in all_given p peer ours v.0 v.1 v.2)
+        (p, peer, λ ours. let v = all.2 (not_elsewhere p ours) in all_given p peer ours v.0 v.1 v.2 v.3)
 
   its_receiver : (x : ProgramEnd) (s : StandsFor 0 x) (p : Endpoint) (v : EndView) →
       IsCompleteAt safety_view (IsAmong (views 0)) p (view 0 x s).address v →
@@ -463,7 +424,8 @@ module _ {S F D G K : Type 0} {stores : StoreMeaning S D} {sources : SourceMeani
       is_whole = λ x is_end receives complete. whole x is_end receives complete;
       sender_last = last_sender;
     };
-    served = server_peer;
+    unique = one_there programs (kept 0) fresh;
+    served = λ k client p found peer. served_by programs (kept 0) k client p found peer;
     at_port = at_its_port;
     opened = was_opened;
   }

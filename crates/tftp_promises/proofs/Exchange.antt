@@ -226,7 +226,11 @@ file_of c = if c.port == 5001 then written_file else []
 
 modelled : AreModelled programs
 modelled =
-    record { known = refl; file_of = file_of; whole = each (λ k c. HasWhole c.opens (file_of c)) refl (refl, refl) }
+    record {
+      known = refl;
+      file_of = file_of;
+      whole = each (λ k c. HasWhole c.opens (file_of c)) (refl, refl) (refl, refl);
+    }
 
 exchanged : HasExchanged programs
 exchanged = record {

@@ -191,7 +191,6 @@ asking = record {
   last = begun 7001 at_first [];
   files = empty;
   file = empty;
-  new = refl;
   runs = Starts;
   opens = its_request;
   noted = (begun 7001 at_first []).events;
@@ -207,7 +206,6 @@ reading = record {
   last = s4;
   files = Sink stored;
   file = empty;
-  new = refl;
   runs =
       Goes_on (Goes_on (Goes_on (Goes_on Starts accepts_does) stores_does) (Prints_line (end_text (ends.Complete 1))))
       again_does;

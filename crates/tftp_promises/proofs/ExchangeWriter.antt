@@ -120,7 +120,6 @@ writing = record {
   last = s4;
   files = Source [];
   file = Source written_file;
-  new = tt;
   runs =
       Goes_on (Goes_on (Goes_on (Goes_on Starts waits_does) sends_does) completes_does)
       (Prints_line (end_text (ends.Complete 1)));

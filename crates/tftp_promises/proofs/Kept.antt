@@ -2,9 +2,13 @@
 -- that were opened, and each datagram that was sent is one of its messages. That a message is there (`IsThere`) is said
 -- as for the turns of an end.
 use Rattle.std.specs.Prelude.{ℕ, ◌≡◌, ◌≢◌, ◌⊎◌, ◌<◌, true, false, List, [], ◌∷◌, ◌++◌, slice_get, Option, Some, None}
-use Rattle.std.specs.Prelude.{IsSome}
+use Rattle.std.specs.Prelude.{Bool, IsSome, Ok}
+use Rattle.std.proofs.Common.{sym, subst}
 use Rattle.std.specs.List.{Contains}
+use Rattle.tftp_wire.specs.Spelling.{Spells}
+use Rattle.tftp_wire.specs.declared.packet.Request.{Request as WireRequest}
 use Rattle.tftp_file.specs.Block.{IsPrefixOf}
+use Rattle.tftp_file.specs.Path.{path_of_name}
 use Rattle.tftp_file.specs.Netascii.{wire_text}
 use Rattle.tftp_file.specs.Sink.{SinkMeaning}
 use Rattle.tftp_file.specs.Source.{SourceMeaning}
@@ -17,7 +21,7 @@ pub use Rattle.tftp_rules.specs.EndShown.{IsThere, HasArrived}
 use Rattle.tftp_rules.specs.KnownFiles.{HasLeft}
 use Rattle.tftp_rules.specs.Machine.{Endpoint, Message, Network}
 use Rattle.tftp_rules.specs.OpenEnds.{OpenEnd, holding_of, open_view, peer_of}
-use Rattle.tftp_rules.specs.Shows.{EndView, IsShown}
+use Rattle.tftp_rules.specs.Shows.{EndView, IsShown, requested}
 use Rattle.tftp_rules.specs.ViewSafety.{IsAmong}
 use Rattle.tftp_server.specs.State.{TransferState, at}
 use Rattle.tftp_sockets.specs.Journal.{Event}
@@ -58,6 +62,19 @@ pub record TookSo (x : OpenEnd) (moved : Moved) : Type 0 where
   pub stored : x.stored ≡ moved.bytes
   pub committed : x.committed ≡ true → moved.committed ≡ true
   pub refuses : x.refuses ≡ false
+
+-- the request of a transfer is for its path
+pub record IsNamed (there bytes : List ℕ) : Type 0 where
+  pub write : Bool
+  pub request : WireRequest
+  pub spells : Spells (requested write request) bytes
+  pub path : path_of_name request.name ≡ Ok there
+
+-- and still is after a step
+pub named_still : {there there' bytes bytes' : List ℕ} → there' ≡ there → bytes' ≡ bytes → IsNamed there bytes →
+    IsNamed there' bytes'
+named_still {there = there} {bytes' = bytes'} same is h =
+    subst (λ (p : List ℕ). IsNamed p bytes') (sym same) (subst (λ (b : List ℕ). IsNamed there b) (sym is) h)
 
 -- the length of a transfer's file, as it was measured when the transfer opened
 abbrev pub length_of : {F D : Type 0} → Option (TransferState F D) → ℕ
@@ -122,6 +139,9 @@ module _ {S F D G K : Type 0} {stores : StoreMeaning S D} {sources : SourceMeani
     pub state : end.state ≡ s.end
     pub side : is_client end.state.role.side ≡ true
     pub viewed : IsViewed (joined programs) views messages end
+    -- its request is among the messages
+    pub asks : IsThere messages (client_at inputs outputs (requests_at stores sources programs.server) client)
+        (requests_at stores sources programs.server) client.first.position.last_sent
     pub has : HasFile how client end files moved
 
   -- the end of a client, once it has asked
@@ -195,6 +215,7 @@ module _ {S F D G K : Type 0} {stores : StoreMeaning S D} {sources : SourceMeani
     pub state : end.state ≡ transfer.end
     pub path : end.path ≡ transfer.path
     pub request : end.request ≡ transfer.request
+    pub named : IsNamed transfer.path transfer.request
     pub side : is_client end.state.role.side ≡ false
     pub viewed : IsViewed (joined programs) views messages end
     pub has : HasStored how snapshot end transfer.files
@@ -212,6 +233,7 @@ module _ {S F D G K : Type 0} {stores : StoreMeaning S D} {sources : SourceMeani
     state = h.state;
     path = h.path;
     request = h.request;
+    named = h.named;
     side = h.side;
     viewed = viewed;
     has = has;
@@ -236,6 +258,9 @@ module _ {S F D G K : Type 0} {stores : StoreMeaning S D} {sources : SourceMeani
         p ≡ q
     pub gone : (p q : ℕ) (t u : TransferState F D) (a : Endpoint) → HasClosed programs snapshot.run p t a →
         at q snapshot.state.server.held ≡ Some u → a ≢ place_at programs q snapshot.run
+    -- nor were two removed from one place
+    pub gone_once : (p q : ℕ) (t u : TransferState F D) (a : Endpoint) → HasClosed programs snapshot.run p t a →
+        HasClosed programs snapshot.run q u a → (p ≡ q) × (t ≡ u)
     pub opened : (port : ℕ) (transfer : TransferState F D) (a : Endpoint) → HasTransferBy snapshot port transfer a →
         Contains (places programs snapshot.run) a
 

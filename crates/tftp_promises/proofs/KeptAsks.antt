@@ -19,7 +19,7 @@ use Rattle.tftp_store.specs.Store.{StoreMeaning}
 use Rattle.tftp_sockets.specs.Journal.{Event}
 use Rattle.tftp_sockets.specs.Journal.Event.{Sent}
 use Rattle.tftp_client.specs.Converses.{State}
-use Rattle.tftp_client.specs.Runs.{IsNew, begun}
+use Rattle.tftp_client.specs.Runs.{begun}
 use Rattle.tftp_rules.specs.EndKept.{EndKept}
 use Rattle.tftp_rules.specs.Machine.{Endpoint, Message, Packet, Request}
 use Rattle.tftp_rules.specs.OpenEnds.{OpenEnd, open_view}
@@ -152,12 +152,10 @@ module _ {S F D G K : Type 0} {stores : StoreMeaning S D} {sources : SourceMeani
       (opens : ClientOpens inputs outputs to client.first client.file) → HasWhole opens (models.file_of client) →
       Requests client.first client.file
   models_ask models is (To_read h) whole =
-      let new : outputs.held h.sink ≡ Some (record { bytes = []; committed = false; refuses = false }) =
-      subst (λ (f : Files G K). IsNew inputs outputs f) h.is_file client.new in
       to_read client.first client.file h
       (subst (λ (w : How programs). HasFile programs w client
       (opening here (getting to h.name h.mode h.asked h.limit h.retries) [] []) (Sink h.sink) nothing_moved)
-      (sym is) (record { receiver = refl; held = new }))
+      (sym is) (record { receiver = refl; held = whole.1 }))
   models_ask models is (To_write h) whole =
       let text = wire_text h.mode (models.file_of client) in
       to_write client.first client.file h (models.file_of client) text whole.1
@@ -310,6 +308,7 @@ module _ {S F D G K : Type 0} {stores : StoreMeaning S D} {sources : SourceMeani
               viewed = slice_get-push_new kept.views (open_view x);
               last_sent = its_message;
             };
+        asks = (requested h.write h.request, spelled, Contains-push kept.messages m);
         has = h.has;
       };
       notes = λ port to bytes i. inr (one_event port to bytes i);

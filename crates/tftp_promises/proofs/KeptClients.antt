@@ -27,7 +27,7 @@ use Rattle.tftp_promises.specs.Snapshots.{Snapshot, ClientStage, Unasked, Has_as
 use Rattle.tftp_promises.proofs.Kept.{How, By_models, By_run, IsOpened, IsThere, IsViewed, HasStored, HasTransferBy}
 use Rattle.tftp_promises.proofs.Kept.{ClientKept, StageKept, TransferKept, ServerKept, IsOfClient, IsOfTransfer, IsKept}
 use Rattle.tftp_promises.proofs.Kept.{IsFreshBy, same_transfer}
-use Rattle.tftp_promises.proofs.KeptViews.{arrived_still, sent_still}
+use Rattle.tftp_promises.proofs.KeptViews.{arrived_still, sent_still, there_still}
 use Rattle.tftp_promises.proofs.NewPlaces.{client_apart}
 
 module _ {S F D G K : Type 0} {stores : StoreMeaning S D} {sources : SourceMeaning F} {inputs : SourceMeaning G}
@@ -146,6 +146,9 @@ module _ {S F D G K : Type 0} {stores : StoreMeaning S D} {sources : SourceMeani
       state = h.state;
       side = h.side;
       viewed = turns.others h.end (λ same. n (fresh.clients j k c client at found (sym (same ∙ h.address)))) h.viewed;
+      asks =
+          there_still kept.messages turns.said_now (there c) (requests_at stores sources programs.server)
+          c.first.position.last_sent h.asks;
       has = h.has;
     }
 
@@ -178,6 +181,7 @@ module _ {S F D G K : Type 0} {stores : StoreMeaning S D} {sources : SourceMeani
       once = kept.server.once;
       seats = kept.server.seats;
       gone = kept.server.gone;
+      gone_once = kept.server.gone_once;
       opened = kept.server.opened;
     }
 

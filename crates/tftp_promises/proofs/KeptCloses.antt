@@ -2,6 +2,7 @@
 use Rattle.std.proofs.Common.{◌≡◌, ◌≢◌, ℕ, List, [], ◌++◌, Some, refl, sym, ap, ◌∙◌, subst, inl, inr}
 use Rattle.std.proofs.lemmas.Bool.{cases_eq}
 use Rattle.std.proofs.lemmas.List.{append-nil}
+use Rattle.std.proofs.lemmas.Option.{same_Some}
 use Rattle.tftp_file.specs.Sink.{SinkMeaning}
 use Rattle.tftp_file.specs.Source.{SourceMeaning}
 use Rattle.tftp_store.specs.Store.{StoreMeaning, files_of}
@@ -97,6 +98,21 @@ module _ {S F D G K : Type 0} {stores : StoreMeaning S D} {sources : SourceMeani
       (sym same ∙ (removes.1 ∙ ap (λ (r : ℕ). place_at programs r old.run) removes.0.0)))
   gone p q t u a (inr closed) e same = kept.server.gone p q t u a closed (still_held q u e).1 same
 
+  removed_twice : (p q : ℕ) (t u : TransferState F D) (a : Endpoint) →
+      ((p ≡ port) × (at p old.state.server.held ≡ Some t)) × (a ≡ place_at programs p old.run) →
+      HasClosed programs old.run q u a → ⊥
+  removed_twice p q t u a r closed =
+      kept.server.gone q port u t a closed (removed_at p t r.0)
+      (r.1 ∙ ap (λ (s : ℕ). place_at programs s old.run) r.0.0)
+
+  -- and no two were removed from it
+  gone_once : (p q : ℕ) (t u : TransferState F D) (a : Endpoint) → HasClosed programs now.run p t a →
+      HasClosed programs now.run q u a → (p ≡ q) × (t ≡ u)
+  gone_once p q t u a (inl r) (inl s) = (r.0.0 ∙ sym s.0.0, same_Some t u (sym (removed_at p t r.0) ∙ removed_at q u s.0))
+  gone_once p q t u a (inl r) (inr closed) = absurd (removed_twice p q t u a r closed)
+  gone_once p q t u a (inr closed) (inl s) = absurd (removed_twice q p u t a s closed)
+  gone_once p q t u a (inr c) (inr d) = kept.server.gone_once p q t u a c d
+
   all_transfers : (q : ℕ) (transfer : TransferState F D) (a : Endpoint) → HasTransferBy programs now q transfer a →
       TransferKept programs how kept.views messages now q transfer a
   all_transfers q transfer a is =
@@ -119,6 +135,7 @@ module _ {S F D G K : Type 0} {stores : StoreMeaning S D} {sources : SourceMeani
         (once-without port old.state.server.held kept.server.once);
     seats = λ p q t u e f same. kept.server.seats p q t u (still_held p t e).1 (still_held q u f).1 same;
     gone = gone;
+    gone_once = gone_once;
     opened = λ q transfer a is. kept.server.opened q transfer a (held_before q transfer a is);
   }
 

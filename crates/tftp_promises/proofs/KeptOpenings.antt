@@ -36,7 +36,7 @@ use Rattle.tftp_promises.specs.Promises.{joined}
 use Rattle.tftp_promises.specs.Snapshots.{Snapshot, server_did}
 use Rattle.tftp_promises.proofs.RunPlaces.{placed_by, places}
 use Rattle.tftp_promises.proofs.Kept.{How, AreKeyedOnce, HasStored, HasTransferBy, IsFreshBy}
-use Rattle.tftp_promises.proofs.Kept.{IsKept, IsOfTransfer, IsStrangers, IsThere, ServerKept}
+use Rattle.tftp_promises.proofs.Kept.{IsKept, IsNamed, IsOfTransfer, IsStrangers, IsThere, ServerKept}
 use Rattle.tftp_promises.proofs.Kept.{TransferKept, same_transfer}
 use Rattle.tftp_promises.proofs.KeptEvents.{only_one}
 use Rattle.tftp_promises.proofs.KeptRefusals.{closed_earlier, left_is, new_is, one_sent}
@@ -141,6 +141,7 @@ module _ {S F D G K : Type 0} {stores : StoreMeaning S D} {sources : SourceMeani
     module _ (same : SameStored programs how server.store store) (x : OpenEnd) (address : x.address ≡ a)
         (peer : peer_of x.state.position.phase ≡ Some answers.from) (state : x.state ≡ transfer.end)
         (path : x.path ≡ transfer.path) (request : x.request ≡ transfer.request)
+        (named : IsNamed transfer.path transfer.request)
         (opens : EndOpens (joined programs) kept.shown.0 kept.views kept.messages answers.from x)
         (has : HasStored programs how now x transfer.files) where
       abbrev said_now : List Message
@@ -211,6 +212,7 @@ module _ {S F D G K : Type 0} {stores : StoreMeaning S D} {sources : SourceMeani
         state = state;
         path = path;
         request = request;
+        named = named;
         side = opens.side;
         viewed =
             record {
@@ -328,6 +330,10 @@ module _ {S F D G K : Type 0} {stores : StoreMeaning S D} {sources : SourceMeani
             (once-with_new tid transfer server.held answers.free kept.server.once);
         seats = all_seats;
         gone = still_gone;
+        gone_once =
+            λ p q t u b c d. kept.server.gone_once p q t u b
+            (closed_earlier programs old kept answers added p t b c)
+            (closed_earlier programs old kept answers added q u b d);
         opened = all_opened;
       }
 

@@ -26,7 +26,8 @@ use Rattle.tftp_promises.specs.Snapshots.{Snapshot, server_did}
 use Rattle.tftp_promises.proofs.RunPlaces.{places}
 use Rattle.tftp_promises.proofs.Identifiers.{at-with_next_cases, once-with_next}
 use Rattle.tftp_promises.proofs.Kept.{How, AreKeyedOnce, IsThere, IsViewed, HasStored, HasTransferBy, TransferKept}
-use Rattle.tftp_promises.proofs.Kept.{ServerKept, IsOfTransfer, IsKept, IsFreshBy, IsStrangers, same_transfer}
+use Rattle.tftp_promises.proofs.Kept.{ServerKept, IsOfTransfer, IsKept, IsFreshBy, IsStrangers, named_still}
+use Rattle.tftp_promises.proofs.Kept.{same_transfer}
 use Rattle.tftp_promises.proofs.KeptServer.{ServerTurns, server_keeps}
 use Rattle.tftp_promises.proofs.KeptViews.{arrived_still, viewed_beside, among_set}
 use Rattle.tftp_promises.proofs.MovedSteps.{MovesNone}
@@ -53,6 +54,8 @@ module _ {S F D G K : Type 0} {stores : StoreMeaning S D} {sources : SourceMeani
     pub state : end.state ≡ next.end
     pub path : end.path ≡ next.path
     pub request : end.request ≡ next.request
+    pub path_stays : next.path ≡ transfer.path
+    pub request_stays : next.request ≡ transfer.request
     pub side : is_client end.state.role.side ≡ false
     pub shown : IsShown (joined programs)
         (set kept.views (kept.transfers port transfer (place_at programs port old.run) (inl (found, refl))).viewed.index
@@ -119,6 +122,9 @@ module _ {S F D G K : Type 0} {stores : StoreMeaning S D} {sources : SourceMeani
       state = turns.state;
       path = turns.path;
       request = turns.request;
+      named =
+          named_still turns.path_stays turns.request_stays
+          (kept.transfers port transfer place (inl (found, refl))).named;
       side = turns.side;
       viewed =
           record {
@@ -206,6 +212,9 @@ module _ {S F D G K : Type 0} {stores : StoreMeaning S D} {sources : SourceMeani
           let h = held_before q u e in
           kept.server.gone p q t h.0 a (closed_before programs old kept does stays added p t a closed) h.1
           (same ∙ stays.seats q);
+      gone_once =
+          λ p q t u a c d. kept.server.gone_once p q t u a (closed_before programs old kept does stays added p t a c)
+          (closed_before programs old kept does stays added q u a d);
       opened = λ q t a is. opened_still programs old kept does stays added a (all_opened q t a is);
     }
 

@@ -37,7 +37,8 @@ use Rattle.tftp_promises.specs.Order.{Programs}
 use Rattle.tftp_promises.specs.Ports.{IsStored, opened_ports}
 use Rattle.tftp_promises.specs.Promises.{joined}
 use Rattle.tftp_promises.specs.Snapshots.{Snapshot, server_did}
-use Rattle.tftp_promises.proofs.Kept.{How, By_models, By_run, GaveSo, HasStored, IsFreshBy, IsKept, IsKnown, TookSo}
+use Rattle.tftp_promises.proofs.Kept.{How, By_models, By_run, GaveSo, HasStored, IsFreshBy, IsKept, IsKnown, IsNamed}
+use Rattle.tftp_promises.proofs.Kept.{TookSo}
 use Rattle.tftp_promises.proofs.Kept.{length_of, place_text}
 use Rattle.tftp_promises.proofs.KeptAsks.{says_request}
 use Rattle.tftp_promises.proofs.KeptOpenings.{at_server, came_here, its_place, none_there, opening_keeps, store_is}
@@ -69,10 +70,10 @@ module _ {S F D G K : Type 0} {stores : StoreMeaning S D} {sources : SourceMeani
 
   -- ---- what the request is
   -- it was sent, and no end answers it
-  newly : (write : Bool) (mode : Mode) (options : List RawOption)
-      (asked : IsAsked answers.steps.decoded answers.steps.repeated write mode options) →
+  newly : (write : Bool) (path : List ℕ) (mode : Mode) (options : List RawOption)
+      (asked : IsAsked answers.steps.decoded answers.steps.repeated write path mode options) →
       IsNewly (joined programs) kept.views kept.messages answers.from answers.bytes write asked.request
-  newly write mode options asked =
+  newly write path mode options asked =
       let packet = requested write asked.request in
       let spells : Spells packet answers.bytes =
       subst (λ (d : Option WirePacket). Decodes answers.bytes d) asked.packet answers.steps.says in
@@ -88,9 +89,21 @@ module _ {S F D G K : Type 0} {stores : StoreMeaning S D} {sources : SourceMeani
             answers.steps.repeats asked.packet asked.new;
       }
 
+  -- and it is for this path
+  named : (write : Bool) (path : List ℕ) (mode : Mode) (options : List RawOption)
+      (asked : IsAsked answers.steps.decoded answers.steps.repeated write path mode options) →
+      IsNamed path answers.bytes
+  named write path mode options asked =
+      record {
+        write = write;
+        request = asked.request;
+        spells = (newly write path mode options asked).spells;
+        path = asked.same_path;
+      }
+
   -- a read
   module _ (path : List ℕ) (mode : Mode) (options : List RawOption)
-      (asked : IsAsked answers.steps.decoded answers.steps.repeated false mode options)
+      (asked : IsAsked answers.steps.decoded answers.steps.repeated false path mode options)
       (o : OpensToSend stores sources server answers.from answers.bytes (content_by programs how old.state) path
       asked.request.mode answers.steps.came) where
     abbrev r : WireRequest
@@ -117,11 +130,12 @@ module _ {S F D G K : Type 0} {stores : StoreMeaning S D} {sources : SourceMeani
         opening_keeps programs old kept answers added noted fresh sent server.store o.is
         (same_if programs how server.store server.store refl) x refl
         (read_peer o.agreed answers.from r.mode text server.config.retries) (sym end) refl refl
+        (named false path mode options asked)
         (opens_to_send (joined programs) kept.shown.0 kept.views kept.messages a answers.from answers.bytes r path file
         text o.agreed server.config.retries kept.shown.1
         (at_server programs old kept answers added noted fresh sent server.store o.is)
         (none_there programs old kept answers added noted fresh sent server.store o.is)
-        (newly false mode options asked) o.granted fits)
+        (newly false path mode options asked) o.granted fits)
         has
 
     -- by the models
@@ -209,7 +223,7 @@ module _ {S F D G K : Type 0} {stores : StoreMeaning S D} {sources : SourceMeani
 
   -- a write
   module _ (path : List ℕ) (mode : Mode) (options : List RawOption)
-      (asked : IsAsked answers.steps.decoded answers.steps.repeated true mode options)
+      (asked : IsAsked answers.steps.decoded answers.steps.repeated true path mode options)
       (o : OpensToStore stores sources server answers.from answers.bytes (content_by programs how old.state) path
       asked.request.mode answers.steps.came) where
     -- its transfer, and its end
@@ -230,11 +244,12 @@ module _ {S F D G K : Type 0} {stores : StoreMeaning S D} {sources : SourceMeani
         opening_keeps programs old kept answers added noted fresh stored_by o.store o.is
         (same_if_known programs how old.state o.store kept.server.known o.same)
         receiver refl (write_peer o.agreed answers.from asked.request.mode server.config.retries) refl refl refl
+        (named true path mode options asked)
         (opens_to_store (joined programs) kept.shown.0 kept.views kept.messages a answers.from answers.bytes
         asked.request path o.agreed server.config.retries kept.shown.1
         (at_server programs old kept answers added noted fresh stored_by o.store o.is)
         (none_there programs old kept answers added noted fresh stored_by o.store o.is)
-        (newly true mode options asked) o.granted)
+        (newly true path mode options asked) o.granted)
         has
 
     storing_by : (w : How programs) → how ≡ w → IsKept programs how now

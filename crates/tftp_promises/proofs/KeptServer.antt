@@ -21,7 +21,7 @@ use Rattle.tftp_promises.specs.Promises.{joined}
 use Rattle.tftp_promises.specs.Snapshots.{Snapshot, ClientStage, Unasked, Has_asked, server_did}
 use Rattle.tftp_promises.proofs.Kept.{How, IsThere, IsViewed, HasTransferBy, StageKept, TransferKept, ServerKept}
 use Rattle.tftp_promises.proofs.Kept.{IsOfClient, IsOfTransfer, IsKept}
-use Rattle.tftp_promises.proofs.KeptViews.{sent_still}
+use Rattle.tftp_promises.proofs.KeptViews.{sent_still, there_still}
 
 module _ {S F D G K : Type 0} {stores : StoreMeaning S D} {sources : SourceMeaning F} {inputs : SourceMeaning G}
     {outputs : SinkMeaning K}
@@ -92,6 +92,10 @@ module _ {S F D G K : Type 0} {stores : StoreMeaning S D} {sources : SourceMeani
       state = h.state;
       side = h.side;
       viewed = turns.clients k client found h.end h.address h.viewed;
+      asks =
+          there_still kept.messages turns.said_now
+          (client_at inputs outputs (requests_at stores sources programs.server) client)
+          (requests_at stores sources programs.server) client.first.position.last_sent h.asks;
       has = h.has;
     }
 

@@ -64,6 +64,7 @@ module _ {S F D G K : Type 0} {stores : StoreMeaning S D} {sources : SourceMeani
       once = subst (λ (held : List (ℕ × TransferState F D)). AreKeyedOnce held) (sym programs.server.empty) tt;
       seats = λ p q t u e. absurd (nothing_held p t e);
       gone = λ p q t u a h. absurd h;
+      gone_once = λ p q t u a h. absurd h;
       opened = λ port transfer a h. absurd (no_transfer port transfer a h);
     };
     clients =

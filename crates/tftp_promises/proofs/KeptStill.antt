@@ -75,6 +75,9 @@ module _ {S F D G K : Type 0} {stores : StoreMeaning S D} {sources : SourceMeani
           λ p q t u a closed e same. kept.server.gone p q t u a
           (closed_before programs old kept does stays added p t a closed) (ap (at q) (sym held) ∙ e)
           (same ∙ stays.seats q);
+      gone_once =
+          λ p q t u a c d. kept.server.gone_once p q t u a (closed_before programs old kept does stays added p t a c)
+          (closed_before programs old kept does stays added q u a d);
       opened =
           λ port transfer a is. opened_still programs old kept does stays added a
           (kept.server.opened port transfer a (held_before port transfer a is));

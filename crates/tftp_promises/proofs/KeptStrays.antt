@@ -23,12 +23,12 @@ use Rattle.tftp_rules.proofs.EndMoves.{valid_error}
 use Rattle.tftp_rules.proofs.SaidLemmas.{spells_own}
 use Rattle.tftp_promises.specs.Joint.{WasSentBefore}
 use Rattle.tftp_promises.specs.Order.{Programs, IsStranger}
-use Rattle.tftp_promises.specs.Programs.{ClientProgram, requests_at}
+use Rattle.tftp_promises.specs.Programs.{ClientProgram, client_at, requests_at}
 use Rattle.tftp_promises.specs.Promises.{joined}
 use Rattle.tftp_promises.specs.Snapshots.{Snapshot, ClientStage, Unasked, Has_asked}
 use Rattle.tftp_promises.proofs.Kept.{How, HasArrived, IsThere, IsKept, StageKept, TransferKept}
 use Rattle.tftp_promises.proofs.Kept.{same_transfer}
-use Rattle.tftp_promises.proofs.KeptViews.{arrived_still, sent_still, there_says, viewed_still}
+use Rattle.tftp_promises.proofs.KeptViews.{arrived_still, sent_still, there_says, there_still, viewed_still}
 use Rattle.tftp_promises.proofs.Places.{strangers_elsewhere}
 
 module _ {S F D G K : Type 0} {stores : StoreMeaning S D} {sources : SourceMeaning F} {inputs : SourceMeaning G}
@@ -50,6 +50,10 @@ module _ {S F D G K : Type 0} {stores : StoreMeaning S D} {sources : SourceMeani
       state = h.state;
       side = h.side;
       viewed = viewed_still (joined programs) kept.views kept.messages more h.end h.viewed;
+      asks =
+          there_still kept.messages more
+          (client_at inputs outputs (requests_at stores sources programs.server) client)
+          (requests_at stores sources programs.server) client.first.position.last_sent h.asks;
       has = h.has;
     }
 
@@ -78,6 +82,7 @@ module _ {S F D G K : Type 0} {stores : StoreMeaning S D} {sources : SourceMeani
           once = kept.server.once;
           seats = kept.server.seats;
           gone = kept.server.gone;
+          gone_once = kept.server.gone_once;
           opened = kept.server.opened;
         };
         clients = λ k client stage found at. stage_still (m ∷ []) client stage (kept.clients k client stage found at);

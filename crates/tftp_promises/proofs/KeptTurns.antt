@@ -129,6 +129,9 @@ module _ {S F D G K : Type 0} {stores : StoreMeaning S D} {sources : SourceMeani
           ∙ (ap (λ (e : EndState). after_turn e turn) own.state ∙ sym state);
       side = ap is_client goes.side ∙ own.side;
       viewed = its_view;
+      asks =
+          there_still kept.messages goes.said_now here (requests_at stores sources programs.server)
+          client.first.position.last_sent own.asks;
       has = has;
     }
 
@@ -183,6 +186,9 @@ module _ {S F D G K : Type 0} {stores : StoreMeaning S D} {sources : SourceMeani
         state = own.state ∙ sym state;
         side = own.side;
         viewed = viewed_still (joined programs) kept.views kept.messages [] own.end own.viewed;
+        asks =
+            there_still kept.messages [] here (requests_at stores sources programs.server)
+            client.first.position.last_sent own.asks;
         has = has;
       };
       notes = λ port to bytes c. elim (Contains-append_cases added noted (Sent port to bytes) c) [

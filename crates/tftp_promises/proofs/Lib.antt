@@ -64,6 +64,7 @@ pub mod MovedSends
 pub mod MovedStores
 pub mod MovedSteps
 pub mod MovedFiles
+pub mod ClientsServed
 pub mod AnyKept
 pub mod KeptStrays
 pub mod ClientsRun

@@ -105,9 +105,9 @@ module _ {S F D : Type 0} (meaning : StoreMeaning S D) (sources : SourceMeaning 
     Silent : came ≡ Nothing → PortAnswers decoded repeated came
     Says_error : IsRefused came → PortAnswers decoded repeated came
     Begins_to_send : (path : List ℕ) (mode : Mode) (options : List RawOption) →
-        IsAsked decoded repeated false mode options → OpensToSend path mode came → PortAnswers decoded repeated came
+        IsAsked decoded repeated false path mode options → OpensToSend path mode came → PortAnswers decoded repeated came
     Begins_to_store : (path : List ℕ) (mode : Mode) (options : List RawOption) →
-        IsAsked decoded repeated true mode options → OpensToStore path mode came → PortAnswers decoded repeated came
+        IsAsked decoded repeated true path mode options → OpensToStore path mode came → PortAnswers decoded repeated came
 
   if_known : (P : Stored → Type 0) → ((stored : Stored) → content ≡ Some stored → P stored) → IfKnown content P
   if_known P f = by_content content refl where

@@ -209,6 +209,8 @@ module _ {S F D G K : Type 0} {stores : StoreMeaning S D} {sources : SourceMeani
           state = state ∙ next_state;
           path = was.path ∙ sym taken.takes.path;
           request = was.request ∙ sym taken.takes.request;
+          path_stays = taken.takes.path;
+          request_stays = taken.takes.request;
           has =
               subst (λ (f : Files F D). HasStored programs how now x f) (sym same.1)
               (stored_after programs how old (At_port serves) added stay x
@@ -309,6 +311,8 @@ module _ {S F D G K : Type 0} {stores : StoreMeaning S D} {sources : SourceMeani
           state = rest.1 ∙ next_state;
           path = rest.2 ∙ (was.path ∙ sym taken.takes.path);
           request = rest.3 ∙ (was.request ∙ sym taken.takes.request);
+          path_stays = taken.takes.path;
+          request_stays = taken.takes.request;
           has = has;
         }
 

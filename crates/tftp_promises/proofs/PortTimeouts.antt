@@ -207,6 +207,8 @@ module _ {S F D G K : Type 0} {stores : StoreMeaning S D} {sources : SourceMeani
           state = rest.1 ∙ (ap (λ (e : EndState). after_turn e (timeout_turn e)) was.state ∙ sym timed.carries.state);
           path = rest.2 ∙ was.path;
           request = rest.3 ∙ was.request;
+          path_stays = refl;
+          request_stays = refl;
           has = has goes;
         }
 

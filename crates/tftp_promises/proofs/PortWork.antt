@@ -79,6 +79,8 @@ module _ {S F D G K : Type 0} {stores : StoreMeaning S D} {sources : SourceMeani
       state = was.state ∙ sym end;
       path = was.path ∙ sym path;
       request = was.request ∙ sym request;
+      path_stays = path;
+      request_stays = request;
       side = was.side;
       shown = shown;
       is_kept = was.viewed.kept;

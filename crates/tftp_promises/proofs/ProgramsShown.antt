@@ -26,6 +26,6 @@ module _ {S F D G K : Type 0} (stores : StoreMeaning S D) (sources : SourceMeani
 
   pub programs_keep_any : ProgramsKeepAnyFiles stores sources inputs outputs
   programs_keep_any programs order joined =
-      any_kept programs
+      any_kept programs joined.fresh
       (λ pad. kept_at_last stores sources inputs outputs (journals_joint stores sources inputs outputs)
       (λ p how. server_steps_keep p how) programs order joined (By_run pad))

@@ -48,6 +48,8 @@ module _ {S F D G K : Type 0} {stores : StoreMeaning S D} {sources : SourceMeani
     pub state : end.state ≡ next.end
     pub path : end.path ≡ next.path
     pub request : end.request ≡ next.request
+    pub path_stays : next.path ≡ transfer.path
+    pub request_stays : next.request ≡ transfer.request
     pub has : HasStored programs how (server_did programs old does added) end next.files
 
   -- the turn of a stranger's transfer: it is one still, and what it answers is for a stranger, or is there from its
@@ -107,6 +109,8 @@ module _ {S F D G K : Type 0} {stores : StoreMeaning S D} {sources : SourceMeani
       state = becomes.state;
       path = becomes.path;
       request = becomes.request;
+      path_stays = becomes.path_stays;
+      request_stays = becomes.request_stays;
       side = ap is_client becomes.goes.side ∙ side;
       shown = (kept.shown.0 ++ becomes.goes.shown.0, becomes.goes.shown.2);
       is_kept = becomes.goes.kept;

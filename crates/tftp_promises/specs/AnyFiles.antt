@@ -1,6 +1,8 @@
 -- The promises of a transfer in the end state of the journals, over any store and any files: what
 -- moved at an end is read off its run.
-use Rattle.std.specs.Prelude.{ℕ, ◌≡◌, ◌⊎◌, true, false, List, slice_get, Option, Some}
+use Rattle.std.specs.Prelude.{ℕ, ◌≡◌, ◌⊎◌, false, List, slice_get, Option, Some, Ok}
+use Rattle.tftp_wire.specs.Spelling.{Spells}
+use Rattle.tftp_file.specs.Path.{path_of_name}
 use Rattle.tftp_file.specs.Sink.{SinkMeaning}
 use Rattle.tftp_file.specs.Source.{SourceMeaning}
 use Rattle.tftp_ends.specs.End.{EndState, is_client, is_complete, is_sender, record_of}
@@ -13,7 +15,8 @@ use Rattle.tftp_promises.specs.ClientRuns.{moved_in}
 use Rattle.tftp_promises.specs.Moved.{Moved}
 use Rattle.tftp_promises.specs.Openings.{moved_at, opened_at}
 use Rattle.tftp_promises.specs.Order.{Programs, IsStranger}
-use Rattle.tftp_promises.specs.Programs.{endpoint, requests_at, ClientProgram, client_at}
+use Rattle.tftp_promises.specs.Programs.{endpoint, requests_at, ClientProgram, client_at, name_of}
+use Rattle.tftp_promises.specs.Programs.{packet_of}
 use Rattle.tftp_promises.specs.Promises.{HasOpened}
 
 -- an end in the end state of the journals: its endpoint, its state, and what moved between its file
@@ -84,12 +87,19 @@ module _ {S F D G K : Type 0} {stores : StoreMeaning S D} {sources : SourceMeani
   abbrev pub IsOurs : Endpoint → Type 0
   IsOurs a = IsStranger stores sources inputs outputs programs a → ⊥
 
-  -- an end there of the server, with this peer
-  pub record IsServingAt (p a : Endpoint) (y : ProgramEnd) : Type 0 where
-    pub is_end : IsEnd y
-    pub address : y.address ≡ p
-    pub server : is_client y.state.role.side ≡ false
-    pub peer : peer_of y ≡ Some a
+  -- a transfer of the server at this endpoint is the client's: it has the client as its peer, the
+  -- datagram that opened it spells the client's request, and its path is that of the client's name
+  pub record Serves (p : Endpoint)
+      (client : ClientProgram inputs outputs (requests_at stores sources programs.server))
+      : Type 0 where
+    pub port : ℕ
+    pub transfer : TransferState F D
+    pub opened : HasOpened programs port transfer p
+    pub server : is_client transfer.end.role.side ≡ false
+    pub peer : peer_of (transfer_end transfer p)
+        ≡ Some (client_at inputs outputs (requests_at stores sources programs.server) client)
+    pub asked : Spells (packet_of client.opens) transfer.request
+    pub path : path_of_name (name_of client.opens) ≡ Ok transfer.path
 
   -- the server opened the transfer for this path, as its store answered then, and in this role
   pub record WasOpened (transfer : TransferState F D) (a : Endpoint) : Type 0 where
@@ -102,9 +112,14 @@ module _ {S F D G K : Type 0} {stores : StoreMeaning S D} {sources : SourceMeani
   pub record KeepAnyFiles : Type 0 where
     -- the transfers are safe: what a receiver was handed is what its peer's file gave
     pub safe : AreSafe safety_of IsEnd IsOurs
-    -- the peer of a client is a transfer of the server, which has the client as its own peer
-    pub served : (x : ProgramEnd) (p : Endpoint) → IsEnd x → is_client x.state.role.side ≡ true →
-        peer_of x ≡ Some p → (y : ProgramEnd) × IsServingAt p x.address y
+    -- no two ends share an endpoint
+    pub unique : (x y : ProgramEnd) → IsEnd x → IsEnd y → x.address ≡ y.address → x ≡ y
+    -- the peer of a client is a transfer of the server, which is the client's: of the file that it
+    -- asked for
+    pub served : (k : ℕ)
+        (client : ClientProgram inputs outputs (requests_at stores sources programs.server))
+        (p : Endpoint) → slice_get programs.clients k ≡ Some client →
+        peer_of (client_end client) ≡ Some p → Serves p client
     -- a transfer is at its port, unless its peer is a stranger
     pub at_port : (port : ℕ) (transfer : TransferState F D) (a p : Endpoint) →
         HasOpened programs port transfer a → peer_of (transfer_end transfer a) ≡ Some p →

@@ -1,6 +1,7 @@
 pub mod Moved
 pub mod ClientRuns
 pub mod Programs
+pub mod ClientPrograms
 pub mod Order
 pub mod Ports
 pub mod Openings

@@ -6,16 +6,18 @@ use Rattle.tftp_file.specs.Source.{SourceMeaning}
 use Rattle.tftp_file.specs.declared.files.Files.{Files}
 use Rattle.tftp_ends.specs.End.{EndState}
 use Rattle.tftp_store.specs.Store.{StoreMeaning}
+use Rattle.tftp_client.specs.Taken.{nothing}
 use Rattle.tftp_rules.specs.Machine.{Endpoint}
 use Rattle.tftp_promises.specs.Order.{Programs}
 use Rattle.tftp_promises.specs.Programs.{ClientOpens, ClientProgram, To_read, To_write, requests_at}
 
 -- a client that writes has measured this file, and its source has all of its text; one that reads
--- sends none
+-- sends none, and its sink has taken nothing
 abbrev pub HasWhole : {G K : Type 0} {inputs : SourceMeaning G} {outputs : SinkMeaning K}
     {to : Endpoint} {first : EndState} {files : Files G K}
     → ClientOpens inputs outputs to first files → List ℕ → Type 0
-HasWhole (To_read opens) file = file ≡ []
+HasWhole {outputs = outputs} (To_read opens) file =
+    (file ≡ []) × (outputs.held opens.sink ≡ Some nothing)
 HasWhole {inputs = inputs} (To_write opens) file =
     (inputs.left opens.source ≡ Some (wire_text opens.mode file))
     × (opens.length ≡ length (wire_text opens.mode file))

@@ -2,6 +2,8 @@
 -- run noted in its journal (RFC 1350, section 4).
 use Rattle.std.specs.Prelude.{ℕ, ◌≡◌, Bool, true, false, if◌then◌else◌, List, [], ◌∷◌, ◌++◌, None}
 use Rattle.tftp_wire.specs.declared.mode.Mode.{Mode}
+use Rattle.tftp_wire.specs.declared.packet.Packet.{Packet}
+use Rattle.tftp_wire.specs.declared.packet.Packet.TheVariants.{Read, Write}
 use Rattle.tftp_negotiate.specs.Ranges.{IsBlockSize}
 use Rattle.tftp_negotiate.specs.declared.asked.Asked.{Asked}
 use Rattle.tftp_file.specs.Sink.{SinkMeaning}
@@ -9,7 +11,7 @@ use Rattle.tftp_file.specs.Source.{SourceMeaning}
 use Rattle.tftp_file.specs.declared.files.Files.{Files}
 use Rattle.tftp_file.specs.declared.files.Files.TheVariants.{Source, Sink}
 use Rattle.tftp_ends.specs.End.{EndState}
-use Rattle.tftp_ends.specs.Opening.{MayGet, MayPut, getting, putting}
+use Rattle.tftp_ends.specs.Opening.{MayGet, MayPut, getting, putting, request_of}
 use Rattle.tftp_store.specs.Store.{StoreMeaning}
 use Rattle.tftp_rules.specs.Machine.{Endpoint, is_same, is_same_ip, At_server, At_client}
 use Rattle.tftp_rules.specs.Machine.{Elsewhere, Network}
@@ -17,7 +19,7 @@ use Rattle.tftp_sockets.specs.Journal.{Event}
 use Rattle.tftp_loop.specs.Run.{Run}
 use Rattle.tftp_loop.specs.Serves.{LoopState, Does}
 use Rattle.tftp_client.specs.Converses.{State}
-use Rattle.tftp_client.specs.Runs.{IsNew, begun}
+use Rattle.tftp_client.specs.Runs.{begun}
 use Rattle.tftp_promises.specs.ClientRuns.{ClientRun}
 
 -- the endpoint of a port at this address
@@ -102,9 +104,8 @@ module _ {G K : Type 0} (inputs : SourceMeaning G) (outputs : SinkMeaning K) (to
     pub before : List Event
     pub last : State
     pub files : Files G K
-    -- its file before the run; one that is to receive was handed nothing
+    -- its file before the run
     pub file : Files G K
-    pub new : IsNew inputs outputs file
     pub runs : ClientRun inputs outputs port (begun port first before) file last files
     pub opens : ClientOpens first file
     -- the events of the run, the newest first
@@ -131,3 +132,17 @@ module _ {G K : Type 0} (inputs : SourceMeaning G) (outputs : SinkMeaning K) (to
             else if is_same_ip a.ip to.ip then At_server else Elsewhere;
         request_port = to;
       }
+
+-- the name that a client asks for
+abbrev pub name_of : {G K : Type 0} {inputs : SourceMeaning G} {outputs : SinkMeaning K}
+    {to : Endpoint} {first : EndState} {file : Files G K}
+    → ClientOpens inputs outputs to first file → List ℕ
+name_of (To_read opens) = opens.name
+name_of (To_write opens) = opens.name
+
+-- its request
+abbrev pub packet_of : {G K : Type 0} {inputs : SourceMeaning G} {outputs : SinkMeaning K}
+    {to : Endpoint} {first : EndState} {file : Files G K}
+    → ClientOpens inputs outputs to first file → Packet
+packet_of (To_read opens) = Read (request_of opens.name opens.mode opens.asked)
+packet_of (To_write opens) = Write (request_of opens.name opens.mode opens.asked)

@@ -3,6 +3,7 @@
 
 ghost use Rattle.tftp_rules.specs.Machine.{Endpoint};
 ghost use Rattle.tftp_promises.specs.Alone.{EachIsJoined, EachKeepsAnyFiles, EachKeepsPromises};
+ghost use Rattle.tftp_promises.specs.ClientPrograms.{ClientsArePrograms};
 ghost use Rattle.tftp_promises.specs.ClientRuns.{ClientsAreRuns};
 ghost use Rattle.tftp_promises.specs.Hosts.{ClientsAreThere, ServerIsThere, StrangersAreElsewhere};
 ghost use Rattle.tftp_promises.specs.Joined.{ProgramsAreShown, ProgramsKeepAnyFiles};
@@ -67,9 +68,11 @@ pub fn programs_are_in_their_network<T: Store, G: Source, K: Sink>()
 {}
 
 /// What `tftp_client` proves of a client is one run, as the laws here need it: from its request on,
-/// and of one that is complete also its line and what it did after it (RFC 1350, section 6).
+/// and of one that is complete also its line and what it did after it (RFC 1350, section 6). If its
+/// end opened by a valid request, to any server, it is the run of a program.
 pub fn a_client_is_one_run<G: Source, K: Sink>()
-    ensures { ClientsAreRuns G.meaning K.meaning }
+    ensures runs { ClientsAreRuns G.meaning K.meaning }
+    ensures programs { ClientsArePrograms G.meaning K.meaning }
 {}
 
 /// What `tftp_loop` proves of a server is the run of a server here, from its start or from any

@@ -1,0 +1,279 @@
+-- In the end state of the journals no two ends share an endpoint, and the peer of a client is the transfer of the server
+-- that its request opened, for the path of its name.
+use Rattle.std.proofs.Common.{◌≡◌, ℕ, Bool, true, false, not, List, [], ◌∷◌, Ok, Some, refl, sym, ap, ◌∙◌, subst}
+use Rattle.std.proofs.Common.{inl, inr}
+use Rattle.std.specs.Prelude.{slice_get, option_map}
+use Rattle.std.specs.List.{Contains}
+use Rattle.std.proofs.lemmas.Bool.{true≢false}
+use Rattle.std.proofs.lemmas.Option.{same_Some, slice_get-map}
+use Rattle.tftp_wire.specs.Spelling.{Spells, written}
+use Rattle.tftp_wire.specs.declared.packet.Packet.{Packet as WirePacket}
+use Rattle.tftp_wire.specs.declared.packet.Packet.TheVariants.{Read, Write}
+use Rattle.tftp_wire.specs.declared.packet.Request.{Request as WireRequest}
+use Rattle.tftp_wire.proofs.SpellingLemmas.{one_meaning}
+use Rattle.tftp_file.specs.Path.{path_of_name}
+use Rattle.tftp_file.specs.Sink.{SinkMeaning}
+use Rattle.tftp_file.specs.Source.{SourceMeaning}
+use Rattle.tftp_file.specs.declared.files.Files.{Files}
+use Rattle.tftp_ends.specs.End.{EndState, is_client}
+use Rattle.tftp_ends.specs.Opening.{request_of}
+use Rattle.tftp_store.specs.Store.{StoreMeaning}
+use Rattle.tftp_rules.specs.Facts.{Attests, IsServing}
+use Rattle.tftp_rules.specs.Machine.{Endpoint, Machine, Message, Packet, Party, Request}
+use Rattle.tftp_rules.specs.OpenEnds.{open_view}
+use Rattle.tftp_rules.specs.Rules.{message}
+use Rattle.tftp_rules.specs.Said.{said}
+use Rattle.tftp_rules.specs.Shows.{EndView, Matches, Shows, answered_by, requested}
+use Rattle.tftp_rules.proofs.SaidLemmas.{spells_own}
+use Rattle.tftp_rules.proofs.Shown.{shown_by}
+use Rattle.tftp_rules.proofs.Steps.{not-not, own_client}
+use Rattle.tftp_server.specs.State.{TransferState, at}
+use Rattle.tftp_promises.specs.AnyFiles.{IsEnd, ProgramEnd, Serves, client_end, peer_of, transfer_end}
+use Rattle.tftp_promises.specs.ClientRuns.{moved_in}
+use Rattle.tftp_promises.specs.Openings.{ArePortsFresh}
+use Rattle.tftp_promises.specs.Order.{Programs}
+use Rattle.tftp_promises.specs.Programs.{ClientOpens, ClientProgram, To_read, To_write, client_at, name_of, packet_of}
+use Rattle.tftp_promises.specs.Programs.{requests_at}
+use Rattle.tftp_promises.specs.Promises.{HasOpened, joined}
+use Rattle.tftp_promises.specs.Snapshots.{Has_asked, all_of}
+use Rattle.tftp_promises.proofs.Kept.{ClientKept, How, IsKept, TransferKept}
+use Rattle.tftp_promises.proofs.KeptAsks.{says_request}
+use Rattle.tftp_promises.proofs.KeptShown.{views_end}
+use Rattle.tftp_promises.proofs.KeptViews.{view_there}
+use Rattle.tftp_promises.proofs.Places.{clients_there}
+
+-- ---- requests
+-- a request has bytes
+abbrev is_nil : List ℕ → Bool
+is_nil [] = true
+is_nil (b ∷ bytes) = false
+
+has_bytes : (write : Bool) (request : WireRequest) (bytes : List ℕ) → Spells (requested write request) bytes →
+    bytes ≡ [] → ⊥
+has_bytes true request bytes s none =
+    let e : true ≡ is_nil (written s.word (Write request)) = ap is_nil (sym none ∙ s.whole) in true≢false e
+has_bytes false request bytes s none =
+    let e : true ≡ is_nil (written s.word (Read request)) = ap is_nil (sym none ∙ s.whole) in true≢false e
+
+-- one datagram asks for one name
+abbrev name_in : WirePacket → List ℕ
+name_in (Read request) = request.name
+name_in (Write request) = request.name
+name_in packet = []
+
+name_asked : (write : Bool) (request : WireRequest) → name_in (requested write request) ≡ request.name
+name_asked true request = refl
+name_asked false request = refl
+
+one_name : (write also : Bool) (request other : WireRequest) (bytes : List ℕ) → Spells (requested write request) bytes →
+    Spells (requested also other) bytes → request.name ≡ other.name
+one_name write also request other bytes s t =
+    sym (name_asked write request)
+    ∙ (ap name_in (one_meaning (requested write request) (requested also other) bytes s t) ∙ name_asked also other)
+
+-- ---- the request of a client
+module _ {G K : Type 0} {inputs : SourceMeaning G} {outputs : SinkMeaning K} {to : Endpoint} {first : EndState}
+    {file : Files G K} where
+  abbrev writes : ClientOpens inputs outputs to first file → Bool
+  writes (To_read opens) = false
+  writes (To_write opens) = true
+
+  abbrev wire_of : ClientOpens inputs outputs to first file → WireRequest
+  wire_of (To_read opens) = request_of opens.name opens.mode opens.asked
+  wire_of (To_write opens) = request_of opens.name opens.mode opens.asked
+
+  packet_is : (opens : ClientOpens inputs outputs to first file) →
+      packet_of opens ≡ requested (writes opens) (wire_of opens)
+  packet_is (To_read opens) = refl
+  packet_is (To_write opens) = refl
+
+  name_is : (opens : ClientOpens inputs outputs to first file) → (wire_of opens).name ≡ name_of opens
+  name_is (To_read opens) = refl
+  name_is (To_write opens) = refl
+
+  asks_so : (opens : ClientOpens inputs outputs to first file) →
+      Spells (requested (writes opens) (wire_of opens)) first.position.last_sent
+  asks_so (To_read opens) =
+      let packet = Read (request_of opens.name opens.mode opens.asked) in
+      subst (λ (e : EndState). Spells packet e.position.last_sent) (sym opens.is) (spells_own packet opens.may.valid)
+  asks_so (To_write opens) =
+      let packet = Write (request_of opens.name opens.mode opens.asked) in
+      subst (λ (e : EndState). Spells packet e.position.last_sent) (sym opens.is) (spells_own packet opens.may.valid)
+
+-- the end that serves a client answers its request
+answers_it : (a to : Endpoint) (x y : Party) (write : Bool) (request : WireRequest) → IsServing a x y →
+    Attests x to (Request write request) → answered_by y ≡ requested write request
+answers_it a to x y write request serves asks =
+    ap (λ (b : Bool). requested (not b) y.request) serves.sender
+    ∙ (ap (λ (b : Bool). requested b y.request) (not-not x.sender ∙ asks.sender)
+    ∙ ap (requested write) (serves.request ∙ asks.request))
+
+module _ {S F D G K : Type 0} {stores : StoreMeaning S D} {sources : SourceMeaning F} {inputs : SourceMeaning G}
+    {outputs : SinkMeaning K}
+    (programs : Programs stores sources inputs outputs) {how : How programs} (kept : IsKept programs how
+    (all_of programs)) where
+  abbrev Client : Type 0
+  Client = ClientProgram inputs outputs (requests_at stores sources programs.server)
+
+  abbrev there : Client → Endpoint
+  there client = client_at inputs outputs (requests_at stores sources programs.server) client
+
+  client_kept : (k : ℕ) (client : Client) → slice_get programs.clients k ≡ Some client →
+      ClientKept programs how kept.views kept.messages client client.last client.files (moved_in client.runs)
+  client_kept k client found =
+      kept.clients k client (Has_asked client.last client.files client.noted (moved_in client.runs)) found
+      (slice_get-map (λ (c : Client). Has_asked c.last c.files c.noted (moved_in c.runs)) programs.clients k
+      ∙ ap (option_map (λ (c : Client). Has_asked c.last c.files c.noted (moved_in c.runs))) found)
+
+  -- ---- no two ends share an endpoint
+  one_transfer : (p q : ℕ) (t u : TransferState F D) (a : Endpoint) → HasOpened programs p t a →
+      HasOpened programs q u a → t ≡ u
+  one_transfer p q t u a (inl e) (inl f) =
+      let same : p ≡ q = kept.server.seats p q t u e.0 f.0 (sym e.1 ∙ f.1) in
+      same_Some t u (sym e.0 ∙ (ap (λ (n : ℕ). at n programs.server.last.server.held) same ∙ f.0))
+  one_transfer p q t u a (inl e) (inr closed) = absurd (kept.server.gone q p u t a closed e.0 e.1)
+  one_transfer p q t u a (inr closed) (inl f) = absurd (kept.server.gone p q t u a closed f.0 f.1)
+  one_transfer p q t u a (inr c) (inr d) = (kept.server.gone_once p q t u a c d).1
+
+  -- no transfer is where a client is
+  client_alone : (k : ℕ) (client : Client) (port : ℕ) (transfer : TransferState F D) (a : Endpoint) →
+      slice_get programs.clients k ≡ Some client → HasOpened programs port transfer a → there client ≡ a → ⊥
+  client_alone k client port transfer a found opened same =
+      let x = client_kept k client found in
+      let y = kept.transfers port transfer a opened in
+      let one : open_view y.end ≡ open_view x.end =
+      view_there (joined programs) kept.views kept.messages x.end (open_view y.end) kept.shown x.viewed
+      (y.viewed.index, y.viewed.viewed) (y.address ∙ (sym same ∙ sym x.address)) in
+      true≢false (sym x.side ∙ (ap (λ (v : EndView). v.client) (sym one) ∙ y.side))
+
+  pub one_there : ArePortsFresh programs → (x y : ProgramEnd) → IsEnd programs x → IsEnd programs y →
+      x.address ≡ y.address → x ≡ y
+  one_there fresh x y (inl c) (inl d) same =
+      let k : c.0 ≡ d.0 =
+      fresh.clients c.0 d.0 c.1 d.1 c.2 d.2
+      (sym (ap (λ (e : ProgramEnd). e.address) c.3) ∙ (same ∙ ap (λ (e : ProgramEnd). e.address) d.3)) in
+      let client : c.1 ≡ d.1 = same_Some c.1 d.1 (sym c.2 ∙ (ap (slice_get programs.clients) k ∙ d.2)) in
+      c.3 ∙ (ap (client_end programs) client ∙ sym d.3)
+  one_there fresh x y (inl c) (inr d) same =
+      absurd (client_alone c.0 c.1 d.0 d.1 d.2 c.2 d.3
+      (sym (ap (λ (e : ProgramEnd). e.address) c.3) ∙ (same ∙ ap (λ (e : ProgramEnd). e.address) d.4)))
+  one_there fresh x y (inr c) (inl d) same =
+      absurd (client_alone d.0 d.1 c.0 c.1 c.2 d.2 c.3
+      (sym (ap (λ (e : ProgramEnd). e.address) d.3) ∙ (sym same ∙ ap (λ (e : ProgramEnd). e.address) c.4)))
+  one_there fresh x y (inr c) (inr d) same =
+      let place : c.2 ≡ d.2 =
+      sym (ap (λ (e : ProgramEnd). e.address) c.4) ∙ (same ∙ ap (λ (e : ProgramEnd). e.address) d.4) in
+      let transfer : c.1 ≡ d.1 =
+      one_transfer c.0 d.0 c.1 d.1 d.2 (subst (λ (a : Endpoint). HasOpened programs c.0 c.1 a) place c.3) d.3 in
+      c.4 ∙ (ap (λ (t : TransferState F D). transfer_end programs t c.2) transfer
+      ∙ (ap (λ (a : Endpoint). transfer_end programs d.1 a) place ∙ sym d.4))
+
+  -- ---- the peer of a client
+  module _ (k : ℕ) (client : Client) (p : Endpoint) (found : slice_get programs.clients k ≡ Some client)
+      (peer : peer_of (client_end programs client) ≡ Some p) where
+    abbrev to : Endpoint
+    to = requests_at stores sources programs.server
+
+    x : ClientKept programs how kept.views kept.messages client client.last client.files (moved_in client.runs)
+    x = client_kept k client found
+
+    abbrev m : Machine
+    m = (shown_by (joined programs) kept.views kept.messages kept.shown).0
+
+    shows : Shows kept.views kept.messages m
+    shows = (shown_by (joined programs) kept.views kept.messages kept.shown).3
+
+    matches : Matches (open_view x.end) (m.party x.end.address)
+    matches = shows.ends x.viewed.index (open_view x.end) x.viewed.viewed
+
+    serving : IsServing (there client) (m.party (there client)) (m.party p)
+    serving =
+        let holds = (shown_by (joined programs) kept.views kept.messages kept.shown).1 in
+        subst (λ (a : Endpoint). IsServing a (m.party a) (m.party p)) x.address
+        ((holds.ends x.end.address matches.is_open).serving (matches.client ∙ x.side) p
+        (matches.peer ∙ ((views_end x.end (there client) client.last.end x.address x.state).peer ∙ peer))).1
+
+    -- its request, as the machine knows it
+    asks : Attests (m.party (there client)) to (Request (writes client.opens) (wire_of client.opens))
+    asks =
+        let holds = (shown_by (joined programs) kept.views kept.messages kept.shown).1 in
+        let packet : x.asks.0 ≡ requested (writes client.opens) (wire_of client.opens) =
+        one_meaning x.asks.0 (requested (writes client.opens) (wire_of client.opens))
+        client.first.position.last_sent x.asks.1 (asks_so client.opens) in
+        let says : said x.asks.0 ≡ Request (writes client.opens) (wire_of client.opens) =
+        ap said packet ∙ says_request (writes client.opens) (wire_of client.opens) in
+        subst (λ (q : Packet). Attests (m.party (there client)) to q) says
+        (holds.attested (message (there client) to (said x.asks.0))
+        (subst (λ (ds : List Message). Contains ds (message (there client) to (said x.asks.0))) (sym shows.sent)
+        x.asks.2)
+        (own_client (joined programs) (there client) (clients_there programs k client found)))
+
+    module _ (port : ℕ) (transfer : TransferState F D) (opened : HasOpened programs port transfer p) where
+      y : TransferKept programs how kept.views kept.messages (all_of programs) port transfer p
+      y = kept.transfers port transfer p opened
+
+      view : EndView
+      view = open_view y.end
+
+      its_match : Matches (open_view y.end) (m.party p)
+      its_match =
+          subst (λ (a : Endpoint). Matches (open_view y.end) (m.party a)) y.address
+          (shows.ends y.viewed.index (open_view y.end) y.viewed.viewed)
+
+      some_bytes : y.end.request ≡ [] → ⊥
+      some_bytes none =
+          has_bytes y.named.write y.named.request transfer.request y.named.spells (sym y.request ∙ none)
+
+      its_request : Spells (requested (writes client.opens) (wire_of client.opens)) transfer.request
+      its_request =
+          let says = shows.asked y.viewed.index (open_view y.end) y.viewed.viewed (inr (y.side, some_bytes)) in
+          let same : answered_by (m.party y.end.address) ≡ requested (writes client.opens) (wire_of client.opens) =
+          ap (λ (a : Endpoint). answered_by (m.party a)) y.address
+          ∙ answers_it (there client) to (m.party (there client)) (m.party p) (writes client.opens)
+          (wire_of client.opens) serving asks in
+          subst (λ (bytes : List ℕ). Spells (requested (writes client.opens) (wire_of client.opens)) bytes) y.request
+          (subst (λ (q : WirePacket). Spells q y.end.request) same says)
+
+      its_peer : peer_of (transfer_end programs transfer p) ≡ Some (there client)
+      its_peer =
+          sym (views_end y.end p transfer.end y.address y.state).peer ∙ (sym its_match.peer ∙ serving.peer)
+
+      its_path : path_of_name (name_of client.opens) ≡ Ok transfer.path
+      its_path =
+          let name : name_of client.opens ≡ y.named.request.name =
+          sym (name_is client.opens)
+          ∙ one_name (writes client.opens) y.named.write (wire_of client.opens) y.named.request transfer.request
+          its_request y.named.spells in
+          ap path_of_name name ∙ y.named.path
+
+      serves : Serves programs p client
+      serves = record {
+        port = port;
+        transfer = transfer;
+        opened = opened;
+        server = ap (λ (e : EndState). is_client e.role.side) (sym y.state) ∙ y.side;
+        peer = its_peer;
+        asked =
+            subst (λ (q : WirePacket). Spells q transfer.request) (sym (packet_is client.opens)) its_request;
+        path = its_path;
+      }
+
+    -- it is a transfer of the server
+    pub served_by : Serves programs p client
+    served_by =
+        let at_peer = shows.only p serving.is_open in
+        let view = at_peer.1 in
+        let there_matches : Matches view (m.party p) =
+        subst (λ (a : Endpoint). Matches view (m.party a)) at_peer.3 (shows.ends at_peer.0 view at_peer.2) in
+        elim (kept.only view (at_peer.0, at_peer.2)) [
+          | inl of ↦
+              let z = client_kept of.k of.client of.found in
+              let one : view ≡ open_view z.end =
+              view_there (joined programs) kept.views kept.messages z.end view kept.shown z.viewed
+              (at_peer.0, at_peer.2) (of.address ∙ sym z.address) in
+              absurd (true≢false
+              (sym z.side ∙ (ap (λ (v : EndView). v.client) (sym one) ∙ (sym there_matches.client ∙ serving.client))))
+          | inr of ↦
+              serves of.port of.transfer
+              (subst (λ (a : Endpoint). HasOpened programs of.port of.transfer a) at_peer.3 of.is_transfer)
+        ]
