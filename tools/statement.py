@@ -45,7 +45,7 @@ HEADLINES = [
       "ClientOpens": "a client's end at its request, which is valid",
       "record_of": "the record of an end, as above", "is_complete": "whether an end is complete",
       "terms_of": "the terms of an end, once its peer is known", "begun": "a client whose request was sent",
-      "IsNew": "a received file has taken nothing", "ServerState": "a server", "Does": "a step of the server's loop",
+      "ServerState": "a server", "Does": "a step of the server's loop",
       "EndState": "an end, by its role and its position", "LoopState": "a server at its ports",
       "TransferState": "a transfer that a server holds", "State": "a client with its journal",
       "moved_in": "what moved in a client's run",
