@@ -93,7 +93,7 @@ def serves_blocks(scene, size, lengths) -> None:
         copies, lines = {**copies, **more_copies}, lines + more_lines
     log = server.has_closed(*["Complete"] * 24)
     scene.has_files({**files, **copies})
-    found = [re.fullmatch(r"closed \d+ \S+ (.*), \d+ ms, Complete", line) for line in log]
+    found = [re.fullmatch(r"closed \d+ \S+ (.*), \d+ ms, \d+ sent again, Complete", line) for line in log]
     expect(sorted(line[1] for line in found if line), sorted(lines), "the transfers in the log")
 
 
@@ -238,9 +238,9 @@ def test_log_lines(scene) -> None:
     scene.tftp("get", server.word, "b c", "local").fails("PeerError(2)")
     scene.tftp("get", server.word, "a", "local").completes(3)
     logs(server.has_closed("Complete"), [
-        r"refused 127[.\d]+:\d+ RRQ b%20c octet: ERROR 2 \(access violation\)",
+        r"refused 127[.\d]+:\d+ RRQ b%20c octet: ERROR 2 \(access violation\), name not allowed",
         r"opened \d+ 127[.\d]+:\d+ RRQ a octet: DATA 1 3",
-        r"closed \d+ 127[.\d]+:\d+ RRQ a octet: DATA 1 3, 3 bytes, \d+ ms, Complete",
+        r"closed \d+ 127[.\d]+:\d+ RRQ a octet: DATA 1 3, 3 bytes, \d+ ms, \d+ sent again, Complete",
     ])
 
 
@@ -251,5 +251,5 @@ def test_the_log_says_why(scene) -> None:
     scene.tftp("put", server.word, "long", "n").fails("PeerError(3)")
     logs(server.has_closed("StoreFault"), [
         r"opened \d+ 127[.\d]+:\d+ WRQ n octet: ACK 0",
-        r"closed \d+ 127[.\d]+:\d+ WRQ n octet: ACK 0, \d+ bytes, \d+ ms, StoreFault, file too large",
+        r"closed \d+ 127[.\d]+:\d+ WRQ n octet: ACK 0, \d+ bytes, \d+ ms, \d+ sent again, StoreFault, file too large",
     ])

@@ -144,7 +144,7 @@ def test_few_open_files(scene) -> None:
     the file cannot be opened."""
     scene.make("a", b"ABC")
     for limit, line in [
-        ("-n 5", r"lost 127[.\d]+:\d+ RRQ a octet: no port"),
+        ("-n 5", r"lost 127[.\d]+:\d+ RRQ a octet: no port, too many open files"),
         ("-n 6", r"refused 127[.\d]+:\d+ RRQ a octet: ERROR 2 \(access violation\), too many open files"),
     ]:
         server = scene.serve("--log", limit=limit)

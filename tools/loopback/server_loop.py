@@ -45,7 +45,7 @@ def test_the_log_has_the_time_of_the_clock(scene) -> None:
         is_refused(scene, server, rrq("none"), FILE_NOT_FOUND)
     end.send(error(0, "stop"))
     lines = server.has_closed("PeerError(0)")
-    millis = int(re.search(r", (\d+) ms, PeerError\(0\)$", lines[-1])[1])
+    millis = int(re.search(r", (\d+) ms, \d+ sent again, PeerError\(0\), ERROR 0 \(stop\)$", lines[-1])[1])
     expect(2_400 <= millis < 1_000 * LIFE, True, f"whether {millis} ms are those of the clock")
 
 
@@ -62,7 +62,7 @@ def test_a_datagram_that_is_not_sent_is_logged(scene) -> None:
         logs(server.has_closed("Complete")[:-1], [
             r"opened \d+ \S+ RRQ a octet: DATA 1 512",
             rf"unsent {end.peer[1]} {end.port.word} RRQ a octet: permission denied",
-            r"closed \d+ \S+ RRQ a octet: DATA 1 512, 600 bytes, \d+ ms, Complete",
+            r"closed \d+ \S+ RRQ a octet: DATA 1 512, 600 bytes, \d+ ms, [1-9]\d* sent again, Complete",
         ])
     server = scene.watch("--log", unsent=1)
     scene.port().send(rrq("none"), server.address)
@@ -217,4 +217,4 @@ def test_ports_in_use_are_passed_over(scene) -> None:
         end.send(ack(1))
     log = server.has_closed(*["Complete"] * 3)
     found = [line for line in log if line.startswith("lost ")]
-    logs(found, [rf"lost {lost.word} RRQ a octet: no port"])
+    logs(found, [rf"lost {lost.word} RRQ a octet: no port, address in use"])

@@ -6,7 +6,8 @@ use std::process::Abort;
 use std::test::Fail;
 use tftp_ends::{Endpoint, OpenFault, Outcome};
 use tftp_lines::{
-    ClientOutcome, LineClock, LogLine, Lost, Printed, ProgressLine, Reason, RequestLine,
+    ClientOutcome, LineClock, LogLine, Logged, Lost, Printed, ProgressLine, Reason, RequestLine,
+    Why,
 };
 
 /// A value prints this.
@@ -166,10 +167,10 @@ fn log_lines_of_the_system(rt: HostRuntime) -> Result<(), Fail> {
     )?;
     let lost = LogLine::Lost {
         request: asked("RRQ b octet"),
-        lost: Lost::Port,
+        lost: Lost::Port(Some(Reason::AddressInUse)),
     };
-    prints(&rt, &lost, "lost 10.0.0.2:1024 RRQ b octet: no port")?;
-    Ok(())
+    let expected = "lost 10.0.0.2:1024 RRQ b octet: no port, address in use";
+    prints(&rt, &lost, expected)
 }
 
 /// The line of a log of a transfer that has closed.
@@ -181,10 +182,34 @@ fn closing_log_line(rt: HostRuntime) -> Result<(), Fail> {
         answer: "DATA 1 3",
         bytes: 3,
         millis: 12,
-        outcome: Outcome::Complete,
-        reason: None,
+        again: 1,
+        outcome: Outcome::PeerError(3),
+        why: Some(Why::Error("ERROR 3 (disk full)")),
     };
-    let expected = "closed 1025 10.0.0.2:1024 RRQ a octet: DATA 1 3, 3 bytes, 12 ms, Complete";
-    prints(&rt, &closed, expected)?;
-    Ok(())
+    let expected = "closed 1025 10.0.0.2:1024 RRQ a octet: DATA 1 3, 3 bytes, 12 ms, 1 sent again, \
+                    PeerError(3), ERROR 3 (disk full)";
+    prints(&rt, &closed, expected)
+}
+
+/// In a journal a warning has its priority, and another line has none.
+#[test]
+fn priorities(rt: HostRuntime) -> Result<(), Fail> {
+    let logged = |line: LogLine<'_>| Logged {
+        line,
+        has_priority: true,
+    };
+    let ignored = LogLine::Ignored {
+        request: asked("ERROR 0 (stop)"),
+    };
+    prints(
+        &rt,
+        &logged(ignored),
+        "ignored 10.0.0.2:1024 ERROR 0 (stop)",
+    )?;
+    let lost = LogLine::Lost {
+        request: asked("RRQ b octet"),
+        lost: Lost::Memory,
+    };
+    let expected = "<4>lost 10.0.0.2:1024 RRQ b octet: out of memory";
+    prints(&rt, &logged(lost), expected)
 }

@@ -247,6 +247,7 @@ fn service<'a>(matches: &ArgMatches<'a>, ports: Option<PortRange>) -> Option<Dae
         ports,
         ending: ending(matches)?,
         logs: is_set(matches, "log"),
+        has_priority: false,
     };
     Some(DaemonConfig {
         root,

@@ -15,13 +15,23 @@ reason_of_number number =
     if number == 13 then reasons.PermissionDenied else
     if number == 18 then reasons.AnotherDevice else
     if number == 20 then reasons.NotAFolder else
+    if number == 22 then reasons.InvalidArgument else
     if number == 23 then reasons.TooManyOpenFiles else
     if number == 24 then reasons.TooManyOpenFiles else
     if number == 27 then reasons.FileTooLarge else
     if number == 28 then reasons.NoSpace else
     if number == 30 then reasons.ReadOnlyFileSystem else
+    if number == 32 then reasons.BrokenPipe else
+    if number == 36 then reasons.NameTooLong else
+    if number == 40 then reasons.TooManyLinks else
+    if number == 90 then reasons.MessageTooLong else
     if number == 98 then reasons.AddressInUse else
     if number == 99 then reasons.AddressNotAvailable else
+    if number == 100 then reasons.NetworkDown else
+    if number == 101 then reasons.NetworkUnreachable else
+    if number == 105 then reasons.NoBufferSpace else
+    if number == 111 then reasons.ConnectionRefused else
+    if number == 113 then reasons.HostUnreachable else
     if number == 122 then reasons.QuotaExceeded else
     reasons.System number
 
@@ -43,8 +53,18 @@ reason_text reasons.OutOfMemory = codes "out of memory"
 reason_text reasons.InputOutput = codes "input or output error"
 reason_text reasons.NotFound = codes "not found"
 reason_text reasons.NotAFolder = codes "not a folder"
+reason_text reasons.InvalidArgument = codes "invalid argument"
+reason_text reasons.BrokenPipe = codes "broken pipe"
+reason_text reasons.NameTooLong = codes "name too long"
+reason_text reasons.TooManyLinks = codes "too many links"
+reason_text reasons.MessageTooLong = codes "message too long"
 reason_text reasons.AddressInUse = codes "address in use"
 reason_text reasons.AddressNotAvailable = codes "address not available"
+reason_text reasons.NetworkDown = codes "network down"
+reason_text reasons.NetworkUnreachable = codes "network unreachable"
+reason_text reasons.NoBufferSpace = codes "no buffer space"
+reason_text reasons.ConnectionRefused = codes "connection refused"
+reason_text reasons.HostUnreachable = codes "host unreachable"
 reason_text reasons.DraftReplaced = codes "draft replaced"
 reason_text reasons.FileReplaced = codes "file replaced"
 reason_text reasons.FolderReplaced = codes "folder replaced"
@@ -56,5 +76,6 @@ reason_text reasons.NotAFile = codes "not a file"
 reason_text reasons.ReadOnlyServer = codes "read-only server"
 reason_text reasons.NotInUploads = codes "not in uploads"
 reason_text reasons.LengthUnknown = codes "length unknown"
+reason_text reasons.NameNotAllowed = codes "name not allowed"
 reason_text (reasons.System number) = codes "system error " ++ decimal number
 reason_text reasons.Other = codes "another error"

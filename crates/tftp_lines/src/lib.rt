@@ -12,7 +12,7 @@ mod progress_line;
 mod reason;
 
 pub use client_outcome::ClientOutcome;
-pub use log_line::{LogLine, Lost, RequestLine};
+pub use log_line::{LogLine, Logged, Lost, RequestLine, Why};
 pub use printed::Printed;
 pub use progress_line::{LineClock, ProgressLine};
 pub use reason::{Reason, reason_of};

@@ -1,5 +1,8 @@
 //! The lines of `tftpd --log`.
 
+ghost use Rattle.std.specs.Prelude.{◌≡◌};
+ghost use Rattle.tftp_lines.specs.LogLine.{is_failure, is_warning};
+
 use crate::reason::Reason;
 use std::fmt;
 use tftp_ends::{Endpoint, Outcome};
@@ -7,8 +10,8 @@ use tftp_ends::{Endpoint, Outcome};
 /// What a lost request lacked.
 #[derive(Clone, Copy, Debug, PartialEq, Eq)]
 pub enum Lost {
-    /// A port: none can be bound.
-    Port,
+    /// A port: none can be bound, for this reason, if known.
+    Port(Option<Reason>),
     /// Memory.
     Memory,
 }
@@ -21,7 +24,10 @@ impl fmt::Display for Lost {
 
     fn fmt<W: fmt::Write>(&self, f: &mut fmt::Formatter<W>) -> fmt::Result {
         match *self {
-            Lost::Port => f.write_str("no port"),
+            Lost::Port(reason) => {
+                let because = Because(reason);
+                write!(f, "no port{because}")
+            }
             Lost::Memory => f.write_str("out of memory"),
         }
     }
@@ -57,8 +63,8 @@ pub enum LogLine<'a> {
         request: RequestLine<'a>,
         answer: &'a str,
     },
-    /// A datagram to the request port opened no transfer and was answered; the reason, if the
-    /// system refused a call on a file.
+    /// A datagram to the request port opened no transfer and was answered; the reason, if its name
+    /// is not allowed or a call on a file was refused.
     Refused {
         request: RequestLine<'a>,
         answer: &'a str,
@@ -80,33 +86,145 @@ pub enum LogLine<'a> {
         request: RequestLine<'a>,
         reason: Reason,
     },
-    /// A transfer closed, after `bytes` bytes of DATA and `millis` milliseconds; the reason, if the
-    /// system refused a call on its file. `answer` is its first datagram, which has the agreed
-    /// options.
+    /// A transfer closed, after `bytes` bytes of DATA and `millis` milliseconds, and after `again`
+    /// datagrams that were sent again; and why, if more is known than its outcome. `answer` is its
+    /// first datagram, which has the agreed options.
     Closed {
         port: u16,
         request: RequestLine<'a>,
         answer: &'a str,
         bytes: u64,
         millis: u64,
+        again: u64,
         outcome: Outcome,
-        reason: Option<Reason>,
+        why: Option<Why<'a>>,
     },
+}
+
+/// Why a transfer closed, behind its outcome.
+#[derive(Clone, Copy, Debug)]
+pub enum Why<'a> {
+    /// A call on its file was refused.
+    Refused(Reason),
+    /// The peer sent this ERROR: the line of its packet.
+    Error(&'a str),
+}
+
+impl LogLine<'_> {
+    /// Whether the line is about something that an operator may have to change: a request that was
+    /// lost or refused for a reason of this host, a datagram that was not sent, or a transfer that
+    /// failed and that its peer did not end.
+    pub fn is_warning(&self) -> bool
+        ensures { result ≡ is_warning self.now }
+    {
+        match *self {
+            LogLine::Opened { .. } => false,
+            LogLine::Refused { reason, .. } => reason.is_some(),
+            LogLine::Ignored { .. } => false,
+            LogLine::Lost { .. } => true,
+            LogLine::Unsent { .. } => true,
+            LogLine::Closed { outcome, .. } => is_failure(outcome),
+        }
+    }
+}
+
+/// Whether a transfer failed, and its peer did not end it.
+fn is_failure(outcome: Outcome) -> bool
+    ensures { result ≡ is_failure outcome }
+{
+    match outcome {
+        Outcome::Complete => false,
+        Outcome::PeerError(_) => false,
+        Outcome::TimedOut
+        | Outcome::Illegal
+        | Outcome::Refused(_)
+        | Outcome::TooLarge
+        | Outcome::StoreFault
+        | Outcome::SourceFault
+        | Outcome::NotNetascii => true,
+    }
+}
+
+/// A line of the log as it is written.
+#[derive(Clone, Copy)]
+pub struct Logged<'a> {
+    pub line: LogLine<'a>,
+    /// Whether a warning begins with its priority, `<4>`, which systemd's journal takes off
+    /// (sd-daemon(3)).
+    pub has_priority: bool,
+}
+
+impl fmt::Display for Logged<'_> {
+    ghost use Rattle.std.specs.Prelude.{Some};
+    ghost use Rattle.tftp_lines.specs.LogLine.{logged_text};
+
+    ghost output = { λ logged. Some (logged_text logged) };
+
+    fn fmt<W: fmt::Write>(&self, f: &mut fmt::Formatter<W>) -> fmt::Result {
+        let line = self.line;
+        if self.has_priority && line.is_warning() {
+            write!(f, "<4>{line}")
+        } else {
+            write!(f, "{line}")
+        }
+    }
+}
+
+/// What a transfer took.
+#[derive(Clone, Copy)]
+struct Amounts {
+    /// The bytes of DATA, each block once.
+    bytes: u64,
+    /// The time, in milliseconds.
+    millis: u64,
+    /// The number of datagrams that were sent again.
+    again: u64,
+}
+
+impl fmt::Display for Amounts {
+    ghost use Rattle.std.specs.Prelude.{Some};
+    ghost use Rattle.tftp_lines.specs.LogLine.{amounts_text};
+
+    ghost output = { λ amounts. Some (amounts_text amounts.bytes amounts.millis amounts.again) };
+
+    fn fmt<W: fmt::Write>(&self, f: &mut fmt::Formatter<W>) -> fmt::Result {
+        let (bytes, millis, again) = (self.bytes, self.millis, self.again);
+        write!(f, "{bytes} bytes, {millis} ms, {again} sent again")
+    }
 }
 
 /// The end of a line: the reason, if known.
 #[derive(Clone, Copy)]
-struct Why(Option<Reason>);
+struct Because(Option<Reason>);
 
-impl fmt::Display for Why {
+impl fmt::Display for Because {
     ghost use Rattle.std.specs.Prelude.{Some};
-    ghost use Rattle.tftp_lines.specs.LogLine.{why_text};
+    ghost use Rattle.tftp_lines.specs.LogLine.{because_text};
 
-    ghost output = { λ why. Some (why_text why.0) };
+    ghost output = { λ because. Some (because_text because.0) };
 
     fn fmt<W: fmt::Write>(&self, f: &mut fmt::Formatter<W>) -> fmt::Result {
         match self.0 {
             Some(reason) => write!(f, ", {reason}"),
+            None => Ok(()),
+        }
+    }
+}
+
+/// The end of the line of a close.
+#[derive(Clone, Copy)]
+struct Ending<'a>(Option<Why<'a>>);
+
+impl fmt::Display for Ending<'_> {
+    ghost use Rattle.std.specs.Prelude.{Some};
+    ghost use Rattle.tftp_lines.specs.LogLine.{why_text};
+
+    ghost output = { λ ending. Some (why_text ending.0) };
+
+    fn fmt<W: fmt::Write>(&self, f: &mut fmt::Formatter<W>) -> fmt::Result {
+        match self.0 {
+            Some(Why::Refused(reason)) => write!(f, ", {reason}"),
+            Some(Why::Error(line)) => write!(f, ", {line}"),
             None => Ok(()),
         }
     }
@@ -130,8 +248,8 @@ impl fmt::Display for LogLine<'_> {
                 answer,
                 reason,
             } => {
-                let why = Why(reason);
-                write!(f, "refused {request}: {answer}{why}")
+                let because = Because(reason);
+                write!(f, "refused {request}: {answer}{because}")
             }
             LogLine::Ignored { request } => write!(f, "ignored {request}"),
             LogLine::Lost { request, lost } => write!(f, "lost {request}: {lost}"),
@@ -146,14 +264,19 @@ impl fmt::Display for LogLine<'_> {
                 answer,
                 bytes,
                 millis,
+                again,
                 outcome,
-                reason,
+                why,
             } => {
-                let why = Why(reason);
+                let amounts = Amounts {
+                    bytes,
+                    millis,
+                    again,
+                };
+                let ending = Ending(why);
                 write!(
                     f,
-                    "closed {port} {request}: {answer}, {bytes} bytes, \
-                     {millis} ms, {outcome}{why}"
+                    "closed {port} {request}: {answer}, {amounts}, {outcome}{ending}"
                 )
             }
         }

@@ -31,10 +31,30 @@ pub enum Reason {
     NotFound,
     /// The path goes through a file, or ends at one, where a folder is wanted.
     NotAFolder,
+    /// The system takes no such argument, as an address that its network lacks.
+    InvalidArgument,
+    /// Nobody reads what is written: the other end of a pipe is closed.
+    BrokenPipe,
+    /// A part of a path, or the path, is longer than the system allows.
+    NameTooLong,
+    /// A path goes through more links than the system follows.
+    TooManyLinks,
+    /// A datagram is longer than the system or the network sends.
+    MessageTooLong,
     /// Another socket has the address.
     AddressInUse,
     /// No interface of the host has the address.
     AddressNotAvailable,
+    /// The network's interface is down.
+    NetworkDown,
+    /// The host has no route to the network.
+    NetworkUnreachable,
+    /// The system has no buffer for another datagram.
+    NoBufferSpace,
+    /// No program of the host has the port.
+    ConnectionRefused,
+    /// The host is not reached, as where its neighbour does not answer.
+    HostUnreachable,
     /// Another file has the name of the draft.
     DraftReplaced,
     /// A file was replaced between the look at it and its opening.
@@ -57,6 +77,8 @@ pub enum Reason {
     NotInUploads,
     /// The file has bytes, and its length is 0, as those of `/proc`.
     LengthUnknown,
+    /// The name is no path that the server serves.
+    NameNotAllowed,
     /// Another error of the system, by its number.
     System(u32),
     /// None of these.
@@ -85,13 +107,23 @@ fn reason_of_number(number: u32) -> Reason
         13 => Reason::PermissionDenied,
         18 => Reason::AnotherDevice,
         20 => Reason::NotAFolder,
+        22 => Reason::InvalidArgument,
         23 => Reason::TooManyOpenFiles,
         24 => Reason::TooManyOpenFiles,
         27 => Reason::FileTooLarge,
         28 => Reason::NoSpace,
         30 => Reason::ReadOnlyFileSystem,
+        32 => Reason::BrokenPipe,
+        36 => Reason::NameTooLong,
+        40 => Reason::TooManyLinks,
+        90 => Reason::MessageTooLong,
         98 => Reason::AddressInUse,
         99 => Reason::AddressNotAvailable,
+        100 => Reason::NetworkDown,
+        101 => Reason::NetworkUnreachable,
+        105 => Reason::NoBufferSpace,
+        111 => Reason::ConnectionRefused,
+        113 => Reason::HostUnreachable,
         122 => Reason::QuotaExceeded,
         _ => Reason::System(number),
     }
@@ -116,8 +148,18 @@ impl fmt::Display for Reason {
             Reason::InputOutput => f.write_str("input or output error"),
             Reason::NotFound => f.write_str("not found"),
             Reason::NotAFolder => f.write_str("not a folder"),
+            Reason::InvalidArgument => f.write_str("invalid argument"),
+            Reason::BrokenPipe => f.write_str("broken pipe"),
+            Reason::NameTooLong => f.write_str("name too long"),
+            Reason::TooManyLinks => f.write_str("too many links"),
+            Reason::MessageTooLong => f.write_str("message too long"),
             Reason::AddressInUse => f.write_str("address in use"),
             Reason::AddressNotAvailable => f.write_str("address not available"),
+            Reason::NetworkDown => f.write_str("network down"),
+            Reason::NetworkUnreachable => f.write_str("network unreachable"),
+            Reason::NoBufferSpace => f.write_str("no buffer space"),
+            Reason::ConnectionRefused => f.write_str("connection refused"),
+            Reason::HostUnreachable => f.write_str("host unreachable"),
             Reason::DraftReplaced => f.write_str("draft replaced"),
             Reason::FileReplaced => f.write_str("file replaced"),
             Reason::FolderReplaced => f.write_str("folder replaced"),
@@ -129,6 +171,7 @@ impl fmt::Display for Reason {
             Reason::ReadOnlyServer => f.write_str("read-only server"),
             Reason::NotInUploads => f.write_str("not in uploads"),
             Reason::LengthUnknown => f.write_str("length unknown"),
+            Reason::NameNotAllowed => f.write_str("name not allowed"),
             Reason::System(number) => write!(f, "system error {number}"),
             Reason::Other => f.write_str("another error"),
         }

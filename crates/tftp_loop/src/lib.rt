@@ -11,6 +11,7 @@
 
 mod datagram;
 pub mod laws;
+mod log;
 mod log_entry;
 mod port_order;
 mod port_pool;

@@ -1,15 +1,17 @@
 //! The log entry of a transfer.
 
 use crate::datagram::Datagram;
+use crate::log::Log;
 use std::alloc::Global;
 use std::cell::Cell;
-use tftp_ends::{Endpoint, Outcome};
-use tftp_lines::{LogLine, Reason, RequestLine};
+use tftp_ends::{Endpoint, Outcome, Step};
+use tftp_lines::{LogLine, Reason, RequestLine, Why};
 use tftp_wire::{PacketRef, decode_ref, show_datagram};
 
 /// The content of a transfer's log lines.
 #[derive(Drop)]
 pub(crate) struct LogEntry {
+    pub(crate) log: Log,
     peer: Endpoint,
     request: String,
     answer: String,
@@ -17,6 +19,10 @@ pub(crate) struct LogEntry {
     opened_at: u64,
     /// The number of DATA bytes sent or received, without repetitions.
     bytes: u64,
+    /// The number of datagrams that were sent again.
+    again: Cell<u64>,
+    /// The line of the peer's ERROR, once it ended the transfer by one.
+    error: String,
     /// Why the system refused to send a datagram, until it is taken.
     unsent: Cell<Option<Reason>>,
 }
@@ -26,22 +32,48 @@ impl LogEntry {
     /// clock.
     pub(crate) fn new(
         alloc: Global,
+        log: Log,
         request: Datagram<'_>,
         answer: &[u8],
         opened_at: u64,
     ) -> LogEntry {
         LogEntry {
+            log,
             peer: request.from,
             request: shown(alloc, request.bytes),
             answer: shown(alloc, answer),
             opened_at,
             bytes: data_length(answer),
+            again: Cell::new(0),
+            error: String::new(alloc),
             unsent: Cell::new(None),
         }
     }
 
+    /// Adds a datagram that was received, its step and its answer.
+    pub(crate) fn add(&mut self, received: &[u8], step: &Step, answer: &[u8]) {
+        if step.progress {
+            self.count(answer);
+            self.count(received);
+        } else if step.to == Some(self.peer) {
+            self.count_again(step);
+        }
+        if let Some(Outcome::PeerError(_)) = step.closed {
+            // Empty when out of memory.
+            let _ = show_datagram(received, &mut self.error);
+        }
+    }
+
+    /// Adds the datagram of a step that sends the newest one again, unless the transfer closes by
+    /// it.
+    pub(crate) fn count_again(&self, step: &Step) {
+        if step.to.is_some() && step.closed.is_none() {
+            self.again.set(self.again.get().saturating_add(1));
+        }
+    }
+
     /// Adds the DATA bytes of a datagram.
-    pub(crate) fn count(&mut self, datagram: &[u8]) {
+    fn count(&mut self, datagram: &[u8]) {
         self.bytes = self.bytes.saturating_add(data_length(datagram));
     }
 
@@ -94,11 +126,20 @@ impl LogEntry {
             answer: self.answer.as_str(),
             bytes: self.bytes,
             millis: reading.saturating_sub(self.opened_at),
+            again: self.again.get(),
             outcome,
-            reason: match outcome {
-                Outcome::SourceFault | Outcome::StoreFault => reason,
-                _ => None,
-            },
+            why: self.why(outcome, reason),
+        }
+    }
+
+    /// Why the transfer closed, if more is known than its outcome.
+    fn why(&self, outcome: Outcome, reason: Option<Reason>) -> Option<Why<'_>> {
+        match outcome {
+            Outcome::SourceFault | Outcome::StoreFault => Some(Why::Refused(reason?)),
+            Outcome::PeerError(_) if !self.error.is_empty() => {
+                Some(Why::Error(self.error.as_str()))
+            }
+            _ => None,
         }
     }
 }
@@ -115,5 +156,14 @@ fn data_length(datagram: &[u8]) -> u64 {
     match decode_ref(datagram) {
         Ok(PacketRef::Data { bytes, .. }) => bytes.len() as u64,
         _ => 0,
+    }
+}
+
+/// Why a request was refused without asking the store, if more is known than its answer: an access
+/// violation is of a name that is no path.
+pub(crate) fn reason_unasked(answer: &[u8]) -> Option<Reason> {
+    match decode_ref(answer) {
+        Ok(PacketRef::Error { code: 2, .. }) => Some(Reason::NameNotAllowed),
+        _ => None,
     }
 }

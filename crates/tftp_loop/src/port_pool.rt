@@ -11,6 +11,7 @@ use std::alloc::Global;
 use std::io::{self, ErrorKind};
 use std::marker::Model;
 use tftp_ends::Endpoint;
+use tftp_lines::{Reason, reason_of};
 use tftp_sockets::{Journal, ServerSocket};
 
 /// The ports of transfers. Contracts see their address and their range.
@@ -22,6 +23,8 @@ pub(crate) struct PortPool {
     order: Option<PortOrder>,
     /// A bound port without a transfer.
     spare: Option<ServerSocket>,
+    /// Why the newest bind failed, if one did.
+    bind_error: Option<Reason>,
 }
 
 impl Model for PortPool {
@@ -50,6 +53,7 @@ impl PortPool {
             ip,
             order,
             spare: None,
+            bind_error: None,
         })
     }
 
@@ -69,9 +73,14 @@ impl PortPool {
         }
         let ip = self.ip;
         match &mut self.order {
-            Some(order) => bind_next(net, journal, ip, order),
-            None => bind_any(net, journal, ip),
+            Some(order) => bind_next(net, journal, ip, order, &mut self.bind_error),
+            None => bind_any(net, journal, ip, &mut self.bind_error),
         }
+    }
+
+    /// Why the newest bind failed, if one did.
+    pub(crate) fn bind_error(&self) -> Option<Reason> {
+        self.bind_error
     }
 
     /// Stores a spare port for the next transfer.
@@ -110,13 +119,21 @@ fn ordered<N: ServerUdp>(net: &N, alloc: Global, range: PortRange) -> io::Result
 }
 
 /// Binds a port of the system's choice. `None` if the system refuses.
-fn bind_any<N: ServerUdp>(net: &N, journal: &mut Journal, ip: [u8; 4]) -> Option<ServerSocket>
+fn bind_any<N: ServerUdp>(
+    net: &N,
+    journal: &mut Journal,
+    ip: [u8; 4],
+    bind_error: &mut Option<Reason>,
+) -> Option<ServerSocket>
     ensures ip { IfSome result (λ socket. socket.ip ≡ ip) }
     ensures tries { Tries None journal.old.events journal.new.events result }
 {
     match net.bind_noted(journal, Endpoint { ip, port: 0 }) {
         Ok(socket) => Some(socket),
-        Err(_) => None,
+        Err(error) => {
+            *bind_error = Some(reason_of(&error));
+            None
+        }
     }
 }
 
@@ -127,6 +144,7 @@ fn bind_next<N: ServerUdp>(
     journal: &mut Journal,
     ip: [u8; 4],
     order: &mut PortOrder,
+    bind_error: &mut Option<Reason>,
 ) -> Option<ServerSocket>
     requires { HasPorts order.old }
     ensures range { order.new.range ≡ order.old.range }
@@ -137,7 +155,7 @@ fn bind_next<N: ServerUdp>(
     let mut left = order.len();
     loop {
         let port = next_port(order)?;
-        let Ok(bound) = bind_unused(net, journal, ip, port) else {
+        let Ok(bound) = bind_unused(net, journal, ip, port, bind_error) else {
             return None;
         };
         if let Some(socket) = bound {
@@ -167,6 +185,7 @@ fn bind_unused<N: ServerUdp>(
     journal: &mut Journal,
     ip: [u8; 4],
     port: u16,
+    bind_error: &mut Option<Reason>,
 ) -> io::Result<Option<ServerSocket>>
     ensures bound { IfOk result (λ bound. IfSome bound (λ socket.
         IsBoundTo (record { ip = ip; port = port }) socket.ip socket.port)) }
@@ -174,7 +193,13 @@ fn bind_unused<N: ServerUdp>(
 {
     match net.bind_noted(journal, Endpoint { ip, port }) {
         Ok(socket) => Ok(Some(socket)),
-        Err(error) if error.kind() == ErrorKind::AddrInUse => Ok(None),
-        Err(error) => Err(error),
+        Err(error) => {
+            *bind_error = Some(reason_of(&error));
+            if error.kind() == ErrorKind::AddrInUse {
+                Ok(None)
+            } else {
+                Err(error)
+            }
+        }
     }
 }

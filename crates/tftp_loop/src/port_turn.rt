@@ -259,17 +259,21 @@ fn handle<S: Store>(
     let answer = server.bytes_of(tid, outgoing).unwrap_or(&[]);
     let sent = reply(udp, journal, step.to, answer);
     keep_unsent(log_entry, sent);
-    count_data(log_entry, &step, answer);
-    count_data(log_entry, &step, bytes);
+    add_step(log_entry, bytes, &step, answer);
     Some(step)
 }
 
-/// Counts the DATA bytes of a datagram, if its step was progress and there is a log.
-fn count_data(log_entry: &mut Option<LogEntry>, step: &Step, datagram: &[u8]) {
+/// Adds a datagram, its step and its answer to the log entry, if there is a log.
+fn add_step(log_entry: &mut Option<LogEntry>, received: &[u8], step: &Step, answer: &[u8]) {
     if let Some(entry) = log_entry {
-        if step.progress {
-            entry.count(datagram);
-        }
+        entry.add(received, step, answer);
+    }
+}
+
+/// Counts the datagram of a timeout's step, if there is a log.
+fn count_again(log_entry: &Option<LogEntry>, step: &Step) {
+    if let Some(entry) = log_entry {
+        entry.count_again(step);
     }
 }
 
@@ -340,5 +344,6 @@ fn time_out<S: Store>(
     let answer = server.bytes_of(tid, outgoing).unwrap_or(&[]);
     let sent = reply(udp, journal, step.to, answer);
     keep_unsent(log_entry, sent);
+    count_again(log_entry, &step);
     Some(step)
 }

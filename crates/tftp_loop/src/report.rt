@@ -5,6 +5,7 @@ ghost use Rattle.tftp_server.specs.State.{at, taken_of, without};
 ghost use Rattle.tftp_loop.specs.Served.{FailsToPrint, close_reported};
 
 use crate::datagram::Datagram;
+use crate::log::Log;
 use crate::log_entry::shown;
 use crate::serving::{LoopConfig, LoopFault};
 use crate::transfer_port::TransferPort;
@@ -21,11 +22,12 @@ pub(crate) fn log_listening<E: Eprint>(rt: &E, config: &LoopConfig, line: Printe
     }
 }
 
-/// Logs a datagram that opened no transfer. `reason` is the system's reason for refusing a file
-/// call, if it refused one.
+/// Logs a datagram that opened no transfer. `reason` is why its name or a file call was refused, if
+/// one was.
 pub(crate) fn log_unopened<E: Eprint>(
     rt: &E,
     alloc: Global,
+    log: Log,
     datagram: Datagram<'_>,
     answer: &[u8],
     reason: Option<Reason>,
@@ -45,24 +47,31 @@ pub(crate) fn log_unopened<E: Eprint>(
             reason,
         }
     };
-    let _ = eprintln!(rt; "{line}");
+    log.write(rt, line);
 }
 
 /// Logs a lost request.
-pub(crate) fn log_lost<E: Eprint>(rt: &E, alloc: Global, datagram: Datagram<'_>, lost: Lost) {
+pub(crate) fn log_lost<E: Eprint>(
+    rt: &E,
+    alloc: Global,
+    log: Log,
+    datagram: Datagram<'_>,
+    lost: Lost,
+) {
     let shown_request = shown(alloc, datagram.bytes);
     let request = RequestLine {
         peer: datagram.from,
         line: shown_request.as_str(),
     };
     let line = LogLine::Lost { request, lost };
-    let _ = eprintln!(rt; "{line}");
+    log.write(rt, line);
 }
 
 /// Logs the answer to a datagram of the request port that the system refused to send.
 pub(crate) fn log_unsent_answer<E: Eprint>(
     rt: &E,
     alloc: Global,
+    log: Log,
     port: u16,
     datagram: Datagram<'_>,
     reason: Reason,
@@ -76,7 +85,7 @@ pub(crate) fn log_unsent_answer<E: Eprint>(
         },
         reason,
     };
-    let _ = eprintln!(rt; "{line}");
+    log.write(rt, line);
 }
 
 /// Logs a datagram of a transfer that the system refused to send since the last call, if there is a
@@ -86,7 +95,7 @@ pub(crate) fn log_unsent<E: Eprint>(rt: &E, port: &TransferPort) {
         return;
     };
     if let Some(line) = entry.take_unsent(port.socket.udp.port()) {
-        let _ = eprintln!(rt; "{line}");
+        entry.log.write(rt, line);
     }
 }
 
@@ -146,6 +155,6 @@ fn log_closed<E: Eprint>(
 ) {
     if let Some(entry) = &port.socket.log_entry {
         let line = entry.closed(port.socket.udp.port(), reading, outcome, reason);
-        let _ = eprintln!(rt; "{line}");
+        entry.log.write(rt, line);
     }
 }

@@ -14,7 +14,7 @@ ghost use Rattle.tftp_loop.specs.Tended.{AnswersPending, HandlesReceived, HasTri
 ghost use Rattle.tftp_loop.specs.Tended.{IsSettled};
 
 use crate::datagram::Datagram;
-use crate::log_entry::LogEntry;
+use crate::log_entry::{LogEntry, reason_unasked};
 use crate::report::{log_lost, log_unopened, log_unsent_answer};
 use crate::server_loop::ServerLoop;
 use crate::server_udp::ServerUdp;
@@ -137,8 +137,8 @@ impl<S: ServedStore<Reason> + Drop> ServerLoop<S> {
 
     /// Logs a datagram that nothing can answer, if there is a log.
     fn ignore<E: Eprint>(&self, rt: &E, datagram: Datagram<'_>) {
-        if self.logs {
-            log_unopened(rt, self.alloc, datagram, &[], None);
+        if self.log.is_written {
+            log_unopened(rt, self.alloc, self.log, datagram, &[], None);
         }
     }
 
@@ -161,7 +161,7 @@ impl<S: ServedStore<Reason> + Drop> ServerLoop<S> {
             return;
         };
         let Some(spare) = self.sockets.port_for(rt, &mut self.journal, &admission) else {
-            self.lose(rt, datagram, Lost::Port);
+            self.lose(rt, datagram, Lost::Port(self.sockets.bind_error()));
             return;
         };
         self.open_at(rt, datagram, admission, spare);
@@ -237,7 +237,7 @@ impl<S: ServedStore<Reason> + Drop> ServerLoop<S> {
         set_store(&mut self.server, &admission, NO_PORT);
         self.out.clear();
         let opened = self.server.open(admission, NO_PORT, &mut self.out);
-        let reason = self.server.store().take_reason();
+        let reason = reason_unasked(self.out.as_slice());
         match opened {
             Ok(opened) => self.refuse(rt, datagram, opened.to, reason),
             Err(_) => self.lose(rt, datagram, Lost::Memory),
@@ -246,8 +246,8 @@ impl<S: ServedStore<Reason> + Drop> ServerLoop<S> {
 
     /// Logs a lost request, if there is a log.
     fn lose<E: Eprint>(&self, rt: &E, datagram: Datagram<'_>, lost: Lost) {
-        if self.logs {
-            log_lost(rt, self.alloc, datagram, lost);
+        if self.log.is_written {
+            log_lost(rt, self.alloc, self.log, datagram, lost);
         }
     }
 
@@ -266,11 +266,11 @@ impl<S: ServedStore<Reason> + Drop> ServerLoop<S> {
     {
         let answer = self.out.as_slice();
         let sent = reply(&self.sockets.requests, &mut self.journal, to, answer);
-        if self.logs {
-            log_unopened(rt, self.alloc, datagram, answer, reason);
+        if self.log.is_written {
+            log_unopened(rt, self.alloc, self.log, datagram, answer, reason);
             if let Err(reason) = sent {
                 let port = self.sockets.requests.port();
-                log_unsent_answer(rt, self.alloc, port, datagram, reason);
+                log_unsent_answer(rt, self.alloc, self.log, port, datagram, reason);
             }
         }
     }
@@ -336,16 +336,15 @@ impl<S: ServedStore<Reason> + Drop> ServerLoop<S> {
         datagram: Datagram<'_>,
         sent: Result<(), Reason>,
     ) -> Option<LogEntry> {
-        if !self.logs {
+        if !self.log.is_written {
             return None;
         }
         let first = self.out.as_slice();
         let reading = self.sockets.watch.reading;
-        let entry = LogEntry::new(self.alloc, datagram, first, reading);
-        let line = entry.opened(tid);
-        let _ = eprintln!(rt; "{line}");
+        let entry = LogEntry::new(self.alloc, self.log, datagram, first, reading);
+        self.log.write(rt, entry.opened(tid));
         if let Err(reason) = sent {
-            log_unsent_answer(rt, self.alloc, tid, datagram, reason);
+            log_unsent_answer(rt, self.alloc, self.log, tid, datagram, reason);
         }
         Some(entry)
     }

@@ -12,6 +12,7 @@ ghost use Rattle.tftp_loop.specs.Tended.{HaveTurned};
 ghost use Rattle.tftp_loop.specs.Tended.{IsSettled, IsTended, TakesTurn, Visits, leaves_by};
 ghost use Rattle.tftp_loop.specs.Tended.{millis_of, timers_of};
 
+use crate::log::Log;
 use crate::port_turn::{Moment, Turn, take_turn_at};
 use crate::report::{log_unsent, record_of_closed, report_close};
 use crate::server_udp::ServerUdp;
@@ -55,7 +56,7 @@ pub(crate) struct ServerLoop<S: Store + Drop> {
     pub(crate) left: u64,
     /// The number of waits that may still begin.
     pub(crate) rounds: u64,
-    pub(crate) logs: bool,
+    pub(crate) log: Log,
     pub(crate) alloc: Global,
 }
 
@@ -106,7 +107,10 @@ impl<S: ServedStore<Reason> + Drop> ServerLoop<S> {
             active: 0,
             left: config.ending.transfers,
             rounds: config.ending.rounds,
-            logs: config.logs,
+            log: Log {
+                is_written: config.logs,
+                has_priority: config.has_priority,
+            },
             alloc,
         }
     }

@@ -29,6 +29,9 @@ pub struct LoopConfig {
     pub ending: Ending,
     /// Whether the start, each request and each close is logged as a line on standard error.
     pub logs: bool,
+    /// Whether a line of the log that is a warning begins with its priority, `<4>`: for a standard
+    /// error that is systemd's journal.
+    pub has_priority: bool,
 }
 
 /// When a server ends: once either count is reached.

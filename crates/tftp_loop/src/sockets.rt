@@ -14,6 +14,7 @@ use std::alloc::Global;
 use std::io;
 use std::time::Clock;
 use tftp_ends::Endpoint;
+use tftp_lines::Reason;
 use tftp_server::Admission;
 use tftp_sockets::{Journal, LONGEST_WAIT, ServerSocket, Watch, read_clock};
 
@@ -95,6 +96,11 @@ impl Sockets {
         ensures tries { Tries self.old.pool.range journal.old.events journal.new.events result }
     {
         self.pool.take_port(net, journal)
+    }
+
+    /// Why the newest bind of a transfer's port failed, if one did.
+    pub(crate) fn bind_error(&self) -> Option<Reason> {
+        self.pool.bind_error()
     }
 
     /// Stores a spare port for the next transfer.
