@@ -1,6 +1,8 @@
 //! The blocks of pcapng: sections, interfaces and packets. Other blocks are passed over.
 
-ghost use Rattle.std.specs.Prelude.{◌≤◌, length, vec_len};
+ghost use Rattle.std.specs.Prelude.{◌≡◌, ◌+◌, ◌≤◌, IfErr, IfSome, OnOk, length, vec_len};
+ghost use Rattle.tftp_capture.specs.declared.fault.CaptureFault.TheVariants as capture_faults;
+ghost use Rattle.tftp_capture.specs.declared.block.TheConstants.{CLOSING};
 ghost use Rattle.tftp_capture.specs.Record.{StaysWithin};
 
 use crate::capture::{MAX_RECORD, Stamp};
@@ -14,6 +16,9 @@ use std::io::Read;
 
 /// The type of a section's block, which reads the same in both byte orders.
 pub(crate) const SECTION: u32 = 0x0a0d_0d0a;
+
+/// The bytes after a block's body: the block's length again.
+const CLOSING: u64 = 4;
 
 const INTERFACE: u32 = 1;
 
@@ -37,7 +42,7 @@ pub(crate) enum Found {
 pub(crate) struct Blocks {
     alloc: Global,
     section: Section,
-    /// What is left of the last block.
+    /// What is left of the last block, its length at the end of it too.
     left: u64,
 }
 
@@ -132,7 +137,7 @@ impl Blocks {
         Ok(Found::Other)
     }
 
-    /// Takes so many bytes of the block.
+    /// Takes so many bytes of the block's body.
     fn take_part<R: Read>(
         &mut self,
         input: &mut R,
@@ -144,9 +149,9 @@ impl Blocks {
         if count > MAX_RECORD as u64 {
             return Err(CaptureFault::TooLong);
         }
-        match self.left.checked_sub(count) {
-            Some(left) => self.left = left,
-            None => return Err(CaptureFault::Block),
+        match self.pass(count) {
+            Ok(()) => {}
+            Err(fault) => return Err(fault),
         }
         take_bytes(input, count as usize, bytes)
     }
@@ -158,8 +163,7 @@ impl Blocks {
     ) -> Result<Found, CaptureFault>
         ensures { StaysWithin (vec_len bytes.old) (vec_len bytes.new) }
     {
-        // the last four bytes are the length again
-        let count = self.left.saturating_sub(4);
+        let count = self.left.saturating_sub(CLOSING);
         match self.take_part(input, count, bytes) {
             Ok(()) => {}
             Err(fault) => return Err(fault),
@@ -214,29 +218,39 @@ impl Blocks {
         Ok(Found::Packet(stamp))
     }
 
-    /// Fills a buffer with the next bytes of the block.
+    /// Fills a buffer with the next bytes of the block's body.
     fn take_header<R: Read>(
         &mut self,
         input: &mut R,
         header: &mut [u8],
     ) -> Result<(), CaptureFault> {
-        match self.left.checked_sub(header.len() as u64) {
-            Some(left) => self.left = left,
-            None => return Err(CaptureFault::Block),
+        match self.pass(header.len() as u64) {
+            Ok(()) => fill(input, header),
+            Err(fault) => Err(fault),
         }
-        fill(input, header)
+    }
+
+    /// Counts bytes of the block's body as read.
+    fn pass(&mut self, count: u64) -> Result<(), CaptureFault>
+        ensures ok { OnOk result (CLOSING ≤ self.new.left) }
+        ensures counted { OnOk result (self.new.left + count ≡ self.old.left) }
+        ensures err { IfErr result (λ fault. fault ≡ capture_faults.Block) }
+    {
+        match self.left.checked_sub(count) {
+            Some(left) if left >= CLOSING => self.left = left,
+            _ => return Err(CaptureFault::Block),
+        }
+        Ok(())
     }
 }
 
 /// What is left of a block of this length after its first bytes: at least the length again.
-fn left_of(length: u32, read: u32) -> Option<u64> {
+fn left_of(length: u32, read: u32) -> Option<u64>
+    ensures { IfSome result (λ left. (CLOSING ≤ left) × (left + read ≡ length)) }
+{
     if length % 4 != 0 {
         return None;
     }
-    let left = length.checked_sub(read)?;
-    if left < 4 {
-        None
-    } else {
-        Some(u64::from(left))
-    }
+    let left = u64::from(length.checked_sub(read)?);
+    if left < CLOSING { None } else { Some(left) }
 }
