@@ -65,6 +65,7 @@ fn config_of(words: &[String]) -> Option<LoopConfig> {
             transfers: transfers.as_str().parse::<u64>().ok()?,
             rounds: u64::MAX,
         },
+        longest: None,
         logs: false,
         has_priority: false,
     })

@@ -1,19 +1,14 @@
 -- What a status says, and what was done for words.
 use Rattle.std.proofs.Common.{◌≡◌, ◌∙◌, ℕ, List, arith, inl, inr, sym, subst}
-use Rattle.std.specs.Prelude.{Result, Ok, Err, IfOk, IfErr, OnOk}
+use Rattle.std.specs.Prelude.{Result, Ok, Err, IfOk, IfErr}
 use Rattle.tftp_file.specs.Source.{SourceMeaning}
 use Rattle.tftp_store.specs.Store.{StoreMeaning}
 use Rattle.tftp_sockets.specs.Journal.{Event}
-use Rattle.tftp_daemon.specs.Configured.{MayServe, ServesWords, status_of}
+use Rattle.tftp_daemon.specs.Configured.{MayServe, ServesWords}
 use Rattle.tftp_arguments.specs.Fault.{AskForText}
 use Rattle.tftp_daemon.specs.Words.{WordsConfigure, tftpd_app}
 use Rattle.tftp_daemon.specs.declared.daemon.DaemonConfig.{DaemonConfig}
 use Rattle.tftp_folder.specs.declared.folder_store.FolderStore.{FolderStore}
-
--- a result with a status of 0 is a success
-pub on_zero : {A E : Type 0} (r : Result A E) (P : Type 0) → OnOk r P → status_of r ≡ 0 → P
-on_zero (Ok done) P holds zero = holds
-on_zero (Err fault) P holds zero = absurd (omega arith)
 
 module _ {R G H F D : Type 0} {meaning : StoreMeaning (FolderStore R G H) D} {sources : SourceMeaning F}
     {before after : List Event} where

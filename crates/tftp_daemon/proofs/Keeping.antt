@@ -23,8 +23,8 @@ use Rattle.tftp_server.specs.Steps.{KeepsHeld, StepIn}
 use Rattle.tftp_server.specs.Work.{FilesWork, WorksAt}
 use Rattle.tftp_loop.specs.Run.{Start, Then}
 use Rattle.tftp_loop.specs.Serves.{AtPort, Does, LoopState, PortState}
-use Rattle.tftp_loop.specs.Serves.AtPort.{A_datagram, A_lost_datagram, Nothing_found, A_failed_receive, A_timeout}
-use Rattle.tftp_loop.specs.Serves.AtPort.{A_missed_timeout, Work}
+use Rattle.tftp_loop.specs.Serves.AtPort.{A_datagram, A_lost_datagram, A_late_datagram, Nothing_found}
+use Rattle.tftp_loop.specs.Serves.AtPort.{A_failed_receive, A_timeout, A_missed_timeout, Work}
 use Rattle.tftp_loop.specs.Serves.Does.{Waited, At_port, Request_received, No_request_found, Request_not_received}
 use Rattle.tftp_loop.specs.Serves.Does.{No_port_found, Request_answered, Request_lost, Clock_read, Store_set}
 use Rattle.tftp_loop.specs.Serves.Does.{Transfer_closed}
@@ -110,6 +110,7 @@ module _ {S F D : Type 0} (Same : S → S → Type 0) (meaning : StoreMeaning S 
       step_so d.from d.bytes t.transfer.end t.takes.turn old.server.store new.server.store t.transfer.path
       t.next.path old.server.config.overwrite t.transfer.files t.next.files t.takes.steps t.takes.stays t.takes.kind
   port_so now old new (A_lost_datagram d) = held_so old.timer.port _ old.server new.server d.loses.keeps
+  port_so now old new (A_late_datagram d) = stays (ap (λ (s : ServerState S F D). s.store) d.server)
   port_so now old new (Nothing_found d) = stays (ap (λ (s : ServerState S F D). s.store) d.server)
   port_so now old new (A_failed_receive d) = stays (ap (λ (s : ServerState S F D). s.store) d.server)
   port_so now old new (A_timeout d) = stays (ap (λ (s : ServerState S F D). s.store) d.times_out.rest)

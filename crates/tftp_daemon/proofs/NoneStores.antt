@@ -24,8 +24,8 @@ use Rattle.tftp_server.specs.Steps.{KeepsHeld, with_end}
 use Rattle.tftp_server.specs.Work.{FilesWork, WorksAt}
 use Rattle.tftp_loop.specs.Run.{Start, Then}
 use Rattle.tftp_loop.specs.Serves.{AtPort, Does, LoopState, PortState}
-use Rattle.tftp_loop.specs.Serves.AtPort.{A_datagram, A_lost_datagram, Nothing_found, A_failed_receive, A_timeout}
-use Rattle.tftp_loop.specs.Serves.AtPort.{A_missed_timeout, Work}
+use Rattle.tftp_loop.specs.Serves.AtPort.{A_datagram, A_lost_datagram, A_late_datagram, Nothing_found}
+use Rattle.tftp_loop.specs.Serves.AtPort.{A_failed_receive, A_timeout, A_missed_timeout, Work}
 use Rattle.tftp_loop.specs.Serves.Does.{Waited, At_port, Request_received, No_request_found, Request_not_received}
 use Rattle.tftp_loop.specs.Serves.Does.{No_port_found, Request_answered, Request_lost, Clock_read, Store_set}
 use Rattle.tftp_loop.specs.Serves.Does.{Transfer_closed}
@@ -122,6 +122,7 @@ module _ {S F D : Type 0} (Stops : S → Type 0) (meaning : StoreMeaning S D) (s
       t.held
   port_reads now old new (A_lost_datagram d) none =
       held_reads old.timer.port _ old.server new.server refl d.loses.keeps none
+  port_reads now old new (A_late_datagram d) none = same_reads old.server new.server d.server none
   port_reads now old new (Nothing_found d) none = same_reads old.server new.server d.server none
   port_reads now old new (A_failed_receive d) none = same_reads old.server new.server d.server none
   port_reads now old new (A_timeout d) none =

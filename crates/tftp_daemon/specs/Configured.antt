@@ -7,7 +7,9 @@ use Rattle.tftp_store.specs.Store.{StoreMeaning}
 use Rattle.tftp_server.specs.Config.{IsConfig}
 use Rattle.tftp_server.specs.State.{ServerState}
 use Rattle.tftp_sockets.specs.Journal.{Event}
-use Rattle.tftp_loop.specs.WholeRun.{Serves, ServesIn, ServesToEnd, listening}
+use Rattle.tftp_loop.specs.WholeRun.{Serves}
+use Rattle.tftp_loop.specs.declared.serving.LoopConfig.{LoopConfig}
+use Rattle.tftp_loop.specs.declared.serving.LoopFault.{LoopFault}
 use Rattle.tftp_arguments.specs.Fault.{AskForText}
 use Rattle.tftp_daemon.specs.Words.{WordsConfigure, tftpd_app}
 use Rattle.tftp_daemon.specs.declared.daemon.DaemonConfig.{DaemonConfig}
@@ -36,18 +38,19 @@ module _ {R G H F D : Type 0} where
     pub uploads : IsUploads (option_map (λ folder. folder.now) config.uploads) server.store.uploads
 
   module _ (meaning : StoreMeaning (FolderStore R G H) D) (sources : SourceMeaning F) where
-    -- a server of the configuration ran over UDP, from one journal to the other; its transfers have
-    -- ports of the range, if there is one; with a status of 0 it served to its end
+    -- a server ran over UDP, from one journal to the other, and its result has this status
+    pub record RunsService (service : LoopConfig) (server : ServerState (FolderStore R G H) F D)
+        (status : ℕ) (before after : List Event) : Type 0 where
+      pub result : Result (Unit {0}) LoopFault
+      pub is_status : status ≡ status_of result
+      pub serves : Serves meaning sources service server result before after
+
+    -- a server of the configuration ran
     pub record ServesConfig (config : DaemonConfig) (status : ℕ) (before after : List Event)
         : Type 0 where
       pub server : ServerState (FolderStore R G H) F D
       pub is_server : IsServerOf config server
-      pub serves : Serves meaning sources config.service.listen config.service.ending server
-          before after
-      pub ports : ServesIn meaning sources config.service.ports config.service.listen
-          config.service.ending server before after
-      pub ends : status ≡ 0 → (port : ℕ) × ServesToEnd meaning sources port
-          config.service.ending server (listening config.service.listen.ip port before) after
+      pub runs : RunsService config.service server status before after
 
     -- nothing was done over UDP, as without the folder, with a status of 2; or a server of the
     -- configuration ran

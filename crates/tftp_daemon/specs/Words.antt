@@ -1,5 +1,5 @@
 -- The configuration that the words of a command line name (own).
-use Rattle.std.specs.Prelude.{ℕ, true, false, List, codes, Some}
+use Rattle.std.specs.Prelude.{ℕ, true, List, codes, Some}
 use Rattle.std.specs.Fmt.{decimal}
 use Rattle.clap.specs.Simple.{App, matches_of, new_app, new_rule, on_top, with_rule}
 use Rattle.clap.specs.Walk.{Rule}

@@ -246,6 +246,7 @@ fn service<'a>(matches: &ArgMatches<'a>, ports: Option<PortRange>) -> Option<Dae
         listen,
         ports,
         ending: ending(matches)?,
+        longest: None,
         logs: is_set(matches, "log"),
         has_priority: false,
     };

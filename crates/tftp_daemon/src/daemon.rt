@@ -1,9 +1,8 @@
 //! `tftpd`: a server over UDP that serves the files of a folder.
 
-ghost use Rattle.std.specs.Prelude.{◌≡◌, ◌≤◌, ℕ, IfOk, OnOk, option_map};
+ghost use Rattle.std.specs.Prelude.{◌≡◌, ◌≤◌, IfOk, option_map};
 ghost use Rattle.tftp_server.specs.Config.{IsConfig};
-ghost use Rattle.tftp_loop.specs.WholeRun.{Serves, ServesIn, ServesToEnd, listening};
-ghost use Rattle.tftp_daemon.specs.Configured.{IsServerOf, IsUploads, MayServe};
+ghost use Rattle.tftp_daemon.specs.Configured.{IsServerOf, IsUploads, MayServe, RunsService};
 ghost use Rattle.tftp_daemon.specs.Configured.{status_of};
 
 use std::alloc::Global;
@@ -127,15 +126,9 @@ fn serve_loop<N: ServerUdp + Clock + Print + Eprint, R: Files + Drop>(
     service: &LoopConfig,
     journal: Journal,
 ) -> (Result<(), DaemonFault>, Journal)
-    ensures serves { Serves ⟦<FolderStore<R> as Store>⟧.meaning
-        ⟦<FolderSource<R::File> as Source>⟧.meaning service.now.listen service.now.ending server
+    ensures { RunsService ⟦<FolderStore<R> as Store>⟧.meaning
+        ⟦<FolderSource<R::File> as Source>⟧.meaning service.now server (status_of result.0)
         journal.events result.1.events }
-    ensures ports { ServesIn ⟦<FolderStore<R> as Store>⟧.meaning
-        ⟦<FolderSource<R::File> as Source>⟧.meaning service.now.ports service.now.listen
-        service.now.ending server journal.events result.1.events }
-    ensures ends { OnOk result.0 ((port : ℕ) × ServesToEnd ⟦<FolderStore<R> as Store>⟧.meaning
-        ⟦<FolderSource<R::File> as Source>⟧.meaning port service.now.ending server
-        (listening service.now.listen.ip port journal.events) result.1.events) }
 {
     let (served, journal) = tftp_loop::serve(rt, alloc, server, service, journal);
     match served {

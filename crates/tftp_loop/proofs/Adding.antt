@@ -8,8 +8,8 @@ use Rattle.tftp_store.specs.Store.{StoreMeaning}
 use Rattle.tftp_sockets.specs.Journal.{Event, answered, replied}
 use Rattle.tftp_sockets.specs.Journal.Event.{Received, Sent, Watched, Elapsed}
 use Rattle.tftp_loop.specs.Serves.{PortState, LoopState, AtPort, Does, port_state}
-use Rattle.tftp_loop.specs.Serves.AtPort.{A_datagram, A_lost_datagram, Nothing_found, A_failed_receive, A_timeout}
-use Rattle.tftp_loop.specs.Serves.AtPort.{A_missed_timeout, Work}
+use Rattle.tftp_loop.specs.Serves.AtPort.{A_datagram, A_lost_datagram, A_late_datagram, Nothing_found}
+use Rattle.tftp_loop.specs.Serves.AtPort.{A_failed_receive, A_timeout, A_missed_timeout, Work}
 use Rattle.tftp_loop.specs.Serves.Does.{Waited, At_port, Request_received, No_request_found, Request_not_received}
 use Rattle.tftp_loop.specs.Serves.Does.{No_port_found}
 use Rattle.tftp_loop.specs.Serves.Does.{Request_answered, Request_lost, Clock_read, Store_set, Transfer_closed}
@@ -51,6 +51,8 @@ module _ {S F D : Type 0} (meaning : StoreMeaning S D) (sources : SourceMeaning 
       (adds_more old.events received _ (adds_one (Received old.timer.port d.from d.bytes) old.events received refl)
       (answered_adds old.timer.port d.handles.takes.takes.turn.reply received))
   port_adds now old new (A_lost_datagram d) = adds_one
+      (Received old.timer.port d.from d.bytes) old.events new.events d.events
+  port_adds now old new (A_late_datagram d) = adds_one
       (Received old.timer.port d.from d.bytes) old.events new.events d.events
   port_adds now old new (Nothing_found d) = adds_one _ old.events new.events d.events
   port_adds now old new (A_failed_receive d) = adds_one _ old.events new.events d.events

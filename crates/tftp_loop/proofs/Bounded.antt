@@ -1,5 +1,5 @@
 -- In each state of a run a deadline is an interval away at most, and no end has more than its retries.
-use Rattle.std.proofs.Common.{arith, ◌≡◌, ◌<◌, ◌≤◌, ◌+◌, ℕ, true, false, List, [], ◌∷◌, length, map}
+use Rattle.std.proofs.Common.{arith, ◌≡◌, ◌<◌, ◌≤◌, ℕ, true, false, List, [], ◌∷◌, length, map}
 use Rattle.std.proofs.Common.{Option, Some, None, IsSome, refl, sym, ap, subst, ◌∙◌, inl, inr}
 use Rattle.std.specs.Prelude.{All, slice_index_or, slice_set, Result, Ok, Err, ⊤}
 use Rattle.std.specs.List.{swap_remove}
@@ -18,7 +18,6 @@ use Rattle.tftp_server.specs.Port.{Ask, Ignores, Refuses, Reads, Writes, Service
 use Rattle.tftp_server.specs.Request.{Came, Goes, Left, Nothing, Error_reply, A_transfer, Sent, Taken, left_by}
 use Rattle.tftp_server.specs.State.{TransferState, ServerState, at, with_new, without}
 use Rattle.tftp_server.specs.declared.config.Config.{Config}
-use Rattle.tftp_sockets.specs.declared.watch.TheConstants.{LONGEST_WAIT}
 use Rattle.tftp_loop.specs.Run.{Run}
 use Rattle.tftp_loop.specs.Run.Run.{Start, Then}
 use Rattle.tftp_loop.specs.Serves.{Timer, PortState, LoopState, AtPort, Does, interval_at, marked_by}
@@ -34,7 +33,6 @@ use Rattle.tftp_loop.proofs.PortEnds.{same_config, same_timer, set_near}
 use Rattle.tftp_loop.proofs.PortStays.{stays_at}
 use Rattle.tftp_loop.proofs.Sleeping.{step_kept}
 use Rattle.tftp_loop.proofs.Tables.{inserted_apart, inserted_own, removed_apart}
-use Rattle.tftp_loop.proofs.Rounds.{begins_round, step_round, wait_or_work}
 use Rattle.tftp_loop.proofs.Waits.{waited_at}
 
 pub some_at : {T : Type 0} (o : Option T) → IsSome o → (x : T) × (o ≡ Some x)
@@ -164,17 +162,17 @@ module _ {S F D : Type 0} (meaning : StoreMeaning S D) (sources : SourceMeaning 
             (subst (λ (n : ℕ). HasLimit n changed.next.end) (sym (ap (λ (c : Config). c.retries) config)) limit);
       }) k d (omega arith) h
 
-  opened_bounded : (now : ℕ) (from : Endpoint) (tid : ℕ) (old : ServerState S F D) (timers : List Timer)
+  opened_bounded : (now : ℕ) (longest : Option ℕ) (from : Endpoint) (tid : ℕ) (old : ServerState S F D) (timers : List Timer)
       (came : Came S F D) → at tid old.held ≡ None → InCame old.config.retries came → AreKept old.held timers
       → All (IsBounded old now) timers → All (IsBounded (left_by came old from tid).new now)
-      (with_timer now from (left_by came old from tid).opened.tid (left_by came old from tid).new.held timers)
-  opened_bounded now from tid old timers Nothing free limit kept bounded = bounded
-  opened_bounded now from tid old timers (Error_reply reply store) free limit kept bounded =
+      (with_timer now longest from (left_by came old from tid).opened.tid (left_by came old from tid).new.held timers)
+  opened_bounded now longest from tid old timers Nothing free limit kept bounded = bounded
+  opened_bounded now longest from tid old timers (Error_reply reply store) free limit kept bounded =
       λ k d h. same_bounded old (record old { store = store }) now (slice_index_or timers k d) refl refl
       (bounded k d h)
-  opened_bounded now from tid old timers (A_transfer transfer store) free limit kept bounded =
+  opened_bounded now longest from tid old timers (A_transfer transfer store) free limit kept bounded =
       let new : ServerState S F D = record old { store = store; held = with_new tid transfer old.held } in
-      let timer = started now tid from (interval_at (at tid (with_new tid transfer old.held))) in
+      let timer = started now longest tid from (interval_at (at tid (with_new tid transfer old.held))) in
       let own = inserted_own tid transfer old.held in
       all_appended (IsBounded new now) timers timer
       (λ k d h.
@@ -235,8 +233,8 @@ module _ {S F D : Type 0} (meaning : StoreMeaning S D) (sources : SourceMeaning 
   step_bounded s t (Request_answered d) kept bounded =
       subst AreBounded (sym d.is)
       (subst (λ (left : Left S F D). All (IsBounded left.new s.now)
-      (with_timer s.now d.from left.opened.tid left.new.held s.timers)) (sym d.steps.left)
-      (opened_bounded s.now d.from d.tid s.server s.timers d.steps.came d.free
+      (with_timer s.now s.longest d.from left.opened.tid left.new.held s.timers)) (sym d.steps.left)
+      (opened_bounded s.now s.longest d.from d.tid s.server s.timers d.steps.came d.free
       (goes_limit s.server d.from d.bytes _ d.steps.came d.steps.goes) kept bounded))
   step_bounded s t (Request_lost d) kept bounded = subst AreBounded (sym d.is) bounded
   step_bounded s t (Store_set d) kept bounded =
@@ -249,27 +247,10 @@ module _ {S F D : Type 0} (meaning : StoreMeaning S D) (sources : SourceMeaning 
   pub record IsSound (s : LoopState S F D) : Type 0 where
     pub kept : AreKept s.server.held s.timers
     pub bounded : All (IsBounded s.server s.now) s.timers
-    pub limit : s.limit ≤ s.now + LONGEST_WAIT
 
-  -- a round ends a second after the one before it began, at the latest
-  step_limit : (s t : LoopState S F D) → Does meaning sources s t → s.limit ≤ s.now + LONGEST_WAIT
-      → t.limit ≤ t.now + LONGEST_WAIT
-  step_limit s t does limit = elim (wait_or_work meaning sources s t does) [
-    | inl waits ↦
-        let now : t.now ≡ waits.time = ap (λ (u : LoopState S F D). u.now) waits.is in
-        let most = ap (λ (u : LoopState S F D). u.limit) waits.is in
-        let forward = waits.forward in
-        omega (arith, now, most, forward)
-    | inr is ↦
-        let round = step_round meaning sources s.now s t does is (begins_round meaning sources s limit) in
-        let most = round.limit in
-        let from = round.from in
-        omega (arith, most, from)
-  ]
-
-  pub sound_along : (start s : LoopState S F D) → start.timers ≡ [] → start.limit ≤ start.now + LONGEST_WAIT
+  pub sound_along : (start s : LoopState S F D) → start.timers ≡ []
       → Run (Does meaning sources) start s → IsSound s
-  sound_along start s empty begins Start =
+  sound_along start s empty Start =
       let none : length start.timers ≡ 0 = ap (λ (ts : List Timer). length ts) empty in
       record {
         kept = record {
@@ -277,12 +258,10 @@ module _ {S F D : Type 0} (meaning : StoreMeaning S D) (sources : SourceMeaning 
           each = λ k d h. absurd (omega (arith, h, none));
         };
         bounded = λ k d h. absurd (omega (arith, h, none));
-        limit = begins;
       }
-  sound_along start s empty begins (Then {middle} run does) =
-      let was = sound_along start middle empty begins run in
+  sound_along start s empty (Then {middle} run does) =
+      let was = sound_along start middle empty run in
       record {
         kept = step_kept meaning sources middle s does was.kept;
         bounded = step_bounded middle s does was.kept was.bounded;
-        limit = step_limit middle s does was.limit;
       }

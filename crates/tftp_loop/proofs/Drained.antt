@@ -10,8 +10,8 @@ use Rattle.tftp_sockets.specs.Journal.{Event, answered, replied}
 use Rattle.tftp_sockets.specs.Journal.Event.{Received, Elapsed}
 use Rattle.tftp_sockets.specs.Quiet.{is_drained}
 use Rattle.tftp_loop.specs.Serves.{PortState, AtPort}
-use Rattle.tftp_loop.specs.Serves.AtPort.{A_datagram, A_lost_datagram, Nothing_found, A_failed_receive, A_timeout}
-use Rattle.tftp_loop.specs.Serves.AtPort.{A_missed_timeout, Work}
+use Rattle.tftp_loop.specs.Serves.AtPort.{A_datagram, A_lost_datagram, A_late_datagram, Nothing_found}
+use Rattle.tftp_loop.specs.Serves.AtPort.{A_failed_receive, A_timeout, A_missed_timeout, Work}
 
 -- an answer receives nothing
 pub answered_drained : (r port : ℕ) (reply : Option Reply) (es : List Event) → is_drained r es ≡ true
@@ -43,6 +43,9 @@ module _ {S F D : Type 0} (meaning : StoreMeaning S D) (sources : SourceMeaning 
       subst (λ (es : List Event). is_drained r es ≡ true) (sym d.handles.events)
       (answered_drained r old.timer.port d.handles.takes.takes.turn.reply received still)
   port_drained r now old new (A_lost_datagram d) apart h =
+      subst (λ (es : List Event). is_drained r es ≡ true) (sym d.events)
+      (other_drained old.timer.port r (is_drained r old.events) apart h)
+  port_drained r now old new (A_late_datagram d) apart h =
       subst (λ (es : List Event). is_drained r es ≡ true) (sym d.events)
       (other_drained old.timer.port r (is_drained r old.events) apart h)
   port_drained r now old new (Nothing_found d) apart h =

@@ -22,9 +22,12 @@ use Rattle.tftp_lines.specs.declared.printed.Printed.TheVariants.{Closed}
 use Rattle.tftp_sockets.specs.Journal.{Event, replied}
 use Rattle.tftp_sockets.specs.Journal.Event.{Printed}
 use Rattle.tftp_loop.specs.Run.{Run}
+use Rattle.tftp_loop.specs.Run.Run.{Start, Then}
 use Rattle.tftp_loop.specs.Serves.{Timer, PortState, LoopState, AtPort, Does, Waits, answering_port}
 use Rattle.tftp_loop.specs.Serves.{deadline_by, interval_at, marked_by, port_state, set_by, started}
 use Rattle.tftp_loop.specs.Serves.{with_timer}
+use Rattle.tftp_loop.specs.Serves.AtPort.{A_datagram, A_lost_datagram, A_late_datagram, Nothing_found}
+use Rattle.tftp_loop.specs.Serves.AtPort.{A_failed_receive, A_timeout, A_missed_timeout, Work}
 use Rattle.tftp_loop.specs.Serves.Does.{Waited, At_port, Request_received, No_request_found, Request_not_received}
 use Rattle.tftp_loop.specs.Serves.Does.{No_port_found}
 use Rattle.tftp_loop.specs.Serves.Does.{Request_answered, Request_lost, Clock_read, Store_set, Transfer_closed}
@@ -157,6 +160,7 @@ module _ {S F D : Type 0} (meaning : StoreMeaning S D) (sources : SourceMeaning 
                 port = same.port ∙ port_is;
                 peer = same.peer ∙ (ap (λ (t : Timer). t.peer) own_is ∙ lasts.same.peer);
                 interval = same.interval ∙ (ap (λ (t : Timer). t.interval) own_is ∙ lasts.same.interval);
+                age = same.age ∙ (ap (λ (t : Timer). t.age_limit) own_is ∙ lasts.same.age);
               };
               transfer = changed.next;
               found = ap (λ (p : ℕ). at p next.server.held) (sym port_is) ∙ changed.found;
@@ -198,7 +202,7 @@ module _ {S F D : Type 0} (meaning : StoreMeaning S D) (sources : SourceMeaning 
       → Lasts More since (record s {
         server = (left_by came s.server from tid).new;
         pending = None;
-        timers = with_timer s.now from (left_by came s.server from tid).opened.tid
+        timers = with_timer s.now s.longest from (left_by came s.server from tid).opened.tid
             (left_by came s.server from tid).new.held s.timers;
         events = es;
       })
@@ -207,7 +211,7 @@ module _ {S F D : Type 0} (meaning : StoreMeaning S D) (sources : SourceMeaning 
   opens_lasts Quiet More since from tid s es (Error_reply reply store) free kept fewer adds lasts =
       same_lasts Quiet More since s _ fewer adds refl refl lasts
   opens_lasts Quiet More since from tid s es (A_transfer transfer store) free kept fewer adds lasts =
-      let opened = started s.now tid from (interval_at (at tid (with_new tid transfer s.server.held))) in
+      let opened = started s.now s.longest tid from (interval_at (at tid (with_new tid transfer s.server.held))) in
       let long = appended_long s.timers opened in
       let inside = lasts.within in
       let apart : timer.port ≡ tid → ⊥ = λ e. none-some lasts.transfer
@@ -264,7 +268,7 @@ module _ {S F D : Type 0} (meaning : StoreMeaning S D) (sources : SourceMeaning 
         server = left.new;
         pending = None;
         timers =
-            with_timer s.now d.from left.opened.tid left.new.held s.timers;
+            with_timer s.now s.longest d.from left.opened.tid left.new.held s.timers;
         events = fs;
       })) (sym d.steps.left)
       (opens_lasts Quiet More since d.from d.tid s fs d.steps.came d.free kept fewer adds lasts)))
@@ -362,7 +366,12 @@ module _ {S F D : Type 0} (meaning : StoreMeaning S D) (sources : SourceMeaning 
         within = omega (arith, more, as_many, inside);
         is = λ d. waited_at waits.time waits.ports s.timers lasts.place d lasts.within
             ∙ ap (λ (t : Timer). marked_by waits.ports (set_by waits.time t)) (lasts.is d);
-        same = record { port = lasts.same.port; peer = lasts.same.peer; interval = lasts.same.interval };
+        same = record {
+          port = lasts.same.port;
+          peer = lasts.same.peer;
+          interval = lasts.same.interval;
+          age = lasts.same.age;
+        };
         transfer = lasts.transfer;
         found = lasts.found;
         counts = λ some. rested start millis round most since deadline s.now
@@ -425,6 +434,91 @@ module _ {S F D : Type 0} (meaning : StoreMeaning S D) (sources : SourceMeaning 
       let More = Quiet × ReceivesNone meaning sources timer.port does in
       one_lives Quiet More middle last does idle (λ m. m.0) (λ m. m.1) (lives_along run before start) before
 
+  -- ---- over age
+  -- a step at a port whose transfer is over age handles nothing
+  late_at : (now : ℕ) (old new : PortState S F D) (does : AtPort meaning sources now old new)
+      → old.timer.age_limit < now → IsIdleAt meaning sources does × ReceivesNoneAt meaning sources does
+  late_at now old new (A_datagram d) late = let in_time = d.in_time in absurd (omega (arith, in_time, late))
+  late_at now old new (A_lost_datagram d) late = let in_time = d.in_time in absurd (omega (arith, in_time, late))
+  late_at now old new (A_late_datagram d) late = (tt, tt)
+  late_at now old new (Nothing_found d) late = (tt, tt)
+  late_at now old new (A_failed_receive d) late = (tt, tt)
+  late_at now old new (A_timeout d) late = (tt, tt)
+  late_at now old new (A_missed_timeout d) late = (tt, tt)
+  late_at now old new (Work d) late = (tt, tt)
+
+  late_idle : (Quiet : Type 0) (since : ℕ) (s t : LoopState S F D) (does : Does meaning sources s t)
+      → AreKept s.server.held s.timers → timer.age_limit < s.now → Lasts Quiet since s
+      → IsIdle meaning sources timer.port does × ReceivesNone meaning sources timer.port does
+  late_idle Quiet since s t (At_port d) kept late lasts =
+      let own_is : d.timer.port ≡ timer.port → d.timer ≡ lasts.here =
+      λ e.
+      let here : lasts.place ≡ d.index =
+      kept.apart lasts.place d.index d.timer d.timer lasts.within d.within
+      (ap (λ (u : Timer). u.port) (lasts.is d.timer)
+      ∙ (lasts.same.port ∙ (sym e ∙ ap (λ (u : Timer). u.port) d.is_timer))) in
+      d.is_timer ∙ (ap (λ (j : ℕ). slice_index_or s.timers j d.timer) (sym here) ∙ lasts.is d.timer) in
+      let both : d.timer.port ≡ timer.port
+      → IsIdleAt meaning sources d.does × ReceivesNoneAt meaning sources d.does =
+      λ e.
+      let age : d.timer.age_limit ≡ timer.age_limit = ap (λ (u : Timer). u.age_limit) (own_is e) ∙ lasts.same.age in
+      late_at s.now (port_state s d.timer) d.next d.does (omega (arith, age, late)) in
+      (λ e. (both e).0, λ e. (both e).1)
+  late_idle Quiet since s t (Waited d) kept late lasts = (tt, tt)
+  late_idle Quiet since s t (Request_received d) kept late lasts = (tt, tt)
+  late_idle Quiet since s t (No_request_found d) kept late lasts = (tt, tt)
+  late_idle Quiet since s t (Request_not_received d) kept late lasts = (tt, tt)
+  late_idle Quiet since s t (No_port_found d) kept late lasts = (tt, tt)
+  late_idle Quiet since s t (Request_answered d) kept late lasts = (tt, tt)
+  late_idle Quiet since s t (Request_lost d) kept late lasts = (tt, tt)
+  late_idle Quiet since s t (Clock_read d) kept late lasts = (tt, tt)
+  late_idle Quiet since s t (Store_set d) kept late lasts = (tt, tt)
+  late_idle Quiet since s t (Transfer_closed d) kept late lasts = (tt, tt)
+
+  -- what was printed stays so
+  gone_lives : (s t : LoopState S F D) → Does meaning sources s t → LivesOn (Unit {0}) s → Gone (Unit {0}) s
+      → LivesOn (Unit {0}) t
+  gone_lives s t does was gone =
+      let kept = step_kept meaning sources s t does was.kept in
+      let lives = gone_on (Unit {0}) (Unit {0}) s t (λ q. q) (step_adds meaning sources s t does) gone in
+      elim (wait_or_work meaning sources s t does) [
+        | inl waits ↦ record {
+          since = s.now;
+          in_round = next_round meaning sources was.since s t waits was.in_round;
+          kept = kept;
+          lives = inl lives;
+        }
+        | inr is ↦ record {
+          since = was.since;
+          in_round = step_round meaning sources was.since s t does is was.in_round;
+          kept = kept;
+          lives = inl lives;
+        }
+      ]
+
+  -- in any run
+  record LivesLate (s : LoopState S F D) : Type 0 where
+    pub late : timer.age_limit < s.now
+    pub on : LivesOn (Unit {0}) s
+
+  late_along : {s : LoopState S F D} → Run (Does meaning sources) first s → timer.age_limit < first.now
+      → s.now ≤ last_moment → LivesOn (Unit {0}) first → LivesLate s
+  late_along Start late soon start = record { late = late; on = start }
+  late_along (Then {middle} {last} run does) late soon start =
+      let forward = step_forward meaning sources middle last does in
+      let before : middle.now ≤ last_moment = omega (arith, forward, soon) in
+      let was = late_along run late before start in
+      let over = was.late in
+      record {
+        late = omega (arith, over, forward);
+        on = elim was.on.lives [
+          | inl gone ↦ gone_lives middle last does was.on gone
+          | inr lasts ↦
+              let both = late_idle (Unit {0}) was.on.since middle last does was.on.kept was.late lasts in
+              one_lives (Unit {0}) (Unit {0}) middle last does both.0 (λ q. q) (λ q. both.1) was.on before
+        ];
+      }
+
   too_late : (Quiet : Type 0) (since : ℕ) (s t : LoopState S F D) → Waits meaning sources s t → s.now ≤ last_moment
       → closing_time start timer.interval first.server.config.retries < s.now → Lasts Quiet since s → ⊥
   too_late Quiet since s t waits soon late lasts =
@@ -459,11 +553,11 @@ counted_later now false = omega arith
 module _ {S F D : Type 0} (meaning : StoreMeaning S D) (sources : SourceMeaning F) where
   -- a transfer lasts at first
   begins : (start first : LoopState S F D) (timer : Timer) (transfer : TransferState F D)
-      → start.timers ≡ [] → start.limit ≤ start.now + LONGEST_WAIT → Run (Does meaning sources) start first
+      → start.timers ≡ [] → Run (Does meaning sources) start first
       → Contains first.timers timer → at timer.port first.server.held ≡ Some transfer
       → LivesOn meaning sources first timer transfer.end (Unit {0}) first
-  begins start first timer transfer empty begun run has found =
-      let sound = sound_along meaning sources start first empty begun run in
+  begins start first timer transfer empty run has found =
+      let sound = sound_along meaning sources start first empty run in
       let bounded = sound.bounded has.0 timer has.1 in
       let is : (d : Timer) → slice_index_or first.timers has.0 d ≡ timer =
       λ d. any_default first.timers has.0 d timer has.1 ∙ has.2 in
@@ -474,14 +568,14 @@ module _ {S F D : Type 0} (meaning : StoreMeaning S D) (sources : SourceMeaning 
       limit.left in
       record {
         since = first.now;
-        in_round = begins_round meaning sources first sound.limit;
+        in_round = begins_round meaning sources first;
         kept = sound.kept;
         lives = inr (record {
           place = has.0;
           here = timer;
           within = has.1;
           is = is;
-          same = record { port = refl; peer = refl; interval = refl };
+          same = record { port = refl; peer = refl; interval = refl; age = refl };
           transfer = transfer;
           found = found;
           counts = λ some. first_time (counted_from first.now timer) (timer.interval * 1000) LONGEST_WAIT
@@ -496,7 +590,7 @@ module _ {S F D : Type 0} (meaning : StoreMeaning S D) (sources : SourceMeaning 
       }
 
   pub times_out_in_silence : (start first last new : LoopState S F D) (timer : Timer) (transfer : TransferState F D)
-      → start.timers ≡ [] → start.limit ≤ start.now + LONGEST_WAIT → Run (Does meaning sources) start first
+      → start.timers ≡ [] → Run (Does meaning sources) start first
       → Contains first.timers timer
       → at timer.port first.server.held ≡ Some transfer
       → (idles : Idles meaning sources timer.port first last) → NoneReceived meaning sources idles
@@ -505,9 +599,9 @@ module _ {S F D : Type 0} (meaning : StoreMeaning S D) (sources : SourceMeaning 
       → last.now ≤ last_moment
       → (outcome : Outcome) × PrintsClose timer.port timer.peer.port outcome first.events last.events
       × ClosesInSilence transfer.end.position.phase outcome
-  times_out_in_silence start first last new timer transfer empty begun run has found idles silent waits late soon =
+  times_out_in_silence start first last new timer transfer empty run has found idles silent waits late soon =
       let along = lives_along meaning sources first timer transfer.end idles soon
-      (begins start first timer transfer empty begun run has found) in
+      (begins start first timer transfer empty run has found) in
       elim along.lives [
         | inl gone ↦ (gone.outcome, gone.closed, gone.why silent)
         | inr lasts ↦ absurd (too_late meaning sources first timer transfer.end
@@ -515,22 +609,40 @@ module _ {S F D : Type 0} (meaning : StoreMeaning S D) (sources : SourceMeaning 
       ]
 
   pub closes_without_progress : (start first last new : LoopState S F D) (timer : Timer)
-      → start.timers ≡ [] → start.limit ≤ start.now + LONGEST_WAIT → Run (Does meaning sources) start first
+      → start.timers ≡ [] → Run (Does meaning sources) start first
       → Contains first.timers timer
       → Idles meaning sources timer.port first last → Waits meaning sources last new
       → closing_time (counted_from first.now timer) timer.interval first.server.config.retries < last.now
       → last.now ≤ last_moment
       → (outcome : Outcome) × PrintsClose timer.port timer.peer.port outcome first.events last.events
-  closes_without_progress start first last new timer empty begun run has idles waits late soon =
-      let sound = sound_along meaning sources start first empty begun run in
+  closes_without_progress start first last new timer empty run has idles waits late soon =
+      let sound = sound_along meaning sources start first empty run in
       let there : IsSome (at timer.port first.server.held) =
       subst (λ (t : Timer). IsSome (at t.port first.server.held)) has.2
       (sound.kept.each has.0 timer has.1).there in
       let some = some_at (at timer.port first.server.held) there in
       let along = lives_along meaning sources first timer some.0.end idles soon
-      (begins start first timer some.0 empty begun run has some.1) in
+      (begins start first timer some.0 empty run has some.1) in
       elim along.lives [
         | inl gone ↦ (gone.outcome, gone.closed)
         | inr lasts ↦ absurd (too_late meaning sources first timer some.0.end
             (NoneReceived meaning sources idles) along.since last new waits soon late lasts)
+      ]
+
+  pub closes_over_age : (start first last new : LoopState S F D) (timer : Timer) (transfer : TransferState F D)
+      → start.timers ≡ [] → Run (Does meaning sources) start first
+      → Contains first.timers timer → at timer.port first.server.held ≡ Some transfer
+      → timer.age_limit < first.now
+      → Run (Does meaning sources) first last → Waits meaning sources last new
+      → closing_time (counted_from first.now timer) timer.interval first.server.config.retries < last.now
+      → last.now ≤ last_moment
+      → (outcome : Outcome) × PrintsClose timer.port timer.peer.port outcome first.events last.events
+      × ClosesInSilence transfer.end.position.phase outcome
+  closes_over_age start first last new timer transfer empty run has found late goes waits over soon =
+      let along = late_along meaning sources first timer transfer.end goes late soon
+      (begins start first timer transfer empty run has found) in
+      elim along.on.lives [
+        | inl gone ↦ (gone.outcome, gone.closed, gone.why tt)
+        | inr lasts ↦ absurd (too_late meaning sources first timer transfer.end
+            (Unit {0}) along.on.since last new waits soon over lasts)
       ]

@@ -16,8 +16,8 @@ use Rattle.tftp_loop.specs.Run.{Run}
 use Rattle.tftp_loop.specs.Run.Run.{Start, Then}
 use Rattle.tftp_loop.specs.Serves.{Timer, PortState, LoopState, AtPort, Does, Waits, ReceivesRequest, port_state}
 use Rattle.tftp_loop.specs.Serves.{set_by, until_look}
-use Rattle.tftp_loop.specs.Serves.AtPort.{A_datagram, A_lost_datagram, Nothing_found, A_failed_receive, A_timeout}
-use Rattle.tftp_loop.specs.Serves.AtPort.{A_missed_timeout, Work}
+use Rattle.tftp_loop.specs.Serves.AtPort.{A_datagram, A_lost_datagram, A_late_datagram, Nothing_found}
+use Rattle.tftp_loop.specs.Serves.AtPort.{A_failed_receive, A_timeout, A_missed_timeout, Work}
 use Rattle.tftp_loop.specs.Serves.Does.{Waited, At_port, Request_received, No_request_found, Request_not_received}
 use Rattle.tftp_loop.specs.Serves.Does.{No_port_found}
 use Rattle.tftp_loop.specs.Serves.Does.{Request_answered, Request_lost, Clock_read, Store_set, Transfer_closed}
@@ -134,6 +134,8 @@ module _ {S F D : Type 0} (meaning : StoreMeaning S D) (sources : SourceMeaning 
       ap (was_tried r) d.handles.events ∙ answered_untried r old.timer.port d.handles.takes.takes.turn.reply received
       (other_untried old.timer.port r (was_tried r old.events) apart h)
   port_untried r now old new (A_lost_datagram d) apart h =
+      ap (was_tried r) d.events ∙ other_untried old.timer.port r (was_tried r old.events) apart h
+  port_untried r now old new (A_late_datagram d) apart h =
       ap (was_tried r) d.events ∙ other_untried old.timer.port r (was_tried r old.events) apart h
   port_untried r now old new (Nothing_found d) apart h =
       ap (was_tried r) d.events ∙ other_untried old.timer.port r (was_tried r old.events) apart h

@@ -19,7 +19,6 @@ pub mod Looking
 pub mod Sleeping
 pub mod Reporting
 pub mod PoolLemmas
-pub mod AnyPorts
 pub mod EndSteps
 pub mod PortEnds
 pub mod Bounded

@@ -16,8 +16,8 @@ use Rattle.tftp_sockets.specs.Quiet.{is_among, is_drained}
 use Rattle.tftp_loop.specs.Serves.{Timer, PortState, LoopState, AtPort, Does, answering_port, interval_at, look_after}
 use Rattle.tftp_loop.specs.Serves.{deadline_by, marked_by, next_look, port_state, restarted, set_by, started, timer_after}
 use Rattle.tftp_loop.specs.Serves.{with_timer}
-use Rattle.tftp_loop.specs.Serves.AtPort.{A_datagram, A_lost_datagram, Nothing_found, A_failed_receive, A_timeout}
-use Rattle.tftp_loop.specs.Serves.AtPort.{A_missed_timeout, Work}
+use Rattle.tftp_loop.specs.Serves.AtPort.{A_datagram, A_lost_datagram, A_late_datagram, Nothing_found}
+use Rattle.tftp_loop.specs.Serves.AtPort.{A_failed_receive, A_timeout, A_missed_timeout, Work}
 use Rattle.tftp_loop.specs.Serves.Does.{Waited, At_port, Request_received, No_request_found, Request_not_received}
 use Rattle.tftp_loop.specs.Serves.Does.{No_port_found}
 use Rattle.tftp_loop.specs.Serves.Does.{Request_answered, Request_lost, Clock_read, Store_set, Transfer_closed}
@@ -137,6 +137,7 @@ module _ {S F D : Type 0} (meaning : StoreMeaning S D) (sources : SourceMeaning 
   at_own now old new (A_datagram d) h = subst (IsLooked new.events now) (sym d.timer)
       (after_datagram new.events now d.step.progress old.timer)
   at_own now old new (A_lost_datagram d) h = subst (IsLooked new.events now) (sym d.timer) (Marked refl)
+  at_own now old new (A_late_datagram d) h = subst (IsLooked new.events now) (sym d.timer) (Marked refl)
   at_own now old new (Nothing_found d) h =
       subst (IsLooked new.events now) (sym d.timer)
       (Drained (subst (λ (es : List Event). is_drained old.timer.port es ≡ true) (sym d.events)
@@ -155,12 +156,12 @@ module _ {S F D : Type 0} (meaning : StoreMeaning S D) (sources : SourceMeaning 
   at_own now old new (Work d) h = subst (IsLooked new.events now) (sym d.timer)
       (subst (λ (es : List Event). IsLooked es now old.timer) (sym d.events) h)
 
-  with_looked : (es : List Event) (now : ℕ) (from : Endpoint) (tid : Option ℕ) (held : List (ℕ × TransferState F D))
+  with_looked : (es : List Event) (now : ℕ) (longest : Option ℕ) (from : Endpoint) (tid : Option ℕ) (held : List (ℕ × TransferState F D))
       (timers : List Timer)
-      → All (IsLooked es now) timers → All (IsLooked es now) (with_timer now from tid held timers)
-  with_looked es now from None held timers h = h
-  with_looked es now from (Some port) held timers h =
-      let timer = started now port from (interval_at (at port held)) in
+      → All (IsLooked es now) timers → All (IsLooked es now) (with_timer now longest from tid held timers)
+  with_looked es now longest from None held timers h = h
+  with_looked es now longest from (Some port) held timers h =
+      let timer = started now longest port from (interval_at (at port held)) in
       all_appended (IsLooked es now) timers timer h (Left (left_now now timer refl refl))
 
   pub step_looked : (s t : LoopState S F D) → Does meaning sources s t
@@ -221,7 +222,7 @@ module _ {S F D : Type 0} (meaning : StoreMeaning S D) (sources : SourceMeaning 
   step_looked s t (Request_answered d) own apart looked =
       let port = answering_port s.requests d.left.opened.tid in
       subst AreLooked (sym d.is)
-      (with_looked _ s.now d.from d.left.opened.tid d.left.new.held s.timers
+      (with_looked _ s.now s.longest d.from d.left.opened.tid d.left.new.held s.timers
       (λ k e h.
       let timer = slice_index_or s.timers k e in
       still s.events _ s.now timer (replied_drained timer.port port d.left.opened.to d.left.sent s.events)

@@ -26,11 +26,12 @@ use Rattle.tftp_loop.proofs.ListLemmas.{map_is, map_within, map_set, set_itself,
 
 -- equal parts, equal states
 pub same_state : {S F D : Type 0} (s t : LoopState S F D)
-    → s.requests ≡ t.requests → s.range ≡ t.range → s.server ≡ t.server → s.pending ≡ t.pending → s.timers ≡ t.timers
+    → s.requests ≡ t.requests → s.range ≡ t.range → s.longest ≡ t.longest → s.server ≡ t.server → s.pending ≡ t.pending → s.timers ≡ t.timers
     → s.now ≡ t.now → s.limit ≡ t.limit → s.woken ≡ t.woken → s.marked ≡ t.marked → s.left ≡ t.left → s.rounds ≡ t.rounds → s.events ≡ t.events → s ≡ t
-same_state {S} {F} {D} s t a r b c d e l w f g h k = λ i. record {
+same_state {S} {F} {D} s t a r o b c d e l w f g h k = λ i. record {
   requests = a i;
   range = r i;
+  longest = o i;
   server = b i;
   pending = c i;
   timers = d i;
@@ -159,7 +160,7 @@ module _ {S F D : Type 0} (meaning : StoreMeaning S D) (sources : SourceMeaning 
             left = s.left - 1;
             events = close_printed timer.port timer.peer (Some outcome) s.events;
           })
-          refl refl (rest ∙ ap (λ h. record s.server { held = h }) held) refl refl refl refl refl refl refl refl printed;
+          refl refl refl (rest ∙ ap (λ h. record s.server { held = h }) held) refl refl refl refl refl refl refl refl printed;
     },
     refl,
   )

@@ -89,15 +89,15 @@ module _ {S F D : Type 0} (meaning : StoreMeaning S D) (sources : SourceMeaning 
   opens_open (Writes path mode agreed) transfer store h = taken_open _ h.draft h.store transfer store h.goes_on
 
   -- what was unclosed stays so, and what opened is
-  answered_open : (now tid : ℕ) (timers : List Timer) (ask : Ask) (came : Came S F D) → at tid old.held ≡ None →
+  answered_open : (now tid : ℕ) (longest : Option ℕ) (timers : List Timer) (ask : Ask) (came : Came S F D) → at tid old.held ≡ None →
       AreKept old.held timers → All (IsOpen old.held) timers → Goes meaning sources old from bytes ask came
-      → All (IsOpen (left_by came old from tid).new.held) (with_timer now from (left_by came old from tid).opened.tid
+      → All (IsOpen (left_by came old from tid).new.held) (with_timer now longest from (left_by came old from tid).opened.tid
       (left_by came old from tid).new.held timers)
-  answered_open now tid timers ask Nothing free kept unclosed goes = unclosed
-  answered_open now tid timers ask (Error_reply reply store) free kept unclosed goes = unclosed
-  answered_open now tid timers ask (A_transfer transfer store) free kept unclosed goes =
+  answered_open now tid longest timers ask Nothing free kept unclosed goes = unclosed
+  answered_open now tid longest timers ask (Error_reply reply store) free kept unclosed goes = unclosed
+  answered_open now tid longest timers ask (A_transfer transfer store) free kept unclosed goes =
       let held = with_new tid transfer old.held in
-      all_appended (IsOpen held) timers (started now tid from (interval_at (at tid held)))
+      all_appended (IsOpen held) timers (started now longest tid from (interval_at (at tid held)))
       (λ k d h.
       let port = (slice_index_or timers k d).port in
       ap (λ (o : Option (TransferState F D)). taken_of o)
@@ -131,8 +131,8 @@ module _ {S F D : Type 0} (meaning : StoreMeaning S D) (sources : SourceMeaning 
   ends_open s t (inl d) kept unclosed =
       subst (λ (u : LoopState S F D). All (IsOpen u.server.held) u.timers) (sym d.is)
       (subst (λ (left : Left S F D). All (IsOpen left.new.held)
-      (with_timer s.now d.from left.opened.tid left.new.held s.timers)) (sym d.steps.left)
-      (answered_open meaning sources s.server d.from d.bytes s.now d.tid s.timers _ d.steps.came d.free kept unclosed
+      (with_timer s.now s.longest d.from left.opened.tid left.new.held s.timers)) (sym d.steps.left)
+      (answered_open meaning sources s.server d.from d.bytes s.now d.tid s.longest s.timers _ d.steps.came d.free kept unclosed
       d.steps.goes))
   ends_open s t (inr d) kept unclosed =
       subst (λ (u : LoopState S F D). All (IsOpen u.server.held) u.timers) (sym d.is) unclosed

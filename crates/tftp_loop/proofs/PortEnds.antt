@@ -17,8 +17,8 @@ use Rattle.tftp_server.specs.Steps.{KeepsHeld, with_end}
 use Rattle.tftp_server.specs.Work.{WorksAt}
 use Rattle.tftp_sockets.specs.Watch.{deadline_of}
 use Rattle.tftp_loop.specs.Serves.{Timer, PortState, AtPort, deadline_by, marked_as, restarted, timer_after}
-use Rattle.tftp_loop.specs.Serves.AtPort.{A_datagram, A_lost_datagram, Nothing_found, A_failed_receive, A_timeout}
-use Rattle.tftp_loop.specs.Serves.AtPort.{A_missed_timeout, Work}
+use Rattle.tftp_loop.specs.Serves.AtPort.{A_datagram, A_lost_datagram, A_late_datagram, Nothing_found}
+use Rattle.tftp_loop.specs.Serves.AtPort.{A_failed_receive, A_timeout, A_missed_timeout, Work}
 use Rattle.tftp_loop.specs.Expiry.{IsIdleAt, ReceivesNoneAt}
 use Rattle.tftp_loop.proofs.EndSteps.{Moves, closed_left, datagram_left, datagram_moves, moves_limit, timeout_spends}
 use Rattle.tftp_loop.proofs.EndSteps.{timeouts_left}
@@ -46,13 +46,14 @@ pub record SameTimer (timer timer' : Timer) : Type 0 where
   pub port : timer'.port ≡ timer.port
   pub peer : timer'.peer ≡ timer.peer
   pub interval : timer'.interval ≡ timer.interval
+  pub age : timer'.age_limit ≡ timer.age_limit
 
 same_by : (timer timer' after : Timer) → timer' ≡ after → SameTimer timer after → SameTimer timer timer'
 same_by timer timer' after e same = subst (SameTimer timer) (sym e) same
 
 after_same : (now : ℕ) (progress : Bool) (timer : Timer) → SameTimer timer (timer_after now progress timer)
-after_same now true timer = record { port = refl; peer = refl; interval = refl }
-after_same now false timer = record { port = refl; peer = refl; interval = refl }
+after_same now true timer = record { port = refl; peer = refl; interval = refl; age = refl }
+after_same now false timer = record { port = refl; peer = refl; interval = refl; age = refl }
 
 -- the deadline is an interval away at most
 abbrev pub IsNear : ℕ → Timer → Type 0
@@ -127,23 +128,26 @@ module _ {S F D : Type 0} (meaning : StoreMeaning S D) (sources : SourceMeaning 
   same_timer now old new (A_datagram d) = same_by old.timer new.timer
       (timer_after now d.step.progress old.timer) d.timer (after_same now d.step.progress old.timer)
   same_timer now old new (A_lost_datagram d) = same_by old.timer new.timer (marked_as true old.timer) d.timer
-      (record { port = refl; peer = refl; interval = refl })
+      (record { port = refl; peer = refl; interval = refl; age = refl })
+  same_timer now old new (A_late_datagram d) = same_by old.timer new.timer (marked_as true old.timer) d.timer
+      (record { port = refl; peer = refl; interval = refl; age = refl })
   same_timer now old new (Nothing_found d) = same_by old.timer new.timer (marked_as false old.timer) d.timer
-      (record { port = refl; peer = refl; interval = refl })
+      (record { port = refl; peer = refl; interval = refl; age = refl })
   same_timer now old new (A_failed_receive d) = same_by old.timer new.timer (marked_as true old.timer) d.timer
-      (record { port = refl; peer = refl; interval = refl })
+      (record { port = refl; peer = refl; interval = refl; age = refl })
   same_timer now old new (A_timeout d) = same_by old.timer new.timer (restarted now old.timer) d.timer
-      (record { port = refl; peer = refl; interval = refl })
+      (record { port = refl; peer = refl; interval = refl; age = refl })
   same_timer now old new (A_missed_timeout d) = same_by old.timer new.timer (restarted now old.timer) d.timer
-      (record { port = refl; peer = refl; interval = refl })
+      (record { port = refl; peer = refl; interval = refl; age = refl })
   same_timer now old new (Work d) = same_by old.timer new.timer old.timer d.timer
-      (record { port = refl; peer = refl; interval = refl })
+      (record { port = refl; peer = refl; interval = refl; age = refl })
 
   -- the configuration never changes
   pub same_config : (now : ℕ) (old new : PortState S F D) → AtPort meaning sources now old new
       → new.server.config ≡ old.server.config
   same_config now old new (A_datagram d) = d.handles.config
   same_config now old new (A_lost_datagram d) = d.loses.config
+  same_config now old new (A_late_datagram d) = ap (λ (s : ServerState S F D). s.config) d.server
   same_config now old new (Nothing_found d) = ap (λ (s : ServerState S F D). s.config) d.server
   same_config now old new (A_failed_receive d) = ap (λ (s : ServerState S F D). s.config) d.server
   same_config now old new (A_timeout d) = ap (λ (s : ServerState S F D). s.config) d.times_out.rest
@@ -201,6 +205,12 @@ module _ {S F D : Type 0} (meaning : StoreMeaning S D) (sources : SourceMeaning 
         changes = By_nothing keeps.1.end (ap (λ (t : Timer). t.deadline) d.timer)
             (ap (λ (t : Timer). t.interval) d.timer) (ap (λ (t : Timer). t.provisional) d.timer);
       }
+  at_transfer now old new (A_late_datagram d) transfer found = record {
+    next = transfer;
+    found = ap (λ (s : ServerState S F D). at old.timer.port s.held) d.server ∙ found;
+    changes = By_nothing refl (ap (λ (t : Timer). t.deadline) d.timer) (ap (λ (t : Timer). t.interval) d.timer)
+        (ap (λ (t : Timer). t.provisional) d.timer);
+  }
   at_transfer now old new (Nothing_found d) transfer found = record {
     next = transfer;
     found = ap (λ (s : ServerState S F D). at old.timer.port s.held) d.server ∙ found;

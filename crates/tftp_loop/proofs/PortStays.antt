@@ -19,8 +19,8 @@ use Rattle.tftp_sockets.specs.Quiet.{was_tried}
 use Rattle.tftp_loop.specs.Run.{Run}
 use Rattle.tftp_loop.specs.Run.Run.{Start, Then}
 use Rattle.tftp_loop.specs.Serves.{Timer, PortState, AtPort, marked_as, next_look, restarted, timer_after}
-use Rattle.tftp_loop.specs.Serves.AtPort.{A_datagram, A_lost_datagram, Nothing_found, A_failed_receive, A_timeout}
-use Rattle.tftp_loop.specs.Serves.AtPort.{A_missed_timeout, Work}
+use Rattle.tftp_loop.specs.Serves.AtPort.{A_datagram, A_lost_datagram, A_late_datagram, Nothing_found}
+use Rattle.tftp_loop.specs.Serves.AtPort.{A_failed_receive, A_timeout, A_missed_timeout, Work}
 use Rattle.tftp_loop.specs.Tended.{IsRead, KeepsTries}
 use Rattle.tftp_loop.proofs.Tables.{set_apart, set_there}
 
@@ -160,6 +160,10 @@ module _ {S F D : Type 0} (meaning : StoreMeaning S D) (sources : SourceMeaning 
       receives_at old new (Received old.timer.port d.from d.bytes) (λ q. refl) (same_tries _ new.events d.events)
       (ap (λ (t : Timer). t.port) d.timer)
       (keeps_held old.timer.port (at old.timer.port old.server.held) old.server new.server d.loses.keeps)
+      (λ h. looks_by (marked_as true old.timer) new.timer d.timer (omega arith))
+  stays_at now old new (A_late_datagram d) =
+      receives_at old new (Received old.timer.port d.from d.bytes) (λ q. refl) (same_tries _ new.events d.events)
+      (ap (λ (t : Timer). t.port) d.timer) (same_server old.timer.port old.server new.server d.server)
       (λ h. looks_by (marked_as true old.timer) new.timer d.timer (omega arith))
   stays_at now old new (Nothing_found d) =
       receives_at old new (Quiet (Empty old.timer.port)) (λ q. refl) (same_tries _ new.events d.events)

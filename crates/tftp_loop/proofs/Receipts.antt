@@ -1,7 +1,7 @@
 -- What is received at the request port, and what becomes of it.
 use Rattle.std.proofs.Common.{arith, ◌≡◌, ◌||◌, ℕ, zero, suc, Bool, true, false, List, [], ◌∷◌, length, map, take, min}
-use Rattle.std.proofs.Common.{Option, Some, None, refl, sym, ap, subst, ◌∙◌}
-use Rattle.std.specs.Prelude.{Result, Ok, Err, OnOk}
+use Rattle.std.proofs.Common.{Option, Some, None, refl, sym, ap, subst, ◌∙◌, ◌⊎◌, inr}
+use Rattle.std.specs.Prelude.{Result, Ok, Err, IfErr, OnOk}
 use Rattle.tftp_file.specs.Source.{SourceMeaning}
 use Rattle.tftp_ends.specs.declared.endpoint.Endpoint.{Endpoint}
 use Rattle.tftp_store.specs.Store.{StoreMeaning}
@@ -10,9 +10,11 @@ use Rattle.tftp_sockets.specs.Journal.Event.{Received, Quiet}
 use Rattle.tftp_sockets.specs.Journal.QuietEvent.{Empty, Failed}
 use Rattle.tftp_sockets.specs.Quiet.{was_tried}
 use Rattle.tftp_loop.specs.declared.server_loop.ServerLoop.{ServerLoop}
+use Rattle.tftp_loop.specs.declared.serving.LoopFault.{LoopFault}
+use Rattle.tftp_loop.specs.WholeRun.{EndsBy}
 use Rattle.tftp_loop.specs.Serves.{LoopState, Timer}
 use Rattle.tftp_loop.specs.Serves.Does.{No_request_found, Request_not_received}
-use Rattle.tftp_loop.specs.Served.{WorksRound, Work_by, loop_state, pending_in, state_of, timer_of}
+use Rattle.tftp_loop.specs.Served.{FailsToPrint, WorksRound, Work_by, loop_state, pending_in, state_of, timer_of}
 use Rattle.tftp_loop.specs.Tended.{AnswersPending, AreSettled, AreTried, HandlesReceived, Concluded, Kept}
 use Rattle.tftp_loop.specs.Tended.{HasTriedRequests, IsSettled}
 use Rattle.tftp_loop.proofs.LoopRuns.{Runs, same_state}
@@ -93,7 +95,7 @@ module _ {S F D : Type 0} (meaning : StoreMeaning S D) (sources : SourceMeaning 
           events = Received old.sockets.requests.port from (take count buffer) ∷ old.journal.events;
         })
         (ap (λ (d : ServerLoop S F D). d.sockets.requests.port) is)
-        (ap (λ (d : ServerLoop S F D). d.sockets.pool.range) is)
+        (ap (λ (d : ServerLoop S F D). d.sockets.pool.range) is) (ap (λ (d : ServerLoop S F D). d.longest) is)
         (ap (λ (d : ServerLoop S F D). d.server) is) refl (ap (λ (d : ServerLoop S F D). (loop_state None d).timers) is)
         (ap (λ (d : ServerLoop S F D). d.sockets.watch.now) is)
         (ap (λ (d : ServerLoop S F D). d.sockets.limit) is) refl
@@ -144,7 +146,8 @@ module _ {S F D : Type 0} (meaning : StoreMeaning S D) (sources : SourceMeaning 
       same_state (state_of after new)
       (record (state_of before old) { marked = ready; events = event ∷ old.journal.events })
       (ap (λ (d : ServerLoop S F D). d.sockets.requests.port) is)
-      (ap (λ (d : ServerLoop S F D). d.sockets.pool.range) is) (ap (λ (d : ServerLoop S F D). d.server) is)
+      (ap (λ (d : ServerLoop S F D). d.sockets.pool.range) is) (ap (λ (d : ServerLoop S F D). d.longest) is)
+      (ap (λ (d : ServerLoop S F D). d.server) is)
       (ap (λ (d : ServerLoop S F D). pending_in d.pending after) is
       ∙ (ap (λ (p : Option (Endpoint × ℕ)). pending_in p after) none
       ∙ sym (ap (λ (p : Option (Endpoint × ℕ)). pending_in p before) none)))
@@ -177,9 +180,12 @@ module _ {S F D : Type 0} (meaning : StoreMeaning S D) (sources : SourceMeaning 
       })) tt)
 
 -- what holds of a success
-pub on_ok_weaker : {T E : Type 0} (r : Result T E) (P Q : Type 0) → (P → Q) → OnOk r P → OnOk r Q
-on_ok_weaker (Ok x) P Q f h = f h
-on_ok_weaker (Err e) P Q f h = h
+-- how the rounds ended
+pub ends_by : {S F D A : Type 0} (result : Result A LoopFault) (last : LoopState S F D)
+    → OnOk result ((last.left ≡ 0) ⊎ (last.rounds ≡ 0))
+    → IfErr result (λ fault. FailsToPrint fault last.events) → EndsBy result last
+ends_by (Ok done) last ends fails = ends
+ends_by (Err fault) last ends fails = inr fails
 
 -- a server without transfers
 pub starts_settled : {S F D : Type 0} (d : ServerLoop S F D) → d.ports.items ≡ [] → IsSettled d

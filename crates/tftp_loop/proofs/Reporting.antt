@@ -16,12 +16,12 @@ use Rattle.tftp_sockets.specs.Journal.QuietEvent.{Empty, Failed}
 use Rattle.tftp_sockets.specs.Quiet.{is_among, was_tried}
 use Rattle.tftp_loop.specs.Run.{Run}
 use Rattle.tftp_loop.specs.Run.Run.{Start, Then}
-use Rattle.tftp_loop.specs.declared.serving.Ending.{Ending}
+use Rattle.tftp_loop.specs.declared.serving.LoopConfig.{LoopConfig}
 use Rattle.tftp_loop.specs.Serves.{Timer, PortState, LoopState, AtPort, Does, Waits, answering_port, at_start}
 use Rattle.tftp_loop.specs.Serves.{interval_at, marked_by, port_state, started, with_timer}
 use Rattle.tftp_loop.specs.Serves.{set_by}
-use Rattle.tftp_loop.specs.Serves.AtPort.{A_datagram, A_lost_datagram, Nothing_found, A_failed_receive, A_timeout}
-use Rattle.tftp_loop.specs.Serves.AtPort.{A_missed_timeout, Work}
+use Rattle.tftp_loop.specs.Serves.AtPort.{A_datagram, A_lost_datagram, A_late_datagram, Nothing_found}
+use Rattle.tftp_loop.specs.Serves.AtPort.{A_failed_receive, A_timeout, A_missed_timeout, Work}
 use Rattle.tftp_loop.specs.Serves.Does.{Waited, At_port, Request_received, No_request_found, Request_not_received}
 use Rattle.tftp_loop.specs.Serves.Does.{No_port_found, Request_answered, Request_lost, Clock_read, Store_set}
 use Rattle.tftp_loop.specs.Serves.Does.{Transfer_closed}
@@ -60,6 +60,11 @@ module _ {S F D : Type 0} (meaning : StoreMeaning S D) (sources : SourceMeaning 
   due_at now old new (A_lost_datagram d) marked unclosed =
       let received = Received old.timer.port d.from d.bytes ∷ old.events in
       tried_at old new (stays_at meaning sources now old new (A_lost_datagram d)) received
+      (subst (KeepsTries received) (sym d.events) (λ q h. h))
+      (own_receive old.timer.port (was_tried old.timer.port old.events))
+  due_at now old new (A_late_datagram d) marked unclosed =
+      let received = Received old.timer.port d.from d.bytes ∷ old.events in
+      tried_at old new (stays_at meaning sources now old new (A_late_datagram d)) received
       (subst (KeepsTries received) (sym d.events) (λ q h. h))
       (own_receive old.timer.port (was_tried old.timer.port old.events))
   due_at now old new (Nothing_found d) marked unclosed =
@@ -163,21 +168,21 @@ module _ {S F D : Type 0} (meaning : StoreMeaning S D) (sources : SourceMeaning 
             })
       ]
 
-  opens_due : (port now : ℕ) (from : Endpoint) (tid : ℕ) (s : LoopState S F D) (es : List Event) (came : Came S F D) →
+  opens_due : (port now : ℕ) (longest : Option ℕ) (from : Endpoint) (tid : ℕ) (s : LoopState S F D) (es : List Event) (came : Came S F D) →
       at tid s.server.held ≡ None → AreKept s.server.held s.timers → IsDue port s
       → IsDue port (record s {
         server = (left_by came s.server from tid).new;
         pending = None;
         timers =
-            with_timer now from (left_by came s.server from tid).opened.tid (left_by came s.server from tid).new.held
+            with_timer now longest from (left_by came s.server from tid).opened.tid (left_by came s.server from tid).new.held
             s.timers;
         events = es;
       })
-  opens_due port now from tid s es Nothing free kept due = same_due port s _ refl refl due
-  opens_due port now from tid s es (Error_reply reply store) free kept due = same_due port s _ refl refl due
-  opens_due port now from tid s es (A_transfer transfer store) free kept due =
+  opens_due port now longest from tid s es Nothing free kept due = same_due port s _ refl refl due
+  opens_due port now longest from tid s es (Error_reply reply store) free kept due = same_due port s _ refl refl due
+  opens_due port now longest from tid s es (A_transfer transfer store) free kept due =
       let held = with_new tid transfer s.server.held in
-      let timer = started now tid from (interval_at (at tid held)) in
+      let timer = started now longest tid from (interval_at (at tid held)) in
       let long = appended_long s.timers timer in
       let apart : port ≡ tid → ⊥ =
       λ e. some_none (at (slice_index_or s.timers due.place timer).port s.server.held)
@@ -225,10 +230,10 @@ module _ {S F D : Type 0} (meaning : StoreMeaning S D) (sources : SourceMeaning 
       (record s {
         server = left.new;
         pending = None;
-        timers = with_timer s.now d.from left.opened.tid left.new.held s.timers;
+        timers = with_timer s.now s.longest d.from left.opened.tid left.new.held s.timers;
         events = fs;
       })) (sym d.steps.left)
-      (opens_due port s.now d.from d.tid s fs d.steps.came d.free kept due)))
+      (opens_due port s.now s.longest d.from d.tid s fs d.steps.came d.free kept due)))
   step_reads port s t (Request_lost d) is kept (inl tried) = subst (Reads port) (sym d.is) (inl tried)
   step_reads port s t (Request_lost d) is kept (inr due) =
       subst (Reads port) (sym d.is) (inr (same_due port s _ refl refl due))
@@ -296,27 +301,27 @@ module _ {S F D : Type 0} (meaning : StoreMeaning S D) (sources : SourceMeaning 
             (is_among (slice_index_or old.timers has.0 d).port waits.ports)
             (ap (λ (p : ℕ). is_among p waits.ports) (port_of d) ∙ among);
         unclosed =
-            (let d = started 0 0 (record { ip = []; port = 0 }) 0 in ap (λ (p : ℕ). taken_of (at p old.server.held))
+            (let d = started 0 None 0 (record { ip = []; port = 0 }) 0 in ap (λ (p : ℕ). taken_of (at p old.server.held))
             (sym (port_of d)) ∙ (waits.may.transfers has.0 d within).not_closed);
       })
 
-  pub reads_what_is_reported : (requests : ℕ) (ending : Ending) (server : ServerState S F D) (before : List Event)
+  pub reads_what_is_reported : (config : LoopConfig) (requests : ℕ) (server : ServerState S F D) (before : List Event)
       (old woken last new : LoopState S F D)
-      → Run (Does meaning sources) (at_start requests ending server before) old →
+      → Run (Does meaning sources) (at_start config requests server before) old →
       (waits : Waits meaning sources old woken) → Run (GoesOn meaning sources) woken last →
       Waits meaning sources last new
       → (port : ℕ) → is_among port waits.ports ≡ true → HasTimer port old.timers → was_tried port last.events ≡ true
-  reads_what_is_reported requests ending server before old woken last new run waits goes next port among has =
+  reads_what_is_reported config requests server before old woken last new run waits goes next port among has =
       let kept =
       step_kept meaning sources old woken (Waited waits)
-      (kept_along meaning sources requests ending server before old run) in
+      (kept_along meaning sources config requests server before old run) in
       let end =
       reads_along port woken last goes
       (record { kept = kept; reads = inr (reported_due port old woken waits among has) }) in
       elim end.reads [
         | inl tried ↦ tried
         | inr due ↦
-            let d = started 0 0 (record { ip = []; port = 0 }) 0 in
+            let d = started 0 None 0 (record { ip = []; port = 0 }) 0 in
             subst (λ (p : ℕ). was_tried p last.events ≡ true) (due.has_port d)
             ((next.may.transfers due.place d due.within).read (due.marked d))
       ]

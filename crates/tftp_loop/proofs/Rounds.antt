@@ -1,9 +1,9 @@
 -- A round lasts a second at most, by the clock of the program.
-use Rattle.std.proofs.Common.{arith, ◌≡◌, ◌≤◌, ◌+◌, ◌⊎◌, ℕ, sym, ap, subst, inl, inr}
+use Rattle.std.proofs.Common.{arith, ◌≡◌, ◌≤◌, ◌+◌, ◌⊎◌, ℕ, ap, inl, inr}
 use Rattle.tftp_file.specs.Source.{SourceMeaning}
 use Rattle.tftp_store.specs.Store.{StoreMeaning}
 use Rattle.tftp_sockets.specs.declared.watch.TheConstants.{LONGEST_WAIT}
-use Rattle.tftp_loop.specs.Serves.{LoopState, Does, Waits}
+use Rattle.tftp_loop.specs.Serves.{LoopState, Does, Waits, round_end}
 use Rattle.tftp_loop.specs.Serves.Does.{Waited, At_port, Request_received, No_request_found, Request_not_received}
 use Rattle.tftp_loop.specs.Serves.Does.{No_port_found, Request_answered, Request_lost, Clock_read, Store_set}
 use Rattle.tftp_loop.specs.Serves.Does.{Transfer_closed}
@@ -28,11 +28,11 @@ module _ {S F D : Type 0} (meaning : StoreMeaning S D) (sources : SourceMeaning 
   -- the time since the round before the newest wait began, or since the beginning: a second at most
   pub record InRound (since : ℕ) (s : LoopState S F D) : Type 0 where
     pub soon : s.now ≤ since + LONGEST_WAIT
-    pub limit : s.limit ≤ since + LONGEST_WAIT
+    pub limit : round_end s.now s.limit ≤ since + LONGEST_WAIT
     pub from : since ≤ s.now
 
-  pub begins_round : (s : LoopState S F D) → s.limit ≤ s.now + LONGEST_WAIT → InRound s.now s
-  begins_round s limit = record { soon = omega arith; limit = limit; from = omega arith }
+  pub begins_round : (s : LoopState S F D) → InRound s.now s
+  begins_round s = record { soon = omega arith; limit = omega arith; from = omega arith }
 
   same_round : (since : ℕ) (s t : LoopState S F D) → t.now ≡ s.now → t.limit ≡ s.limit → InRound since s
       → InRound since t
@@ -42,7 +42,7 @@ module _ {S F D : Type 0} (meaning : StoreMeaning S D) (sources : SourceMeaning 
       let from = round.from in
       record {
         soon = omega (arith, now, soon);
-        limit = omega (arith, limit, most);
+        limit = omega (arith, now, limit, most);
         from = omega (arith, now, from);
       }
 
@@ -51,12 +51,10 @@ module _ {S F D : Type 0} (meaning : StoreMeaning S D) (sources : SourceMeaning 
   next_round since s t d round =
       let now : t.now ≡ d.time = ap (λ (u : LoopState S F D). u.now) d.is in
       let limit = ap (λ (u : LoopState S F D). u.limit) d.is in
-      let most = round.limit in
-      let from = round.from in
       let soon = d.soon in
       let forward = d.forward in
       record {
-        soon = omega (arith, now, soon, most, from);
+        soon = omega (arith, now, soon);
         limit = omega (arith, limit);
         from = omega (arith, now, forward);
       }

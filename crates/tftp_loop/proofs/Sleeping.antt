@@ -12,7 +12,7 @@ use Rattle.tftp_sockets.specs.Journal.Event.{Watched}
 use Rattle.tftp_sockets.specs.Quiet.{is_among, is_drained}
 use Rattle.tftp_loop.specs.Run.{Run}
 use Rattle.tftp_loop.specs.Run.Run.{Start, Then}
-use Rattle.tftp_loop.specs.declared.serving.Ending.{Ending}
+use Rattle.tftp_loop.specs.declared.serving.LoopConfig.{LoopConfig}
 use Rattle.tftp_loop.specs.Serves.{Timer, LoopState, Does, Waits, at_start, is_busy, port_state, read_at, set_by}
 use Rattle.tftp_loop.specs.Serves.{until_look}
 use Rattle.tftp_loop.specs.Serves.Does.{Waited, At_port, Request_received, No_request_found, Request_not_received}
@@ -100,24 +100,24 @@ module _ {S F D : Type 0} (meaning : StoreMeaning S D) (sources : SourceMeaning 
   step_kept s t (Transfer_closed d) kept =
       (work_keeps meaning sources s t (Then Start (Work_by (Transfer_closed d) tt))).kept kept
 
-  pub kept_along : (port : ℕ) (ending : Ending) (server : ServerState S F D) (before : List Event)
-      (old : LoopState S F D) → Run (Does meaning sources) (at_start port ending server before) old
+  pub kept_along : (config : LoopConfig) (port : ℕ) (server : ServerState S F D) (before : List Event)
+      (old : LoopState S F D) → Run (Does meaning sources) (at_start config port server before) old
       → AreKept old.server.held old.timers
-  kept_along port ending server before old Start =
+  kept_along config port server before old Start =
       record { apart = λ j k d e hj hk h. absurd (omega (arith, hj)); each = λ k d h. absurd (omega (arith, h)) }
-  kept_along port ending server before old (Then {middle} run does) =
-      step_kept middle old does (kept_along port ending server before middle run)
+  kept_along config port server before old (Then {middle} run does) =
+      step_kept middle old does (kept_along config port server before middle run)
 
-  quiet_along : (port : ℕ) (ending : Ending) (server : ServerState S F D) (before : List Event)
-      (old : LoopState S F D) → Run (Does meaning sources) (at_start port ending server before) old
-      → HasItsOwnPort meaning sources (at_start port ending server before) old → IsQuiet old
-  quiet_along port ending server before old Start own = record {
+  quiet_along : (config : LoopConfig) (port : ℕ) (server : ServerState S F D) (before : List Event)
+      (old : LoopState S F D) → Run (Does meaning sources) (at_start config port server before) old
+      → HasItsOwnPort meaning sources (at_start config port server before) old → IsQuiet old
+  quiet_along config port server before old Start own = record {
     drained = λ m. not_marked m;
     kept = record { apart = λ j k d e hj hk h. absurd (omega (arith, hj)); each = λ k d h. absurd (omega (arith, h)) };
     looked = λ k d h. absurd (omega (arith, h));
   }
-  quiet_along port ending server before old (Then {middle} run does) own =
-      let was = quiet_along port ending server before middle run (λ now begins ends. own now begins (Then ends does)) in
+  quiet_along config port server before old (Then {middle} run does) own =
+      let was = quiet_along config port server before middle run (λ now begins ends. own now begins (Then ends does)) in
       record {
         drained = step_drained middle old does (own middle run (Then Start does)) was.drained;
         kept = step_kept middle old does was.kept;
@@ -167,13 +167,13 @@ look_longest now [] = omega arith
 look_longest now (timer ∷ timers) = let rest = look_longest now timers in omega (arith, rest)
 
 module _ {S F D : Type 0} (meaning : StoreMeaning S D) (sources : SourceMeaning F) where
-  pub rests_before_it_sleeps : (port : ℕ) (ending : Ending) (server : ServerState S F D) (before : List Event)
-      (old new : LoopState S F D) → Run (Does meaning sources) (at_start port ending server before) old
-      → HasItsOwnPort meaning sources (at_start port ending server before) old →
+  pub rests_before_it_sleeps : (config : LoopConfig) (port : ℕ) (server : ServerState S F D) (before : List Event)
+      (old new : LoopState S F D) → Run (Does meaning sources) (at_start config port server before) old
+      → HasItsOwnPort meaning sources (at_start config port server before) old →
       (waits : Waits meaning sources old new) → 1 ≤ waits.millis →
       MaySleep meaning sources (read_at waits.time old) waits.millis
-  rests_before_it_sleeps port ending server before old new run own waits some =
-      let was = quiet_along meaning sources port ending server before old run own in
+  rests_before_it_sleeps config port server before old new run own waits some =
+      let was = quiet_along meaning sources config port server before old run own in
       let set = map (set_by waits.time) old.timers in
       let until = until_look waits.time set in
       let longest = waits.may.longest in

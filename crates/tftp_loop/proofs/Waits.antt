@@ -21,7 +21,7 @@ use Rattle.tftp_loop.specs.declared.server_loop.ServerLoop.{ServerLoop}
 use Rattle.tftp_loop.specs.Run.{Run}
 use Rattle.tftp_loop.specs.Run.Run.{Start, Then}
 use Rattle.tftp_loop.specs.Serves.{Timer, LoopState, Does, MayWait, IsServed, deadline_by, marked_by, most_millis}
-use Rattle.tftp_loop.specs.Serves.{read_at, set_by, until_look}
+use Rattle.tftp_loop.specs.Serves.{read_at, round_end, set_by, until_look}
 use Rattle.tftp_loop.specs.Serves.Does.{Waited, Clock_read}
 use Rattle.tftp_loop.specs.Served.{pending_in, state_of, timer_of}
 use Rattle.tftp_loop.specs.Tended.{AreSettled, AreKept, HasRead, HasSlept, HasWoken, IsHeld, IsSettled, IsTended}
@@ -82,7 +82,7 @@ module _ {S F D : Type 0} where
   read_state buffer d read r =
       sym (same_state (state_of buffer read)
       (record (read_at read.sockets.watch.now (state_of buffer d)) { limit = read.sockets.limit })
-      r.requests r.range r.server (ap (λ (p : Option (Endpoint × ℕ)). pending_in p buffer) r.pending) r.timers
+      r.requests r.range r.longest r.server (ap (λ (p : Option (Endpoint × ℕ)). pending_in p buffer) r.pending) r.timers
       refl refl refl r.marked r.left r.rounds r.events)
 
   pub may_wait : (buffer : List ℕ) (d read : ServerLoop S F D) (millis : ℕ) (ports : List ℕ) → HasRead d read →
@@ -233,9 +233,11 @@ module _ {S F D : Type 0} (meaning : StoreMeaning S D) (sources : SourceMeaning 
         events = Quiet (Woke ports) ∷ Quiet (Slept millis) ∷ Watched time ∷ s.events;
       } in
       let forward : time ≤ new.sockets.watch.now = let f = woken.now in omega (arith, now, f) in
-      let soon : new.sockets.watch.now ≤ max time waited.limit =
-      subst (λ (n : ℕ). new.sockets.watch.now ≤ max n waited.limit) now
-      (subst (λ (n : ℕ). new.sockets.watch.now ≤ max noted.sockets.watch.now n) limit woken.soon) in
+      let end : round_end noted.sockets.watch.now noted.sockets.limit ≡ round_end time waited.limit =
+      ap (λ (n : ℕ). round_end n noted.sockets.limit) now ∙ ap (λ (n : ℕ). round_end time n) limit in
+      let soon : new.sockets.watch.now ≤ max time (round_end time waited.limit) =
+      subst (λ (n : ℕ). new.sockets.watch.now ≤ max n (round_end time waited.limit)) now
+      (subst (λ (n : ℕ). new.sockets.watch.now ≤ max noted.sockets.watch.now n) end woken.soon) in
       Then (Then Start (Waited (record {
         time = time;
         forward = reads.forward;
@@ -254,13 +256,15 @@ module _ {S F D : Type 0} (meaning : StoreMeaning S D) (sources : SourceMeaning 
             same_state (state_of buffer new)
             (record waited {
               now = new.sockets.watch.now;
+              limit = round_end time waited.limit;
               woken = false;
               events = Watched new.sockets.watch.now ∷ waited.events;
             })
             (woken.requests ∙ requests) (woken.range ∙ (slept.range ∙ reads.range))
+            (woken.longest ∙ (slept.longest ∙ reads.longest))
             (woken.server ∙ (slept.server ∙ reads.server))
             (ap (λ (p : Option (Endpoint × ℕ)). pending_in p buffer) (woken.pending ∙ (slept.pending ∙ reads.pending)))
-            (woken.timers ∙ ap (map (marked_by ports)) (slept.timers ∙ reads.timers)) refl (woken.limit ∙ limit) refl
+            (woken.timers ∙ ap (map (marked_by ports)) (slept.timers ∙ reads.timers)) refl (woken.limit ∙ end) refl
             (woken.marked ∙ (ap (λ (b : Bool). b || is_among noted.sockets.requests.port ports)
             (slept.marked ∙ reads.marked)
             ∙ ap (λ (p : ℕ). old.sockets.is_ready || is_among p ports) requests))

@@ -55,7 +55,7 @@ module _ {S F D : Type 0} (meaning : StoreMeaning S D) (sources : SourceMeaning 
   IsIdleAt (A_datagram d) = d.step.progress ≡ false
   IsIdleAt does = ⊤
 
-  -- a step at a port that receives nothing
+  -- a step at a port that receives nothing, or only drops what it receives
   abbrev pub ReceivesNoneAt : {now : ℕ} {old new : PortState S F D}
       → AtPort meaning sources now old new → Type 0
   ReceivesNoneAt (A_datagram d) = ⊥
@@ -88,8 +88,7 @@ module _ {S F D : Type 0} (meaning : StoreMeaning S D) (sources : SourceMeaning 
   abbrev pub ClosesWithoutProgress : Type 0
   ClosesWithoutProgress =
       (start first last new : LoopState S F D) (timer : Timer)
-      → start.timers ≡ [] → start.limit ≤ start.now + LONGEST_WAIT
-      → Run (Does meaning sources) start first
+      → start.timers ≡ [] → Run (Does meaning sources) start first
       → Contains first.timers timer
       → Idles timer.port first last → Waits meaning sources last new
       → closing_time (counted_from first.now timer) timer.interval first.server.config.retries
@@ -102,11 +101,26 @@ module _ {S F D : Type 0} (meaning : StoreMeaning S D) (sources : SourceMeaning 
   abbrev pub TimesOutInSilence : Type 0
   TimesOutInSilence =
       (start first last new : LoopState S F D) (timer : Timer) (transfer : TransferState F D)
-      → start.timers ≡ [] → start.limit ≤ start.now + LONGEST_WAIT
-      → Run (Does meaning sources) start first
+      → start.timers ≡ [] → Run (Does meaning sources) start first
       → Contains first.timers timer → at timer.port first.server.held ≡ Some transfer
       → (idles : Idles timer.port first last) → NoneReceived idles
       → Waits meaning sources last new
+      → closing_time (counted_from first.now timer) timer.interval first.server.config.retries
+      < last.now
+      → last.now ≤ last_moment
+      → (outcome : Outcome)
+      × PrintsClose timer.port timer.peer.port outcome first.events last.events
+      × ClosesInSilence transfer.end.position.phase outcome
+
+  -- a transfer that is over age closes in time, whatever is received at its port, and as if nothing
+  -- was
+  abbrev pub ClosesOverAge : Type 0
+  ClosesOverAge =
+      (start first last new : LoopState S F D) (timer : Timer) (transfer : TransferState F D)
+      → start.timers ≡ [] → Run (Does meaning sources) start first
+      → Contains first.timers timer → at timer.port first.server.held ≡ Some transfer
+      → timer.age_limit < first.now
+      → Run (Does meaning sources) first last → Waits meaning sources last new
       → closing_time (counted_from first.now timer) timer.interval first.server.config.retries
       < last.now
       → last.now ≤ last_moment

@@ -7,7 +7,7 @@ use Rattle.tftp_server.specs.State.{ServerState}
 use Rattle.tftp_sockets.specs.Journal.{Event}
 use Rattle.tftp_sockets.specs.Quiet.{is_among, was_tried}
 use Rattle.tftp_loop.specs.Run.{Run}
-use Rattle.tftp_loop.specs.declared.serving.Ending.{Ending}
+use Rattle.tftp_loop.specs.declared.serving.LoopConfig.{LoopConfig}
 use Rattle.tftp_loop.specs.Serves.{Timer, LoopState, Does, Waits, at_start}
 use Rattle.tftp_loop.specs.Serves.Does.{Waited}
 
@@ -27,9 +27,9 @@ module _ {S F D : Type 0} (meaning : StoreMeaning S D) (sources : SourceMeaning 
   -- a port that a wait reported, and that had a transfer then, was read by the next wait
   abbrev pub ReadsWhatIsReported : Type 0
   ReadsWhatIsReported =
-      (requests : ℕ) (ending : Ending) (server : ServerState S F D) (before : List Event)
+      (config : LoopConfig) (requests : ℕ) (server : ServerState S F D) (before : List Event)
       (old woken last new : LoopState S F D)
-      → Run (Does meaning sources) (at_start requests ending server before) old
+      → Run (Does meaning sources) (at_start config requests server before) old
       → (waits : Waits meaning sources old woken) → Run GoesOn woken last
       → Waits meaning sources last new
       → (port : ℕ) → is_among port waits.ports ≡ true → HasTimer port old.timers

@@ -36,6 +36,7 @@ timer_of port =
       marked = port.is_ready;
       look_at = port.due;
       provisional = port.socket.is_provisional;
+      age_limit = port.socket.age_limit;
     }
 
 module _ {S F D : Type 0} where
@@ -90,6 +91,7 @@ module _ {S F D : Type 0} where
       record {
         requests = d.sockets.requests.port;
         range = d.sockets.pool.range;
+        longest = d.longest;
         server = d.server;
         pending = pending;
         timers = map timer_of d.ports.items;
@@ -140,10 +142,11 @@ module _ {S F D : Type 0} where
       (old new : ServerLoop S F D) : Type 0 where
     pub requests : new.sockets.requests.port ≡ old.sockets.requests.port
     pub range : new.sockets.pool.range ≡ old.sockets.pool.range
+    pub longest : new.longest ≡ old.longest
     pub port : IfSome opened.tid (IsOneOf old.sockets.pool.range)
     pub server : new.server ≡ old.server
     pub timers : map timer_of new.ports.items
-        ≡ with_timer old.sockets.watch.now from opened.tid old.server.held
+        ≡ with_timer old.sockets.watch.now old.longest from opened.tid old.server.held
         (map timer_of old.ports.items)
     pub now : new.sockets.watch.now ≡ old.sockets.watch.now
     pub limit : new.sockets.limit ≡ old.sockets.limit

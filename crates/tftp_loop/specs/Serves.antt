@@ -33,7 +33,7 @@ use Rattle.tftp_sockets.specs.Quiet.{has_woken, is_among, was_tried}
 use Rattle.tftp_loop.specs.MayOpen.{MayOpen, OpensNone}
 use Rattle.tftp_loop.specs.PortOrder.{IsOneOf}
 use Rattle.tftp_loop.specs.declared.port_order.PortRange.{PortRange}
-use Rattle.tftp_loop.specs.declared.serving.Ending.{Ending}
+use Rattle.tftp_loop.specs.declared.serving.LoopConfig.{LoopConfig}
 
 -- ---- the state
 
@@ -52,6 +52,8 @@ pub record Timer : Type 0 where
   -- whether the deadline is provisional: it counts from a time that was read before the newest
   -- opening, progress or timeout, and the next reading of the clock sets it
   pub provisional : Bool
+  -- the time behind which the transfer is over age, and its datagrams are dropped
+  pub age_limit : ℕ
 
 -- a server, the timer of one of its transfers, and the journal
 pub record PortState (S F D : Type 0) : Type 0 where
@@ -65,6 +67,8 @@ pub record LoopState (S F D : Type 0) : Type 0 where
   pub requests : ℕ
   -- the range that the ports of transfers are of, if there is one
   pub range : Option PortRange
+  -- the age behind which a transfer makes no progress, in seconds, if there is one
+  pub longest : Option ℕ
   pub server : ServerState S F D
   -- the datagram received there and not handled yet
   pub pending : Option (Endpoint × List ℕ)
@@ -93,6 +97,15 @@ look_after = 500
 abbrev pub next_look : ℕ → ℕ → ℕ
 next_look now interval = min (deadline_of now interval) (min (now + look_after) last_moment)
 
+-- the time behind which a transfer that opens now is over age: so many seconds from now, or never
+abbrev pub age_limit_of : ℕ → Option ℕ → ℕ
+age_limit_of now None = last_moment
+age_limit_of now (Some seconds) = deadline_of now seconds
+
+-- up to which time the clock advances in a round: to its limit, and by a second at most
+abbrev pub round_end : ℕ → ℕ → ℕ
+round_end now limit = min limit (min (now + LONGEST_WAIT) last_moment)
+
 -- the timer, expiring one interval from now
 abbrev pub restarted : ℕ → Timer → Timer
 restarted now timer =
@@ -119,9 +132,9 @@ timer_after now true timer =
     }
 timer_after now false timer = marked_as true timer
 
--- the timer of a transfer that opens now
-abbrev pub started : ℕ → ℕ → Endpoint → ℕ → Timer
-started now port peer interval =
+-- the timer of a transfer that opens now, and is over age after so many seconds, if it ever is
+abbrev pub started : ℕ → Option ℕ → ℕ → Endpoint → ℕ → Timer
+started now longest port peer interval =
     record {
       port = port;
       peer = peer;
@@ -130,6 +143,7 @@ started now port peer interval =
       marked = false;
       look_at = next_look now interval;
       provisional = true;
+      age_limit = age_limit_of now longest;
     }
 
 -- the deadline after a reading of the clock, if it was provisional or not: an interval from a time
@@ -191,8 +205,10 @@ module _ {S F D : Type 0} (meaning : StoreMeaning S D) (sources : SourceMeaning 
     pub config : new.config ≡ old.config
 
   module _ (now : ℕ) (old new : PortState S F D) where
-    -- a datagram is received and handled; progress restarts the timer
+    -- a datagram is received and handled, since the transfer is not over age; progress restarts the
+    -- timer
     pub record ReceivesAndHandles : Type 0 where
+      pub in_time : now ≤ old.timer.age_limit
       pub from : Endpoint
       pub bytes : List ℕ
       pub step : Step
@@ -202,9 +218,19 @@ module _ {S F D : Type 0} (meaning : StoreMeaning S D) (sources : SourceMeaning 
 
     -- a datagram is received and lost
     pub record ReceivesAndLoses : Type 0 where
+      pub in_time : now ≤ old.timer.age_limit
       pub from : Endpoint
       pub bytes : List ℕ
       pub loses : LosesDatagram old.timer.port from bytes old.server new.server
+      pub timer : new.timer ≡ marked_as true old.timer
+      pub events : new.events ≡ Received old.timer.port from bytes ∷ old.events
+
+    -- a datagram is received once the transfer is over age, and dropped
+    pub record ReceivesLate : Type 0 where
+      pub late : old.timer.age_limit < now
+      pub from : Endpoint
+      pub bytes : List ℕ
+      pub server : new.server ≡ old.server
       pub timer : new.timer ≡ marked_as true old.timer
       pub events : new.events ≡ Received old.timer.port from bytes ∷ old.events
 
@@ -250,6 +276,7 @@ module _ {S F D : Type 0} (meaning : StoreMeaning S D) (sources : SourceMeaning 
     pub data AtPort : Type 0 where
       A_datagram : ReceivesAndHandles → AtPort
       A_lost_datagram : ReceivesAndLoses → AtPort
+      A_late_datagram : ReceivesLate → AtPort
       Nothing_found : FindsNothing → AtPort
       A_failed_receive : FailsToReceive → AtPort
       A_timeout : DeliversTimeout → AtPort
@@ -271,11 +298,11 @@ module _ {F D : Type 0} where
   interval_at (Some held) = interval_of (terms_of held.end.position.phase)
 
   -- the timers after a request: the timer of an opened transfer starts now
-  abbrev pub with_timer : ℕ → Endpoint → Option ℕ → List (ℕ × TransferState F D)
+  abbrev pub with_timer : ℕ → Option ℕ → Endpoint → Option ℕ → List (ℕ × TransferState F D)
       → List Timer → List Timer
-  with_timer now from None held timers = timers
-  with_timer now from (Some port) held timers =
-      timers ++ started now port from (interval_at (at port held)) ∷ []
+  with_timer now longest from None held timers = timers
+  with_timer now longest from (Some port) held timers =
+      timers ++ started now longest port from (interval_at (at port held)) ∷ []
 
 module _ {S F D : Type 0} where
   -- the state at the port of a transfer with this timer
@@ -288,7 +315,8 @@ module _ {S F D : Type 0} where
       record old {
         server = left.new;
         pending = None;
-        timers = with_timer old.now from left.opened.tid left.new.held old.timers;
+        timers = with_timer old.now old.longest from left.opened.tid left.new.held
+            old.timers;
         events = replied (answering_port old.requests left.opened.tid) left.opened.to left.sent
             old.events;
       }
@@ -359,7 +387,7 @@ module _ {S F D : Type 0} (meaning : StoreMeaning S D) (sources : SourceMeaning 
   pub record Waits : Type 0 where
     pub time : ℕ
     pub forward : old.now ≤ time
-    pub soon : time ≤ max old.now old.limit
+    pub soon : time ≤ max old.now (round_end old.now old.limit)
     pub millis : ℕ
     pub ports : List ℕ
     pub may : MayWait old time millis ports
@@ -476,8 +504,13 @@ module _ {S F D : Type 0} (meaning : StoreMeaning S D) (sources : SourceMeaning 
     pub time : ℕ
     pub woken : has_woken old.events ≡ true
     pub forward : old.now ≤ time
-    pub soon : time ≤ max old.now old.limit
-    pub is : new ≡ record old { now = time; woken = false; events = Watched time ∷ old.events }
+    pub soon : time ≤ max old.now (round_end old.now old.limit)
+    pub is : new ≡ record old {
+      now = time;
+      limit = round_end old.now old.limit;
+      woken = false;
+      events = Watched time ∷ old.events;
+    }
 
   -- the store is set for the next transfer; its stored files do not change
   pub record SetsStore : Type 0 where
@@ -519,14 +552,15 @@ module _ {S F D : Type 0} (meaning : StoreMeaning S D) (sources : SourceMeaning 
     Store_set : SetsStore → Does
     Transfer_closed : Closes → Does
 
--- a server with a bound request port that has received nothing, whose transfers have ports of this
--- range, if there is one, and that ends after so many closed transfers or waits
-abbrev pub at_start_in : {S F D : Type 0} → Option PortRange → ℕ → Ending → ServerState S F D
-    → List Event → LoopState S F D
-at_start_in range requests ending server events =
+-- a server of this configuration with a bound request port that has received nothing: its transfers
+-- have ports of the range, if there is one, and it ends after so many closed transfers or waits
+abbrev pub at_start : {S F D : Type 0} → LoopConfig → ℕ → ServerState S F D → List Event
+    → LoopState S F D
+at_start config requests server events =
     record {
       requests = requests;
-      range = range;
+      range = config.ports;
+      longest = config.longest;
       server = server;
       pending = None;
       timers = [];
@@ -534,12 +568,7 @@ at_start_in range requests ending server events =
       limit = LONGEST_WAIT;
       woken = false;
       marked = true;
-      left = ending.transfers;
-      rounds = ending.rounds;
+      left = config.ending.transfers;
+      rounds = config.ending.rounds;
       events = events;
     }
-
--- the same, whatever ports its transfers have
-abbrev pub at_start : {S F D : Type 0} → ℕ → Ending → ServerState S F D → List Event
-    → LoopState S F D
-at_start = at_start_in None

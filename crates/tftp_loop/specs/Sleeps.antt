@@ -7,7 +7,7 @@ use Rattle.tftp_sockets.specs.declared.watch.TheConstants.{LONGEST_WAIT}
 use Rattle.tftp_sockets.specs.Journal.{Event}
 use Rattle.tftp_sockets.specs.Quiet.{is_drained}
 use Rattle.tftp_loop.specs.Run.{Run}
-use Rattle.tftp_loop.specs.declared.serving.Ending.{Ending}
+use Rattle.tftp_loop.specs.declared.serving.LoopConfig.{LoopConfig}
 use Rattle.tftp_loop.specs.Serves.{Timer, LoopState, Does, Waits, at_start, look_after, read_at}
 
 -- a port of a transfer is not marked, and a wait of so long is over when it is read again, which is
@@ -38,9 +38,9 @@ module _ {S F D : Type 0} (meaning : StoreMeaning S D) (sources : SourceMeaning 
   -- at each wait of a run that takes time, once the clock was read before it
   abbrev pub RestsBeforeItSleeps : Type 0
   RestsBeforeItSleeps =
-      (port : ℕ) (ending : Ending) (server : ServerState S F D) (before : List Event)
+      (config : LoopConfig) (port : ℕ) (server : ServerState S F D) (before : List Event)
       (old new : LoopState S F D)
-      → Run (Does meaning sources) (at_start port ending server before) old
-      → HasItsOwnPort (at_start port ending server before) old
+      → Run (Does meaning sources) (at_start config port server before) old
+      → HasItsOwnPort (at_start config port server before) old
       → (waits : Waits meaning sources old new) → 1 ≤ waits.millis
       → MaySleep (read_at waits.time old) waits.millis

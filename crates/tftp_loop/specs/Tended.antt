@@ -24,7 +24,8 @@ use Rattle.tftp_loop.specs.declared.transfer_port.TransferSocket.{TransferSocket
 use Rattle.tftp_loop.specs.Run.{Run}
 use Rattle.tftp_loop.specs.Serves.{Timer, PortState, LoopState, AnswersRequest, Closes}
 use Rattle.tftp_loop.specs.Serves.{LosesRequest}
-use Rattle.tftp_loop.specs.Serves.{FindsNoPort, SetsStore, deadline_by, next_look, marked_by, set_by}
+use Rattle.tftp_loop.specs.Serves.{FindsNoPort, SetsStore, deadline_by, next_look, marked_by}
+use Rattle.tftp_loop.specs.Serves.{round_end, set_by}
 use Rattle.tftp_loop.specs.Served.{OnlyServesPort, close_reported, loop_state, state_of, timer_of}
 
 -- ---- timers
@@ -159,11 +160,13 @@ module _ {S F D : Type 0} where
   pub record HasRead (old new : ServerLoop S F D) : Type 0 where
     pub requests : new.sockets.requests.port ≡ old.sockets.requests.port
     pub range : new.sockets.pool.range ≡ old.sockets.pool.range
+    pub longest : new.longest ≡ old.longest
     pub server : new.server ≡ old.server
     pub pending : new.pending ≡ old.pending
     pub timers : timers_of new ≡ map (set_by new.sockets.watch.now) (timers_of old)
     pub forward : old.sockets.watch.now ≤ new.sockets.watch.now
-    pub soon : new.sockets.watch.now ≤ max old.sockets.watch.now old.sockets.limit
+    pub soon : new.sockets.watch.now
+        ≤ max old.sockets.watch.now (round_end old.sockets.watch.now old.sockets.limit)
     pub limit : new.sockets.limit ≡ min (old.sockets.watch.now + LONGEST_WAIT) last_moment
     pub marked : new.sockets.is_ready ≡ old.sockets.is_ready
     pub left : new.left ≡ old.left
@@ -174,6 +177,7 @@ module _ {S F D : Type 0} where
   pub record HasSlept (millis : ℕ) (ports : List ℕ) (old new : ServerLoop S F D) : Type 0 where
     pub requests : new.sockets.requests.port ≡ old.sockets.requests.port
     pub range : new.sockets.pool.range ≡ old.sockets.pool.range
+    pub longest : new.longest ≡ old.longest
     pub server : new.server ≡ old.server
     pub pending : new.pending ≡ old.pending
     pub timers : timers_of new ≡ timers_of old
@@ -189,12 +193,14 @@ module _ {S F D : Type 0} where
   pub record HasWoken (ports : List ℕ) (old new : ServerLoop S F D) : Type 0 where
     pub requests : new.sockets.requests.port ≡ old.sockets.requests.port
     pub range : new.sockets.pool.range ≡ old.sockets.pool.range
+    pub longest : new.longest ≡ old.longest
     pub server : new.server ≡ old.server
     pub pending : new.pending ≡ old.pending
     pub timers : timers_of new ≡ map (marked_by ports) (timers_of old)
     pub now : old.sockets.watch.now ≤ new.sockets.watch.now
-    pub soon : new.sockets.watch.now ≤ max old.sockets.watch.now old.sockets.limit
-    pub limit : new.sockets.limit ≡ old.sockets.limit
+    pub soon : new.sockets.watch.now
+        ≤ max old.sockets.watch.now (round_end old.sockets.watch.now old.sockets.limit)
+    pub limit : new.sockets.limit ≡ round_end old.sockets.watch.now old.sockets.limit
     pub marked : new.sockets.is_ready
         ≡ (old.sockets.is_ready || is_among old.sockets.requests.port ports)
     pub left : new.left ≡ old.left

@@ -1,7 +1,6 @@
 -- A whole run of a server over UDP, from one journal to the other (RFC 1350, section 4).
-use Rattle.std.specs.Prelude.{ℕ, ◌≡◌, ◌⊎◌, List, ◌∷◌, Option, None}
+use Rattle.std.specs.Prelude.{ℕ, ◌≡◌, ◌⊎◌, List, ◌∷◌, Result, Ok, Err}
 use Rattle.tftp_file.specs.Source.{SourceMeaning}
-use Rattle.tftp_ends.specs.declared.endpoint.Endpoint.{Endpoint}
 use Rattle.tftp_store.specs.Store.{StoreMeaning}
 use Rattle.tftp_server.specs.State.{ServerState}
 use Rattle.tftp_lines.specs.Printed.{line_text}
@@ -10,49 +9,48 @@ use Rattle.tftp_sockets.specs.Bound.{IsBoundTo}
 use Rattle.tftp_sockets.specs.Journal.{Event}
 use Rattle.tftp_sockets.specs.Journal.Event.{Printed}
 use Rattle.tftp_loop.specs.Run.{Run}
-use Rattle.tftp_loop.specs.Serves.{Does, LoopState, at_start_in}
-use Rattle.tftp_loop.specs.declared.port_order.PortRange.{PortRange}
-use Rattle.tftp_loop.specs.declared.serving.Ending.{Ending}
+use Rattle.tftp_loop.specs.Serves.{Does, LoopState, at_start}
+use Rattle.tftp_loop.specs.Served.{FailsToBind, StopsServing}
+use Rattle.tftp_loop.specs.declared.serving.LoopConfig.{LoopConfig}
+use Rattle.tftp_loop.specs.declared.serving.LoopFault.{LoopFault}
 
 -- the journal after the line of the request port was printed
 abbrev pub listening : List ℕ → ℕ → List Event → List Event
 listening ip port events =
     Printed (line_text (Listening (record { ip = ip; port = port }))) ∷ events
 
-module _ {S F D : Type 0} (meaning : StoreMeaning S D) (sources : SourceMeaning F) where
-  -- a server with a bound request port serves there, from one journal to the other, and its
-  -- transfers have ports of this range, if there is one
-  abbrev pub ServesFromIn : Option PortRange → ℕ → Ending → ServerState S F D
-      → List Event → List Event → Type 0
-  ServesFromIn range port ending server before after =
-      (last : LoopState S F D)
-      × Run (Does meaning sources) (at_start_in range port ending server before) last
-      × (after ≡ last.events)
+module _ {S F D : Type 0} where
+  -- a run to its end: so many transfers closed, or so many waits are over
+  abbrev pub IsOver : LoopState S F D → Type 0
+  IsOver last = (last.left ≡ 0) ⊎ (last.rounds ≡ 0)
 
-  -- the same, to the end: so many transfers closed, or so many waits are over
-  abbrev pub ServesToEndIn : Option PortRange → ℕ → Ending → ServerState S F D
-      → List Event → List Event → Type 0
-  ServesToEndIn range port ending server before after =
-      (last : LoopState S F D)
-      × Run (Does meaning sources) (at_start_in range port ending server before) last
-      × (after ≡ last.events) × ((last.left ≡ 0) ⊎ (last.rounds ≡ 0))
+  -- how a run with this result ended: without a fault it is over, and with one it stopped for it
+  abbrev pub EndsBy : {A : Type 0} → Result A LoopFault → LoopState S F D → Type 0
+  EndsBy (Ok done) last = IsOver last
+  EndsBy (Err fault) last = StopsServing fault last.events
 
-  -- a whole run, from one journal to the other: the request port could not be bound; or it is at
-  -- the address and the port that it was to listen at, any port for 0, its line is printed, and
-  -- then the server serves, and its transfers have ports of this range, if there is one
-  pub data ServesIn (range : Option PortRange) (listen : Endpoint) (ending : Ending)
-      (server : ServerState S F D) (before after : List Event) : Type 0 where
-    Unbound : after ≡ before → ServesIn range listen ending server before after
-    Bound : (port : ℕ) → IsBoundTo listen listen.ip port
-        → ServesFromIn range port ending server (listening listen.ip port before) after
-        → ServesIn range listen ending server before after
+-- only a port that could not be bound ended it
+abbrev pub EndsUnbound : {A : Type 0} → Result A LoopFault → List Event → List Event → Type 0
+EndsUnbound (Ok done) before after = ⊥
+EndsUnbound (Err fault) before after = FailsToBind fault before after
 
-  -- the same, whatever ports the transfers have
-  abbrev pub ServesFrom : ℕ → Ending → ServerState S F D → List Event → List Event → Type 0
-  ServesFrom = ServesFromIn None
+module _ {S F D A : Type 0} (meaning : StoreMeaning S D) (sources : SourceMeaning F)
+    (config : LoopConfig) where
+  -- a server with a bound request port serves there, from one journal to the other, and ends with
+  -- this result
+  pub record ServesFrom (port : ℕ) (server : ServerState S F D) (result : Result A LoopFault)
+      (before after : List Event) : Type 0 where
+    pub last : LoopState S F D
+    pub run : Run (Does meaning sources) (at_start config port server before) last
+    pub noted : after ≡ last.events
+    pub ends : EndsBy result last
 
-  abbrev pub ServesToEnd : ℕ → Ending → ServerState S F D → List Event → List Event → Type 0
-  ServesToEnd = ServesToEndIn None
-
-  abbrev pub Serves : Endpoint → Ending → ServerState S F D → List Event → List Event → Type 0
-  Serves = ServesIn None
+  -- a whole run of this configuration, from one journal to the other: the request port could not be
+  -- bound; or it is at the address and the port that it was to listen at, any port for 0, its line
+  -- is printed, and then the server serves
+  pub data Serves (server : ServerState S F D) (result : Result A LoopFault)
+      (before after : List Event) : Type 0 where
+    Unbound : EndsUnbound result before after → Serves server result before after
+    Bound : (port : ℕ) → IsBoundTo config.listen config.listen.ip port
+        → ServesFrom port server result (listening config.listen.ip port before) after
+        → Serves server result before after

@@ -1,6 +1,6 @@
 //! Laws of a server's runs, over the definitions alone. Its store is of any type.
 
-ghost use Rattle.tftp_loop.specs.Expiry.{ClosesWithoutProgress, TimesOutInSilence};
+ghost use Rattle.tftp_loop.specs.Expiry.{ClosesOverAge, ClosesWithoutProgress, TimesOutInSilence};
 ghost use Rattle.tftp_loop.specs.Handled.{HandlesBeforeItSleeps, HandlesByTheNextWait};
 ghost use Rattle.tftp_loop.specs.Handled.{ReadsTheRequestPort};
 ghost use Rattle.tftp_loop.specs.PortsInTurn.{UsesNoPortTwice};
@@ -38,10 +38,12 @@ pub fn a_server_handles_before_it_sleeps<T: Store>()
 /// A transfer that makes no progress is closed in time, whatever is sent to its port. At each wait
 /// later than an interval, and an interval and a second for each retry, its line was printed: in a
 /// round the clock is read once, which advances the time by a second at most. If nothing came to
-/// the port, it was not complete, unless it was before (RFC 1350, section 2).
+/// the port, it was not complete, unless it was before. A transfer that is over age is closed so
+/// whatever it receives (RFC 1350, section 2).
 pub fn a_server_closes_what_makes_no_progress<T: Store>()
     ensures closes { ClosesWithoutProgress T.meaning T.Source.meaning }
     ensures silent { TimesOutInSilence T.meaning T.Source.meaning }
+    ensures over_age { ClosesOverAge T.meaning T.Source.meaning }
 {}
 
 /// A server with a range of ports takes no port of it twice before it has taken each.

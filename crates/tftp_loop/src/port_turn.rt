@@ -164,7 +164,7 @@ impl<S: Store> PortTurn<'_, S> {
         match self.port.socket.udp.receive(self.journal, buffer) {
             Receipt::Datagram(from, count) => {
                 let bytes = &buffer[..count];
-                self.answer_received(Datagram { from, bytes })
+                self.answer_in_time(Datagram { from, bytes })
             }
             Receipt::Nothing => {
                 mark_empty(self.port);
@@ -177,9 +177,24 @@ impl<S: Store> PortTurn<'_, S> {
         }
     }
 
+    /// Handles a datagram that was received at the port, and sends the answer. Once the transfer is
+    /// over age the datagram is dropped: so its timeouts run out.
+    fn answer_in_time(&mut self, datagram: Datagram<'_>) -> PortStatus
+        ensures answers { AnswersReceived S.meaning S.Source.meaning datagram.entry self.old
+            self.new }
+        ensures status { HasStatus result self.new }
+    {
+        if self.port.socket.age_limit < self.now {
+            mark_ready(self.port);
+            return PortStatus::Unfinished;
+        }
+        self.answer_received(datagram)
+    }
+
     /// Handles a datagram that was received at the port, and sends the answer. After that the file
     /// reads ahead or is written back.
     fn answer_received(&mut self, datagram: Datagram<'_>) -> PortStatus
+        requires { self.old.now ≤ self.old.port.now.socket.age_limit }
         ensures answers { AnswersReceived S.meaning S.Source.meaning datagram.entry self.old
             self.new }
         ensures status { HasStatus result self.new }

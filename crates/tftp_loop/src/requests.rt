@@ -18,7 +18,7 @@ use crate::log_entry::{LogEntry, reason_unasked};
 use crate::report::{log_lost, log_unopened, log_unsent_answer};
 use crate::server_loop::ServerLoop;
 use crate::server_udp::ServerUdp;
-use crate::transfer_port::{TransferPort, TransferSocket, next_look, reply};
+use crate::transfer_port::{TransferPort, TransferSocket, age_limit, next_look, reply};
 use tftp_ends::{DEFAULT_INTERVAL, Endpoint};
 use tftp_lines::{Lost, Reason};
 use tftp_server::{Admission, Opened, Server, Store};
@@ -302,7 +302,8 @@ impl<S: ServedStore<Reason> + Drop> ServerLoop<S> {
         log_entry: Option<LogEntry>,
     ) -> TransferPort
         ensures tid { result.tid ≡ spare.port }
-        ensures timer { timer_of result ≡ started self.now.sockets.watch.now spare.port peer
+        ensures timer { timer_of result
+            ≡ started self.now.sockets.watch.now self.now.longest spare.port peer
             (interval_at (at spare.port self.now.server.held)) }
     {
         let mut udp = spare;
@@ -321,6 +322,7 @@ impl<S: ServedStore<Reason> + Drop> ServerLoop<S> {
                 times_out_at,
                 is_provisional: true,
                 moved_at: self.sockets.watch.now,
+                age_limit: age_limit(self.sockets.watch.now, self.longest),
                 file_work_limit: file_work_limit(&self.server, tid),
                 log_entry,
             },

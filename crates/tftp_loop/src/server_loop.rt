@@ -56,6 +56,8 @@ pub(crate) struct ServerLoop<S: Store + Drop> {
     pub(crate) left: u64,
     /// The number of waits that may still begin.
     pub(crate) rounds: u64,
+    /// The age of a transfer, in seconds, behind which its datagrams are dropped.
+    pub(crate) longest: Option<u32>,
     pub(crate) log: Log,
     pub(crate) alloc: Global,
 }
@@ -96,6 +98,7 @@ impl<S: ServedStore<Reason> + Drop> ServerLoop<S> {
         ensures pending { result.pending ≡ None }
         ensures left { result.left ≡ config.now.ending.transfers }
         ensures rounds { result.rounds ≡ config.now.ending.rounds }
+        ensures longest { result.longest ≡ config.now.longest }
     {
         ServerLoop {
             server,
@@ -107,6 +110,7 @@ impl<S: ServedStore<Reason> + Drop> ServerLoop<S> {
             active: 0,
             left: config.ending.transfers,
             rounds: config.ending.rounds,
+            longest: config.longest,
             log: Log {
                 is_written: config.logs,
                 has_priority: config.has_priority,
@@ -241,8 +245,8 @@ impl<S: ServedStore<Reason> + Drop> ServerLoop<S> {
         ensures { HasRead self.old self.new }
     {
         let began = self.sockets.watch.now;
-        let limit = self.sockets.limit;
-        let time = read_watch_within(clock, &mut self.journal, &mut self.sockets.watch, limit);
+        let end = self.sockets.round_end();
+        let time = read_watch_within(clock, &mut self.journal, &mut self.sockets.watch, end);
         self.sockets.limit = began.saturating_add(LONGEST_WAIT);
         set_all(self.ports.as_mut_slice(), time);
     }
@@ -268,8 +272,9 @@ impl<S: ServedStore<Reason> + Drop> ServerLoop<S> {
     {
         self.mark(reports.ports());
         self.rounds = self.rounds.saturating_sub(1);
-        let limit = self.sockets.limit;
-        read_watch_within(clock, &mut self.journal, &mut self.sockets.watch, limit);
+        let end = self.sockets.round_end();
+        read_watch_within(clock, &mut self.journal, &mut self.sockets.watch, end);
+        self.sockets.limit = end;
     }
 
     /// Marks the ports that a wait reported.

@@ -1,9 +1,7 @@
 //! Serves over UDP, from the bind of the request port to the end.
 
-ghost use Rattle.std.specs.Prelude.{◌≡◌, ◌⊎◌, IfErr, OnOk, ℕ, true};
-ghost use Rattle.tftp_loop.specs.Served.{FailsToBind, StopsServing};
-ghost use Rattle.tftp_loop.specs.WholeRun.{Serves, ServesFromIn, ServesIn, ServesToEnd};
-ghost use Rattle.tftp_loop.specs.WholeRun.{ServesToEndIn, listening};
+ghost use Rattle.std.specs.Prelude.{◌≡◌, true};
+ghost use Rattle.tftp_loop.specs.WholeRun.{Serves, ServesFrom, listening};
 
 use crate::port_order::PortRange;
 use crate::report::log_listening;
@@ -27,6 +25,9 @@ pub struct LoopConfig {
     pub ports: Option<PortRange>,
     /// When the loop ends.
     pub ending: Ending,
+    /// The age of a transfer, in seconds, behind which its datagrams are dropped, so that it times
+    /// out once its retries are over; `None` for no limit.
+    pub longest: Option<u32>,
     /// Whether the start, each request and each close is logged as a line on standard error.
     pub logs: bool,
     /// Whether a line of the log that is a warning begins with its priority, `<4>`: for a standard
@@ -76,15 +77,8 @@ pub fn serve<N: ServerUdp + Clock + Print + Eprint, S: ServedStore<Reason> + Dro
     config: &LoopConfig,
     journal: Journal,
 ) -> (Result<(), LoopFault>, Journal)
-    ensures serves { Serves S.meaning S.Source.meaning config.now.listen config.now.ending server
-        journal.events result.1.events }
-    ensures ports { ServesIn S.meaning S.Source.meaning config.now.ports config.now.listen
-        config.now.ending server journal.events result.1.events }
-    ensures end { OnOk result.0 ((port : ℕ) × ServesToEnd S.meaning S.Source.meaning port
-        config.now.ending server (listening config.now.listen.ip port journal.events)
-        result.1.events) }
-    ensures fault { IfErr result.0 (λ fault. FailsToBind fault journal.events result.1.events
-        ⊎ StopsServing fault result.1.events) }
+    ensures { Serves S.meaning S.Source.meaning config.now server result.0 journal.events
+        result.1.events }
 {
     match Sockets::bind(rt, alloc, config) {
         Ok(sockets) => listen(rt, alloc, server, sockets, config, journal),
@@ -105,13 +99,9 @@ fn listen<N: ServerUdp + Clock + Print + Eprint, S: ServedStore<Reason> + Drop>(
     requires limit { sockets.limit ≡ LONGEST_WAIT }
     requires marked { sockets.is_ready ≡ true }
     requires range { sockets.pool.range ≡ config.now.ports }
-    ensures serves { ServesFromIn S.meaning S.Source.meaning config.now.ports sockets.requests.port
-        config.now.ending server
-        (listening sockets.requests.ip sockets.requests.port journal.events) result.1.events }
-    ensures end { OnOk result.0 (ServesToEndIn S.meaning S.Source.meaning config.now.ports
-        sockets.requests.port config.now.ending server
-        (listening sockets.requests.ip sockets.requests.port journal.events) result.1.events) }
-    ensures fault { IfErr result.0 (λ fault. StopsServing fault result.1.events) }
+    ensures { ServesFrom S.meaning S.Source.meaning config.now sockets.requests.port server
+        result.0 (listening sockets.requests.ip sockets.requests.port journal.events)
+        result.1.events }
 {
     let mut journal = journal;
     let line = Printed::Listening(sockets.listening());
@@ -137,11 +127,8 @@ fn run<N: ServerUdp + Clock + Print + Eprint, S: ServedStore<Reason> + Drop>(
     requires limit { sockets.limit ≡ LONGEST_WAIT }
     requires marked { sockets.is_ready ≡ true }
     requires range { sockets.pool.range ≡ config.now.ports }
-    ensures serves { ServesFromIn S.meaning S.Source.meaning config.now.ports sockets.requests.port
-        config.now.ending server journal.events result.1.events }
-    ensures end { OnOk result.0 (ServesToEndIn S.meaning S.Source.meaning config.now.ports
-        sockets.requests.port config.now.ending server journal.events result.1.events) }
-    ensures fault { IfErr result.0 (λ fault. StopsServing fault result.1.events) }
+    ensures { ServesFrom S.meaning S.Source.meaning config.now sockets.requests.port server
+        result.0 journal.events result.1.events }
 {
     let Ok(mut buffers) = Buffers::new(alloc) else {
         return (Err(LoopFault::Memory), journal);

@@ -5,6 +5,7 @@ ghost use Rattle.tftp_server.specs.Port.{asks_store};
 ghost use Rattle.tftp_sockets.specs.Bound.{IsBoundTo};
 ghost use Rattle.tftp_sockets.specs.Quiet.{is_among};
 ghost use Rattle.tftp_loop.specs.PortPool.{IsOfPool, Tries};
+ghost use Rattle.tftp_loop.specs.Serves.{round_end};
 
 use crate::port_pool::PortPool;
 use crate::server_udp::ServerUdp;
@@ -59,6 +60,13 @@ impl Sockets {
             watch: Watch::new(read_clock(net, 0)),
             limit: LONGEST_WAIT,
         })
+    }
+
+    /// Up to which time the clock may advance in this round: a second at most.
+    pub(crate) fn round_end(&self) -> u64
+        ensures { result ≡ round_end self.now.watch.now self.now.limit }
+    {
+        self.limit.min(self.watch.now.saturating_add(LONGEST_WAIT))
     }
 
     /// The endpoint of the request port.

@@ -4,8 +4,8 @@ ghost use Rattle.std.specs.Prelude.{◌≡◌, true, false, map, min, ◌+◌};
 ghost use Rattle.tftp_sockets.specs.Journal.{replied};
 ghost use Rattle.tftp_sockets.specs.Watch.{last_moment};
 ghost use Rattle.tftp_loop.specs.Fair.{ReceivesAtMost};
-ghost use Rattle.tftp_loop.specs.Serves.{WorksAtPort, look_after, marked_as, restarted};
-ghost use Rattle.tftp_loop.specs.Serves.{timer_after};
+ghost use Rattle.tftp_loop.specs.Serves.{WorksAtPort, age_limit_of, look_after, marked_as};
+ghost use Rattle.tftp_loop.specs.Serves.{restarted, timer_after};
 ghost use Rattle.tftp_loop.specs.Served.{timer_of};
 ghost use Rattle.tftp_loop.specs.Tended.{marked_if, set_if};
 
@@ -38,6 +38,8 @@ pub(crate) struct TransferSocket {
     pub(crate) is_provisional: bool,
     /// When the transfer was opened or last made progress, in milliseconds.
     pub(crate) moved_at: u64,
+    /// The time behind which the transfer is over age, in milliseconds: its datagrams are dropped.
+    pub(crate) age_limit: u64,
     /// The number of active transfers up to which its file reads ahead or is written back.
     pub(crate) file_work_limit: usize,
     /// The log entry, if there is a log.
@@ -106,6 +108,17 @@ pub(crate) fn next_look(now: u64) -> u64
     ensures { result ≡ min (now + look_after) last_moment }
 {
     now.saturating_add(LOOK_AFTER)
+}
+
+/// The time behind which a transfer that opens at `now` is over age: so many seconds later, or
+/// never.
+pub(crate) fn age_limit(now: u64, longest: Option<u32>) -> u64
+    ensures { result ≡ age_limit_of now longest }
+{
+    match longest {
+        Some(seconds) => now.saturating_add(u64::from(seconds) * 1_000),
+        None => u64::MAX,
+    }
 }
 
 /// Marks that a datagram may be at a transfer's port.

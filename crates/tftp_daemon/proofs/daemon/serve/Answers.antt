@@ -1,14 +1,6 @@
 use Rattle.std.proofs.Common.{inr}
-use Rattle.tftp_daemon.proofs.ConfiguredLemmas.{on_zero}
 use Rattle.tftp_daemon.proofs.daemon.serve.Goals as goal
 
 pub returns-in-Ok-clause-runs : goal.returns-in-Ok-clause-runs
 returns-in-Ok-clause-runs g c =
-    inr
-    (record {
-      server = c.in-Ok.server;
-      is_server = c.in-Ok.ensures;
-      serves = c.serve_loop.ensures.serves;
-      ports = c.serve_loop.ensures.ports;
-      ends = on_zero c.serve_loop.result.0 _ c.serve_loop.ensures.ends;
-    })
+    inr (record { server = c.in-Ok.server; is_server = c.in-Ok.ensures; runs = c.serve_loop.ensures })

@@ -1,6 +1,5 @@
 -- Such a store begins no draft, and stays one.
-use Rattle.std.proofs.Common.{◌≡◌, ◌∙◌, Option, Some, None, true}
-use Rattle.tftp_file.specs.declared.fault.StoreFault.{StoreFault}
+use Rattle.std.proofs.Common.{◌≡◌, ◌∙◌, Some, None, true}
 use Rattle.tftp_file.specs.declared.fault.StoreFault.TheVariants.{Io}
 use Rattle.tftp_daemon.proofs.NoneStores.{stores_nothing}
 use Rattle.tftp_daemon.proofs.laws.a_read_only_run_stores_nothing.Goals as goal

@@ -1,15 +1,21 @@
 -- The lemmas that are the law.
-use Rattle.tftp_loop.proofs.Expiring.{closes_without_progress, times_out_in_silence}
+use Rattle.tftp_loop.proofs.Expiring.{closes_over_age, closes_without_progress, times_out_in_silence}
 use Rattle.tftp_loop.proofs.laws.a_server_closes_what_makes_no_progress.Goals as goal
 
 pub returns-clause-closes : goal.returns-clause-closes
 returns-clause-closes g c =
-    λ start first last new timer empty begun run has idles waits late soon.
+    λ start first last new timer empty run has idles waits late soon.
     closes_without_progress g.T.Store.meaning g.T.Source.Source.meaning start first last new
-    timer empty begun run has idles waits late soon
+    timer empty run has idles waits late soon
 
 pub returns-clause-silent : goal.returns-clause-silent
 returns-clause-silent g c =
-    λ start first last new timer transfer empty begun run has found idles silent waits late soon.
+    λ start first last new timer transfer empty run has found idles silent waits late soon.
     times_out_in_silence g.T.Store.meaning g.T.Source.Source.meaning start first last new
-    timer transfer empty begun run has found idles silent waits late soon
+    timer transfer empty run has found idles silent waits late soon
+
+pub returns-clause-over_age : goal.returns-clause-over_age
+returns-clause-over_age g c =
+    λ start first last new timer transfer empty run has found late goes waits over soon.
+    closes_over_age g.T.Store.meaning g.T.Source.Source.meaning start first last new
+    timer transfer empty run has found late goes waits over soon

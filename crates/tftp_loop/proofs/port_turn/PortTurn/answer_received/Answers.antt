@@ -13,7 +13,7 @@ returns-in_default-clause-answers g c =
           receives_lost g.S.Store.meaning g.S.Source.Source.meaning old.now old.server.now c.handle.new.server
           (timer_of old.port.now) (timer_of c.mark_ready.new.port)
           events old.journal.now.events c.handle.new.journal.events c.args.datagram.from c.args.datagram.bytes.now
-          noted c.in_default.ensures.handled.0 c.in_default.ensures.handled.1 c.mark_ready.ensures;
+          c.requires noted c.in_default.ensures.handled.0 c.in_default.ensures.handled.1 c.mark_ready.ensures;
       tries = c.handle.ensures.tries;
       received = c.handle.ensures.received;
     }
@@ -32,7 +32,7 @@ returns-clause-answers g c =
           (receives g.S.Store.meaning g.S.Source.Source.meaning old.now old.server.now c.handle.new.server
           (timer_of old.port.now) (timer_of c.note_step.new.port)
           events old.journal.now.events c.handle.new.journal.events c.args.datagram.from c.args.datagram.bytes.now
-          c.in-Some.step noted c.in-Some.ensures.handled c.note_step.ensures)
+          c.in-Some.step c.requires noted c.in-Some.ensures.handled c.note_step.ensures)
           refl c.work_after.ensures.works;
       tries = c.handle.ensures.tries;
       received = c.handle.ensures.received;

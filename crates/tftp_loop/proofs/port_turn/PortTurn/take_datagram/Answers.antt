@@ -11,13 +11,13 @@ use Rattle.tftp_loop.proofs.port_turn.PortTurn.take_datagram.Goals as goal
 pub returns-in-Datagram-clause-serves : goal.returns-in-Datagram-clause-serves
 returns-in-Datagram-clause-serves g c =
     serves_received g.S.Store.meaning g.S.Source.Source.meaning _ c.args.self.now _ _ refl
-    c.in-Datagram.ensures.noted c.answer_received.ensures.answers
+    c.in-Datagram.ensures.noted c.answer_in_time.ensures.answers
 
 pub returns-in-Datagram-clause-tried : goal.returns-in-Datagram-clause-tried
 returns-in-Datagram-clause-tried g c =
     let old = c.args.self.now in
-    let new = c.answer_received.new.self in
-    let answers = c.answer_received.ensures.answers in
+    let new = c.answer_in_time.new.self in
+    let answers = c.answer_in_time.ensures.answers in
     let noted = c.in-Datagram.ensures.noted in
     let same : new.port.now.socket.udp.port ≡ old.port.now.socket.udp.port =
     (stays_along g.S.Store.meaning g.S.Source.Source.meaning old.now _ _

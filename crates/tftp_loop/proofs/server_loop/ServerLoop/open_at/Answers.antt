@@ -23,7 +23,7 @@ returns-in-Ok-clause-answers g c =
     refl c.requires.admitted c.set_store.ensures.rest c.set_store.ensures.same c.set_store.ensures.behind
     c.in-Ok.ensures.carries_out free a.port
     c.clear.ensures.items
-    (same_state _ _ a.requests a.range a.server refl a.timers a.now a.limit refl a.marked a.left_to_close a.rounds a.events)
+    (same_state _ _ a.requests a.range a.longest a.server refl a.timers a.now a.limit refl a.marked a.left_to_close a.rounds a.events)
 
 pub returns-in-Ok-clause-rounds : goal.returns-in-Ok-clause-rounds
 returns-in-Ok-clause-rounds g c = c.answer_opened.ensures.rounds
@@ -49,6 +49,6 @@ returns-in-Err-clause-answers g c =
           _ _ c.set_store.ensures.rest c.requires.admitted c.clear.ensures.len (why.why (ap Err e))
     ])
     (same_state _ _ (ap (λ (s : Sockets). s.requests.port) back)
-    (ap (λ (s : Sockets). s.pool.range) back) why.err.0 refl refl
+    (ap (λ (s : Sockets). s.pool.range) back) refl why.err.0 refl refl
     (ap (λ (s : Sockets). s.watch.now) back) (ap (λ (s : Sockets). s.limit) back) refl
     (ap (λ (s : Sockets). s.is_ready) back) refl refl refl)

@@ -22,7 +22,7 @@ returns-in_default-clause-answers g c =
     d.bytes.now c.args.admission refl c.requires.admitted c.requires.may_open in
     loses_as g.S.Store.meaning g.S.Source.Source.meaning s _ d.from d.bytes.now refl
     (No_room opens (vec_capacity ports) (omega (arith, full, long, same)))
-    (same_state _ _ refl refl refl refl (ap (map timer_of) c.in_default.ensures.items) refl refl refl refl refl refl refl)
+    (same_state _ _ refl refl refl refl refl (ap (map timer_of) c.in_default.ensures.items) refl refl refl refl refl refl refl)
 
 pub returns-in_default-port_for-clause-answers : goal.returns-in_default-port_for-clause-answers
 returns-in_default-port_for-clause-answers g c =
@@ -35,7 +35,7 @@ returns-in_default-port_for-clause-answers g c =
     tries_in_vain g.S.Store.meaning g.S.Source.Source.meaning s _ d.from d.bytes.now
     c.port_for.new.journal.events refl opens
     c.in_default-port_for.ensures.tries
-    (same_state _ _ (ap (λ (s : Sockets). s.requests.port) same) (ap (λ (s : Sockets). s.pool.range) same) refl refl
+    (same_state _ _ (ap (λ (s : Sockets). s.requests.port) same) (ap (λ (s : Sockets). s.pool.range) same) refl refl refl
     (ap (map timer_of) c.try_reserve.ensures.items)
     (ap (λ (s : Sockets). s.watch.now) same) (ap (λ (s : Sockets). s.limit) same) refl
     (ap (λ (s : Sockets). s.is_ready) same) refl refl refl)
@@ -54,7 +54,7 @@ returns-clause-answers g c =
     c.in-Some.ensures.tries)
     (subst (λ (u : LoopState _ _ _). Concludes g.S.Store.meaning g.S.Source.Source.meaning u
     (loop_state None c.open_at.new.self))
-    (same_state _ tried (ap (λ (s : Sockets). s.requests.port) same) (ap (λ (s : Sockets). s.pool.range) same) refl refl
+    (same_state _ tried (ap (λ (s : Sockets). s.requests.port) same) (ap (λ (s : Sockets). s.pool.range) same) refl refl refl
     (ap (map timer_of) c.try_reserve.ensures.items)
     (ap (λ (s : Sockets). s.watch.now) same) (ap (λ (s : Sockets). s.limit) same) refl
     (ap (λ (s : Sockets). s.is_ready) same) refl refl refl)

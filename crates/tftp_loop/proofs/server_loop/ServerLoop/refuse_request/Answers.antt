@@ -25,8 +25,8 @@ returns-in-Ok-clause-answers g c =
     refl c.requires.admitted c.set_store.ensures.rest c.set_store.ensures.same c.set_store.ensures.behind
     c.in-Ok.ensures.carries_out free
     (subst (λ (o : Option ℕ). IfSome o (IsOneOf s.range)) (sym none) tt) c.clear.ensures.items
-    (same_state _ _ a.requests a.range a.server refl
-    (a.timers ∙ ap (λ (o : Option ℕ). with_timer s.now d.from o c.open-opened.new.self.held s.timers) (sym none))
+    (same_state _ _ a.requests a.range a.longest a.server refl
+    (a.timers ∙ ap (λ (o : Option ℕ). with_timer s.now s.longest d.from o c.open-opened.new.self.held s.timers) (sym none))
     a.now a.limit refl a.marked a.left_to_close a.rounds
     (a.events ∙ ap (λ (o : Option ℕ). replied (answering_port s.requests o) c.in-Ok.opened.to
     c.open-opened.new.out.items s.events) (sym none)))
@@ -51,4 +51,4 @@ returns-in-Err-clause-answers g c =
           d.from d.bytes.now c.args.self.now.server c.args.admission
           _ _ c.set_store.ensures.rest c.requires.admitted c.clear.ensures.len (why.why (ap Err e))
     ])
-    (same_state _ _ refl refl why.err.0 refl refl refl refl refl refl refl refl refl)
+    (same_state _ _ refl refl refl why.err.0 refl refl refl refl refl refl refl refl refl)

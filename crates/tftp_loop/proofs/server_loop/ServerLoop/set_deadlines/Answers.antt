@@ -16,17 +16,19 @@ returns g c =
     let forward = read.forward in
     let soon = read.soon in
     let limit = c.saturating_add-self.ensures in
+    let end = c.round_end-end.ensures in
     let whole = with_items_is c.args.self.now.ports c.set_all.new.ports (search (rules, places)) in
     record {
       requests = refl;
       range = refl;
+      longest = refl;
       server = refl;
       pending = refl;
       timers =
           ap (map timer_of) (whole ∙ (c.set_all.ensures ∙ ap (map (set_if time)) c.as_mut_slice.ensures.value))
           ∙ (timers_set time ports ∙ ap (λ (n : ℕ). map (set_by n) (map timer_of ports)) (sym is));
       forward = omega (arith, forward, is);
-      soon = omega (arith, soon, is);
+      soon = omega (arith, soon, is, end);
       limit = omega (arith, limit);
       marked = refl;
       left = refl;

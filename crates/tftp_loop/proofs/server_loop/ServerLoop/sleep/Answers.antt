@@ -13,6 +13,7 @@ returns-clause-serves g c =
     record {
       requests = c.set_deadlines.ensures.requests;
       range = c.set_deadlines.ensures.range;
+      longest = c.set_deadlines.ensures.longest;
       server = c.set_deadlines.ensures.server;
       pending = c.set_deadlines.ensures.pending;
       timers = c.set_deadlines.ensures.timers;
@@ -38,6 +39,7 @@ returns-clause-settled g c =
     (read_settled g.S.Store.meaning g.S.Source.Source.meaning c.args.self.now c.set_deadlines.new.self (record {
       requests = c.set_deadlines.ensures.requests;
       range = c.set_deadlines.ensures.range;
+      longest = c.set_deadlines.ensures.longest;
       server = c.set_deadlines.ensures.server;
       pending = c.set_deadlines.ensures.pending;
       timers = c.set_deadlines.ensures.timers;

@@ -14,6 +14,7 @@ returns-then-poll_now-clause-serves g c =
     record {
       requests = c.set_deadlines.ensures.requests;
       range = c.set_deadlines.ensures.range;
+      longest = c.set_deadlines.ensures.longest;
       server = c.set_deadlines.ensures.server;
       pending = c.set_deadlines.ensures.pending;
       timers = c.set_deadlines.ensures.timers;
@@ -32,6 +33,7 @@ returns-then-poll_now-clause-serves g c =
     (record {
       requests = refl;
       range = refl;
+      longest = refl;
       server = refl;
       pending = refl;
       timers = refl;
@@ -50,6 +52,7 @@ returns-then-poll_now-clause-settled g c =
     (read_settled g.S.Store.meaning g.S.Source.Source.meaning c.args.self.now c.set_deadlines.new.self (record {
       requests = c.set_deadlines.ensures.requests;
       range = c.set_deadlines.ensures.range;
+      longest = c.set_deadlines.ensures.longest;
       server = c.set_deadlines.ensures.server;
       pending = c.set_deadlines.ensures.pending;
       timers = c.set_deadlines.ensures.timers;

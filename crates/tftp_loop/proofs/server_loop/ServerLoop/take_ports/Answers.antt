@@ -1,6 +1,7 @@
 use Rattle.std.proofs.Common.{arith}
+use Rattle.std.proofs.lemmas.Result.{on_ok_weaker}
 use Rattle.tftp_loop.proofs.LoopStays.{work_keeps}
-use Rattle.tftp_loop.proofs.Receipts.{from_state, to_state, on_ok_weaker}
+use Rattle.tftp_loop.proofs.Receipts.{from_state, to_state}
 use Rattle.tftp_loop.proofs.RunLemmas.{onward}
 use Rattle.tftp_loop.proofs.server_loop.ServerLoop.take_ports.Goals as goal
 
@@ -21,7 +22,7 @@ returns-clause-tended g c =
     let asked = work_keeps g.S.Store.meaning g.S.Source.Source.meaning _ _ c.take_request.ensures.works in
     let timed = work_keeps g.S.Store.meaning g.S.Source.Source.meaning _ _ (c.take_turns-2.ensures.works buffer) in
     let some = c.if-self-eq0.false in
-    on_ok_weaker c.take_turns-2.result _ _
+    on_ok_weaker c.take_turns-2.result
     (λ due left.
     record {
       settled = c.take_turns-2.ensures.settled;

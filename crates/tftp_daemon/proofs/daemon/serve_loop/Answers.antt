@@ -1,0 +1,20 @@
+-- The status is that of the result of the loop.
+use Rattle.std.proofs.Common.{ap, sym}
+use Rattle.std.specs.Prelude.{Result}
+use Rattle.tftp_loop.specs.declared.serving.LoopFault.{LoopFault}
+use Rattle.tftp_daemon.specs.Configured.{status_of}
+use Rattle.tftp_daemon.proofs.daemon.serve_loop.Goals as goal
+
+pub returns-in-Ok : goal.returns-in-Ok
+returns-in-Ok g c = record {
+  result = c.serve-served.result.0;
+  is_status = ap (λ (r : Result (Unit {0}) LoopFault). status_of r) (sym c.in-Ok.is);
+  serves = c.serve-served.ensures;
+}
+
+pub returns-in-Err : goal.returns-in-Err
+returns-in-Err g c = record {
+  result = c.serve-served.result.0;
+  is_status = ap (λ (r : Result (Unit {0}) LoopFault). status_of r) (sym c.in-Err.is);
+  serves = c.serve-served.ensures;
+}

@@ -1,0 +1,18 @@
+use Rattle.std.proofs.Common.{arith, refl}
+use Rattle.tftp_loop.specs.Served.{timer_of}
+use Rattle.tftp_loop.proofs.PortRuns.{receives_late}
+use Rattle.tftp_loop.proofs.port_turn.PortTurn.answer_in_time.Goals as goal
+
+pub returns-then-self-clause-answers : goal.returns-then-self-clause-answers
+returns-then-self-clause-answers g c =
+    let old = c.args.self.now in
+    record {
+      same = record { server = refl; port = refl; journal = refl; now = refl; active = refl };
+      serves =
+          λ events noted.
+          receives_late g.S.Store.meaning g.S.Source.Source.meaning old.now old.server.now (timer_of old.port.now)
+          (timer_of c.mark_ready.new.port) events old.journal.now.events c.args.datagram.from
+          c.args.datagram.bytes.now (omega (arith)) noted c.mark_ready.ensures;
+      tries = λ q h. h;
+      received = omega arith;
+    }
