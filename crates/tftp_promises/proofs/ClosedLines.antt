@@ -9,12 +9,12 @@ use Rattle.tftp_sockets.specs.Journal.{Event, replied, answered}
 use Rattle.tftp_loop.specs.Run.{Run}
 use Rattle.tftp_loop.specs.Run.Run.{Start, Then}
 use Rattle.tftp_loop.specs.Serves.{PortState, LoopState, AtPort, Does, at_start, answering_port}
-use Rattle.tftp_loop.specs.Serves.AtPort.{A_datagram, A_lost_datagram, Nothing_found, A_failed_receive, A_timeout}
-use Rattle.tftp_loop.specs.Serves.AtPort.{A_missed_timeout, Work}
+use Rattle.tftp_loop.specs.Serves.AtPort.{A_datagram, A_lost_datagram, A_late_datagram, Nothing_found, A_failed_receive}
+use Rattle.tftp_loop.specs.Serves.AtPort.{A_timeout, A_missed_timeout, Work}
 use Rattle.tftp_loop.specs.Serves.Does.{Waited, At_port, Request_received, No_request_found, Request_not_received}
 use Rattle.tftp_loop.specs.Serves.Does.{No_port_found, Request_answered, Request_lost, Clock_read, Store_set}
 use Rattle.tftp_loop.specs.Serves.Does.{Transfer_closed}
-use Rattle.tftp_loop.specs.declared.serving.Ending.{Ending}
+use Rattle.tftp_loop.specs.declared.serving.LoopConfig.{LoopConfig}
 use Rattle.tftp_promises.specs.Lines.{lines_of, close_lines, closed_lines}
 
 -- a datagram that was sent is no line
@@ -34,6 +34,7 @@ module _ {S F D : Type 0} {stores : StoreMeaning S D} {sources : SourceMeaning F
   no_line_at now old new (A_datagram d) =
       ap lines_of d.handles.events ∙ no_line_answered old.timer.port d.handles.takes.takes.turn.reply _
   no_line_at now old new (A_lost_datagram d) = ap lines_of d.events
+  no_line_at now old new (A_late_datagram d) = ap lines_of d.events
   no_line_at now old new (Nothing_found d) = ap lines_of d.events
   no_line_at now old new (A_failed_receive d) = ap lines_of d.events
   no_line_at now old new (A_timeout d) =
@@ -68,7 +69,7 @@ module _ {S F D : Type 0} {stores : StoreMeaning S D} {sources : SourceMeaning F
       ∙ (ap (λ (ls : List (List ℕ)). close_lines does ++ ls) (run_lines run)
       ∙ sym (append_assoc (close_lines does) (closed_lines run) (lines_of first.events)))
 
-  pub lines_are_closes : (port : ℕ) (ending : Ending) (first : ServerState S F D) (before : List Event)
-      (now : LoopState S F D) (run : Run (Does stores sources) (at_start port ending first before) now) →
+  pub lines_are_closes : (config : LoopConfig) (port : ℕ) (first : ServerState S F D) (before : List Event)
+      (now : LoopState S F D) (run : Run (Does stores sources) (at_start config port first before) now) →
       lines_of now.events ≡ closed_lines run ++ lines_of before
-  lines_are_closes port ending first before now run = run_lines run
+  lines_are_closes config port first before now run = run_lines run

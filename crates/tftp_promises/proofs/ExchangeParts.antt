@@ -5,15 +5,14 @@ use Rattle.std.proofs.lemmas.Bool.{true≢false}
 use Rattle.std.proofs.lemmas.Fmt.{decimal_digit}
 use Rattle.tftp_wire.specs.Spelling.{Spells}
 use Rattle.tftp_wire.specs.declared.mode.Mode.TheVariants.{Octet}
-use Rattle.tftp_wire.specs.declared.packet.Packet.TheVariants.{Read, Write, Data, Ack, Oack}
+use Rattle.tftp_wire.specs.declared.packet.Packet.TheVariants.{Read, Data, Ack, Oack}
 use Rattle.tftp_negotiate.specs.Agreed.{agreed_options}
 use Rattle.tftp_negotiate.specs.Options.{number_of}
 use Rattle.tftp_negotiate.proofs.LawsLemmas.{numbers_are_printed}
 use Rattle.tftp_file.specs.Memory.{MustRefuseAppend, new_mem_sink}
-use Rattle.tftp_ends.specs.Opening.{MayGet, MayPut, request_of, oack_bytes}
+use Rattle.tftp_ends.specs.Opening.{MayGet, request_of, oack_bytes}
 use Rattle.tftp_ends.specs.Step.{ack_bytes, data_bytes}
-use Rattle.tftp_promises.specs.Witness.{agreed, blocks_of_8, no_options, read_name, read_request, write_request}
-use Rattle.tftp_promises.specs.Witness.{written_name}
+use Rattle.tftp_promises.specs.Witness.{agreed, blocks_of_8, read_name, read_request}
 
 -- ---- how 8 is written, and read
 pub eight : decimal 8 ≡ 56 ∷ []
@@ -26,14 +25,8 @@ read_8 = (numbers_are_printed (decimal 8) 8).1 (refl, omega arith)
 pub may_read : MayGet read_name Octet blocks_of_8
 may_read = record { valid = rw eight (search rules); options = search rules }
 
-pub may_write : MayPut written_name Octet no_options 1
-may_write = record { valid = search rules; options = search rules; fits = omega arith }
-
 pub read_spelled : Spells (Read (request_of read_name Octet blocks_of_8)) read_request
 read_spelled = record { valid = may_read.valid; word = 111 ∷ 99 ∷ 116 ∷ 101 ∷ 116 ∷ []; mode = refl; whole = refl }
-
-pub write_spelled : Spells (Write (request_of written_name Octet no_options)) write_request
-write_spelled = record { valid = may_write.valid; word = 111 ∷ 99 ∷ 116 ∷ 101 ∷ 116 ∷ []; mode = refl; whole = refl }
 
 pub oack_spelled : Spells (Oack (agreed_options agreed)) (oack_bytes agreed)
 oack_spelled = record { valid = rw eight (search rules); word = []; mode = refl; whole = refl }

@@ -1,4 +1,4 @@
--- The client of the exchange that reads: what it has acknowledged is asked for once more.
+-- The client of the exchange, which reads.
 use Rattle.std.proofs.Common.{ℕ, true, false, List, [], ◌∷◌, Some, Ok, refl, sym, arith, inl, inr}
 use Rattle.std.proofs.lemmas.Bool.{true≢false}
 use Rattle.tftp_wire.specs.declared.mode.Mode.TheVariants.{Octet}
@@ -10,7 +10,7 @@ use Rattle.tftp_negotiate.specs.Options.{name_of}
 use Rattle.tftp_file.specs.Memory.{MemSinkState, new_mem_sink, memory_sink, memory_source}
 use Rattle.tftp_file.specs.declared.files.Files.{Files}
 use Rattle.tftp_file.specs.declared.files.Files.TheVariants.{Sink}
-use Rattle.tftp_ends.specs.declared.action.Response.TheVariants.{Accept, ResendReply}
+use Rattle.tftp_ends.specs.declared.action.Response.TheVariants.{Accept}
 use Rattle.tftp_ends.specs.declared.phase.Terms.{Terms}
 use Rattle.tftp_ends.specs.End.{EndState}
 use Rattle.tftp_ends.specs.Opening.{getting, oack_bytes}
@@ -66,9 +66,6 @@ stores = committed_turn terms 1 read_port receiving (Ok done)
 abbrev dallying : EndState
 dallying = after_turn receiving stores
 
-abbrev again : Turn
-again = response_turn ResendReply read_port dallying
-
 accepts_so : Step at_first empty (oack_bytes agreed) accepts empty
 unfolding occurrences_of name_of taken_option
 accepts_so =
@@ -110,9 +107,6 @@ stores_so = record {
   again = tt;
 }
 
-again_so : Step dallying (Sink stored) (data_bytes 1 read_file) again (Sink stored)
-again_so = record { decoded = Some (Data 1 read_file); says = block_spelled 65; acts = (refl, refl); again = refl }
-
 -- ---- the states
 abbrev s0 : State
 s0 = begun 5000 at_first []
@@ -140,16 +134,6 @@ s2 = record {
 abbrev s3 : State
 s3 = record s2 { events = Printed (end_text (ends.Complete 1)) ∷ s2.events }
 
-abbrev s4 : State
-s4 = record {
-  end = dallying;
-  now = 1010;
-  due = 1000;
-  events =
-      Sent 5000 read_port (ack_bytes 1) ∷ Watched 1010 ∷ Received 5000 read_port (data_bytes 1 read_file) ∷ Quiet
-      (Slept 980) ∷ s3.events;
-}
-
 abbrev Does : State → Files (List ℕ) MemSinkState → State → Files (List ℕ) MemSinkState → Type 0
 Does s files s' files' = ClientDoes memory_source memory_sink 5000 s files s' files'
 
@@ -162,11 +146,6 @@ pub stores_does : Does s1 empty s2 (Sink stored)
 stores_does =
     Receives_one (record { not_closed = λ o. absurd (true≢false (sym o)); due = λ late. absurd (omega (arith, late)) })
     (omega arith) (Answers (λ o. absurd (true≢false (sym o))) stores_so)
-
-pub again_does : Does s3 (Sink stored) s4 (Sink stored)
-again_does =
-    Receives_one (record { not_closed = λ o. absurd (true≢false (sym o)); due = λ late. absurd (omega (arith, late)) })
-    (omega arith) (Answers (λ o. absurd (true≢false (sym o))) again_so)
 
 abbrev its_request : ClientOpens memory_source memory_sink requests at_first empty
 its_request = To_read (record {
@@ -203,13 +182,11 @@ reading = record {
   port = 5000;
   first = at_first;
   before = [];
-  last = s4;
+  last = s3;
   files = Sink stored;
   file = empty;
-  runs =
-      Goes_on (Goes_on (Goes_on (Goes_on Starts accepts_does) stores_does) (Prints_line (end_text (ends.Complete 1))))
-      again_does;
+  runs = Goes_on (Goes_on (Goes_on Starts accepts_does) stores_does) (Prints_line (end_text (ends.Complete 1)));
   opens = its_request;
-  noted = s4.events;
+  noted = s3.events;
   is_noted = refl;
 }

@@ -20,7 +20,8 @@ use Rattle.tftp_loop.specs.Serves.{Request_not_received, No_port_found, Request_
 use Rattle.tftp_loop.specs.Serves.{Store_set, Transfer_closed}
 use Rattle.tftp_loop.specs.Serves.{Waits, ServesPort, ReceivesRequest, FindsNoRequest, FailsToReceiveRequest}
 use Rattle.tftp_loop.specs.Serves.{FindsNoPort, AnswersRequest, LosesRequest, ReadsClock, SetsStore, AtPort, A_datagram}
-use Rattle.tftp_loop.specs.Serves.{A_lost_datagram, Nothing_found, A_failed_receive, A_timeout, A_missed_timeout}
+use Rattle.tftp_loop.specs.Serves.{A_lost_datagram, A_late_datagram, Nothing_found, A_failed_receive, A_timeout}
+use Rattle.tftp_loop.specs.Serves.{A_missed_timeout}
 use Rattle.tftp_loop.specs.Serves.{ReceivesAndHandles, Work}
 use Rattle.tftp_rules.specs.Machine.{Endpoint}
 use Rattle.tftp_promises.specs.Joint.{CanTake, WasSentBefore}
@@ -310,6 +311,9 @@ module _ {S F D G K : Type 0} {stores : StoreMeaning S D} {sources : SourceMeani
       by_case (Nothing_found h) is =
           missed_keeps programs old kept old_fresh serves added events (quiet (Nothing_found h) is (λ moved. refl))
           (Quiet (Empty serves.timer.port)) tt h.server h.events
+      by_case (A_late_datagram h) is =
+          missed_keeps programs old kept old_fresh serves added events (quiet (A_late_datagram h) is (λ moved. refl))
+          (Received serves.timer.port h.from h.bytes) tt h.server h.events
       by_case (A_failed_receive h) is =
           missed_keeps programs old kept old_fresh serves added events (quiet (A_failed_receive h) is (λ moved. refl))
           (Quiet (Failed serves.timer.port)) tt h.server h.events

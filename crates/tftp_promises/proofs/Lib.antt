@@ -2,7 +2,6 @@ pub mod ClientJournals
 pub mod Places
 pub mod ExchangeParts
 pub mod ExchangeReader
-pub mod ExchangeWriter
 pub mod ExchangeStates
 pub mod ExchangeServer
 pub mod Exchange

@@ -21,8 +21,8 @@ use Rattle.tftp_server.specs.State.{TransferState}
 use Rattle.tftp_loop.specs.Serves.{LoopState, Does, Waited, At_port, Request_received, No_request_found}
 use Rattle.tftp_loop.specs.Serves.{Request_not_received, No_port_found, Request_answered, Request_lost, Clock_read}
 use Rattle.tftp_loop.specs.Serves.{Store_set, Transfer_closed}
-use Rattle.tftp_loop.specs.Serves.{ServesPort, AnswersRequest, AtPort, A_datagram, A_lost_datagram, Nothing_found}
-use Rattle.tftp_loop.specs.Serves.{A_failed_receive, A_timeout, A_missed_timeout, Work, PortState}
+use Rattle.tftp_loop.specs.Serves.{ServesPort, AnswersRequest, AtPort, A_datagram, A_lost_datagram, A_late_datagram}
+use Rattle.tftp_loop.specs.Serves.{Nothing_found, A_failed_receive, A_timeout, A_missed_timeout, Work, PortState}
 use Rattle.tftp_loop.specs.Run.{Run}
 use Rattle.tftp_loop.specs.Run.Run.{Then}
 use Rattle.tftp_client.specs.Converses.{State, HandlesReceived}
@@ -105,6 +105,7 @@ module _ {S F D : Type 0} {stores : StoreMeaning S D} {sources : SourceMeaning F
       acts_more sources _ _ h.from h.bytes h.handles.takes.transfer.end _ h.handles.takes.takes.turn _
       h.handles.takes.takes.steps.acts moved
   port_more (A_lost_datagram h) moved = begins_itself moved.bytes
+  port_more (A_late_datagram h) moved = begins_itself moved.bytes
   port_more (Nothing_found h) moved = begins_itself moved.bytes
   port_more (A_failed_receive h) moved = begins_itself moved.bytes
   port_more (A_timeout h) moved = begins_itself moved.bytes

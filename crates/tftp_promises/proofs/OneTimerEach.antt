@@ -19,12 +19,12 @@ use Rattle.tftp_loop.specs.Run.{Run}
 use Rattle.tftp_loop.specs.Run.Run.{Start, Then}
 use Rattle.tftp_loop.specs.Serves.{Timer, PortState, LoopState, AtPort, Does, at_start, marked_by, set_by, timer_after}
 use Rattle.tftp_loop.specs.Serves.{with_timer, interval_at, started}
-use Rattle.tftp_loop.specs.Serves.AtPort.{A_datagram, A_lost_datagram, Nothing_found, A_failed_receive, A_timeout}
-use Rattle.tftp_loop.specs.Serves.AtPort.{A_missed_timeout, Work}
+use Rattle.tftp_loop.specs.Serves.AtPort.{A_datagram, A_lost_datagram, A_late_datagram, Nothing_found, A_failed_receive}
+use Rattle.tftp_loop.specs.Serves.AtPort.{A_timeout, A_missed_timeout, Work}
 use Rattle.tftp_loop.specs.Serves.Does.{Waited, At_port, Request_received, No_request_found, Request_not_received}
 use Rattle.tftp_loop.specs.Serves.Does.{No_port_found, Request_answered, Request_lost, Clock_read, Store_set}
 use Rattle.tftp_loop.specs.Serves.Does.{Transfer_closed}
-use Rattle.tftp_loop.specs.declared.serving.Ending.{Ending}
+use Rattle.tftp_loop.specs.declared.serving.LoopConfig.{LoopConfig}
 use Rattle.tftp_promises.specs.Timers.{HasOneTimerEach, timer_ports}
 use Rattle.tftp_promises.proofs.PortCounts.{hit, hit_same, hit_other, hits, hits_push, hits_map, hits_swap_removed}
 use Rattle.tftp_promises.proofs.PortCounts.{hits_set, hits_apart, hits_contained, contains_hit, keyed, keyed_absent}
@@ -134,6 +134,10 @@ module _ {S F D : Type 0} (stores : StoreMeaning S D) (sources : SourceMeaning F
     port = ap (λ (t : Timer). t.port) d.timer;
     keys = λ p. ap (λ (s : ServerState S F D). keyed p s.held) d.server;
   }
+  stays_at now old new (A_late_datagram d) = record {
+    port = ap (λ (t : Timer). t.port) d.timer;
+    keys = λ p. ap (λ (s : ServerState S F D). keyed p s.held) d.server;
+  }
   stays_at now old new (A_failed_receive d) = record {
     port = ap (λ (t : Timer). t.port) d.timer;
     keys = λ p. ap (λ (s : ServerState S F D). keyed p s.held) d.server;
@@ -154,14 +158,14 @@ module _ {S F D : Type 0} (stores : StoreMeaning S D) (sources : SourceMeaning F
   }
 
   -- what the request port leaves
-  answers_matched : (now : ℕ) (from : Endpoint) (tid : ℕ) (old : ServerState S F D) (timers : List Timer)
+  answers_matched : (now : ℕ) (longest : Option ℕ) (from : Endpoint) (tid : ℕ) (old : ServerState S F D) (timers : List Timer)
       (came : Came S F D) → at tid old.held ≡ None → AreMatched timers old.held →
-      AreMatched (with_timer now from (left_by came old from tid).opened.tid (left_by came old from tid).new.held
-      timers) (left_by came old from tid).new.held
-  answers_matched now from tid old timers Nothing free matched = matched
-  answers_matched now from tid old timers (Error_reply reply store) free matched = matched
-  answers_matched now from tid old timers (A_transfer transfer store) free matched =
-      opens_matched timers old.held (started now tid from (interval_at (at tid (with_new tid transfer old.held))))
+      AreMatched (with_timer now longest from (left_by came old from tid).opened.tid
+      (left_by came old from tid).new.held timers) (left_by came old from tid).new.held
+  answers_matched now longest from tid old timers Nothing free matched = matched
+  answers_matched now longest from tid old timers (Error_reply reply store) free matched = matched
+  answers_matched now longest from tid old timers (A_transfer transfer store) free matched =
+      opens_matched timers old.held (started now longest tid from (interval_at (at tid (with_new tid transfer old.held))))
       transfer free matched
 
   -- the state of a server at its ports
@@ -190,9 +194,9 @@ module _ {S F D : Type 0} (stores : StoreMeaning S D) (sources : SourceMeaning F
   step_matched old new (No_port_found d) matched = subst IsMatched (sym d.is) matched
   step_matched old new (Request_answered d) matched =
       subst IsMatched (sym d.is)
-      (subst (λ (left : Left S F D). AreMatched (with_timer old.now d.from left.opened.tid left.new.held old.timers)
-      left.new.held) (sym d.steps.left)
-      (answers_matched old.now d.from d.tid old.server old.timers d.steps.came d.free matched))
+      (subst (λ (left : Left S F D). AreMatched (with_timer old.now old.longest d.from left.opened.tid left.new.held
+      old.timers) left.new.held) (sym d.steps.left)
+      (answers_matched old.now old.longest d.from d.tid old.server old.timers d.steps.came d.free matched))
   step_matched old new (Request_lost d) matched = subst IsMatched (sym d.is) matched
   step_matched old new (Clock_read d) matched = subst IsMatched (sym d.is) matched
   step_matched old new (Store_set d) matched = subst IsMatched (sym d.is) matched
@@ -205,9 +209,9 @@ module _ {S F D : Type 0} (stores : StoreMeaning S D) (sources : SourceMeaning F
   run_matched Start matched = matched
   run_matched {now = now} (Then {middle} run does) matched = step_matched middle now does (run_matched run matched)
 
-  start_matched : (port : ℕ) (ending : Ending) (first : ServerState S F D) (before : List Event) → first.held ≡ [] →
-      IsMatched (at_start port ending first before)
-  start_matched port ending first before none =
+  start_matched : (config : LoopConfig) (port : ℕ) (first : ServerState S F D) (before : List Event) →
+      first.held ≡ [] → IsMatched (at_start config port first before)
+  start_matched config port first before none =
       subst (AreMatched []) (sym none) (record { same = λ p. refl; most = λ p. omega arith })
 
   -- a timer is of a held transfer, and a held transfer has a timer
@@ -234,8 +238,8 @@ module _ {S F D : Type 0} (stores : StoreMeaning S D) (sources : SourceMeaning F
     same = λ port. (held_by state matched port, timed_by state matched port);
   }
 
-  pub one_timer_each : (port : ℕ) (ending : Ending) (first : ServerState S F D) (before : List Event)
+  pub one_timer_each : (config : LoopConfig) (port : ℕ) (first : ServerState S F D) (before : List Event)
       (now : LoopState S F D) → first.held ≡ [] →
-      Run (Does stores sources) (at_start port ending first before) now → HasOneTimerEach now
-  one_timer_each port ending first before now none run =
-      one_each now (run_matched run (start_matched port ending first before none))
+      Run (Does stores sources) (at_start config port first before) now → HasOneTimerEach now
+  one_timer_each config port first before now none run =
+      one_each now (run_matched run (start_matched config port first before none))

@@ -10,8 +10,8 @@ use Rattle.tftp_store.specs.Store.{StoreMeaning}
 use Rattle.tftp_sockets.specs.Journal.{Event, answered, replied}
 use Rattle.tftp_sockets.specs.Journal.Event.{Received, Sent, Watched, Elapsed, Printed, Quiet}
 use Rattle.tftp_sockets.specs.Journal.QuietEvent.{Empty, Failed, No_socket, Slept, Woke}
-use Rattle.tftp_loop.specs.Serves.{LoopState, PortState, Does, AtPort, A_datagram, A_lost_datagram, Nothing_found}
-use Rattle.tftp_loop.specs.Serves.{A_failed_receive, A_timeout, A_missed_timeout, Work, Waited, At_port}
+use Rattle.tftp_loop.specs.Serves.{LoopState, PortState, Does, AtPort, A_datagram, A_lost_datagram}
+use Rattle.tftp_loop.specs.Serves.{A_late_datagram, Nothing_found, A_failed_receive, A_timeout, A_missed_timeout, Work, Waited, At_port}
 use Rattle.tftp_loop.specs.Serves.{Request_received, No_request_found, Request_not_received, No_port_found}
 use Rattle.tftp_loop.specs.Serves.{Request_answered, Request_lost, Clock_read, Store_set, Transfer_closed}
 use Rattle.tftp_loop.specs.Serves.{answering_port}
@@ -81,6 +81,7 @@ module _ {S F D : Type 0} {stores : StoreMeaning S D} {sources : SourceMeaning F
       answer_adds old.timer.port r.handles.takes.takes.turn.reply (Received old.timer.port r.from r.bytes) [] tt
       r.handles.events
   port_adds {old = old} (A_lost_datagram r) = Notes (Received old.timer.port r.from r.bytes) [] tt r.events
+  port_adds {old = old} (A_late_datagram r) = Notes (Received old.timer.port r.from r.bytes) [] tt r.events
   port_adds {old = old} (Nothing_found r) = Notes (Quiet (Empty old.timer.port)) [] tt r.events
   port_adds {old = old} (A_failed_receive r) = Notes (Quiet (Failed old.timer.port)) [] tt r.events
   port_adds {now = now} {old = old} (A_timeout r) =

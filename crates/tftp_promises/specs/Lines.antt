@@ -10,7 +10,7 @@ use Rattle.tftp_sockets.specs.Journal.Event.{Printed}
 use Rattle.tftp_loop.specs.Run.{Run}
 use Rattle.tftp_loop.specs.Run.Run.{Start, Then}
 use Rattle.tftp_loop.specs.Serves.{LoopState, Does, Transfer_closed, at_start}
-use Rattle.tftp_loop.specs.declared.serving.Ending.{Ending}
+use Rattle.tftp_loop.specs.declared.serving.LoopConfig.{LoopConfig}
 
 -- the printed lines of a journal, the newest first
 abbrev pub lines_of : List Event → List (List ℕ)
@@ -37,7 +37,7 @@ module _ {S F D : Type 0} where
   -- at each time of a run its lines are those of the transfers that it removed, in their order
   abbrev pub EachLineIsAClose : StoreMeaning S D → SourceMeaning F → Type 0
   EachLineIsAClose stores sources =
-      (port : ℕ) (ending : Ending) (first : ServerState S F D) (before : List Event)
+      (config : LoopConfig) (port : ℕ) (first : ServerState S F D) (before : List Event)
       (now : LoopState S F D)
-      (run : Run (Does stores sources) (at_start port ending first before) now)
+      (run : Run (Does stores sources) (at_start config port first before) now)
       → lines_of now.events ≡ closed_lines run ++ lines_of before

@@ -9,7 +9,7 @@ use Rattle.tftp_server.specs.State.{ServerState, at}
 use Rattle.tftp_sockets.specs.Journal.{Event}
 use Rattle.tftp_loop.specs.Run.{Run}
 use Rattle.tftp_loop.specs.Serves.{Timer, LoopState, Does, at_start}
-use Rattle.tftp_loop.specs.declared.serving.Ending.{Ending}
+use Rattle.tftp_loop.specs.declared.serving.LoopConfig.{LoopConfig}
 use Rattle.tftp_promises.specs.Ports.{AreDistinct}
 
 -- the ports of the timers
@@ -30,7 +30,7 @@ module _ {S F D : Type 0} where
   -- at each time of a run that began with no transfer
   abbrev pub EachHasOneTimer : StoreMeaning S D → SourceMeaning F → Type 0
   EachHasOneTimer stores sources =
-      (port : ℕ) (ending : Ending) (first : ServerState S F D) (before : List Event)
+      (config : LoopConfig) (port : ℕ) (first : ServerState S F D) (before : List Event)
       (now : LoopState S F D)
-      → first.held ≡ [] → Run (Does stores sources) (at_start port ending first before) now
+      → first.held ≡ [] → Run (Does stores sources) (at_start config port first before) now
       → HasOneTimerEach now

@@ -1,13 +1,11 @@
 -- An exchange of programs over files in memory that the premises of the laws admit. A client reads
--- a file in blocks of 8 bytes: the OACK is acknowledged, the acknowledgement of the last block is
--- lost, the block is sent again after a timeout, and the transfer ends. Meanwhile another client
--- writes a file, which is committed, and a stranger sends a datagram to the port of the first
+-- a file in blocks of 8 bytes, by an OACK, and a stranger sends a datagram to the port of its
 -- transfer; once that has closed, another program reads the file at the same port, which may be a
 -- stranger or a client (RFC 1350, sections 2, 4 and 6; RFC 2347).
 use Rattle.std.specs.Prelude.{ℕ, ◌≡◌, true, List, [], ◌∷◌, reverse, slice_get, Some, None}
 use Rattle.tftp_wire.specs.Spelling.{canonical}
 use Rattle.tftp_wire.specs.declared.mode.Mode.TheVariants.{Octet}
-use Rattle.tftp_wire.specs.declared.packet.Packet.TheVariants.{Read, Write}
+use Rattle.tftp_wire.specs.declared.packet.Packet.TheVariants.{Read}
 use Rattle.tftp_negotiate.specs.declared.asked.Asked.{Asked}
 use Rattle.tftp_negotiate.specs.declared.known.Known.{Known}
 use Rattle.tftp_negotiate.specs.declared.known.Known.TheVariants.{Blksize}
@@ -27,15 +25,15 @@ use Rattle.tftp_lines.specs.declared.client_outcome.ClientOutcome.TheVariants as
 use Rattle.tftp_lines.specs.declared.printed.Printed.TheVariants.{Closed}
 use Rattle.tftp_rules.specs.Machine.{Endpoint}
 use Rattle.tftp_server.specs.State.{TransferState}
-use Rattle.tftp_sockets.specs.Journal.Event.{Received, Sent, Watched, Elapsed, Printed, Quiet}
-use Rattle.tftp_sockets.specs.Journal.QuietEvent.{Empty, Slept, Woke}
+use Rattle.tftp_sockets.specs.Journal.Event.{Received, Sent, Watched, Printed, Quiet}
+use Rattle.tftp_sockets.specs.Journal.QuietEvent.{Slept}
 use Rattle.tftp_promises.specs.Alone.{IsServed, alone}
 use Rattle.tftp_promises.specs.Joined.{AreJoined}
 use Rattle.tftp_promises.specs.Modelled.{AreModelled}
 use Rattle.tftp_promises.specs.Openings.{HasClosed, our_ports}
 use Rattle.tftp_promises.specs.Order.{Noted, Programs}
-use Rattle.tftp_promises.specs.Ports.{IsStored, opened_ports}
-use Rattle.tftp_promises.specs.Programs.{endpoint, arrived, requests_at, ClientProgram}
+use Rattle.tftp_promises.specs.Ports.{opened_ports}
+use Rattle.tftp_promises.specs.Programs.{endpoint, requests_at, ClientProgram}
 
 -- ---- the addresses and ports
 abbrev pub server_ip : List ℕ
@@ -47,18 +45,12 @@ client_ip = 10 ∷ 0 ∷ 0 ∷ 2 ∷ []
 abbrev pub requests : Endpoint
 requests = endpoint server_ip 69
 
--- the server's ports of the read and of the write, and the clients
+-- the server's port of the read, and the client
 abbrev pub read_port : Endpoint
 read_port = endpoint server_ip 1024
 
-abbrev pub write_port : Endpoint
-write_port = endpoint server_ip 1025
-
 abbrev pub reader : Endpoint
 reader = endpoint client_ip 5000
-
-abbrev pub writer : Endpoint
-writer = endpoint client_ip 5001
 
 abbrev pub other_ip : List ℕ
 other_ip = 10 ∷ 0 ∷ 0 ∷ 3 ∷ []
@@ -70,24 +62,15 @@ stranger = endpoint other_ip 7000
 abbrev pub latecomer : Endpoint
 latecomer = endpoint other_ip 7001
 
--- ---- the files and the requests
+-- ---- the file and the request
 abbrev pub read_name : List ℕ
 read_name = 97 ∷ []
 
 abbrev pub read_file : List ℕ
 read_file = 65 ∷ []
 
-abbrev pub written_name : List ℕ
-written_name = 98 ∷ []
-
-abbrev pub written_file : List ℕ
-written_file = 66 ∷ []
-
 abbrev pub blocks_of_8 : Asked
 blocks_of_8 = record { blksize = Some 8; timeout = None; tsize = None }
-
-abbrev pub no_options : Asked
-no_options = record { blksize = None; timeout = None; tsize = None }
 
 abbrev pub agreed : List Known
 agreed = Blksize 8 ∷ []
@@ -95,47 +78,28 @@ agreed = Blksize 8 ∷ []
 abbrev pub read_request : List ℕ
 read_request = canonical (Read (request_of read_name Octet blocks_of_8))
 
-abbrev pub write_request : List ℕ
-write_request = canonical (Write (request_of written_name Octet no_options))
-
--- ---- the exchange, the oldest event first: 0 is the server, 1 reads, and 2 writes
+-- ---- the exchange, the oldest event first: 0 is the server, and 1 reads
 abbrev pub exchange : List Noted
 exchange =
-    (1, Sent 5000 requests read_request) ∷ (2, Sent 5001 requests write_request)
+    (1, Sent 5000 requests read_request)
     -- the read is answered by an OACK, and a stranger by an ERROR
     ∷ (0, Received 69 reader read_request) ∷ (0, Sent 1024 reader (oack_bytes agreed))
     ∷ (0, Received 1024 stranger (ack_bytes 0))
     ∷ (0, Sent 1024 stranger (error_bytes UnknownTransferId))
     ∷ (1, Quiet (Slept 1000)) ∷ (1, Received 5000 read_port (oack_bytes agreed)) ∷ (1, Watched 10)
     ∷ (1, Sent 5000 read_port (ack_bytes 0))
-    -- the write is answered by ACK 0
-    ∷ (0, Received 69 writer write_request) ∷ (0, Sent 1025 writer (ack_bytes 0))
-    ∷ (2, Quiet (Slept 1000)) ∷ (2, Quiet (Empty 5001)) ∷ (2, Watched 5)
-    ∷ (2, Quiet (Slept 995)) ∷ (2, Received 5001 write_port (ack_bytes 0)) ∷ (2, Watched 10)
-    ∷ (2, Sent 5001 write_port (data_bytes 1 written_file))
-    -- each file has one block
+    -- the file has one block
     ∷ (0, Received 1024 reader (ack_bytes 0)) ∷ (0, Sent 1024 reader (data_bytes 1 read_file))
-    ∷ (0, Received 1025 writer (data_bytes 1 written_file)) ∷ (0, Sent 1025 writer (ack_bytes 1))
-    -- the reader's acknowledgement is lost
     ∷ (1, Quiet (Slept 990)) ∷ (1, Received 5000 read_port (data_bytes 1 read_file))
     ∷ (1, Watched 20) ∷ (1, Sent 5000 read_port (ack_bytes 1))
     ∷ (1, Printed (end_text (ends.Complete 1)))
-    ∷ (2, Quiet (Slept 990)) ∷ (2, Received 5001 write_port (ack_bytes 1)) ∷ (2, Watched 20)
-    ∷ (2, Printed (end_text (ends.Complete 1)))
-    -- so the server sends the block again
-    ∷ (0, Quiet (Empty 69)) ∷ (0, Watched 0) ∷ (0, Quiet (Slept 500)) ∷ (0, Quiet (Woke []))
-    ∷ (0, Watched 1000)
-    ∷ (0, Quiet (Empty 1024)) ∷ (0, Elapsed 1024 1000)
-    ∷ (0, Sent 1024 reader (data_bytes 1 read_file))
-    ∷ (1, Quiet (Slept 980)) ∷ (1, Received 5000 read_port (data_bytes 1 read_file))
-    ∷ (1, Watched 1010) ∷ (1, Sent 5000 read_port (ack_bytes 1))
     ∷ (0, Received 1024 reader (ack_bytes 1))
     ∷ (0, Printed (line_text (Closed 1024 5000 outcomes.Complete)))
     -- another reads at the same port
     ∷ (0, Received 69 latecomer read_request) ∷ (0, Sent 1024 latecomer (oack_bytes agreed)) ∷ []
 
--- these programs noted it, and the latecomer is a stranger; both clients are complete, the read has
--- closed as complete, each file is where it went, and two transfers had one port
+-- these programs noted it, and the latecomer is a stranger; the client is complete and has the
+-- file, the read has closed as complete, and two transfers had one port
 pub record HasExchanged
     (programs : Programs memory_meaning memory_source memory_source memory_sink) : Type 0 where
   pub joined : AreJoined memory_meaning memory_source memory_source memory_sink programs
@@ -149,21 +113,14 @@ pub record HasExchanged
   pub is_sink : reads.files ≡ Sink sink
   pub holds : sink.holding.bytes ≡ read_file
   pub committed : sink.holding.committed ≡ true
-  pub writes : ClientProgram memory_source memory_sink
-      (requests_at memory_meaning memory_source programs.server)
-  pub is_writer : slice_get programs.clients 1 ≡ Some writes
-  pub has_written : is_complete writes.last.end.position.phase ≡ true
-  pub stored : IsStored memory_meaning
-      (arrived memory_meaning memory_source programs.server)
-      written_name written_file
   pub transfer : TransferState (List ℕ) Drafted
   pub has_closed : HasClosed programs programs.server.run 1024 transfer read_port
   pub ended : is_complete transfer.end.position.phase ≡ true
-  pub opened : opened_ports programs.server.run ≡ 1024 ∷ 1025 ∷ 1024 ∷ []
+  pub opened : opened_ports programs.server.run ≡ 1024 ∷ 1024 ∷ []
 
 -- the same with the latecomer's request, which it sends first of all, the newest event first
 abbrev pub late_exchange : List Noted
-late_exchange = reverse ((3, Sent 7001 requests read_request) ∷ exchange)
+late_exchange = reverse ((2, Sent 7001 requests read_request) ∷ exchange)
 
 -- these programs noted it, of which the latecomer is one: the transfers of two clients had one port
 pub record HasServed
@@ -174,8 +131,8 @@ pub record HasServed
   pub reader_served : IsServed programs late_exchange 0 reads
   pub asks : ClientProgram memory_source memory_sink
       (requests_at memory_meaning memory_source programs.server)
-  pub is_latecomer : slice_get programs.clients 2 ≡ Some asks
-  pub latecomer_served : IsServed programs late_exchange 2 asks
+  pub is_latecomer : slice_get programs.clients 1 ≡ Some asks
+  pub latecomer_served : IsServed programs late_exchange 1 asks
   pub own : our_ports (alone programs reads) programs.server.run ≡ 1024 ∷ []
   pub later : our_ports (alone programs asks) programs.server.run ≡ 1024 ∷ []
 
