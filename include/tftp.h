@@ -75,7 +75,7 @@ struct tftp_options {
     uint8_t timeout;           /* 1 to 255 seconds, or 0: not asked (RFC 2349) */
     uint8_t retries;           /* how many times in a row a datagram is sent again */
     bool asks_tsize;           /* whether the length of the file is asked, or stated (RFC 2349) */
-    bool is_netascii;          /* tftp_put: then the file is wire text, with CR LF and CR NUL */
+    bool is_netascii;          /* tftp_put: then the file is wire text, which tftp_to_wire makes */
 };
 
 /* What a call did, and the state of the end after it. After a fault it is unchanged. */
@@ -169,6 +169,36 @@ struct tftp_packet {
 
 /* Reads a datagram, and returns 0 or the number of its first fault. */
 uint8_t tftp_decode(const uint8_t *datagram, size_t datagram_len, struct tftp_packet *packet);
+
+/* Writes the option at this place, from 0, of the request or the OACK that a datagram spells: its name
+ * and its value, each ended by a zero byte, so that both are C strings. Returns how many bytes they are,
+ * or 0: there is none, or they do not fit, or out of memory. TFTP_MAX_REQUEST bytes are enough. */
+size_t tftp_option(const uint8_t *datagram, size_t datagram_len, size_t place, uint8_t *text,
+                   size_t text_len);
+
+/* As tftp_option, the first option of this name, in any case. */
+size_t tftp_find_option(const uint8_t *datagram, size_t datagram_len, const uint8_t *name,
+                        size_t name_len, uint8_t *text, size_t text_len);
+
+/* Writes a request without options, of opcode 1 (read) or 2 (write) and mode 1 (octet) or 2 (netascii),
+ * and returns its length; or 0: it is none (the name is empty or has a zero byte), it is longer than
+ * TFTP_MAX_REQUEST or the buffer, or out of memory. It opens no end. */
+size_t tftp_request(uint16_t opcode, uint8_t mode, const uint8_t *name, size_t name_len,
+                    uint8_t *datagram, size_t datagram_len);
+
+/* Appends an option to a request or an OACK of `used` bytes, and returns its new length; or 0: the name
+ * is empty, a text has a zero byte, the datagram would be longer than TFTP_MAX_REQUEST or the buffer, or
+ * out of memory. */
+size_t tftp_add_option(size_t used, const uint8_t *name, size_t name_len, const uint8_t *value,
+                       size_t value_len, uint8_t *datagram, size_t datagram_len);
+
+/* How long a text of the host is in netascii, with CR LF for LF and CR NUL for CR: the lengths of the
+ * pieces of a text add up. */
+uint64_t tftp_wire_length(const uint8_t *text, size_t text_len);
+
+/* Writes a text of the host, or a piece of it, in netascii, and returns its length; or 0: it does not
+ * fit, or out of memory. A file that is put, or served to a netascii read, is passed so. */
+size_t tftp_to_wire(const uint8_t *text, size_t text_len, uint8_t *wire, size_t wire_len);
 
 /* Writes an ERROR, as a server answers a request that it does not serve, and returns its length; or 0 if
  * `text` has a zero byte, or the ERROR is longer than TFTP_MAX_REQUEST or the buffer, or without memory. */

@@ -1,7 +1,7 @@
 /* Holds tftp.h to the types of the library: each field of each struct has the value that the library gives the field of
- * that name, each struct its size, and each number its value. Then refuses each request for memory of a get in turn:
- * the call reports it, changes nothing, and does its work when it is made again. It is linked with --wrap for malloc
- * and realloc. */
+ * that name, each struct its size, and each number its value. Builds packets and reads their options. Then refuses each
+ * request for memory of a get in turn: the call reports it, changes nothing, and does its work when it is made again.
+ * It is linked with --wrap for malloc and realloc. */
 #include "tftp.h"
 #include <stdio.h>
 #include <stdlib.h>
@@ -80,6 +80,67 @@ static int lacking(int number) {
     return asked >= number;
 }
 
+#define TEXT(text) (const uint8_t *)(text), sizeof(text) - 1
+
+static void expect_bytes(const char *what, const uint8_t *found, size_t len, const char *expected, size_t expected_len) {
+    expect(what, len, expected_len);
+    if (len == expected_len) expect(what, memcmp(found, expected, len), 0);
+}
+
+/* A request that is built, its options by place and by name, and what each of these calls refuses. */
+static void packets(void) {
+    static const char whole[] = "\0\1boot\0octet\0blksize\0001428\0TSize\0000";
+    uint8_t request[TFTP_MAX_REQUEST + 1], text[TFTP_MAX_REQUEST], name[TFTP_MAX_REQUEST], ack[] = {0, 4, 0, 0};
+    size_t most = TFTP_MAX_REQUEST, len = tftp_request(1, 1, TEXT("boot"), request, most);
+    expect("the length of a request", len, 13);
+    len = tftp_add_option(len, TEXT("blksize"), TEXT("1428"), request, most);
+    len = tftp_add_option(len, TEXT("TSize"), TEXT("0"), request, most);
+    expect_bytes("a request", request, len, whole, sizeof whole);
+    expect_bytes("its second option", text, tftp_option(request, len, 1, text, most), "TSize\0000", 8);
+    expect_bytes("its blksize", text, tftp_find_option(request, len, TEXT("BLKSIZE"), text, most), "blksize\0001428", 13);
+    expect("a third option", tftp_option(request, len, 2, text, most), 0);
+    expect("its timeout", tftp_find_option(request, len, TEXT("timeout"), text, most), 0);
+    expect("an option of an ACK", tftp_option(ack, sizeof ack, 0, text, most), 0);
+    expect("an option of a fault", tftp_option(request, len - 1, 0, text, most), 0);
+    expect("an option that does not fit", tftp_option(request, len, 0, text, 12), 0);
+
+    memset(name, 'a', sizeof name);
+    expect("the longest request", tftp_request(2, 2, name, 500, request, most), TFTP_MAX_REQUEST);
+    expect("a longer one", tftp_request(2, 2, name, 501, request, most), 0);
+    expect("the longest one in octet", tftp_request(1, 1, name, 503, request, most), TFTP_MAX_REQUEST);
+    expect("without a name", tftp_request(1, 1, name, 0, request, most), 0);
+    expect("a name with a zero byte", tftp_request(1, 1, TEXT("a\0b"), request, most), 0);
+    expect("an ACK as a request", tftp_request(4, 1, name, 1, request, most), 0);
+    expect("mail", tftp_request(1, 3, name, 1, request, most), 0);
+    expect("a request that does not fit", tftp_request(1, 1, name, 1, request, 9), 0);
+    expect("as many options as fit", tftp_add_option(500, name, 5, name, 5, request, most), TFTP_MAX_REQUEST);
+    expect("one more byte", tftp_add_option(500, name, 5, name, 6, request, sizeof request), 0);
+    expect("an option without a name", tftp_add_option(10, name, 0, name, 1, request, most), 0);
+    expect("a value with a zero byte", tftp_add_option(10, name, 1, TEXT("\0"), request, most), 0);
+    expect("used beyond the buffer", tftp_add_option(600, name, 1, name, 1, request, most), 0);
+
+    expect("a wire length", tftp_wire_length(TEXT("a\nb\rc")), 7);
+    expect_bytes("a wire text", text, tftp_to_wire(TEXT("a\nb\rc"), text, 7), "a\r\nb\r\0c", 7);
+    expect("a wire text that does not fit", tftp_to_wire(TEXT("a\nb\rc"), text, 6), 0);
+}
+
+/* Each of these calls without memory. */
+static void without_memory(void) {
+    uint8_t out[TFTP_MAX_REQUEST];
+    static const char oack[] = "\0\6a\0001";
+    for (int i = 0; i < 6; i++) {
+        asked = 0;
+        refused = 1;
+        size_t len = i == 0 ? tftp_option(TEXT("\0\6a\0001\0"), 0, out, sizeof out)
+            : i == 1 ? tftp_find_option((const uint8_t *)oack, sizeof oack, TEXT("a"), out, sizeof out)
+            : i == 2 ? tftp_request(1, 1, TEXT("a"), out, sizeof out)
+            : i == 3 ? tftp_add_option(2, TEXT("a"), TEXT("1"), out, sizeof out)
+            : i == 4 ? tftp_error(0, TEXT("a"), out, sizeof out) : tftp_to_wire(TEXT("a"), out, sizeof out);
+        expect("a length without memory", len, 0);
+    }
+    refused = 0;
+}
+
 int main(void) {
     struct { struct tftp_endpoint it, behind; } endpoint;
     struct { struct tftp_options it, behind; } options;
@@ -154,6 +215,9 @@ int main(void) {
     expect("a smaller file", tftp_put(&end, at, name, 1, large - 1, &plain, bytes, most, told), TFTP_OK);
     tftp_close(&end);
     tftp_close(&end);
+
+    packets();
+    without_memory();
 
     int number = 1;
     while (lacking(number)) number++;

@@ -1,3 +1,4 @@
+pub mod ListedLemmas
 pub mod LooseValues
 pub mod ReplyLemmas
 pub mod SinkLemmas

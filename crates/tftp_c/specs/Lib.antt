@@ -1,4 +1,6 @@
+pub mod Built
 pub mod Handled
+pub mod Listed
 pub mod Modes
 pub mod Opens
 pub mod Owned

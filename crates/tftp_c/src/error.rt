@@ -13,7 +13,7 @@ use tftp_wire::{MAX_REQUEST, append_error, is_text};
 const AROUND: usize = 5;
 
 /// Copies the bytes, or none of them if they do not fit, and returns how many.
-fn copy_whole(bytes: &[u8], to: &mut [u8]) -> usize
+pub(crate) fn copy_whole(bytes: &[u8], to: &mut [u8]) -> usize
     ensures copied { (result ≡ 0 → ⊥) → take result to.new ≡ bytes.now }
     ensures len { (result ≡ 0 → ⊥) → result ≡ length bytes.now }
 {

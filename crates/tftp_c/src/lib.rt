@@ -5,12 +5,14 @@
 //! file. `include/tftp.h` declares the calls, with what a caller in C owes.
 #![tactic(auto)]
 
+mod building;
 mod client;
 mod error;
 mod event;
 mod handle;
 mod loose;
 mod opening;
+mod options;
 mod packet;
 mod report;
 mod samples;
@@ -19,15 +21,20 @@ mod slice_sink;
 mod slice_source;
 mod slot;
 mod stepping;
+mod wire_text;
 
-ghost use Rattle.std.specs.Prelude.{◌≡◌, Some, None, length, take};
+ghost use Rattle.std.specs.Prelude.{◌≡◌, ◌++◌, ◌^◌, ◌-◌, Some, None, length, min, take};
 ghost use Rattle.tftp_wire.specs.Reading.{first_fault};
 ghost use Rattle.tftp_wire.specs.Faults.{kind_number};
 ghost use Rattle.tftp_wire.specs.Spelling.{Spells, canonical};
 ghost use Rattle.tftp_wire.specs.declared.packet.Packet.TheVariants.{Error};
 ghost use Rattle.tftp_wire.specs.declared.packet.Packet.{Packet};
 ghost use Rattle.tftp_wire.specs.declared.fault.PacketFault.{PacketFault};
+ghost use Rattle.tftp_file.specs.Netascii.{netascii_text};
+ghost use Rattle.tftp_wire.specs.Options.{option_bytes};
+ghost use Rattle.tftp_c.specs.Built.{BuildsRequest};
 ghost use Rattle.tftp_c.specs.Handled.{OnEnd, Received, Sent, TimedOut};
+ghost use Rattle.tftp_c.specs.Listed.{option_at, option_named, WritesOption};
 ghost use Rattle.tftp_c.specs.Opens.{gets, puts, Opens};
 ghost use Rattle.tftp_c.specs.Serves.{HoldsSuch, ServesGet, ServesPut};
 ghost use Rattle.tftp_c.specs.Shown.{Shows};
@@ -267,6 +274,79 @@ pub extern "C" fn tftp_error(alloc: Global, code: u16, text: &[u8], datagram: &m
     ensures len { (result ≡ 0 → ⊥) → result ≡ length (canonical (Error code text.now)) }
 {
     write_error(alloc, code, text, datagram)
+}
+
+/// Writes the option at this place of the packet that a datagram spells, its name and its value each
+/// ended by a zero byte, and returns how many bytes they are; 0 if there is none.
+#[unsafe(no_mangle)]
+pub extern "C" fn tftp_option(
+    alloc: Global,
+    datagram: &[u8],
+    place: usize,
+    text: &mut [u8],
+) -> usize
+    ensures { (result ≡ 0 → ⊥) → WritesOption (option_at place) datagram.now text.new result }
+{
+    options::write_at(alloc, datagram, place, text)
+}
+
+/// As [`tftp_option`], the first option of this name, in any case.
+#[unsafe(no_mangle)]
+pub extern "C" fn tftp_find_option(
+    alloc: Global,
+    datagram: &[u8],
+    name: &[u8],
+    text: &mut [u8],
+) -> usize
+    ensures { (result ≡ 0 → ⊥) → WritesOption (option_named name.now) datagram.now text.new result }
+{
+    options::write_named(alloc, datagram, name, text)
+}
+
+/// Writes a request without options, and returns its length, or 0.
+#[unsafe(no_mangle)]
+pub extern "C" fn tftp_request(
+    alloc: Global,
+    opcode: u16,
+    mode: u8,
+    name: &[u8],
+    datagram: &mut [u8],
+) -> usize
+    ensures { (result ≡ 0 → ⊥) → BuildsRequest opcode mode name.now datagram.new result }
+{
+    building::request(alloc, opcode, mode, name, datagram)
+}
+
+/// Appends an option to a request of `used` bytes, and returns its new length, or 0.
+#[unsafe(no_mangle)]
+pub extern "C" fn tftp_add_option(
+    alloc: Global,
+    used: usize,
+    name: &[u8],
+    value: &[u8],
+    datagram: &mut [u8],
+) -> usize
+    ensures { (result ≡ 0 → ⊥) → take result datagram.new ≡ take used datagram.old
+        ++ option_bytes (record { name = name.now; value = value.now }) }
+{
+    building::add_option(alloc, used, name, value, datagram)
+}
+
+/// The length of a host's text as it is sent in netascii.
+#[unsafe(no_mangle)]
+pub extern "C" fn tftp_wire_length(text: &[u8]) -> u64
+    ensures { result ≡ min (length (netascii_text text.now)) (2 ^ 64 - 1) }
+{
+    wire_text::wire_length(text)
+}
+
+/// Writes a host's text as it is sent in netascii, and returns its length, or 0.
+#[unsafe(no_mangle)]
+pub extern "C" fn tftp_to_wire(alloc: Global, text: &[u8], wire: &mut [u8]) -> usize
+    ensures len { (result ≡ 0 → ⊥) → result ≡ length (netascii_text text.now) }
+    ensures written { (result ≡ 0 → ⊥) → take result wire.new ≡ netascii_text text.now }
+{
+    wire_text::to_wire(alloc, text, wire)
 }
 
 /// Writes a different number to each field of each struct, and the size of each, for a test of

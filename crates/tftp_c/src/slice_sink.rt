@@ -15,7 +15,7 @@ fn copy_to(room: &mut [u8], bytes: &[u8])
 
 /// Writes the bytes at an offset of a buffer, and returns where they end, or `None` if they do not
 /// fit. Then nothing has changed.
-fn write_at(room: &mut [u8], at: usize, bytes: &[u8]) -> Option<usize>
+pub(crate) fn write_at(room: &mut [u8], at: usize, bytes: &[u8]) -> Option<usize>
     ensures written { IfSome result (λ end. take end room.new ≡ take at room.old ++ bytes.now) }
     ensures full { length room.old ≤ at → 0 < length bytes.now → result ≡ None }
     ensures none { result ≡ None

@@ -1,0 +1,104 @@
+//! The options of a packet, for C: by their place and by name.
+
+ghost use Rattle.std.specs.Prelude.{◌≡◌, option_map, length, take, IfSome};
+ghost use Rattle.tftp_wire.specs.Borrowed.{owned, owned_option};
+ghost use Rattle.tftp_wire.specs.Options.{option_bytes};
+ghost use Rattle.tftp_c.specs.Listed.{options_of, option_at, is_named, option_named, HasOption};
+ghost use Rattle.tftp_c.specs.Listed.{WritesOption};
+
+use crate::error::copy_whole;
+use std::alloc::Global;
+use tftp_wire::{OptionRef, OptionsIter, PacketRef, append_option, decode_ref};
+
+/// The options of a packet that may have some.
+fn options_of<'a>(packet: &PacketRef<'a>) -> Option<OptionsIter<'a>>
+    ensures { option_map (λ o. o) result ≡ options_of (owned packet.now) }
+{
+    match packet {
+        PacketRef::Read(it) => Some(it.options.iter()),
+        PacketRef::Write(it) => Some(it.options.iter()),
+        PacketRef::Oack(options) => Some(options.iter()),
+        PacketRef::Data { .. } => None,
+        PacketRef::Ack { .. } => None,
+        PacketRef::Error { .. } => None,
+    }
+}
+
+/// The option at this place.
+fn option_at<'a>(mut options: OptionsIter<'a>, place: usize) -> Option<OptionRef<'a>>
+    ensures { option_map owned_option result ≡ option_at place options.entry }
+{
+    let mut left = place;
+    while let Some(option) = options.next() {
+        if left == 0 {
+            return Some(option);
+        }
+        left -= 1;
+    }
+    None
+}
+
+/// Whether an option has this name, in any case (RFC 2347, "Packet Formats").
+fn is_named(option: &OptionRef<'_>, name: &[u8]) -> bool
+    ensures { result ≡ is_named name.now (owned_option option.now) }
+{
+    option.name.eq_ignore_ascii_case(name)
+}
+
+/// The first option of this name.
+fn option_named<'a>(mut options: OptionsIter<'a>, name: &[u8]) -> Option<OptionRef<'a>>
+    ensures { option_map owned_option result ≡ option_named name.now options.entry }
+{
+    while let Some(option) = options.next() {
+        if is_named(&option, name) {
+            return Some(option);
+        }
+    }
+    None
+}
+
+/// The name and the value, each ended by a zero byte, and how many bytes they are; 0 if they do not
+/// fit, or without memory.
+fn write(alloc: Global, option: OptionRef<'_>, text: &mut [u8]) -> usize
+    ensures len { (result ≡ 0 → ⊥) → result ≡ length (option_bytes (owned_option option.entry)) }
+    ensures written { (result ≡ 0 → ⊥)
+        → take result text.new ≡ option_bytes (owned_option option.entry) }
+{
+    let mut out = Vec::new(alloc);
+    match append_option(&mut out, option.name, option.value) {
+        Ok(()) => copy_whole(out.as_slice(), text),
+        Err(_) => 0,
+    }
+}
+
+/// Writes the option at this place of the packet that the datagram spells.
+pub(crate) fn write_at(alloc: Global, datagram: &[u8], place: usize, text: &mut [u8]) -> usize
+    ensures { (result ≡ 0 → ⊥) → WritesOption (option_at place) datagram.now text.new result }
+{
+    match decode_ref(datagram) {
+        Ok(packet) => match options_of(&packet) {
+            Some(options) => match option_at(options, place) {
+                Some(option) => write(alloc, option, text),
+                None => 0,
+            },
+            None => 0,
+        },
+        Err(_) => 0,
+    }
+}
+
+/// Writes the first option of this name of the packet that the datagram spells.
+pub(crate) fn write_named(alloc: Global, datagram: &[u8], name: &[u8], text: &mut [u8]) -> usize
+    ensures { (result ≡ 0 → ⊥) → WritesOption (option_named name.now) datagram.now text.new result }
+{
+    match decode_ref(datagram) {
+        Ok(packet) => match options_of(&packet) {
+            Some(options) => match option_named(options, name) {
+                Some(option) => write(alloc, option, text),
+                None => 0,
+            },
+            None => 0,
+        },
+        Err(_) => 0,
+    }
+}
