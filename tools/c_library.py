@@ -3,9 +3,9 @@
 
 Takes the programs of bin/, or else those that `rt ci` built, and compiles examples/ by each C compiler that is
 installed, with AddressSanitizer and UndefinedBehaviorSanitizer, and once without for valgrind. The examples get from
-tftpd and put to it, serve tftp, and do so through a network that loses, duplicates and reorders datagrams; each file
-is compared byte for byte. The crate in Rust is built and its doc tests run where cargo is. The last line is a count,
-and says what was skipped.
+tftpd and from another project's server (in.tftpd, or else dnsmasq), put to tftpd and serve tftp, and do so through a
+network that loses, duplicates and reorders datagrams; each file is compared byte for byte. The crate in Rust is built
+and its doc tests run where cargo is. The last line is a count, and says what was skipped.
 """
 import os
 import random
@@ -21,7 +21,7 @@ from lib.addresses import own_network
 from lib.programs import TOP, programs
 
 sys.path.append(str(TOP / "tools" / "loopback"))
-from datagrams import expect  # noqa: E402
+from datagrams import expect, is_bound  # noqa: E402
 from scene import Scene, next_line  # noqa: E402
 
 PATIENCE = 120
@@ -104,16 +104,21 @@ def by_tftpd(scene, built, lossy) -> None:
     expect(server.process.wait(PATIENCE), 0, "the status of tftpd")
 
 
+def serving_port(scene) -> "At":
+    """A port of the scene's address that nothing is bound to."""
+    port = scene.port()
+    port.close()
+    return At(*port.address)
+
+
 def serves(scene, built) -> tuple[Any, Any]:
     """Starts the server of files in memory, and returns where it is, and the process."""
     scene.make("disk", content(3_000))
-    port = scene.port()
-    number = port.address[1]
-    port.close()
-    words = built.words("serve", scene.address, number, "memory=disk")
+    at = serving_port(scene)
+    words = built.words("serve", *at.address, "memory=disk")
     process = scene.start(words[0], words[1:])
     expect(next_line(process.stdout), "serving\n", "the first line of serve")
-    return At(scene.address, number), process
+    return at, process
 
 
 def ended(process) -> None:
@@ -143,16 +148,49 @@ class At:
         self.word, self.address = f"{host}:{number}", (host, number)
 
 
+def peer() -> str | None:
+    """The server of another project that is installed and may be started, or nothing: only root may."""
+    found = [shutil.which(name, path=os.environ["PATH"] + ":/usr/sbin:/sbin") for name in ["in.tftpd", "dnsmasq"]]
+    return next(filter(None, found), None) if os.geteuid() == 0 else None
+
+
+def started_peer(scene) -> At:
+    """Starts it over the folder, and returns where it is."""
+    program, at = str(peer()), serving_port(scene)
+    os.chmod(scene.folder, 0o755)
+    if Path(program).name == "in.tftpd":
+        words = ["--foreground", "--address", at.word, "--user", "nobody", "--secure", scene.folder]
+    else:
+        at = At(scene.address, 69)
+        words = ["--no-daemon", "--conf-file=/dev/null", "--user=root", f"--listen-address={scene.address}", "--port=0",
+                 "--bind-interfaces", "--enable-tftp", f"--tftp-root={scene.folder}", "--quiet-tftp"]
+    scene.start(program, words, stdout=subprocess.DEVNULL, stderr=subprocess.DEVNULL)
+    is_bound(at.word)
+    return at
+
+
+def by_peer(scene, built, lossy) -> None:
+    """The clients that get against another project's server."""
+    server, lengths = started_peer(scene), [513, 6_000] if lossy or built.before else LENGTHS
+    for number, length in enumerate(lengths):
+        scene.make(f"f{length}", content(length))
+        get, boot = ways(scene, server, 2, lossy)
+        gets(built, scene, get, f"f{length}", [0, 1428][number % 2], content(length))
+        boots(built, scene, boot, f"f{length}", content(length))
+
+
 def by_python(scene, library) -> None:
+    """get.py from tftpd, from another project's server and through a bad network."""
     scene.make("f", content(2_000))
-    server = scene.serve("--transfers", "1")
-    run(sys.executable, TOP / "examples/python/get.py", library, *server.word.split(":"), "f", "got", 512,
-        cwd=scene.folder)
-    expect((scene.folder / "got").read_bytes(), content(2_000), "what get.py stored")
+    server = scene.serve("--transfers", "2")
+    for at in [server, scene.proxy(server, 5), *([started_peer(scene)] if peer() else [])]:
+        run(sys.executable, TOP / "examples/python/get.py", library, *at.word.split(":"), "f", "got", 512,
+            cwd=scene.folder)
+        expect((scene.folder / "got").read_bytes(), content(2_000), f"what get.py stored from {at.word}")
 
 
 def by_rust(scene, room) -> None:
-    """The crate's doc tests, and its example through a bad network."""
+    """The crate's doc tests; its example through a bad network, from tftpd and from another project's server."""
     crate = room / "rust"
     shutil.copytree(TOP / "examples" / "rust", crate, ignore=shutil.ignore_patterns("target", "Cargo.lock"))
     env = {**os.environ, "TFTP_LIB": str(room)}
@@ -160,9 +198,9 @@ def by_rust(scene, room) -> None:
     run(*cargo, "test", cwd=crate, env=env)
     run(*cargo, "build", "--examples", cwd=crate, env=env)
     scene.make("f", content(4_000))
-    proxy = scene.proxy(scene.serve("--transfers", "1"), 7)
-    run(crate / "target/debug/examples/get", proxy.word, "f", "got", cwd=scene.folder)
-    expect((scene.folder / "got").read_bytes(), content(4_000), "what the example in Rust stored")
+    for at in [scene.serve("--transfers", "1"), *([started_peer(scene)] if peer() else [])]:
+        run(crate / "target/debug/examples/get", scene.proxy(at, 7).word, "f", "got", cwd=scene.folder)
+        expect((scene.folder / "got").read_bytes(), content(4_000), "what the example in Rust stored")
 
 
 def by_curl(scene, built) -> None:
@@ -201,8 +239,11 @@ def tests(room, skipped) -> Iterator[Any]:
     for built in found:
         yield f"header and memory, {built.name}", lambda scene, built=built: run(*built.words("layout"))
         for lossy, network in [(False, "a good network"), (True, "a bad network")]:
-            for server, test in [("tftpd", by_tftpd), ("serve", by_library)]:
+            tried = [("tftpd", by_tftpd), ("serve", by_library), *([(Path(str(peer())).name, by_peer)] if peer() else [])]
+            for server, test in tried:
                 yield f"{server}, {network}, {built.name}", partial(test, built=built, lossy=lossy)
+    if not peer():
+        skipped.append("in.tftpd or dnsmasq, as root")
     if found and shutil.which("curl"):
         yield "serve, curl", partial(by_curl, built=found[0])
     else:

@@ -1,70 +1,40 @@
 #!/usr/bin/env python3
 """Gets a file by TFTP: get.py LIBTFTP.so ADDR PORT NAME LOCAL [BLKSIZE]"""
 import socket
+import struct
 import sys
 import time
-from ctypes import CDLL, Structure, byref, c_bool, c_size_t, c_uint8, c_uint16, c_uint64, c_void_p, create_string_buffer
+from ctypes import CDLL, c_size_t, c_uint8, create_string_buffer
 
+# As in tftp.h: struct tftp_endpoint, struct tftp_options, struct tftp_event
+ENDPOINT, OPTIONS, EVENT = struct.Struct("4sH"), struct.Struct("QHBB??2x"), struct.Struct("QQ4sHHHHBB??")
 
-class Endpoint(Structure):
-    _fields_ = [("ip", c_uint8 * 4), ("port", c_uint16)]
-
-
-class Options(Structure):
-    _fields_ = [("max_file", c_uint64), ("blksize", c_uint16), ("timeout", c_uint8), ("retries", c_uint8),
-                ("asks_tsize", c_bool), ("is_netascii", c_bool)]
-
-
-class Event(Structure):
-    _fields_ = [("send_len", c_size_t), ("file_len", c_size_t), ("to", Endpoint), ("peer_code", c_uint16),
-                ("number", c_uint16), ("block_size", c_uint16), ("outcome", c_uint8), ("interval", c_uint8),
-                ("progress", c_bool), ("complete", c_bool)]
-
-
-class End(Structure):
-    _fields_ = [("is_open", c_bool), ("opaque", c_void_p)]
-
-
-def endpoint(address) -> Endpoint:
-    return Endpoint((c_uint8 * 4)(*socket.inet_aton(address[0])), address[1])
-
-
-def get(tftp, server, name, local, blksize) -> tuple[int, Event]:
-    """Writes the file to `local`, and returns the last event."""
-    end, event, options = End(), Event(), Options(max_file=2**63, blksize=blksize, retries=5, asks_tsize=True)
-    reply, block, name = create_string_buffer(512), create_string_buffer(65464), name.encode()
-    at = byref(endpoint(server))
-    fault = tftp.tftp_get(byref(end), at, name, c_size_t(len(name)), byref(options), reply, c_size_t(512), byref(event))
-    with socket.socket(type=socket.SOCK_DGRAM) as port:
-        due = time.monotonic() + event.interval
-        while not fault:
-            if event.send_len:
-                port.sendto(reply.raw[:event.send_len], (socket.inet_ntoa(bytes(event.to.ip)), event.to.port))
-            if event.outcome:
-                break
-            port.settimeout(max(due - time.monotonic(), 0.001))
-            try:
-                datagram, sender = port.recvfrom(65536)
-                fault = tftp.tftp_receive(byref(end), byref(endpoint(sender)), datagram, c_size_t(len(datagram)), block,
-                                          c_size_t(65464), reply, c_size_t(512), byref(event))
-            except TimeoutError:
-                fault = tftp.tftp_timeout(byref(end), reply, c_size_t(512), byref(event))
-                due = time.monotonic() + event.interval
-            local.write(block.raw[:event.file_len])
-            due = time.monotonic() + event.interval if event.progress else due
-    tftp.tftp_close(byref(end))
-    return fault, event
-
-
-def main() -> None:
-    library, ip, port, name, place, *rest = sys.argv[1:]
-    tftp = CDLL(library)
-    tftp.tftp_close.restype = None
-    with open(place, "wb") as local:
-        fault, event = get(tftp, (ip, int(port)), name, local, int(rest[0]) if rest else 0)
-    print(f"fault {fault} outcome {event.outcome} complete {event.complete}")
-    sys.exit(0 if event.complete else 1)
-
-
-if __name__ == "__main__":
-    main()
+library, ip, port, name, place, *blksize = sys.argv[1:]
+tftp, begun, outcome, complete = CDLL(library), time.monotonic(), 0, False
+for call in [tftp.tftp_get, tftp.tftp_receive, tftp.tftp_timeout]:
+    call.restype = c_uint8
+end, event, reply, block = map(create_string_buffer, [16, EVENT.size, 512, 65464])
+answer = reply, c_size_t(512), event
+options = OPTIONS.pack(2**63, int(blksize[0]) if blksize else 0, 0, 5, True, False)
+asked = name.encode(), c_size_t(len(name.encode())), options
+fault = tftp.tftp_get(end, ENDPOINT.pack(socket.inet_aton(ip), int(port)), *asked, *answer)
+with socket.socket(type=socket.SOCK_DGRAM) as udp, open(place, "wb") as local:
+    while not fault:
+        length, stored, to, to_port, _, _, _, outcome, interval, progress, complete = EVENT.unpack(event.raw)
+        local.write(block.raw[:stored])
+        if length:
+            udp.sendto(reply.raw[:length], (socket.inet_ntoa(to), to_port))
+        if outcome:
+            break
+        begun = time.monotonic() if progress else begun
+        udp.settimeout(max(begun + interval - time.monotonic(), 0.001))
+        try:
+            datagram, (host, number) = udp.recvfrom(65536)
+            peer = ENDPOINT.pack(socket.inet_aton(host), number)
+            here = datagram, c_size_t(len(datagram)), block, c_size_t(65464)
+            fault = tftp.tftp_receive(end, peer, *here, *answer)
+        except TimeoutError:
+            begun, fault = time.monotonic(), tftp.tftp_timeout(end, *answer)
+tftp.tftp_close(end)
+print(f"fault {fault} outcome {outcome} complete {complete}")
+sys.exit(0 if complete else 1)
