@@ -284,6 +284,18 @@ def test_short_options(scene) -> None:
     client.ends(1, "", "tftp: PeerError(0)\ntftp: the server says: stop\n")
 
 
+def test_a_request_that_is_not_sent_has_its_reason(scene) -> None:
+    """A client whose datagrams the system refuses to send gives up as without an answer, and says why: a broadcast is not
+    permitted to a socket like its own."""
+    scene.make("local", b"ABC")
+    for words in [["get", "255.255.255.255:69", "a", "new"], ["put", "255.255.255.255:69", "local", "n"]]:
+        scene.tftp(*words, "--retries", "0").fails("TimedOut", "255.255.255.255:69: permission denied")
+    requests = scene.port()
+    client = scene.tftp("get", requests.word, "a", "new", "--retries", "0")
+    expect(requests.receive()[0], rrq("a"), "the request")
+    client.fails("TimedOut", f"{requests.word}: no answer")
+
+
 def written_to(terminal) -> bytes:
     """All that was written to a terminal that no program has any more, which a read may return in parts."""
     parts = []

@@ -4,6 +4,7 @@ use Rattle.std.specs.Prelude.{◌||◌, Box}
 use Rattle.std.specs.Box.{box_value}
 use Rattle.std.proofs.lemmas.Option.{none-some, same_Some}
 use Rattle.clap.specs.Built.{AddsSubcommand}
+use Rattle.clap.specs.Faults.{is_simple_and_free}
 use Rattle.clap.specs.Matches.{found_of}
 use Rattle.clap.specs.Simple.{App, app_of, is_simple, subcommand_rows, with_subcommand}
 use Rattle.clap.specs.Walk.{Row, Text, rows_of}
@@ -23,6 +24,10 @@ use Rattle.tftp_client.specs.Words.{NamesBy, tftp_app}
 -- the command line is one whose matches are known
 pub simple : is_simple tftp_app ≡ true
 simple = refl
+
+-- no argument has a rule on another
+pub free : is_simple_and_free tftp_app ≡ true
+free = refl
 
 -- a subcommand was added
 pub subcommand_added : {app below : App} {old sub new : Command} → IsApp app old → IsApp below sub

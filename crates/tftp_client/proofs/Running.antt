@@ -1,5 +1,5 @@
 -- The result of a job, from the facts of its calls.
-use Rattle.std.proofs.Common.{Result, Ok, Err, IfOk, IfErr, inl, inr, ◌≡◌, ℕ, List, ap, sym, subst}
+use Rattle.std.proofs.Common.{Result, Ok, Err, IfOk, IfErr, inl, inr, ◌≡◌, ℕ, List, ap, sym, subst, ◌∙◌}
 use Rattle.std.specs.Prelude.{◌+◌}
 use Rattle.tftp_negotiate.specs.declared.known.Kind.{Kind}
 use Rattle.tftp_file.specs.Sink.{SinkMeaning}
@@ -7,6 +7,7 @@ use Rattle.tftp_file.specs.Source.{SourceMeaning}
 use Rattle.tftp_file.specs.declared.files.Files.{Files}
 use Rattle.tftp_ends.specs.End.{EndState}
 use Rattle.tftp_ends.specs.declared.outcome.Outcome.{Outcome}
+use Rattle.tftp_arguments.specs.Fault.{AskForText}
 use Rattle.tftp_lines.specs.ClientOutcome.{status_of}
 use Rattle.tftp_lines.specs.declared.client_outcome.ClientOutcome.{ClientOutcome}
 use Rattle.tftp_lines.specs.declared.client_outcome.ClientOutcome.TheVariants as ends
@@ -16,7 +17,7 @@ use Rattle.tftp_client.specs.declared.command_line.Order.{Order}
 use Rattle.tftp_client.specs.declared.transfer.Job.{Job}
 use Rattle.tftp_client.specs.Converses.{Converses, EndsBy, State}
 use Rattle.tftp_client.specs.Ordered.{RunsOrder, RunsWords}
-use Rattle.tftp_client.specs.Words.{WordsName}
+use Rattle.tftp_client.specs.Words.{WordsName, tftp_app}
 use Rattle.tftp_client.specs.Runs.{FailsBy, FailsEnd, FailsTransfer, StaysOn, IsNew, Refused, Runs}
 use Rattle.tftp_client.specs.Runs.{IsFileOf, MayOpen, RunsAs, RunsJob, Stops, Transfers, begun, opens, plain}
 
@@ -129,8 +130,9 @@ module _ {S K : Type 0} (sources : SourceMeaning S) (sinks : SinkMeaning K) wher
   -- an order was run, or there is none and nothing was done
   pub runs_words : {before after : List Event} (words : List (List ℕ)) {status : ℕ} (ordered : Result Order ℕ)
       → IfOk ordered (λ order. WordsName words order.job)
+      → IfErr ordered (λ n. n ≡ 0 → AskForText tftp_app words)
       → IfOk ordered (λ order. RunsOrder sources sinks order.job status before after)
-      → IfErr ordered (λ _. after ≡ before)
+      → IfErr ordered (λ _. after ≡ before) → IfErr ordered (λ n. status ≡ n)
       → RunsWords sources sinks words status before after
-  runs_words words (Ok order) names runs none = inr (order.job, names, runs)
-  runs_words words (Err status) names runs none = inl none
+  runs_words words (Ok order) names text runs none same = inr (order.job, names, runs)
+  runs_words words (Err n) names text runs none same = inl (none, λ zero. text (sym same ∙ zero))

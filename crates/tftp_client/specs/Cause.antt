@@ -27,6 +27,8 @@ cause_text job (causes.Server words) =
     codes "tftp: the server says: "
     ++ (string_bytes words ++ hint_text (string_bytes words) job.asked.blksize)
 cause_text job (causes.Peer words) = line_on (endpoint_text job.server) words.now
+cause_text job (causes.Unsent reason) =
+    line_on (endpoint_text job.server) (reason_text reason)
 cause_text job (causes.Local words) = line_on job.local.now words.now
 cause_text job (causes.Remote words) = line_on job.name.now words.now
 cause_text job causes.Request =

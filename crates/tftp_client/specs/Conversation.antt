@@ -1,8 +1,12 @@
 -- A conversation as the state of a client.
-use Rattle.std.specs.Prelude.{◌≡◌, ◌≤◌, List}
+use Rattle.std.specs.Prelude.{ℕ, ◌≡◌, ◌≤◌, List, [], ◌∷◌}
 use Rattle.tftp_client.specs.declared.transfer.conversation.Conversation.{Conversation}
 use Rattle.tftp_client.specs.Converses.{IsOpen, State, deadline_at}
 use Rattle.tftp_sockets.specs.Journal.{Event}
+
+-- every address of this host
+abbrev pub any_address : List ℕ
+any_address = 0 ∷ 0 ∷ 0 ∷ 0 ∷ []
 
 -- the state of a client whose program has this journal
 abbrev pub state_of : Conversation → List Event → State

@@ -2,13 +2,14 @@
 use Rattle.std.specs.Prelude.{ℕ, ◌≡◌, ◌≤◌, ◌⊎◌, List}
 use Rattle.tftp_file.specs.Sink.{SinkMeaning}
 use Rattle.tftp_file.specs.Source.{SourceMeaning}
+use Rattle.tftp_arguments.specs.Fault.{AskForText}
 use Rattle.tftp_lines.specs.ClientOutcome.{status_of}
 use Rattle.tftp_lines.specs.declared.client_outcome.ClientOutcome.{ClientOutcome}
 use Rattle.tftp_sockets.specs.Journal.{Event}
 use Rattle.tftp_client.specs.Converses.{most_waits}
 use Rattle.tftp_client.specs.Runs.{Completes, FailsTransfer}
 use Rattle.tftp_client.specs.declared.transfer.Job.{Job}
-use Rattle.tftp_client.specs.Words.{WordsName}
+use Rattle.tftp_client.specs.Words.{WordsName, tftp_app}
 
 module _ {S K : Type 0} (sources : SourceMeaning S) (sinks : SinkMeaning K) where
   -- a job was run, and the program ends with this status: the job is complete, and the status is 0,
@@ -19,9 +20,9 @@ module _ {S K : Type 0} (sources : SourceMeaning S) (sinks : SinkMeaning K) wher
       ⊎ ((1 ≤ status) × (end : ClientOutcome) × ((status ≡ status_of end) ⊎ (status ≡ 2))
       × FailsTransfer sources sinks (most_waits before) job before after end)
 
-  -- nothing was done over UDP, as for a help text; or the job that the words name was run, whatever
-  -- the status
+  -- nothing was done over UDP, with a status of 0 only if the words ask for the help or the
+  -- version; or the job that the words name was run, whatever the status
   abbrev pub RunsWords : List (List ℕ) → ℕ → List Event → List Event → Type 0
   RunsWords words status before after =
-      (after ≡ before)
+      ((after ≡ before) × (status ≡ 0 → AskForText tftp_app words))
       ⊎ ((job : Job) × WordsName words job × RunsOrder job status before after)

@@ -1,6 +1,6 @@
 -- What the program did for a job: the run of one end from its request on, or of a second one, where
 -- options were refused.
-use Rattle.std.specs.Prelude.{ℕ, ◌≡◌, ◌⊎◌, true, List, ◌∷◌, length as list_length, Some}
+use Rattle.std.specs.Prelude.{ℕ, ◌≡◌, ◌≤◌, ◌⊎◌, true, List, ◌∷◌, length as list_length, Some}
 use Rattle.std.specs.Prelude.{None, option_map}
 use Rattle.tftp_wire.specs.declared.mode.Mode.{Mode}
 use Rattle.tftp_wire.specs.declared.mode.Mode.TheVariants.{Octet, Netascii}
@@ -22,6 +22,7 @@ use Rattle.tftp_lines.specs.declared.client_outcome.ClientOutcome.{ClientOutcome
 use Rattle.tftp_lines.specs.declared.client_outcome.ClientOutcome.TheVariants as ends
 use Rattle.tftp_sockets.specs.Journal.{Event}
 use Rattle.tftp_sockets.specs.Journal.Event.{Printed, Sent}
+use Rattle.tftp_sockets.specs.Quiet.{waits}
 use Rattle.tftp_client.specs.declared.transfer.Job.{Job}
 use Rattle.tftp_client.specs.Converses.{Converses, EndsBy, State, deadline_at, most_waits}
 use Rattle.tftp_client.specs.Taken.{nothing}
@@ -198,3 +199,5 @@ module _ {S K : Type 0} (sources : SourceMeaning S) (sinks : SinkMeaning K) wher
     pub complete : is_complete last.end.position.phase ≡ true
     pub committed : IsCommitted files
     pub stays : StaysOn port (printed count last) files after
+    -- all its runs and what it did after them make so many waits at most
+    pub within : waits after ≤ most_waits before

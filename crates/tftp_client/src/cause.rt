@@ -21,6 +21,8 @@ pub(crate) enum Cause {
     Server(String),
     /// The server did this.
     Peer(&'static str),
+    /// The system refused to send the newest datagram to the server.
+    Unsent(Reason),
     /// The file here is so.
     Local(&'static str),
     /// The file at the server is so.
@@ -89,6 +91,7 @@ impl fmt::Display for CauseLine<'_> {
                 write!(f, "tftp: the server says: {words}{hint}")
             }
             Cause::Peer(words) => write!(f, "tftp: {server}: {words}"),
+            Cause::Unsent(reason) => write!(f, "tftp: {server}: {reason}"),
             Cause::Local(words) => write!(f, "tftp: {local}: {words}"),
             Cause::Remote(words) => write!(f, "tftp: {name}: {words}"),
             Cause::Request => {

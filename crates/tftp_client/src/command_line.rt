@@ -5,6 +5,7 @@ ghost use Rattle.std.specs.Prelude.{IfOk, IfErr, IfSome};
 ghost use Rattle.clap.specs.Simple.{App, subcommand_rows_of};
 ghost use Rattle.tftp_wire.specs.declared.mode.Mode.TheVariants.{Octet, Netascii};
 ghost use Rattle.tftp_disk.specs.declared.existing.Existing.TheVariants.{Refused, Replaced};
+ghost use Rattle.tftp_arguments.specs.Fault.{AskForText};
 ghost use Rattle.tftp_arguments.specs.Read.{IsChosen, read_of, text_of};
 ghost use Rattle.tftp_arguments.specs.Rules.{HasRule, IsApp, by_default, within, word_rule};
 ghost use Rattle.tftp_sockets.specs.Address.{Names};
@@ -75,6 +76,8 @@ pub(crate) fn read_words<'a, P: Print + Eprint, S: AsStr>(
     ensures status { IfOk result (λ ordered. IfErr ordered (λ status. status ≤ 2)) }
     ensures names { IfOk result (λ ordered. IfOk ordered (λ order.
         WordsName (map S.text words.now) order.job)) }
+    ensures text { IfOk result (λ ordered. IfErr ordered (λ status. status ≡ 0
+        → AskForText tftp_app (map S.text words.now))) }
 {
     match command(alloc, texts) {
         Ok(mut command) => match_words(rt, alloc, texts, &mut command, words, errors),
@@ -95,6 +98,8 @@ fn match_words<'a, P: Print + Eprint, S: AsStr>(
     ensures status { IfOk result (λ ordered. IfErr ordered (λ status. status ≤ 2)) }
     ensures names { IfOk result (λ ordered. IfOk ordered (λ order.
         WordsName (map S.text words.now) order.job)) }
+    ensures text { IfOk result (λ ordered. IfErr ordered (λ status. status ≡ 0
+        → AskForText tftp_app (map S.text words.now))) }
 {
     match command.try_get_matches_from_mut(words) {
         Ok(matches) => read_matches(rt, alloc, texts, &matches, errors),
@@ -110,7 +115,7 @@ fn read_matches<'a, P: Print + Eprint>(
     matches: &ArgMatches<'a>,
     errors: ErrorOutput,
 ) -> anyhow::Result<Ordered<'a>>
-    ensures status { IfOk result (λ ordered. IfErr ordered (λ status. status ≤ 2)) }
+    ensures status { IfOk result (λ ordered. IfErr ordered (λ status. status ≡ 2)) }
     ensures names { IfOk result (λ ordered. IfOk ordered (λ order.
         NamesBy (subcommand_rows_of matches.now) order.job)) }
 {
@@ -146,7 +151,7 @@ fn report_address<'a, P: Print + Eprint>(
     word: &str,
     matches: &ArgMatches<'a>,
 ) -> anyhow::Result<u8>
-    ensures { IfOk result (λ status. status ≤ 2) }
+    ensures { IfOk result (λ status. status ≡ 2) }
 {
     let address = matches.get_str("ADDR:PORT").unwrap_or("");
     let message = format!(in alloc;

@@ -55,8 +55,9 @@ pub fn tftp_words<R: Runtime + AllocGlobal + Net, S: AsStr, E: IsTerminal>(
 
 /// As [`tftp_words`], with a journal of what it does over UDP: nothing, as for `--help`, or the job
 /// that the words name: its direction, its endpoint, its names, its mode and its options.
-/// With a status of 0 that job is complete; with another one it failed, or its line could not be
-/// printed. All its runs and its dally make 1,000,000 waits at most.
+/// With a status of 0 that job is complete, or the words ask for the help or the version; with
+/// another one it failed, or its line could not be printed. All its runs and its dally make
+/// 1,000,000 waits at most.
 pub fn tftp_with_journal<R: Runtime + AllocGlobal + Net, S: AsStr, E: IsTerminal>(
     rt: &R,
     words: &[S],
@@ -128,6 +129,7 @@ fn run_ordered<R: Files + Clone + Drop + ClientUdp + Clock + Print + Eprint>(
         ⟦<LocalSource<R::File> as Source>⟧.meaning ⟦<LocalFile<R> as Sink>⟧.meaning
         order.job result journal.old.events journal.new.events) }
     ensures none { IfErr ordered.now (λ _. journal.new.events ≡ journal.old.events) }
+    ensures same { IfErr ordered.now (λ status. result ≡ status) }
     ensures waits { waits_in journal.new.events ≤ most_waits journal.old.events }
 {
     match ordered {

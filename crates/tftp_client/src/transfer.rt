@@ -10,7 +10,7 @@ ghost use Rattle.tftp_ends.specs.Files.{AreFilesOf};
 ghost use Rattle.tftp_lines.specs.ClientOutcome.{status_of};
 ghost use Rattle.tftp_lines.specs.declared.client_outcome.ClientOutcome.TheVariants as ends;
 ghost use Rattle.tftp_sockets.specs.Quiet.{waits as waits_in};
-ghost use Rattle.tftp_client.specs.Conversation.{IsReady, state_of};
+ghost use Rattle.tftp_client.specs.Conversation.{IsReady, any_address, state_of};
 ghost use Rattle.tftp_client.specs.Converses.{Converses, IsOpen, deadline_at};
 ghost use Rattle.tftp_client.specs.Stored.{count_of, stored};
 ghost use Rattle.tftp_client.specs.Taken.{nothing};
@@ -28,7 +28,6 @@ pub(crate) use crate::transfer::failure::Failure;
 use crate::without_options::fallback;
 use std::alloc::Global;
 use std::io::Read;
-use std::net::{Ipv4Addr, SocketAddr};
 use std::rt::Files as FileSystem;
 use std::time::Clock;
 use tftp_disk::Existing;
@@ -272,9 +271,10 @@ fn ask_to_get<N: ClientUdp + Clock>(
 
 /// Binds the socket of a transfer, to every address of this host and a port chosen by the system.
 fn bind_socket<N: ClientUdp>(net: &N) -> Result<ClientSocket, Failure>
-    ensures { IfErr result (λ failure. status_of failure.end ≡ 2) }
+    ensures ip { IfOk result (λ socket. socket.ip ≡ any_address) }
+    ensures err { IfErr result (λ failure. status_of failure.end ≡ 2) }
 {
-    match net.bind(SocketAddr::from((Ipv4Addr::UNSPECIFIED, 0))) {
+    match net.bind([0, 0, 0, 0]) {
         Ok(socket) => Ok(socket),
         Err(error) => Err(Failure::of_socket(error)),
     }
@@ -311,8 +311,9 @@ fn begin<C: Clock>(
         total,
     } = opened;
     match Conversation::new(clock, alloc, socket, end, (job.kind, job.progress), total) {
-        Ok(conversation) => {
-            conversation.socket.send(journal, job.server, request);
+        Ok(mut conversation) => {
+            let sent = conversation.socket.send(journal, job.server, request);
+            conversation.unsent = sent.err();
             Ok(conversation)
         }
         Err(_) => Err(Failure::memory()),

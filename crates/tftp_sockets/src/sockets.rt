@@ -10,10 +10,10 @@
 //! standard output elsewhere, and read the clock elsewhere only to start their watch. Help and
 //! versions are printed before that.
 //!
-//! A failed send counts as a lost datagram; that of a server returns the reason. A poll that takes
+//! A failed send counts as a lost datagram, and returns the reason. A poll that takes
 //! no time and reports no port is no event.
 
-ghost use Rattle.std.specs.Prelude.{◌≡◌, ◌≢◌, ◌≤◌, ◌+◌, ◌∷◌, [], true, length, max};
+ghost use Rattle.std.specs.Prelude.{◌≡◌, ◌≢◌, ◌≤◌, ◌+◌, ◌∷◌, ◌↔◌, [], true, length, max, IsTrue};
 ghost use Rattle.std.specs.Prelude.{IfOk, OnErr, OnOk, if◌then◌else◌};
 ghost use Rattle.tftp_lines.specs.ClientOutcome.{end_text};
 ghost use Rattle.tftp_lines.specs.Printed.{line_text};
@@ -21,7 +21,8 @@ ghost use Rattle.tftp_sockets.specs.declared.watch.TheConstants.{LONGEST_WAIT};
 ghost use Rattle.tftp_sockets.specs.Journal.Event.{Sent, Watched, Printed as Line, Quiet};
 ghost use Rattle.tftp_sockets.specs.Journal.QuietEvent.{No_socket, Slept, Woke};
 ghost use Rattle.tftp_sockets.specs.Bound.{IsBoundTo};
-ghost use Rattle.tftp_sockets.specs.Receipt.{Fits, receive_event};
+ghost use Rattle.std.specs.IoError.{error_kind};
+ghost use Rattle.tftp_sockets.specs.Receipt.{FindsNothing, Fits, receive_event};
 
 use crate::address::{address_of, endpoint_of};
 use crate::clock::read_clock;
@@ -139,6 +140,8 @@ impl ServerSocket {
 /// request (RFC 1350, section 4).
 #[derive(Drop)]
 pub struct ClientSocket {
+    /// The address that the socket is bound to.
+    ip: [u8; 4],
     /// The port that the socket is bound to, as the system reports it.
     port: u16,
     udp: UdpSocket,
@@ -147,12 +150,16 @@ pub struct ClientSocket {
 }
 
 impl ClientSocket {
-    /// Binds a socket to the address.
-    pub fn bind<N: Net>(net: &N, address: SocketAddr) -> io::Result<ClientSocket> {
-        let udp = UdpSocket::bind(net, address)?;
+    /// Binds a socket to the address, 0.0.0.0 for every address of this host, and a port that the
+    /// system chooses.
+    pub fn bind<N: Net>(net: &N, ip: [u8; 4]) -> io::Result<ClientSocket>
+        ensures { IfOk result (λ socket. socket.ip ≡ ip) }
+    {
+        let udp = UdpSocket::bind(net, address_of(Endpoint { ip, port: 0 }))?;
         let port = udp.local_addr()?.port();
         udp.set_read_timeout(Some(Duration::from_millis(LONGEST_WAIT)))?;
         Ok(ClientSocket {
+            ip,
             port,
             udp,
             wait: LONGEST_WAIT,
@@ -198,12 +205,15 @@ impl ClientSocket {
         is_set
     }
 
-    /// Sends a datagram. If the system reports an error, the datagram is lost.
-    pub fn send(&self, journal: &mut Journal, to: Endpoint, bytes: &[u8])
+    /// Sends a datagram. If the system refuses it, the datagram is lost, and its reason returned.
+    pub fn send(&self, journal: &mut Journal, to: Endpoint, bytes: &[u8]) -> Result<(), Reason>
         ensures { journal.new.events ≡ Sent self.now.port to bytes.now ∷ journal.old.events }
     {
         journal.note(&EventRef::Sent(self.port, to, bytes));
-        let _ = self.udp.send_to(bytes, address_of(to));
+        match self.udp.send_to(bytes, address_of(to)) {
+            Ok(_) => Ok(()),
+            Err(error) => Err(reason_of(&error)),
+        }
     }
 }
 
@@ -239,17 +249,23 @@ fn note_error(journal: &mut Journal, port: u16, error: &io::Error, buffer: &[u8]
     ensures noted { journal.new.events ≡ receive_event port buffer.now result
         ∷ journal.old.events }
     ensures fits { Fits buffer.now result }
+    ensures nothing { result ≡ Receipt.Nothing ↔ FindsNothing (error_kind error.now) }
 {
-    match error.kind() {
-        ErrorKind::WouldBlock | ErrorKind::TimedOut => {
-            journal.note(&EventRef::Empty(port));
-            Receipt::Nothing
-        }
-        _ => {
-            journal.note(&EventRef::Failed(port));
-            Receipt::Failed
-        }
+    if finds_nothing(error) {
+        journal.note(&EventRef::Empty(port));
+        Receipt::Nothing
+    } else {
+        journal.note(&EventRef::Failed(port));
+        Receipt::Failed
     }
+}
+
+/// Whether an error means that no datagram has arrived.
+fn finds_nothing(error: &io::Error) -> bool
+    ensures { IsTrue result ↔ FindsNothing (error_kind error.now) }
+{
+    let kind = error.kind();
+    kind == ErrorKind::WouldBlock || kind == ErrorKind::TimedOut
 }
 
 /// The ports that a wait reports: datagrams may be there.

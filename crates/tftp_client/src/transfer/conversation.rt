@@ -6,6 +6,7 @@ ghost use Rattle.std.specs.Prelude.{◌≡◌, ◌≤◌, ◌+◌, ◌-◌, ◌�
 ghost use Rattle.std.specs.Prelude.{Some, None, IfSome, IfNone, IfOk, IfErr, OnOk};
 ghost use Rattle.tftp_ends.specs.End.{is_complete, outcome_of};
 ghost use Rattle.tftp_ends.specs.Files.{AreFilesOf};
+ghost use Rattle.tftp_sockets.specs.declared.address.TheConstants.{DATAGRAM_BUFFER};
 ghost use Rattle.tftp_sockets.specs.Journal.Event.{Quiet};
 ghost use Rattle.tftp_sockets.specs.Journal.QuietEvent.{Slept};
 ghost use Rattle.tftp_sockets.specs.Journal.{replied};
@@ -20,7 +21,7 @@ use std::alloc::{AllocError, Global};
 use std::time::Clock;
 use tftp_ends::{End, Endpoint, Outcome, Step, decode_packet};
 use tftp_file::{Files, Sink, Source};
-use tftp_lines::{LineClock, ProgressLine};
+use tftp_lines::{LineClock, ProgressLine, Reason};
 use tftp_negotiate::{Kind, stated_tsize};
 use tftp_sockets::{
     ClientSocket, DATAGRAM_BUFFER, Journal, LONGEST_WAIT, Receipt, Watch, deadline, is_due,
@@ -69,6 +70,9 @@ pub(crate) struct Conversation {
     kind: Kind,
     /// The words of the ERROR by which the peer ended the transfer, if it did.
     peer_words: Option<String>,
+    /// Why the system refused to send the newest datagram, if it did.
+    pub(crate) unsent: Option<Reason>,
+    ghost room: { DATAGRAM_BUFFER ≤ length buffer.items },
 }
 
 impl Conversation {
@@ -105,6 +109,7 @@ impl Conversation {
             total,
             kind,
             peer_words: None,
+            unsent: None,
         })
     }
 
@@ -300,7 +305,8 @@ impl Conversation {
         let Ok((step, outgoing)) = self.end.handle_datagram(files, from, bytes) else {
             return NO_STEP;
         };
-        reply(&self.socket, journal, step.to, self.end.bytes_of(outgoing));
+        let sent = reply(&self.socket, journal, step.to, self.end.bytes_of(outgoing));
+        note_sent(&mut self.unsent, &step, sent);
         note_peer_words(&mut self.peer_words, self.alloc, &step, bytes);
         note_total(&mut self.total, &self.lines, &step, bytes);
         step
@@ -348,7 +354,8 @@ impl Conversation {
         };
         self.due = deadline(now, seconds);
         journal.elapsed(self.socket.port(), now);
-        reply(&self.socket, journal, step.to, self.end.bytes_of(outgoing));
+        let sent = reply(&self.socket, journal, step.to, self.end.bytes_of(outgoing));
+        note_sent(&mut self.unsent, &step, sent);
     }
 
     /// The progress so far, counted in full blocks, at most `total`.
@@ -400,10 +407,16 @@ impl Conversation {
             end,
             kind,
             peer_words,
+            unsent,
             ..
         } = self;
-        if outcome == Outcome::TimedOut && end.record().peer.is_some() {
-            return Cause::Peer("no answer any more");
+        if outcome == Outcome::TimedOut {
+            if let Some(reason) = unsent {
+                return Cause::Unsent(reason);
+            }
+            if end.record().peer.is_some() {
+                return Cause::Peer("no answer any more");
+            }
         }
         match peer_words {
             Some(words) => Cause::Server(words),
@@ -453,13 +466,19 @@ fn datagram_in(buffer: &[u8], count: usize) -> &[u8]
     &buffer[..count]
 }
 
-/// Sends the answer of a step, if it has one.
-fn reply(socket: &ClientSocket, journal: &mut Journal, to: Option<Endpoint>, bytes: &[u8])
+/// Sends the answer of a step, if it has one. If the system refuses it, it is lost, and its reason
+/// returned.
+fn reply(
+    socket: &ClientSocket,
+    journal: &mut Journal,
+    to: Option<Endpoint>,
+    bytes: &[u8],
+) -> Result<(), Reason>
     ensures { journal.new.events ≡ replied socket.now.port to bytes.now journal.old.events }
 {
     match to {
         Some(to) => socket.send(journal, to, bytes),
-        None => {}
+        None => Ok(()),
     }
 }
 
@@ -472,6 +491,14 @@ fn due_after(step: &Step, now: u64, seconds: u8, due: u64) -> u64
         deadline(now, seconds)
     } else {
         due
+    }
+}
+
+/// Stores why the system refused to send the datagram of a step, if it did; nothing if the step has
+/// none.
+fn note_sent(unsent: &mut Option<Reason>, step: &Step, sent: Result<(), Reason>) {
+    if step.to.is_some() {
+        *unsent = sent.err();
     }
 }
 

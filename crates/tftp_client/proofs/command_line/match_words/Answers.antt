@@ -1,9 +1,11 @@
--- The matches are those of the words.
-use Rattle.std.proofs.Common.{IfOk, List, Option, map, subst}
+-- The matches are those of the words, and so is what the parse fails by.
+use Rattle.std.proofs.Common.{◌≡◌, IfOk, List, Option, map, subst, true}
+use Rattle.clap.specs.Faults.{fault_of, is_simple_and_free}
+use Rattle.clap.specs.Kinds.{HasKind}
 use Rattle.clap.specs.Simple.{App, HasMatchesOf}
 use Rattle.clap.specs.Walk.{Row, Text}
-use Rattle.tftp_client.specs.Words.{NamesBy}
-use Rattle.tftp_client.proofs.Commands.{simple}
+use Rattle.tftp_client.specs.Words.{NamesBy, tftp_app}
+use Rattle.tftp_client.proofs.Commands.{free, simple}
 use Rattle.tftp_client.proofs.command_line.match_words.Goals as goal
 
 pub returns-in-Ok-clause-names : goal.returns-in-Ok-clause-names
@@ -13,3 +15,10 @@ returns-in-Ok-clause-names g c =
     let Names : Option (Text × List Row) → Type 0 = λ o.
     IfOk c.read_matches.result (λ ordered. IfOk ordered (λ order. NamesBy o order.job)) in
     subst Names (known simple).1 c.read_matches.ensures.names
+
+pub returns-in-Err-clause-text : goal.returns-in-Err-clause-text
+returns-in-Err-clause-text g c =
+    let At : App → Type 0 = λ a. is_simple_and_free a ≡ true
+    → HasKind (fault_of a (map g.S.AsStr.text c.args.words.now)) c.in-Err.error in
+    let known = subst At c.requires.app_is c.in-Err.ensures.kinds in
+    c.print_usage.ensures.text (fault_of tftp_app (map g.S.AsStr.text c.args.words.now)) (known free)

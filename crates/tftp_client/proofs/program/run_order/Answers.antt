@@ -1,5 +1,5 @@
 -- A transfer that is complete, or failed.
-use Rattle.std.proofs.Common.{inl, inr, refl}
+use Rattle.std.proofs.Common.{arith, inl, inr, refl}
 use Rattle.tftp_client.specs.Conversation.{state_of}
 use Rattle.tftp_client.proofs.Committing.{is_committed}
 use Rattle.tftp_client.proofs.program.run_order.Goals as goal
@@ -18,6 +18,7 @@ returns-in-Ok-clause-runs g c =
         committed = is_committed _ _ (λ local. (local.taken.holding, refl)) c.in-Ok.ensures.ok
             c.in-Ok.completed.complete;
         stays = c.conclude.ensures.goes;
+        within = omega (arith, c.conclude.ensures.waits, c.in-Ok.ensures.counted);
       },
     )
 

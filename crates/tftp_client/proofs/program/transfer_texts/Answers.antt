@@ -5,4 +5,5 @@ use Rattle.tftp_client.proofs.program.transfer_texts.Goals as goal
 
 pub returns-in-Ok-clause-runs : goal.returns-in-Ok-clause-runs
 returns-in-Ok-clause-runs g c = runs_words _ _ (map g.S.AsStr.text c.args.words.now) c.in-Ok.ordered
-    c.in-Ok.ensures.names c.run_ordered.ensures.runs c.run_ordered.ensures.none
+    c.in-Ok.ensures.names c.in-Ok.ensures.text c.run_ordered.ensures.runs c.run_ordered.ensures.none
+    c.run_ordered.ensures.same

@@ -37,7 +37,7 @@ returns-clause-handles g c =
     let datagram = c.in-Ok.ensures.steps.1 in
     let lends = c.in-Ok.ensures.steps.2 in
     let says = c.in-Ok.ensures.steps.3 in
-    let sent = replies port turn.reply c.reply.ensures lends.goes (c.bytes_of.ensures ∙ lends.bytes) refl in
+    let sent = replies port turn.reply c.reply-sent.ensures lends.goes (c.bytes_of.ensures ∙ lends.bytes) refl in
     let Of : List ℕ → Type 0 = λ b. handles b (turned port turn s) in
     subst At (sym (state_is lends.state refl refl sent))
     (subst Of whole (
