@@ -1,7 +1,7 @@
 //! The loop over the ports of a server, in one thread.
 
 ghost use Rattle.std.specs.Prelude.{◌≡◌, ◌≤◌, ◌<◌, ◌+◌, ◌⊎◌, ◌||◌, IfErr, OnOk, None, is_some, []};
-ghost use Rattle.std.specs.Prelude.{length, map, if◌then◌else◌};
+ghost use Rattle.std.specs.Prelude.{IfOk, length, map, if◌then◌else◌};
 ghost use Rattle.std.specs.List.{list_any};
 ghost use Rattle.tftp_sockets.specs.Quiet.{is_among};
 ghost use Rattle.tftp_loop.specs.Serves.{marked_by};
@@ -72,14 +72,27 @@ pub(crate) struct Buffers {
 }
 
 impl Buffers {
-    /// Buffers for the longest datagrams.
-    pub(crate) fn new(alloc: Global) -> Result<Buffers, AllocError> {
+    /// Buffers with room for the longest datagrams: a shorter one would cut a DATA, which then counts
+    /// as the last block (RFC 1350, section 6).
+    pub(crate) fn new(alloc: Global) -> Result<Buffers, AllocError>
+        ensures request { IfOk result (λ buffers.
+            length buffers.request.items ≡ DATAGRAM_BUFFER) }
+        ensures datagram { IfOk result (λ buffers.
+            length buffers.datagram.items ≡ DATAGRAM_BUFFER) }
+    {
         Ok(Buffers {
             reports: Reports::new(alloc, MOST_REPORTS)?,
-            request: Vec::from_elem(alloc, 0u8, DATAGRAM_BUFFER)?,
-            datagram: Vec::from_elem(alloc, 0u8, DATAGRAM_BUFFER)?,
+            request: buffer(alloc, DATAGRAM_BUFFER)?,
+            datagram: buffer(alloc, DATAGRAM_BUFFER)?,
         })
     }
+}
+
+/// A buffer of this size, in bytes.
+fn buffer(alloc: Global, size: usize) -> Result<Vec<u8>, AllocError>
+    ensures { IfOk result (λ buffer. length buffer.items ≡ size) }
+{
+    Vec::from_elem(alloc, 0u8, size)
 }
 
 impl<S: ServedStore<Reason> + Drop> ServerLoop<S> {
