@@ -1,19 +1,22 @@
 #!/usr/bin/env python3
 """Refuses each request for memory of tftp-show, tftp-play and tftp in turn: out_of_memory.py [SHOW PLAY TFTP]
 
-Without words the programs are those of bin/, or else those that `rt ci` built. Whichever request is refused, a program
-ends as it does with ample memory, or it says that it is out of memory, with status 2, and what it has printed until then
-is the beginning of what it would have printed; or it refuses in other words, as where a file cannot be opened. A script
-goes on behind an event that was refused, and behind a commit that the store refused: the first line that differs says
-so. A file that tftp was to make is whole, or has no name. (tftpd is tried by lost_requests.py.) The counter is
-refuse_memory.c, compiled into a temporary folder; a run has two minutes.
+Without words the programs are those of bin/, or else those that `rt ci` built. What a program does when one request is
+refused has a letter (KINDS), and each command has a pattern of the letters of all its requests, in their order: most end
+it with status 2 and a line that says so, and what it has printed until then is the beginning of what it prints with ample
+memory. tftp-play refuses the event, or the commit, for which memory was refused, and goes on. A file that tftp was to make
+is whole, or has no name. (tftpd is tried by lost_requests.py.)
+
+The counter is refuse_memory.c, compiled into a temporary folder; a run has two minutes. It refuses nothing of programs
+that `rt try` compiled with their checks.
 """
 import re
 import subprocess
 import sys
 import tempfile
+from itertools import zip_longest
 from pathlib import Path
-from typing import Optional
+from typing import NamedTuple, Optional
 
 from lib.addresses import own_address
 from lib.answerer import Answerer
@@ -29,18 +32,32 @@ FLOW = b"0\t192.0.2.2\t1024\t192.0.2.1\t69\t000161006f6374657400\n" \
     b"1\t192.0.2.1\t1025\t192.0.2.2\t1024\t00030001414243\n2\t192.0.2.2\t1024\t192.0.2.1\t1025\t00040001\n"
 SCRIPT = b"file a 414243\nget a octet\nput n netascii 0D0A blksize=8\nsettle 0\n"
 CONTENT = b"fortytwo"
-SAID = r"(tftp-show: |tftp-play: |tftp: |error: )?out of memory\n|tftp: Memory\n(tftp: [^\n]+\n)?"
-# another refusal, as of a file that could not be opened
-OTHER = r"(tftp-show|tftp-play|tftp|error|script|output|svg|line \d+): [^\n]+\n(tftp[a-z-]*: [^\n]+\n)?"
-# what tftp-play prints of an event or a commit that was refused, and goes on
-EVENT = r"refused Memory|#\d+ \S+ > \S+ ERROR 3 \(.*\)"
+# The kinds of ends: a letter, the status, and what is written to standard error. NAME is the program, FILE the local file.
+# Of F and T the system refused a call on the file, since the C library had no memory for it.
+KINDS = [
+    ("S", 2, "NAME: out of memory\n"), ("U", 2, "error: out of memory\n"), ("O", 2, "out of memory\n"),
+    ("M", 2, "tftp: Memory\n"), ("F", 2, "tftp: file fault\ntftp: FILE: another error\n"),
+    ("T", 1, "tftp: StoreFault\ntftp: FILE: another error\n"),
+]
+# and of what goes on: all as with ample memory, and an event or a commit that was refused, as tftp-play prints it
+WHOLE, EVENT, COMMIT = "W", "E", "C"
+REFUSED = {EVENT: r"refused Memory", COMMIT: r"#\d+ \S+ > \S+ ERROR 3 \(disk full\)"}
 
 
-def goes_on(found: tuple[int, str, str, int], printed: str) -> bool:
-    """Whether a script went on behind what was refused for want of memory: all before it is as with ample memory."""
-    pairs = zip(found[1].splitlines(), printed.splitlines())
-    first = next((ours for ours, whole in pairs if ours != whole), "")
-    return found[0] in (0, 1) and not found[2] and bool(re.fullmatch(EVENT, first))
+class Command(NamedTuple):
+    """A program with its words and its input, and the kinds of its refused requests, in order."""
+    program: str
+    words: list[str]
+    given: bytes
+    kinds: str
+    file: str = ""
+
+
+class End(NamedTuple):
+    """What came of a run: its status and what it wrote."""
+    status: int
+    printed: str
+    errors: str
 
 
 def answer_to(datagram: bytes) -> Optional[bytes]:
@@ -48,62 +65,95 @@ def answer_to(datagram: bytes) -> Optional[bytes]:
     return {b"\0\1": data(1, CONTENT), b"\0\2": ack(0), b"\0\3": ack(1)}.get(datagram[:2])
 
 
-class Trial:
-    """A command, what it is given, and what it prints with ample memory."""
+def kind_of(command: Command, end: End, ample: End) -> str:
+    """The letter of a run, or `?`."""
+    if end == ample:
+        return WHOLE
+    for kind, status, errors in KINDS:
+        wanted = errors.replace("NAME", command.program).replace("FILE", command.file)
+        if (end.status, end.errors) == (status, wanted) and ample.printed.startswith(end.printed):
+            return kind
+    # (one event alone; its line takes the place of those that it has with ample memory)
+    lines = end.printed.splitlines()
+    first = next((ours for ours, other in zip_longest(lines, ample.printed.splitlines()) if ours != other), None)
+    refused = [line for line in lines if any(re.fullmatch(words, line) for words in REFUSED.values())]
+    is_open = any(re.match(r"end \d+ client-.* complete=no ", line) for line in lines)
+    if command.program == "tftp-play" and not end.errors and refused == [first] and end.status == int(is_open):
+        return next(kind for kind, words in REFUSED.items() if re.fullmatch(words, refused[0]))
+    return "?"
 
-    def __init__(self, path: str, words: list[str], given: bytes, folder: Path, counter: Path) -> None:
-        self.words, self.given, self.folder, self.counter = [path, *words], given, folder, counter
-        self.local = folder / "local"
-        self.name = " ".join([Path(path).name, *(word for word in words if ":" not in word)])
 
-    def ran(self, refused: int) -> tuple[int, str, str, int]:
-        """Its status, what it wrote, and how many requests it made."""
+class Trials:
+    """The runs of the programs at these paths, in a folder."""
+
+    def __init__(self, paths: dict[str, str], folder: Path) -> None:
+        self.paths, self.folder, self.counter = paths, folder, compiled(folder)
+        self.local, self.part = folder / "local", folder / "local.part"
+        (folder / "abc").write_bytes(b"ABC")
+
+    def ran(self, command: Command, refused: int) -> tuple[End, int]:
+        """How a command ends without that request, and how many it made."""
         self.local.unlink(missing_ok=True)
-        (self.folder / "local.part").unlink(missing_ok=True)
+        self.part.unlink(missing_ok=True)
         env = {"LD_PRELOAD": str(self.counter), "REFUSED": str(refused), "FROM_START": "1", "FROM_OUTPUT": "1"}
-        done = subprocess.run(self.words, env=env, input=self.given, cwd=self.folder, capture_output=True, timeout=PATIENCE)
+        words = [self.paths[command.program], *command.words]
+        done = subprocess.run(words, env=env, input=command.given, cwd=self.folder, capture_output=True, timeout=PATIENCE)
         errors = done.stderr.decode()
         counts = re.search(r"counted (\d+) refused \d+\n\Z", errors)
         if not counts:
-            sys.exit(f"out of memory: {self.name}: with request {refused} refused, status {done.returncode}: {errors}")
-        return done.returncode, done.stdout.decode(), errors[:counts.start()], int(counts[1])
+            sys.exit(f"out of memory: {command.words}: with request {refused} refused, status {done.returncode}: {errors}")
+        return End(done.returncode, done.stdout.decode(), errors[:counts.start()]), int(counts[1])
 
-    def run(self) -> tuple[int, int, int]:
-        """How many requests there are, after how many it says so, and how many were wrong."""
-        status, printed, errors, count = self.ran(0)
-        if errors or status > 1:
-            sys.exit(f"out of memory: {self.name}: with ample memory status {status}: {errors}")
-        said = wrong = 0
+    def has_right_files(self, kind: str) -> bool:
+        """Whether a local file is whole or not there, and its draft there only where it could not be stored or named."""
+        is_whole = not self.local.exists() or self.local.read_bytes() == CONTENT
+        return is_whole and (kind == "T" or not self.part.exists())
+
+    def tried(self, command: Command) -> tuple[str, int]:
+        """The kinds of all refused requests of a command, and how many are wrong."""
+        name = " ".join([command.program, *(word for word in command.words if ":" not in word)])
+        ample, count = self.ran(command, 0)
+        if ample.errors or ample.status > 1:
+            sys.exit(f"out of memory: {name}: with ample memory {ample}")
+        if not count:
+            print(f"out of memory: {name}: skipped: it is compiled with checks")
+            return "", 0
+        kinds, wrong = "", 0
         for refused in range(1, count + 1):
-            found = self.ran(refused)
-            is_said = found[0] == 2 and re.fullmatch(SAID, found[2]) and printed.startswith(found[1])
-            is_whole = not self.local.exists() or self.local.read_bytes() == CONTENT
-            said += bool(is_said)
-            is_refused = found[0] in (1, 2) and re.fullmatch(OTHER, found[2]) and printed.startswith(found[1])
-            is_refused = is_refused or self.name.startswith("tftp-play") and goes_on(found, printed)
-            if not (is_said or is_refused or found[:3] == (status, printed, "")) or not is_whole:
+            end, _ = self.ran(command, refused)
+            kind = kind_of(command, end, ample)
+            kinds += kind
+            if kind == "?" or not self.has_right_files(kind):
                 wrong += 1
-                print(f"out of memory: {self.name}: request {refused} of {count}: {found[:3]}")
-        return count, said, wrong
+                print(f"out of memory: {name}: request {refused} of {count}: {end}, {sorted(self.folder.iterdir())}")
+        if not re.fullmatch(command.kinds, kinds):
+            wrong += 1
+            print(f"out of memory: {name}: the kinds {kinds} are not {command.kinds}")
+        return kinds, wrong
+
+
+def commands(server: str) -> list[Command]:
+    return [
+        Command("tftp-show", [], LINES, "S+U+S+"),
+        Command("tftp-show", ["--flow"], FLOW, "S+U+S+"),
+        Command("tftp-play", [], SCRIPT, "S+OU+O[OWE]+[SOWEC]+"),
+        Command("tftp", ["get", server, "a", "local", "--no-dally"], b"", "S+U+F+M+ST", "local"),
+        Command("tftp", ["put", server, "abc", "a"], b"", "S+U+FM+SW", "abc"),
+    ]
 
 
 def main() -> int:
     if len(sys.argv) not in (1, 4):
         sys.exit(__doc__)
-    paths, server, failed = programs(NAMES, sys.argv[1:]), Answerer(HOST, answer_to), 0
+    failed = 0
     with tempfile.TemporaryDirectory(prefix="out-of-memory-") as room:
-        folder = Path(room)
-        counter = compiled(folder)
-        (folder / "abc").write_bytes(b"ABC")
-        trials: list[tuple[str, list[str], bytes]] = [
-            ("tftp-show", [], LINES), ("tftp-show", ["--flow"], FLOW), ("tftp-play", [], SCRIPT),
-            ("tftp", ["get", server.word, "a", "local", "--no-dally"], b""), ("tftp", ["put", server.word, "abc", "a"], b""),
-        ]
-        for name, words, given in trials:
-            count, said, wrong = Trial(paths[name], words, given, folder, counter).run()
-            print(f"out of memory: {name} {' '.join(words[:1])}: {count} requests, each refused in turn: {said} times it "
-                  f"says so, {wrong} wrong", flush=True)
-            failed += wrong + (said == 0)
+        trials = Trials(programs(NAMES, sys.argv[1:]), Path(room))
+        for command in commands(Answerer(HOST, answer_to).word):
+            kinds, wrong = trials.tried(command)
+            counts = ", ".join(f"{kinds.count(kind)} {kind}" for kind in sorted({*kinds}))
+            print(f"out of memory: {command.program} {' '.join(command.words[:1])}: {len(kinds)} requests, each refused in "
+                  f"turn: {counts}; {wrong} wrong", flush=True)
+            failed += wrong
     return 1 if failed else 0
 
 

@@ -18,6 +18,7 @@ sys.path[:0] = [str(TOOLS), str(TOOLS / "soak")]
 import faults
 import hostile
 import lossy
+import out_of_memory
 import raw
 import statuses
 from lib import process, programs
@@ -93,6 +94,29 @@ class Others(Stand):
         with mock.patch.object(process, "PATIENCE", 1), self.assertRaisesRegex(Failure, "no line"):
             with statuses.serving(check):
                 pass
+
+
+class OutOfMemory(unittest.TestCase):
+    """What a program says, and prints, when a request for memory is refused."""
+
+    def kind(self, program: str, end: out_of_memory.End, ample: str = "a\nb\n") -> str:
+        return out_of_memory.kind_of(out_of_memory.Command(program, [], b"", "", "local"), end, out_of_memory.End(0, ample, ""))
+
+    def test_it_says_so(self) -> None:
+        self.assertEqual(self.kind("tftp", out_of_memory.End(2, "a\n", "tftp: out of memory\n")), "S")
+        self.assertEqual(self.kind("tftp", out_of_memory.End(1, "", "tftp: StoreFault\ntftp: local: another error\n")), "T")
+
+    def test_other_words_statuses_and_outputs(self) -> None:
+        for status, printed, errors in [(2, "", "tftp: no memory\n"), (1, "", "tftp: out of memory\n"), (0, "a\n", ""),
+                                        (2, "b\n", "tftp: out of memory\n"), (2, "", "tftp-show: out of memory\n"), (2, "", "")]:
+            self.assertEqual(self.kind("tftp", out_of_memory.End(status, printed, errors)), "?", (status, printed, errors))
+
+    def test_a_script_goes_on(self) -> None:
+        ends = "end 1024 client-read peer=none size=512 number=0 complete=no open\n"
+        for status, printed, kind in [(1, f"a\nrefused Memory\n{ends}", "E"), (0, f"a\nrefused Memory\n{ends}", "?"),
+                                      (0, "a\nrefused Memory\n", "E"), (0, "refused Memory\nrefused Memory\n", "?"),
+                                      (0, "c\nrefused Memory\n", "?"), (0, "a\n", "?")]:
+            self.assertEqual(self.kind("tftp-play", out_of_memory.End(status, printed, "")), kind, printed)
 
 
 class Loopback(Stand):
