@@ -435,15 +435,15 @@ def try_tcpdump(check) -> None:
         return
     for words in ([], ["-i", "any"]):
         where = words or ["-i", "lo"]
-        command = ["tcpdump", *where, "--immediate-mode", "-U", "-w", str(path), "-Z", "root", "udp", "and", "host", host]
+        command = ["timeout", str(PATIENCE), "tcpdump", *where, "--immediate-mode", "-U", "-w", str(path), "-Z", "root", "udp", "and", "host", host]
         dump = subprocess.Popen(command, stderr=subprocess.PIPE, text=True)
         if not any("listening on" in line for line in dump.stderr):
-            dump.wait()
+            dump.wait(PATIENCE)
             print(f"captures: tcpdump may not capture at {where[1]}: skipped")
             continue
         ports = say(host, path)
         dump.terminate()
-        dump.wait()
+        dump.wait(PATIENCE)
         status, output, errors = check.run(["--port", str(ports[1]), str(path)])
         both = 2 if words and output.count("RRQ") == 2 else 1
         wanted = "".join(line * both for line in LINES.splitlines(True)) if both == 2 else LINES
