@@ -43,6 +43,7 @@ service = record {
   ending = record { transfers = 2; rounds = 2 };
   longest = None;
   logs = false;
+  has_priority = false;
 }
 
 abbrev pub store : Stored
