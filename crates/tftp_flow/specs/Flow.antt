@@ -1,5 +1,5 @@
 -- The datagrams of a capture, each in one place: given to a transfer, or of none, or not read.
-use Rattle.std.specs.Prelude.{ℕ, ◌+◌, vec_len}
+use Rattle.std.specs.Prelude.{ℕ, ◌≡◌, ◌+◌, ◌&&◌, Bool, true, false, vec_len}
 use Rattle.std.specs.List.{sum_by}
 use Rattle.tftp_flow.specs.declared.flow.Flow.{Flow}
 use Rattle.tftp_flow.specs.declared.flow.Placed.{Placed}
@@ -21,3 +21,39 @@ added (Given index) = 1
 added Stray = 1
 added Unread = 1
 added Ignored = 0
+
+-- whether each datagram and each line so far was of a transfer, or not of TFTP
+abbrev pub is_whole : Flow → Bool
+is_whole flow = flow.whole
+
+-- the datagrams and lines that a flow has of no transfer
+abbrev pub apart_in : Flow → ℕ
+apart_in flow = vec_len flow.strays + vec_len flow.unread
+
+-- whether a datagram is of a transfer, or not of TFTP
+abbrev pub is_of_transfer : Placed → Bool
+is_of_transfer Begun = true
+is_of_transfer (Given index) = true
+is_of_transfer Stray = false
+is_of_transfer Unread = false
+is_of_transfer Ignored = true
+
+-- how many a datagram adds to those of no transfer
+abbrev pub added_apart : Placed → ℕ
+added_apart Begun = 0
+added_apart (Given index) = 0
+added_apart Stray = 1
+added_apart Unread = 1
+added_apart Ignored = 0
+
+-- what a datagram or a line changes of a flow, by where it was put
+pub record Adds (old new : Flow) (placed : Placed) : Type 0 where
+  pub lines : lines_in new ≡ lines_in old + added placed
+  pub apart : apart_in new ≡ apart_in old + added_apart placed
+  pub whole : is_whole new ≡ (is_whole old && is_of_transfer placed)
+
+-- nothing is in another place than before
+pub record IsSameLines (old new : Flow) : Type 0 where
+  pub lines : lines_in new ≡ lines_in old
+  pub apart : apart_in new ≡ apart_in old
+  pub whole : is_whole new ≡ is_whole old

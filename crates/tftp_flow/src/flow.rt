@@ -1,7 +1,7 @@
 //! The transfers of a capture that are not over, and what belongs to none.
 
-ghost use Rattle.std.specs.Prelude.{◌≡◌, ◌+◌, ◌≤◌, ◌↔◌, IfOk, IsTrue, OnErr, OnOk, vec_len};
-ghost use Rattle.tftp_flow.specs.Flow.{added, lines_in};
+ghost use Rattle.std.specs.Prelude.{◌≡◌, ◌<◌, ◌≤◌, ◌↔◌, true, IfOk, IsSome, OnErr, vec_len};
+ghost use Rattle.tftp_flow.specs.Flow.{Adds, IsSameLines, is_whole, lines_in};
 
 mod choice;
 mod event;
@@ -28,6 +28,7 @@ pub use report::{Ended, Opened};
 pub use seen::{Seen, Spot, show_seen};
 use std::alloc::{AllocError, Global};
 use std::net::SocketAddrV4;
+use tftp_diagram::Diagram;
 pub use transfer::{Aside, Ending, Transfer, Why};
 
 /// The most transfers of one client's endpoint that a datagram is looked for in.
@@ -49,9 +50,11 @@ pub struct Flow {
     /// The requests so far.
     begun: u64,
     /// The newest moment.
-    now: Moment,
+    newest: Moment,
     /// The second in which transfers that are over were looked for.
     looked: u64,
+    /// Whether each datagram and each line was of a transfer, or ignored.
+    whole: bool,
 }
 
 /// A datagram of no transfer.
@@ -95,7 +98,8 @@ impl Flow {
     /// A capture of which nothing was read. With a port a request is one to this port, and what is
     /// neither of a transfer nor from or to this port is ignored; with none all is TFTP.
     pub fn new(alloc: Global, port: Option<u16>) -> Flow
-        ensures { lines_in result ≡ 0 }
+        ensures lines { lines_in result ≡ 0 }
+        ensures whole { is_whole result ≡ true }
     {
         Flow {
             alloc,
@@ -105,8 +109,9 @@ impl Flow {
             index: Index::new(alloc),
             port,
             begun: 0,
-            now: Moment::of_micros(0),
+            newest: Moment::of_micros(0),
             looked: 0,
+            whole: true,
         }
     }
 
@@ -115,9 +120,8 @@ impl Flow {
     ///
     /// It fails only when out of memory, and the line is then in none of these.
     pub fn add_line(&mut self, number: u64, text: &[u8]) -> Result<Placed, AllocError>
-        ensures ok { IfOk result (λ placed.
-            lines_in self.new ≡ lines_in self.old + added placed) }
-        ensures err { OnErr result (lines_in self.new ≡ lines_in self.old) }
+        ensures ok { IfOk result (λ placed. Adds self.old self.new placed) }
+        ensures err { OnErr result (IsSameLines self.old self.new) }
     {
         match read_fields(self.alloc, text)? {
             Ok(line) => self.add_seen(&Seen {
@@ -136,11 +140,10 @@ impl Flow {
     ///
     /// It fails only when out of memory, and the datagram is then in none of these.
     pub fn add_seen(&mut self, seen: &Seen<'_>) -> Result<Placed, AllocError>
-        ensures ok { IfOk result (λ placed.
-            lines_in self.new ≡ lines_in self.old + added placed) }
-        ensures err { OnErr result (lines_in self.new ≡ lines_in self.old) }
+        ensures ok { IfOk result (λ placed. Adds self.old self.new placed) }
+        ensures err { OnErr result (IsSameLines self.old self.new) }
     {
-        self.now = self.now.later(seen.at);
+        self.newest = self.newest.later(seen.at);
         let what = What::of(seen.bytes, seen.length);
         match self.place_of(seen, what) {
             Some(place) => self.give(place, seen, what),
@@ -150,14 +153,33 @@ impl Flow {
         }
     }
 
+    /// Whether each datagram and each line so far was of a transfer, or ignored: none was a stray,
+    /// or was not read, even if the lists of these were emptied since.
+    pub fn is_whole(&self) -> bool
+        ensures { result ≡ is_whole self.now }
+    {
+        self.whole
+    }
+
+    /// The picture of a transfer, by its index; none if there is no such transfer.
+    pub fn diagram(&self, index: usize) -> Result<Option<Diagram>, AllocError>
+        ensures { IfOk result (λ diagram.
+            IsSome diagram ↔ (index < vec_len self.now.transfers)) }
+    {
+        match self.transfers.get(index) {
+            Some(transfer) => Ok(Some(transfer.diagram()?)),
+            None => Ok(None),
+        }
+    }
+
     /// Whether a second has passed since transfers that are over were dropped.
     pub fn is_due(&self) -> bool {
-        self.looked < self.now.second()
+        self.looked < self.newest.second()
     }
 
     /// Whether a transfer is over: it has been silent for its timeouts.
     pub fn is_over(&self, transfer: &Transfer) -> bool {
-        transfer.is_silent(self.now)
+        transfer.is_silent(self.newest)
     }
 
     /// Drops the transfers that are over.
@@ -165,8 +187,9 @@ impl Flow {
         ensures fewer { vec_len self.new.transfers ≤ vec_len self.old.transfers }
         ensures strays { self.new.strays ≡ self.old.strays }
         ensures unread { self.new.unread ≡ self.old.unread }
+        ensures whole { is_whole self.new ≡ is_whole self.old }
     {
-        let now = self.now;
+        let now = self.newest;
         self.looked = now.second();
         self.index.remove_silent(self.transfers.as_slice(), now);
         self.transfers.retain(|transfer| !transfer.is_silent(now));
@@ -223,9 +246,8 @@ impl Flow {
 
     /// Gives a datagram to a transfer.
     fn give(&mut self, place: Place, seen: &Seen<'_>, what: What) -> Result<Placed, AllocError>
-        ensures ok { IfOk result (λ placed.
-            lines_in self.new ≡ lines_in self.old + added placed) }
-        ensures err { OnErr result (lines_in self.new ≡ lines_in self.old) }
+        ensures ok { IfOk result (λ placed. Adds self.old self.new placed) }
+        ensures err { OnErr result (IsSameLines self.old self.new) }
     {
         match place.part {
             Part::Own(by) => self.give_own(place.index, seen, what, by),
@@ -241,9 +263,8 @@ impl Flow {
         what: What,
         by: Party,
     ) -> Result<Placed, AllocError>
-        ensures ok { IfOk result (λ placed.
-            lines_in self.new ≡ lines_in self.old + added placed) }
-        ensures err { OnErr result (lines_in self.new ≡ lines_in self.old) }
+        ensures ok { IfOk result (λ placed. Adds self.old self.new placed) }
+        ensures err { OnErr result (IsSameLines self.old self.new) }
     {
         let Some(transfer) = self.transfers.get_mut(index) else {
             return self.add_stray(seen);
@@ -259,9 +280,8 @@ impl Flow {
         seen: &Seen<'_>,
         what: What,
     ) -> Result<Placed, AllocError>
-        ensures ok { IfOk result (λ placed.
-            lines_in self.new ≡ lines_in self.old + added placed) }
-        ensures err { OnErr result (lines_in self.new ≡ lines_in self.old) }
+        ensures ok { IfOk result (λ placed. Adds self.old self.new placed) }
+        ensures err { OnErr result (IsSameLines self.old self.new) }
     {
         let Some(transfer) = self.transfers.get(index) else {
             return self.add_stray(seen);
@@ -272,9 +292,8 @@ impl Flow {
     }
 
     fn give_aside(&mut self, index: usize, seen: &Seen<'_>, why: Why) -> Result<Placed, AllocError>
-        ensures ok { IfOk result (λ placed.
-            lines_in self.new ≡ lines_in self.old + added placed) }
-        ensures err { OnErr result (lines_in self.new ≡ lines_in self.old) }
+        ensures ok { IfOk result (λ placed. Adds self.old self.new placed) }
+        ensures err { OnErr result (IsSameLines self.old self.new) }
     {
         let Some(transfer) = self.transfers.get_mut(index) else {
             return self.add_stray(seen);
@@ -284,9 +303,8 @@ impl Flow {
     }
 
     fn begin(&mut self, seen: &Seen<'_>, what: What) -> Result<Placed, AllocError>
-        ensures ok { IfOk result (λ placed.
-            lines_in self.new ≡ lines_in self.old + added placed) }
-        ensures err { OnErr result (lines_in self.new ≡ lines_in self.old) }
+        ensures ok { IfOk result (λ placed. Adds self.old self.new placed) }
+        ensures err { OnErr result (IsSameLines self.old self.new) }
     {
         let number = self.begun.saturating_add(1);
         let mut transfer = Transfer::new(self.alloc, number, seen, what)?;
@@ -298,9 +316,8 @@ impl Flow {
     }
 
     fn add_stray(&mut self, seen: &Seen<'_>) -> Result<Placed, AllocError>
-        ensures ok { IfOk result (λ placed.
-            lines_in self.new ≡ lines_in self.old + added placed) }
-        ensures err { OnErr result (lines_in self.new ≡ lines_in self.old) }
+        ensures ok { IfOk result (λ placed. Adds self.old self.new placed) }
+        ensures err { OnErr result (IsSameLines self.old self.new) }
     {
         let text = line_of(self.alloc, seen)?;
         self.strays.push(Stray {
@@ -309,15 +326,16 @@ impl Flow {
             to: seen.to,
             text,
         })?;
+        self.whole = false;
         Ok(Placed::Stray)
     }
 
     fn add_unread(&mut self, line: u64, fault: LineFault) -> Result<Placed, AllocError>
-        ensures ok { IfOk result (λ placed.
-            lines_in self.new ≡ lines_in self.old + added placed) }
-        ensures err { OnErr result (lines_in self.new ≡ lines_in self.old) }
+        ensures ok { IfOk result (λ placed. Adds self.old self.new placed) }
+        ensures err { OnErr result (IsSameLines self.old self.new) }
     {
         self.unread.push(Unread { line, fault })?;
+        self.whole = false;
         Ok(Placed::Unread)
     }
 }

@@ -1,4 +1,5 @@
 pub mod Data
 pub mod Digits
 pub mod Lines
+pub mod Outcome
 pub mod Show

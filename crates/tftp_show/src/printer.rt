@@ -1,5 +1,9 @@
 //! Prints the transfers of a capture as they begin, end and are over.
 
+ghost use Rattle.std.specs.Prelude.{◌≡◌, false, IfOk, IsSome};
+ghost use Rattle.tftp_flow.specs.Flow.{is_whole};
+ghost use Rattle.tftp_show.specs.Outcome.{whole_by};
+
 use crate::show::ShowFault;
 use crate::task::{Style, Task};
 use std::alloc::Global;
@@ -28,8 +32,8 @@ pub(crate) struct Printer<W> {
     flow: Flow,
     text: String,
     left_out: LeftOut,
-    /// Whether all was of a transfer, or a packet.
-    is_whole: bool,
+    /// Whether each line that was printed is that of a packet.
+    are_packets: bool,
     /// Whether a transfer ended that was not printed yet.
     has_ended: bool,
     /// Whether the transfer that alone is printed was there.
@@ -41,7 +45,9 @@ pub(crate) struct Printer<W> {
 /// How a run over a capture ended.
 #[derive(Drop)]
 pub(crate) struct Outcome {
+    /// Whether each datagram was as it should be: a packet, or of a transfer.
     pub(crate) is_whole: bool,
+    /// The picture of the transfer that is drawn.
     pub(crate) diagram: Option<Diagram>,
     /// The frame at which the capture could not be read on, and why.
     pub(crate) cut: Option<(u64, CaptureFault)>,
@@ -61,7 +67,7 @@ impl<W: Write> Printer<W> {
                 fragments: 0,
                 others: 0,
             },
-            is_whole: true,
+            are_packets: true,
             has_ended: false,
             is_found: false,
             diagram: None,
@@ -113,10 +119,13 @@ impl<W: Write> Printer<W> {
 
     /// Prints the transfers that are left, and what was left out. `cut` says where the capture could
     /// not be read on.
-    pub(crate) fn finish(
-        &mut self,
-        cut: Option<(u64, CaptureFault)>,
-    ) -> Result<Outcome, ShowFault> {
+    pub(crate) fn finish(&mut self, cut: Option<(u64, CaptureFault)>) -> Result<Outcome, ShowFault>
+        ensures whole { IfOk result (λ outcome. outcome.is_whole
+            ≡ whole_by self.new.task.style self.new.are_packets (is_whole self.new.flow)) }
+        ensures drawn { IfOk result (λ outcome.
+            IsSome self.new.task.drawn → IsSome outcome.diagram) }
+        ensures cut { IfOk result (λ outcome. outcome.cut ≡ cut) }
+    {
         for index in 0..self.flow.transfers.len() {
             self.print_last(index)?;
         }
@@ -124,16 +133,38 @@ impl<W: Write> Printer<W> {
             self.print_left_out()?;
         }
         self.output.flush()?;
-        let is_missing = (self.task.only.is_some() && !self.is_found)
-            || (self.task.drawn.is_some() && self.diagram.is_none());
-        if is_missing {
+        if self.is_missing() {
             return Err(ShowFault::NoTransfer);
         }
         Ok(Outcome {
-            is_whole: self.is_whole,
+            is_whole: self.is_whole(),
             diagram: self.diagram.take(),
             cut,
         })
+    }
+
+    /// Whether the transfer that alone is printed, or the one that is drawn, was not there.
+    fn is_missing(&self) -> bool
+        ensures { result ≡ false → IsSome self.now.task.drawn → IsSome self.now.diagram }
+    {
+        if self.task.only.is_some() && !self.is_found {
+            return true;
+        }
+        self.task.drawn.is_some() && self.diagram.is_none()
+    }
+
+    /// Whether each datagram was as it should be: a packet where packets are printed, and of a
+    /// transfer where transfers are.
+    fn is_whole(&self) -> bool
+        ensures { result
+            ≡ whole_by self.now.task.style self.now.are_packets (is_whole self.now.flow) }
+    {
+        match self.task.style {
+            Style::Packets => self.are_packets,
+            Style::Report => self.flow.is_whole(),
+            Style::Follow => self.flow.is_whole(),
+            Style::Json => self.flow.is_whole(),
+        }
     }
 
     fn leave_out(&mut self, fault: FrameFault) {
@@ -165,7 +196,7 @@ impl<W: Write> Printer<W> {
 
     fn print_packet(&mut self, seen: &Seen<'_>) -> Result<(), ShowFault> {
         self.text.clear();
-        self.is_whole &= show_seen(seen, &mut self.text)?;
+        self.are_packets &= show_seen(seen, &mut self.text)?;
         self.text.push('\n')?;
         self.output.write_all(self.text.as_bytes())?;
         Ok(())
@@ -214,9 +245,6 @@ impl<W: Write> Printer<W> {
 
     /// Prints the datagrams of no transfer, and the lines that are not read.
     fn print_others(&mut self) -> Result<(), ShowFault> {
-        if self.task.style != Style::Packets {
-            self.is_whole = false;
-        }
         if self.task.wants_others() {
             for unread in &self.flow.unread {
                 writeln!(self.output, "{unread}")?;
@@ -271,7 +299,7 @@ impl<W: Write> Printer<W> {
             return Ok(());
         };
         if self.task.drawn == Some(transfer.number) {
-            self.diagram = Some(transfer.diagram()?);
+            self.diagram = self.flow.diagram(index)?;
         }
         if !transfer.is_told() {
             return self.tell(index);

@@ -1,7 +1,8 @@
 //! The runs of `tftp-show` over a capture: lines or frames in, lines out, and a picture if there is
 //! to be one.
 
-ghost use Rattle.std.specs.Prelude.{◌≤◌};
+ghost use Rattle.std.specs.Prelude.{◌≡◌, ◌≤◌};
+ghost use Rattle.tftp_show.specs.Outcome.{outcome_status};
 
 use crate::printer::{Outcome, Printer};
 use crate::show::{LONGEST_LINE, ShowFault, read_line, show_reported};
@@ -144,8 +145,9 @@ fn begins_a_capture(head: &[u8]) -> bool {
 }
 
 impl Outcome {
+    /// The status, with a message for a capture that is cut short or damaged.
     fn status<E: Write>(&self, errors: &mut E) -> u8
-        ensures { result ≤ 1 }
+        ensures { result ≡ outcome_status self.now }
     {
         if let Some((frame, fault)) = self.cut {
             let _ = writeln!(errors, "tftp-show: frame {frame}: {fault}");

@@ -61,7 +61,7 @@ impl Place {
 impl Transfer {
     /// Its picture. Of a long transfer the first and the last datagrams are drawn, and those around
     /// one that was sent again.
-    pub fn diagram(&self) -> Result<Diagram, AllocError> {
+    pub(crate) fn diagram(&self) -> Result<Diagram, AllocError> {
         let mut picture = Picture::new(self.alloc(), self.title()?, self.summary()?);
         picture.add_ends(self)?;
         let rows = usize::from(MAX_ROWS).saturating_sub(self.asides.len());

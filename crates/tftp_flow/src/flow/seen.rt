@@ -1,5 +1,10 @@
 //! A datagram that was seen: where, when and between which endpoints.
 
+ghost use Rattle.std.specs.Prelude.{◌≡◌, ◌<◌, ◌≤◌, ◌++◌, ◌↔◌, IfOk, IsTrue, OnOk, is_none, length};
+ghost use Rattle.std.specs.String.{string_bytes};
+ghost use Rattle.tftp_wire.specs.Datagram.{datagram_shown};
+ghost use Rattle.tftp_wire.specs.Reading.{first_fault};
+
 use crate::flow::event::What;
 use crate::flow::moment::Moment;
 use std::alloc::{AllocError, Global};
@@ -54,14 +59,24 @@ pub struct Seen<'s> {
 
 impl Seen<'_> {
     /// Whether only the beginning of its payload was seen.
-    pub(crate) fn is_cut(&self) -> bool {
+    pub(crate) fn is_cut(&self) -> bool
+        ensures { IsTrue result ↔ (length self.now.bytes.now < self.now.length) }
+    {
         self.bytes.len() < self.length
     }
 }
 
 /// Appends the line of a datagram, and returns whether it is a packet. Of a DATA whose beginning
 /// alone was seen the line has the length that its header says.
-pub fn show_seen(seen: &Seen<'_>, out: &mut String) -> Result<bool, AllocError> {
+///
+/// It fails only when out of memory, with a beginning of the line in `out`, if any.
+pub fn show_seen(seen: &Seen<'_>, out: &mut String) -> Result<bool, AllocError>
+    ensures is_packet { seen.now.length ≤ length seen.now.bytes.now
+        → IfOk result (λ is_packet. is_packet ≡ is_none (first_fault seen.now.bytes.now)) }
+    ensures appended { seen.now.length ≤ length seen.now.bytes.now
+        → OnOk result (string_bytes out.new ≡ string_bytes out.old
+        ++ datagram_shown seen.now.bytes.now (first_fault seen.now.bytes.now)) }
+{
     if seen.is_cut() {
         if let Some((block, length)) = cut_data(seen) {
             write!(out, "DATA {block} {length}")?;
