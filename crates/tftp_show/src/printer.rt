@@ -298,13 +298,13 @@ impl<W: Write> Printer<W> {
         let Some(transfer) = self.flow.transfers.get(index) else {
             return Ok(());
         };
-        if self.task.drawn == Some(transfer.number) {
+        let (number, more, is_told) = (transfer.number, transfer.untold(), transfer.is_told());
+        if self.task.drawn == Some(number) {
             self.diagram = self.flow.diagram(index)?;
         }
-        if !transfer.is_told() {
+        if !is_told {
             return self.tell(index);
         }
-        let (number, more) = (transfer.number, transfer.untold());
         if more > 0 && self.task.style == Style::Report && self.task.wants(number) {
             writeln!(
                 self.output,
