@@ -1,11 +1,14 @@
 """The definitions of `crates/*/specs/*.antt`: their comments, their text, and what each of them names."""
 import re
+import sys
 from pathlib import Path
 from typing import NamedTuple, Union
 
 TOP = Path(__file__).resolve().parent.parent
-HEAD = re.compile(r"^( *)(?:unfoldable |opaque )?(?:pub )?(?:abbrev|record|data|def|let)\b(?: pub)? ([^\s:(\[{]+)")
-USED = re.compile(r"^use Rattle\.([\w.]+)\.\{(.*)\}")
+HEAD = re.compile(r"^( *)(?:(?:unfoldable |opaque )?(?:pub )?(?:abbrev|record|data|def|let)\b(?: pub)?"
+                  r"|(?:unfoldable|opaque) pub) ([^\s:(\[{]+)")
+CASE = re.compile(r"^  ([A-Z][\w']*) :")
+USED = re.compile(r"^(?:pub )?use Rattle\.([\w.]+)\.\{(.*)\}")
 WORD = re.compile(r"[A-Za-z_][\w']*")
 
 
@@ -24,9 +27,11 @@ class Definition(NamedTuple):
 
 
 class File(NamedTuple):
-    """A file's definitions by name, and for each name that it imports the place that it comes from."""
+    """A file's definitions by name, for each name that it imports the place that it comes from and its name there, and
+    the definition of each case of its data."""
     definitions: dict
     imports: dict
+    cases: dict
 
 
 def module_head(lines, at) -> tuple[str, int]:
@@ -39,7 +44,7 @@ def module_head(lines, at) -> tuple[str, int]:
 
 def read(crate, path) -> File:
     """The definitions and imports of a file."""
-    lines, definitions, imports = path.read_text().splitlines(), {}, {}
+    lines, definitions, imports, cases = path.read_text().splitlines(), {}, {}, {}
     modules, comment, at = [], [], 0
     while at < len(lines):
         line = lines[at]
@@ -50,7 +55,8 @@ def read(crate, path) -> File:
             modules = [each for each in modules if each[0] < indent]
         if used:
             for name in used[2].split(","):
-                imports[name.split(" as ")[-1].strip()] = used[1]
+                own, _, here = name.strip().partition(" as ")
+                imports[here or own] = (used[1], own)
         elif line.strip().startswith("module "):
             text, at = module_head(lines, at)
             modules.append((indent, text))
@@ -68,11 +74,13 @@ def read(crate, path) -> File:
             module = " ".join(each for _, each in modules)
             if name not in definitions:
                 definitions[name] = Definition(crate, path.stem, name, tuple(comment), module, text)
+            if re.search(r"\bdata\b", text[0]):
+                cases.update({found[1]: definitions[name] for found in map(CASE.match, text) if found})
             comment, at = [], end - 1
         else:
             comment = []
         at += 1
-    return File(definitions, imports)
+    return File(definitions, imports, cases)
 
 
 def belongs(line, indent, name) -> bool:
@@ -88,15 +96,23 @@ def all_files() -> dict[tuple[str, str], File]:
 
 
 def source_of(files, crate, file, word) -> Union[Definition, str, None]:
-    """The definition that a word means in a file, or the name of a type of the code, or None."""
+    """The definition that a word means in a file, or the name of a type of the code, or None for one of std."""
     here = files[crate, file]
-    if word in here.definitions:
-        return here.definitions[word]
-    place = here.imports.get(word)
-    if not place or place.startswith("std."):
-        return None
-    crate, _, rest = place.partition(".specs.")
+    found = here.definitions.get(word) or here.cases.get(word)
+    place, own = here.imports.get(word, ("", word))
+    if found or not place.startswith("tftp_"):
+        return found
+    other, _, rest = place.partition(".specs.")
     if rest.startswith("declared."):
-        return f"{crate}: {rest.removeprefix('declared.')}"
-    found = files.get((crate, rest.split(".")[0]))
-    return found.definitions.get(word) if found else None
+        return f"{other}: {rest.removeprefix('declared.')}"
+    there = files.get((other, rest.split(".")[0]))
+    # a file may pass on what it imports
+    found = there and source_of(files, other, rest.split(".")[0], own)
+    return resolved(found, f"{other}, {rest}", own)
+
+
+def resolved(found, place, word) -> Union[Definition, str]:
+    """What was found for a word; nothing found ends the program."""
+    if not found:
+        sys.exit(f"{place}: no definition of {word}")
+    return found

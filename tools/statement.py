@@ -1,11 +1,13 @@
 #!/usr/bin/env python3
 """Writes docs/STATEMENT.md, the headlines and all that they stand on, from the definitions in `crates/*/specs`.
 
-statement.py --write writes the document; without a word it is compared, and the status is 1 where it differs.
+statement.py --write writes the document; without a word it is compared, and the status is 1 where it differs. A name
+that is not found ends it, and so does an explanation that no definition needs.
 """
+import re
 import sys
 from textwrap import wrap
-from typing import Any
+from typing import Any, Iterator, NamedTuple
 
 from specs import TOP, all_files, source_of
 
@@ -19,55 +21,102 @@ a public function with an empty body.
 
 **Notation.** `A → B` is "if A then B", and before a value "for all"; `×` is "and", or "there is" before a name; `⊎` is
 "or"; `≡` is "equals", `≢` "differs from". `[]` is the empty list, `x ∷ xs` a list with a first element, `++` joins.
-`Some` and `None` are those of Rust; `slice_get xs k` is the element of a list at an index, if there is one. A `record`
-has fields, a `data` has cases; `module _ (x : A) where` gives `x` to the definitions indented below it. Numbers and
-lists have no bound. Names of types of the code (`Side`, `Mode`, `Outcome`) are those of the crates.
+`Some` and `None` are those of Rust; `slice_get xs k` is the element of a list at an index, if there is one, and
+`Contains xs x` says that it has x. A `record` has fields, a `data` has cases; `record r { a = b }` is r with that a;
+`module _ (x : A) where` gives `x` to the definitions indented below it. Numbers and lists have no bound. Names of types
+of the code (`Side`, `Mode`, `Outcome`) are those of the crates. What is not spelled out has a line in brackets at its
+first use.
 """
 
-# each headline: its title, where it stands, what it says, and the definitions that stay opaque, with who concludes them
+
+class Headline(NamedTuple):
+    """A headline: where it stands, what it says, the types of the code that it shows, each with its file, and the
+    definitions that it explains in one line instead."""
+    title: str
+    crate: str
+    file: str
+    name: str
+    says: str
+    types: dict
+    explained: dict
+
+
+COMMANDS = {
+    # of the runs
+    "WordsConfigure": "the words name this folder, address, range of ports, limits and flags",
+    "WordsName": "the words name this job: its direction, server, names, mode and options",
+    "AskForText": "the words ask for the help or the version",
+    "IsServerOf": "a server with the limits of the configuration, which are valid, and no transfer",
+    "status_of": "0, or 2 for a fault; of a client's end, the number of its kind",
+    "EndsUnbound": "a fault of the request port, after which nothing was noted",
+    "IsBoundTo": "at this address, and at this port, or at any for 0",
+    "EndsBy": "without a fault so many transfers closed or waits are over, and with one the loop stopped for it",
+    "listening": "the line of the request port was printed",
+    "Does": "a step of the server's loop, by the tables of the standard: what it notes, and what it leaves",
+    "at_start": "the loop before its first step, with no transfer",
+    "tftpd_app": "the rules of the command line of `tftpd`",
+    "Timer": "the timer of a transfer, by its port",
+    "Completes": "a run of the job's end to its line, and what it did from then on; or two runs, if its options were "
+                 "refused",
+    "FailsTransfer": "a run of the job's end that stopped; or two",
+    "most_waits": "1,000,000 waits more than before",
+    # of the programs
+    "ClientRun": "the run of a client's end: each datagram received and handled, each wait, timeout and line",
+    "begun": "a client whose request was just sent",
+    "getting": "the end of a client that has sent this read request, to this server",
+    "putting": "the same of a write request",
+    "MayGet": "a valid read request",
+    "MayPut": "a valid write request, for a file whose blocks can be numbered",
+    "request_of": "the request for this name, with these options",
+    "State": "a client: its end, its clock and its journal",
+    "EndState": "an end, by its role (side, mode, length of its file) and its position",
+    "ServerState": "a server: its configuration, its store, and its transfers, each with its identifier",
+    "SourceMeaning": "the model of a source of bytes, which may say nothing",
+    "SinkMeaning": "the model of a sink, which may say nothing",
+    "StoreMeaning": "the model of a store, which may say nothing",
+    "moved_in": "what moved in a client's run: the block of each DATA that it sent, or the bytes that its sink was handed",
+    "moved_at": "the same of the transfer that a server's run opened at a place",
+    "came_if": "the transfer that opened, if this is its place",
+    "or_before": "the later of both, if there is one",
+    "record_of": "the record of an end: its side, peer, block size, number, whether it is complete, its outcome",
+    "is_complete": "whether an end in this phase is complete",
+    "goes_on": "neither complete nor closed",
+    "wire_text": "the bytes as they are sent: in netascii a line end as CR LF, a CR as CR NUL",
+    "at": "the transfer at an identifier",
+    "Spells": "the bytes are this packet's, whatever the case of the mode's letters",
+    "path_of_name": "the path that a name means, without a leading slash; or the fault of the name",
+    "IsBlockSize": "a number from 8 to 65,464",
+}
+
+WORLD = {
+    "IsBlockSize": "a number from 8 to 65,464",
+    "end_record": "the record of an end, as above",
+    "OpenEnd": "an open end, with its address, path, file, and what it has stored",
+    "ClosedEnd": "a closed one",
+    "WorldStep": "one event of a world, by the tables of the standard; `World::apply` ensures it (clause `steps`)",
+}
+
 HEADLINES = [
-    ("A world", "tftp_player", "WorldRuns", "WorldsAreSafe",
-     "One server, any clients and a network that loses, repeats and reorders datagrams, after every list of events. The "
-     "law is `tftp_player::laws::every_world_is_safe`.",
-     {"IsBlockSize": "a number from 8 to 65,464",
-      "end_record": "the record of an end: its side, peer, block size, number, whether it is complete, its outcome",
-      "OpenEnd": "an open end, with its address, path, file, and what it has stored", "ClosedEnd": "a closed one",
-      "WorldStep": "one event of a world, by the tables of the standard; `World::apply` ensures it (clause `steps`), and "
-                   "this law assumes it"}),
-    ("Programs", "tftp_promises", "Joined", "ProgramsKeepAnyFiles",
-     "One server and any clients as programs, over any store and any files, by what their journals note. The law is "
-     "`tftp_promises::laws::programs_keep_promises`, its clause `any_files`. By `each_client_keeps_promises` there it "
-     "also holds of the server and each client apart, for which the other clients are strangers.",
-     {"Runs": "a run of a client's loop; `tftp_client::transfer` ensures it, and this law assumes it",
-      "ClientRun": "the whole run of a client's program; the parts of its loop ensure it, and this law assumes it",
-      "Run": "steps, one after another; `tftp_loop::serve` ensures such a run of the server's loop, and this law assumes "
-             "it", "Converses": "a client's run",
-      "ClientOpens": "a client's end at its request, which is valid",
-      "record_of": "the record of an end, as above", "is_complete": "whether an end is complete",
-      "terms_of": "the terms of an end, once its peer is known", "begun": "a client whose request was sent",
-      "ServerState": "a server", "Does": "a step of the server's loop",
-      "EndState": "an end, by its role and its position", "LoopState": "a server at its ports",
-      "TransferState": "a transfer that a server holds", "State": "a client with its journal",
-      "moved_in": "what moved in a client's run",
-      "place_at": "where the transfer is that a server's run opened last at a port: at the port; that of a stranger is at "
-                  "an endpoint that no other end of the run has",
-      "moved_at": "what moved in a server's run at the transfer of a place",
-      "opened_at": "the transfer that a server's run opened at a place",
-      "HasClosed": "the run closed this transfer of this port, which was at this place",
-      "server_ports": "the port of a server's requests, and those of the transfers that its run opened for clients of the "
-                      "network",
-      "QuietEvent": "what a program learns of its sockets without a datagram: that a receive found nothing or failed, that "
-                    "a wait began or ended, that no socket could be bound",
-      "at": "the transfer at an identifier", "goes_on": "neither complete nor closed",
-      "wire_text": "the bytes as they are sent: in netascii a line end as CR LF, a CR as CR NUL",
-      "SourceMeaning": "the model of a source, which may say nothing",
-      "SinkMeaning": "the model of a sink, which may say nothing",
-      "StoreMeaning": "the model of a store, which may say nothing"}),
+    Headline(
+        "Command lines", "tftp_words", "WordsKept", "WordsKeepAnyFiles",
+        "`tftpd` ran these words and noted this, each `tftp` ran those and noted that, and a network joined them: then the "
+        "transfers keep their promises, over any store and any files. The law is `tftp_words::laws::words_keep_promises`. "
+        "Its premises on the runs are the clauses `runs` of `tftp_daemon::tftpd_with_journal` and "
+        "`tftp_client::tftp_with_journal`. For programs of any start, as these are, it is the clause `any_files` of "
+        "`tftp_promises::laws::programs_keep_promises`; by `each_client_keeps_promises` there it also holds of the server "
+        "and each client apart, for which the other clients are strangers.",
+        {}, COMMANDS),
+    Headline(
+        "A world", "tftp_player", "WorldRuns", "WorldsAreSafe",
+        "The same in memory: one server, any clients and a network that loses, repeats and reorders datagrams, after every "
+        "list of events. The law is `tftp_player::laws::every_world_is_safe`. `Event` is the one of `tftp_player` here, and "
+        "not that of a journal.",
+        {"Event": "tftp_player/src/event.rt"}, WORLD),
 ]
 
 
-def needed(files, root, opaque, shown) -> list[Any]:
-    """The definitions that this one needs, each after those that it needs, and those that stay opaque."""
+def needed(files, root, explained, shown) -> list[Any]:
+    """The definitions that this one needs, each after those that it needs, but what those that are explained need."""
     order = []
 
     def visit(definition) -> None:
@@ -75,7 +124,7 @@ def needed(files, root, opaque, shown) -> list[Any]:
         if key in shown:
             return
         shown.add(key)
-        if definition.name not in opaque:
+        if definition.name not in explained:
             for word in sorted(definition.words()):
                 found = source_of(files, definition.crate, definition.file, word)
                 if found and not isinstance(found, str):
@@ -108,7 +157,17 @@ def by_file(files, definitions) -> list[Any]:
     return order
 
 
-def shown_text(definitions) -> list[str]:
+def explanations(files, definition, explained, told) -> Iterator[str]:
+    """A line for each word that is explained and that this definition is the first to use."""
+    for word in sorted(definition.words()):
+        source = source_of(files, definition.crate, definition.file, word)
+        if source and not isinstance(source, str) and source.name in explained and source.name not in told:
+            told.add(source.name)
+            yield from wrap(f"-- [{source.name}: {explained[source.name]}]", 100, subsequent_indent="--  ",
+                            break_on_hyphens=False)
+
+
+def shown_text(files, definitions, explained, told) -> list[str]:
     """The definitions as one text, with their file and the module that they stand in, where these change."""
     lines, place, module = ["```"], None, ""
     for each in definitions:
@@ -120,18 +179,36 @@ def shown_text(definitions) -> list[str]:
             head = module.replace(" module _", "") + " where"
             lines += wrap(head, 100, subsequent_indent="    ", break_on_hyphens=False) if module else []
         margin = "  " if module else ""
-        lines += [f"{margin}{line}".rstrip() for line in (*(f"-- {line}" for line in each.comment), *each.text)] + [""]
+        lines += [f"{margin}{line}" for line in explanations(files, each, explained, told)]
+        comment = [f"-- {line}" for line in each.comment if not line.startswith("---- ")]
+        lines += [f"{margin}{line}".rstrip() for line in (*comment, *each.text)] + [""]
+    unused = sorted(set(explained) - told)
+    if unused:
+        sys.exit(f"statement.py: explained, and not needed: {', '.join(unused)}")
     return [*lines[:-1], "```", ""]
+
+
+def type_text(name, path) -> list[str]:
+    """A type of the code, as it stands there."""
+    found = re.search(rf"^pub (?:enum|struct) {name} \{{\n.*?^\}}", (TOP / "crates" / path).read_text(), re.M | re.S)
+    if not found:
+        sys.exit(f"statement.py: no {name} in {path}")
+    return ["```rust", f"// {path}", *found[0].splitlines(), "```", ""]
 
 
 def document() -> str:
     files, shown, lines = all_files(), set(), [HEAD]
-    for title, crate, file, name, says, opaque in HEADLINES:
-        definitions = needed(files, files[crate, file].definitions[name], opaque, shown)
-        lines += [f"## {title}", "", *wrap(says, 120), ""]
-        names = "; ".join(f"`{name}`, {opaque[name]}" for name in opaque)
-        lines += [*wrap(f"Not spelled out here: {names}.", 120, break_on_hyphens=False), ""]
-        lines += shown_text(by_file(files, [each for each in definitions if each.name not in opaque]))
+    for each in HEADLINES:
+        root = files[each.crate, each.file].definitions[each.name]
+        definitions = needed(files, root, each.explained, shown)
+        lines += [f"## {each.title}", "", *wrap(each.says, 120, break_on_hyphens=False), ""]
+        told: set[str] = set()
+        lines += ["```", *explanations(files, root, each.explained, told), *(f"-- {line}" for line in root.comment),
+                  *root.text, "```", "", "What its words mean:", ""]
+        for name, path in each.types.items():
+            lines += type_text(name, path)
+        below = [it for it in definitions if it.name not in each.explained and it != root]
+        lines += shown_text(files, by_file(files, below), each.explained, told)
     return "\n".join(lines).rstrip() + "\n"
 
 

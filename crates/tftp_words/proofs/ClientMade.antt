@@ -1,0 +1,201 @@
+-- What a `tftp` did for its words is what some programs did: none, one, or two where its options were refused.
+use Rattle.std.proofs.Common.{◌≡◌, ℕ, List, [], ◌∷◌, ◌++◌, refl, ap, ◌∙◌, subst, inl, inr}
+use Rattle.std.specs.List.{AllByRecursion}
+use Rattle.tftp_negotiate.specs.declared.known.Kind.{Kind}
+use Rattle.tftp_negotiate.specs.declared.known.Kind.TheVariants.{Read, Write}
+use Rattle.tftp_file.specs.Sink.{SinkMeaning}
+use Rattle.tftp_file.specs.Source.{SourceMeaning}
+use Rattle.tftp_file.specs.declared.files.Files.{Files}
+use Rattle.tftp_file.specs.declared.files.Files.TheVariants.{Source, Sink}
+use Rattle.tftp_file.specs.declared.length.TheConstants.{MAX_WIRE}
+use Rattle.tftp_ends.specs.End.{EndState}
+use Rattle.tftp_ends.specs.Opening.{getting, putting}
+use Rattle.tftp_ends.specs.declared.endpoint.Endpoint.{Endpoint}
+use Rattle.tftp_lines.specs.declared.client_outcome.ClientOutcome.{ClientOutcome}
+use Rattle.tftp_lines.specs.declared.client_outcome.ClientOutcome.TheVariants as ends
+use Rattle.tftp_sockets.specs.Journal.{Event}
+use Rattle.tftp_client.specs.Converses.{State, most_waits}
+use Rattle.tftp_client.specs.Ordered.{RunsOrder, RunsWords}
+use Rattle.tftp_client.specs.Runs.{Completes, FailsBy, FailsTransfer, IsFileOf, MayOpen, RunsAs, StaysOn, measured}
+use Rattle.tftp_client.specs.Runs.{opens, plain, printed}
+use Rattle.tftp_client.specs.Words.{WordsName}
+use Rattle.tftp_promises.specs.ClientPrograms.{ClientsArePrograms, IsClientRun}
+use Rattle.tftp_promises.specs.Programs.{ClientOpens, ClientProgram, To_read, To_write, name_of}
+use Rattle.tftp_words.specs.Ran.{AreRunsOf, ClientRan, IsRunOf, Job, NotedBy, side_of}
+
+module _ {G K : Type 0} (inputs : SourceMeaning G) (outputs : SinkMeaning K) {to : Endpoint} where
+  -- the end of a job opens to this server
+  abbrev job_opens : (kind : Kind) (job : Job) (length : ℕ) (file : Files G K) → job.server ≡ to → MayOpen kind job length →
+      IsFileOf inputs outputs kind file → ClientOpens inputs outputs to (opens kind job length) file
+  job_opens Read job length (Sink sink) there may side = To_read (record {
+    name = job.name.now;
+    mode = job.mode;
+    asked = job.asked;
+    limit = MAX_WIRE;
+    retries = job.retries;
+    may = may;
+    is = ap (λ (a : Endpoint). getting a job.name.now job.mode job.asked MAX_WIRE job.retries) there;
+    sink = sink;
+    is_file = refl;
+  })
+  job_opens Write job length (Source source) there may side = To_write (record {
+    name = job.name.now;
+    mode = job.mode;
+    asked = measured job.asked length;
+    length = length;
+    limit = MAX_WIRE;
+    retries = job.retries;
+    may = may;
+    is =
+        ap (λ (a : Endpoint). putting a job.name.now job.mode (measured job.asked length) length MAX_WIRE job.retries)
+        there;
+    source = source;
+    is_file = refl;
+  })
+  job_opens Read job length (Source source) there may side = absurd side
+  job_opens Write job length (Sink sink) there may side = absurd side
+
+  its_name : (kind : Kind) (job : Job) (length : ℕ) (file : Files G K) (there : job.server ≡ to)
+      (may : MayOpen kind job length) (side : IsFileOf inputs outputs kind file) →
+      name_of (job_opens kind job length file there may side) ≡ job.name.now
+  its_name Read job length (Sink sink) there may side = refl
+  its_name Write job length (Source source) there may side = refl
+  its_name Read job length (Source source) there may side = absurd side
+  its_name Write job length (Sink sink) there may side = absurd side
+
+module _ {G K : Type 0} {inputs : SourceMeaning G} {outputs : SinkMeaning K} {to : Endpoint} where
+  -- one run after another
+  noted_then : (before middle after : List Event) (clients more : List (ClientProgram inputs outputs to)) →
+      NotedBy before clients middle → NotedBy middle more after → NotedBy before (clients ++ more) after
+  noted_then before middle after [] more same noted =
+      subst (λ (events : List Event). NotedBy events more after) same noted
+  noted_then before middle after (client ∷ clients) more noted then =
+      (noted.0, noted_then (client.noted ++ before) middle after clients more noted.1 then)
+
+  both : (P : ClientProgram inputs outputs to → Type 0) (clients more : List (ClientProgram inputs outputs to)) →
+      AllByRecursion P clients → AllByRecursion P more → AllByRecursion P (clients ++ more)
+  both P [] more h k = k
+  both P (client ∷ clients) more h k = (h.0, both P clients more h.1 k)
+
+job_mode : (kind : Kind) (job : Job) (length : ℕ) → (opens kind job length).role.mode ≡ job.mode
+job_mode Read job length = refl
+job_mode Write job length = refl
+
+job_side : (kind : Kind) (job : Job) (length : ℕ) → (opens kind job length).role.side ≡ side_of kind
+job_side Read job length = refl
+job_side Write job length = refl
+
+module _ {G K : Type 0} {inputs : SourceMeaning G} {outputs : SinkMeaning K}
+    (are_programs : ClientsArePrograms inputs outputs) (ran : ClientRan inputs outputs) (to : Endpoint) where
+  -- programs that noted what leads from the one journal to the other
+  record Made (before after : List Event) : Type 0 where
+    clients : List (ClientProgram inputs outputs to)
+    noted : NotedBy before clients after
+    each : AllByRecursion (IsRunOf ran) clients
+
+  made_none : {before after : List Event} → after ≡ before → Made before after
+  made_none same = record { clients = []; noted = same; each = tt }
+
+  made_both : {before middle after : List Event} → Made before middle → Made middle after → Made before after
+  made_both {before} {middle} {after} first then = record {
+    clients = first.clients ++ then.clients;
+    noted = noted_then before middle after first.clients then.clients first.noted then.noted;
+    each = both (IsRunOf ran) first.clients then.clients first.each then.each;
+  }
+
+  module _ (job : Job) (named : WordsName ran.words job) (there : job.server ≡ to) where
+    -- the run of an end of the job, with these options
+    module _ (tried : Job) (name : tried.name.now ≡ job.name.now) (mode : tried.mode ≡ job.mode)
+        (kind : tried.kind ≡ job.kind) (server : tried.server ≡ to) where
+      made_one : {before after : List Event} (length : ℕ) (file : Files G K) (may : MayOpen tried.kind tried length)
+          (side : IsFileOf inputs outputs tried.kind file) →
+          IsClientRun inputs outputs ran.ip (job_opens inputs outputs tried.kind tried length file server may side) before after →
+          Made before after
+      made_one length file may side run = record {
+        clients = run.client ∷ [];
+        noted = (run.begins, run.notes);
+        each = (
+          record {
+            address = run.address;
+            job = job;
+            named = named;
+            name = run.name ∙ (its_name inputs outputs tried.kind tried length file server may side ∙ name);
+            mode = ap (λ (e : EndState). e.role.mode) run.end ∙ (job_mode tried.kind tried length ∙ mode);
+            side =
+                ap (λ (e : EndState). e.role.side) run.end
+                ∙ (job_side tried.kind tried length ∙ ap side_of kind);
+          },
+          tt,
+        );
+      }
+
+      -- it failed, if it opened
+      made_stopped : (most : ℕ) (before after : List Event) (end : ClientOutcome) →
+          FailsBy inputs outputs most tried before after end → Made before after
+      made_stopped most before after (ends.Failed outcome) failed =
+          let f = failed.1 in
+          let opened = job_opens inputs outputs tried.kind tried failed.0 f.fails.file server f.may f.side in
+          let run =
+          are_programs to ran.ip (opens tried.kind tried failed.0) f.fails.file opened before f.fails.port
+          f.fails.stops.last f.fails.stops.files f.fails.stops.converses in
+          made_one failed.0 f.fails.file f.may f.side
+          (subst (λ (events : List Event). IsClientRun inputs outputs ran.ip opened before events)
+          f.fails.stops.events run.runs_so)
+      made_stopped most before after (ends.Complete count) failed = made_none failed.1
+      made_stopped most before after ends.FileFault failed = made_none failed.1
+      made_stopped most before after ends.SocketFault failed = made_none failed.1
+      made_stopped most before after (ends.NotOpened fault) failed = made_none failed.1
+      made_stopped most before after ends.Memory failed = made_none failed.1
+
+      -- it is complete, and stayed
+      made_complete : {port count : ℕ} {before after : List Event} {last : State} {files : Files G K} →
+          RunsAs inputs outputs port tried.kind tried before last files count →
+          StaysOn inputs outputs port (printed count last) files after → Made before after
+      made_complete {port} {count} {before} {after} {last} {files} runs stays =
+          let opened = job_opens inputs outputs tried.kind tried runs.length runs.runs.file server runs.may runs.side in
+          let run =
+          are_programs to ran.ip (opens tried.kind tried runs.length) runs.runs.file opened before port last files
+          runs.runs.converses in
+          made_one runs.length runs.runs.file runs.may runs.side (run.stays_so count after stays)
+
+    itself_stopped : (most : ℕ) (before after : List Event) (end : ClientOutcome) →
+        FailsBy inputs outputs most job before after end → Made before after
+    itself_stopped most before after end failed = made_stopped job refl refl refl there most before after end failed
+
+    made_completes : (before after : List Event) → Completes inputs outputs job before after → Made before after
+    made_completes before after h = elim h.transfers [
+      | inl runs ↦ made_complete job refl refl refl there runs h.stays
+      | inr again ↦
+          made_both (itself_stopped (most_waits before) before again.0 again.1.end again.1.fails)
+          (made_complete (plain job) refl refl refl there again.2 h.stays)
+    ]
+
+    made_failed : (most : ℕ) (before after : List Event) (end : ClientOutcome) →
+        FailsTransfer inputs outputs most job before after end → Made before after
+    made_failed most before after end h = elim h [
+      | inl failed ↦ itself_stopped most before after end failed
+      | inr again ↦
+          made_both (itself_stopped most before again.0 again.1.end again.1.fails)
+          (made_stopped (plain job) refl refl refl there most again.0 after end again.2)
+    ]
+
+    made_order : (status : ℕ) (before after : List Event) → RunsOrder inputs outputs job status before after →
+        Made before after
+    made_order status before after h = elim h [
+      | inl done ↦ made_completes before after done.1
+      | inr failed ↦ made_failed (most_waits before) before after failed.1 failed.3
+    ]
+
+  -- what the command did
+  made_words : ((job : Job) → WordsName ran.words job → job.server ≡ to) →
+      RunsWords inputs outputs ran.words ran.status ran.before ran.after → Made ran.before ran.after
+  made_words asks h = elim h [
+    | inl nothing ↦ made_none nothing.0
+    | inr did ↦ made_order did.0 did.1 (asks did.0 did.1) ran.status ran.before ran.after did.2
+  ]
+
+  pub client_made : ((job : Job) → WordsName ran.words job → job.server ≡ to) →
+      (clients : List (ClientProgram inputs outputs to)) × AreRunsOf ran clients
+  client_made asks =
+      let made = made_words asks ran.ran in
+      (made.clients, record { noted = made.noted; each = made.each })

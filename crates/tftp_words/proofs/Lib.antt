@@ -1,0 +1,2 @@
+pub mod ClientMade
+pub mod WordsMade

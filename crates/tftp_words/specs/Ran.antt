@@ -1,0 +1,140 @@
+-- What `tftpd` and `tftp` ran for the words of their command lines, and which programs these are.
+use Rattle.std.specs.Prelude.{ℕ, ◌≡◌, List, [], ◌∷◌, ◌++◌, Option, Some, None, Result}
+use Rattle.std.specs.List.{AllByRecursion}
+use Rattle.std.proofs.Common.{inl, inr}
+use Rattle.tftp_negotiate.specs.declared.known.Kind.{Kind}
+use Rattle.tftp_negotiate.specs.declared.known.Kind.TheVariants.{Read, Write}
+use Rattle.tftp_file.specs.Sink.{SinkMeaning}
+use Rattle.tftp_file.specs.Source.{SourceMeaning}
+use Rattle.tftp_ends.specs.declared.endpoint.Endpoint.{Endpoint}
+use Rattle.tftp_ends.specs.declared.side.Side.{Side}
+use Rattle.tftp_ends.specs.declared.side.Side.TheVariants.{ClientRead, ClientWrite}
+use Rattle.tftp_store.specs.Store.{StoreMeaning}
+use Rattle.tftp_server.specs.State.{ServerState}
+use Rattle.tftp_sockets.specs.Journal.{Event}
+use Rattle.tftp_loop.specs.WholeRun.{Serves, Unbound, Bound, listening}
+use Rattle.tftp_loop.specs.declared.serving.LoopConfig.{LoopConfig}
+use Rattle.tftp_loop.specs.declared.serving.LoopFault.{LoopFault}
+use Rattle.tftp_client.specs.Ordered.{RunsWords}
+use Rattle.tftp_client.specs.Words.{WordsName}
+use Rattle.tftp_folder.specs.declared.folder_store.FolderStore.{FolderStore}
+use Rattle.tftp_daemon.specs.Configured.{ServesWords}
+use Rattle.tftp_daemon.specs.Words.{WordsConfigure}
+use Rattle.tftp_promises.specs.Order.{Programs}
+use Rattle.tftp_promises.specs.Programs.{ClientProgram, ServerProgram, name_of}
+
+-- ---- the commands
+-- what the words of a command line name: of `tftp` a job, and of `tftpd` a configuration
+abbrev pub Named : {A : Type 0} → (List (List ℕ) → A → Type 0) → Type 0
+Named {A} Names = A
+
+abbrev pub Job : Type 0
+Job = Named WordsName
+
+abbrev pub DaemonConfig : Type 0
+DaemonConfig = Named WordsConfigure
+
+-- `tftpd` ran these words at this address, with this status, from the one journal to the other
+pub record ServerRan {R G H F D : Type 0} (stores : StoreMeaning (FolderStore R G H) D)
+    (sources : SourceMeaning F) : Type 0 where
+  pub ip : List ℕ
+  pub words : List (List ℕ)
+  pub status : ℕ
+  pub before : List Event
+  pub after : List Event
+  pub ran : ServesWords stores sources words status before after
+
+-- a `tftp` ran these
+pub record ClientRan {G K : Type 0} (inputs : SourceMeaning G) (outputs : SinkMeaning K)
+    : Type 0 where
+  pub ip : List ℕ
+  pub words : List (List ℕ)
+  pub status : ℕ
+  pub before : List Event
+  pub after : List Event
+  pub ran : RunsWords inputs outputs words status before after
+
+-- the port to which the server's request port was bound, if it was
+abbrev pub bound_by : {R G H F D A : Type 0} {stores : StoreMeaning (FolderStore R G H) D}
+    {sources : SourceMeaning F} {config : LoopConfig} {server : ServerState (FolderStore R G H) F D}
+    {result : Result A LoopFault} {before after : List Event}
+    → Serves stores sources config server result before after → Option ℕ
+bound_by (Unbound ends) = None
+bound_by (Bound port is serves) = Some port
+
+abbrev pub bound_in : {R G H F D : Type 0} {stores : StoreMeaning (FolderStore R G H) D}
+    {sources : SourceMeaning F} (words : List (List ℕ)) (status : ℕ) (before after : List Event)
+    → ServesWords stores sources words status before after → Option ℕ
+bound_in words status before after (inl none) = None
+bound_in words status before after (inr did) = bound_by did.2.runs.serves
+
+abbrev pub port_of : {R G H F D : Type 0} {stores : StoreMeaning (FolderStore R G H) D}
+    {sources : SourceMeaning F} → ServerRan stores sources → Option ℕ
+port_of ran = bound_in ran.words ran.status ran.before ran.after ran.ran
+
+-- the end of a job
+abbrev pub side_of : Kind → Side
+side_of Read = ClientRead
+side_of Write = ClientWrite
+
+module _ {G K : Type 0} {inputs : SourceMeaning G} {outputs : SinkMeaning K} where
+  -- the words of all of them name this server
+  abbrev pub AllAsk : Endpoint → List (ClientRan inputs outputs) → Type 0
+  AllAsk to clients =
+      AllByRecursion (λ (ran : ClientRan inputs outputs).
+      (job : Job) → WordsName ran.words job → job.server ≡ to) clients
+
+  -- ---- the programs of a client
+  -- a program runs the end of the job that the words name, for that name, or of the same job
+  -- without its options
+  pub record IsRunOf (ran : ClientRan inputs outputs) {to : Endpoint}
+      (client : ClientProgram inputs outputs to) : Type 0 where
+    pub address : client.ip ≡ ran.ip
+    pub job : Job
+    pub named : WordsName ran.words job
+    pub name : name_of client.opens ≡ job.name.now
+    pub mode : client.first.role.mode ≡ job.mode
+    pub side : client.first.role.side ≡ side_of job.kind
+
+  -- the programs noted all that leads from the one journal to the other, one after another
+  abbrev pub NotedBy : {to : Endpoint} → List Event → List (ClientProgram inputs outputs to)
+      → List Event → Type 0
+  NotedBy before [] after = after ≡ before
+  NotedBy before (client ∷ clients) after =
+      (client.before ≡ before) × NotedBy (client.noted ++ before) clients after
+
+  -- these programs are what a `tftp` ran: none, one, or two where its options were refused
+  pub record AreRunsOf (ran : ClientRan inputs outputs) {to : Endpoint}
+      (clients : List (ClientProgram inputs outputs to)) : Type 0 where
+    pub noted : NotedBy ran.before clients ran.after
+    pub each : AllByRecursion (IsRunOf ran) clients
+
+  -- and these what all of them ran
+  abbrev pub AreAllRuns : {to : Endpoint} → List (ClientRan inputs outputs)
+      → List (ClientProgram inputs outputs to) → Type 0
+  AreAllRuns [] clients = clients ≡ []
+  AreAllRuns {to} (ran ∷ others) clients =
+      (own : List (ClientProgram inputs outputs to))
+      × (rest : List (ClientProgram inputs outputs to))
+      × (clients ≡ own ++ rest) × AreRunsOf ran own × AreAllRuns others rest
+
+module _ {R G H F D : Type 0} {stores : StoreMeaning (FolderStore R G H) D}
+    {sources : SourceMeaning F} where
+  -- this program is what `tftpd` ran from its request port on
+  pub record IsServerRan (ran : ServerRan stores sources) (port : ℕ)
+      (server : ServerProgram stores sources) : Type 0 where
+    pub address : server.ip ≡ ran.ip
+    pub requests : server.start.requests ≡ port
+    pub config : DaemonConfig
+    pub named : WordsConfigure ran.words config
+    pub limits : server.start.server.config ≡ config.config
+    pub begins : server.start.events ≡ listening config.service.listen.ip port ran.before
+    pub noted : ran.after ≡ server.noted ++ server.start.events
+
+-- these programs are what all the commands ran
+pub record AreRan {R G H F D I K : Type 0} {stores : StoreMeaning (FolderStore R G H) D}
+    {sources : SourceMeaning F} {inputs : SourceMeaning I} {outputs : SinkMeaning K}
+    (server : ServerRan stores sources) (port : ℕ) (clients : List (ClientRan inputs outputs))
+    (programs : Programs stores sources inputs outputs) : Type 0 where
+  pub of_server : IsServerRan server port programs.server
+  pub of_clients : AreAllRuns clients programs.clients

@@ -1,0 +1,21 @@
+//! The law from command lines to the promises, over the definitions alone.
+
+ghost use Rattle.tftp_words.specs.WordsKept.{WordsKeepAnyFiles};
+
+use std::rt::Files;
+use tftp_file::{Sink, Source};
+use tftp_folder::{FolderSource, FolderStore};
+use tftp_promises::laws::{a_client_is_one_run, a_server_is_one_run, programs_keep_promises};
+use tftp_server::Store;
+
+/// If `tftpd` ran these words, and each `tftp` those, which name that server, then what they noted
+/// is what programs of a network noted, which keep the promises over any files if the network is
+/// honest and their ports are fresh (RFC 1350, sections 2, 4 and 6).
+pub fn words_keep_promises<R: Files + Drop, G: Source, K: Sink>()
+    ensures { WordsKeepAnyFiles ⟦<FolderStore<R> as Store>⟧.meaning
+        ⟦<FolderSource<R::File> as Source>⟧.meaning G.meaning K.meaning }
+{
+    a_client_is_one_run::<G, K>();
+    a_server_is_one_run::<FolderStore<R>>();
+    programs_keep_promises::<FolderStore<R>, G, K>();
+}
