@@ -52,6 +52,8 @@ build() {
         tftp_main | tftpd_main) exec rt run --cpu=x86-64 -- --help ;;
         esac
         if test -f src/main.rt; then exec rt run -- --help; fi
+        # the library for C is for every processor of x86-64, too
+        if test "$1" = tftp_c; then exec rt lib --cpu=x86-64 --jobs "$(nproc)"; fi
         # rt gives a second and a fourth processor to large crates alone
         exec rt lib --jobs "$(nproc)"
     ) < /dev/null > "$log.new" 2>&1

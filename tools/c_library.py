@@ -214,7 +214,7 @@ def by_curl(scene, built) -> None:
 def archive(room) -> None:
     """libtftp.a and libtftp.so.0 in the folder, of what `rt lib` built."""
     if not (TOP / "crates/tftp_c/out/libtftp_c.a").is_file():
-        run("rt", "lib", cwd=TOP / "crates/tftp_c")
+        run("rt", "lib", "--cpu=x86-64", cwd=TOP / "crates/tftp_c")
     run(TOP / "tools/library.sh", room)
 
 

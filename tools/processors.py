@@ -2,7 +2,8 @@
 """The programs on a processor without x86-64-v2, as README has it: processors.py
 
 By `qemu-x86_64` (qemu-user), whose processor is the first of x86-64: tftpd and tftp of bin/ serve and fetch a file there,
-and tftp-show and tftp-play end with status 127 and a message. Skipped where qemu is not installed.
+and tftp-show and tftp-play end with status 127 and a message. Where bin/ has libtftp.a and a C compiler is, the test of
+the library's header runs there, too (tools/c_library.c). Skipped where qemu is not installed.
 """
 import shutil
 import subprocess
@@ -12,7 +13,7 @@ from pathlib import Path
 
 from lib.addresses import own_address
 from lib.process import Failure, Program, Server
-from lib.programs import NAMES, programs
+from lib.programs import NAMES, TOP, programs
 
 # what each has of a processor: no SSE3 and nothing behind it
 PROCESSOR = "qemu64,-sse3,-ssse3,-sse4.1,-sse4.2,-popcnt,-cx16"
@@ -48,6 +49,22 @@ def needs_more(path: str) -> None:
         raise Failure(f"{path}: status {done.returncode}, {done.stdout!r}, {done.stderr!r}; expected 127 and a message")
 
 
+def has_library() -> bool:
+    """Whether the library for C can be tried."""
+    return (TOP / "bin/libtftp.a").is_file() and shutil.which("cc") is not None
+
+
+def tries_library(emulator: str, folder: Path) -> None:
+    """The library for C does what its header says: calls of every kind, each allocation refused in turn."""
+    words = ["cc", "-O1", "-I", TOP / "include", "-Wl,--wrap=malloc,--wrap=realloc", TOP / "tools/c_library.c",
+             TOP / "bin/libtftp.a", "-o", folder / "layout"]
+    subprocess.run(words, stdin=subprocess.DEVNULL, check=True, timeout=LIFE)
+    done = subprocess.run([emulated(emulator, str(folder / "layout"), folder / "scripts")], stdin=subprocess.DEVNULL,
+                          capture_output=True, text=True, timeout=LIFE)
+    if done.returncode or done.stdout:
+        raise Failure(f"libtftp.a: status {done.returncode}, {done.stdout!r}")
+
+
 def main() -> int:
     emulator = next(filter(None, map(shutil.which, EMULATORS)), None)
     if not emulator:
@@ -61,10 +78,14 @@ def main() -> int:
             serves(paths, folder)
             for name in ["tftp-show", "tftp-play"]:
                 needs_more(paths[name])
+            if has_library():
+                (folder / "scripts").mkdir()
+                tries_library(str(emulator), folder)
         except Failure as failure:
             print(f"processors: {failure}")
             return 1
-    print("processors: tftpd serves tftp without x86-64-v2; tftp-show and tftp-play say that they need it")
+    library = "libtftp.a holds to its header there" if has_library() else "libtftp.a was not tried: no archive, or no cc"
+    print(f"processors: tftpd serves tftp without x86-64-v2; tftp-show and tftp-play say that they need it; {library}")
     return 0
 
 

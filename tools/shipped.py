@@ -1,11 +1,11 @@
 #!/usr/bin/env python3
 """Puts into bin/ what `make` would build, over what `rt ci` has just proved: shipped.py [FOLDER]
 
-`make` builds tftp and tftpd for every processor of x86-64 (tools/build.sh), and `rt ci` all programs for x86-64-v2. So
-these two are compiled here once more, over the libraries that `rt ci` left, by the prover, which proves the functions of
-the program's own crate again; tftp-show and tftp-play are those of `rt ci`. What comes out is the same, byte for byte, as
-what `make` builds. Where checks of this checkout have left libraries of their own, of the same text, those are used;
-and where of another, tools/build.sh proves them again.
+`make` builds tftp, tftpd and the library for C for every processor of x86-64 (tools/build.sh), and `rt ci` all programs
+for x86-64-v2. So the two programs are compiled here once more, over the libraries that `rt ci` left, by the prover,
+which proves the functions of the program's own crate again; tftp-show and tftp-play are those of `rt ci`. What comes
+out is the same, byte for byte, as what `make` builds. Where checks of this checkout have left libraries of their own,
+of the same text, those are used; and where of another, tools/build.sh proves them again.
 """
 import shutil
 import subprocess
@@ -75,9 +75,10 @@ def main() -> None:
             (folder / name).touch()
             print(f"{name}: {how}", flush=True)
     # `rt ci` proves the library for C, and leaves no archive of it
-    subprocess.run(["rt", "lib"], cwd=TOP / "crates/tftp_c", stdin=subprocess.DEVNULL, stdout=subprocess.DEVNULL, check=True)
+    subprocess.run(["rt", "lib", FLAG], cwd=TOP / "crates/tftp_c", stdin=subprocess.DEVNULL, stdout=subprocess.DEVNULL,
+                   check=True)
     subprocess.run([TOP / "tools/library.sh", folder], check=True)
-    print("libtftp: by rt lib and tools/library.sh", flush=True)
+    print(f"libtftp: by rt lib {FLAG} and tools/library.sh", flush=True)
 
 
 if __name__ == "__main__":
