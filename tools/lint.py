@@ -1,10 +1,11 @@
 #!/usr/bin/env python3
 """Looks at the tools and documents: lint.py
 
-ruff, or else pyflakes, at the Python files of tools/, bench/ and examples/, mypy at their types, and shellcheck at the
-shell scripts; each is skipped where it is not installed, and the last line but one says so. Each Python file compiles,
-and each function says what it returns. Lines of documents, but of the READMEs of crates, are at most 120 columns wide,
-without those of tables and code.
+ruff and pyflakes look at the Python files of tools/, bench/ and examples/, mypy at their types, and shellcheck at the
+shell scripts; each is skipped where it is not installed, pyflakes or ruff alone suffices, and the last line but one says
+so. What one finds is shown, and counts where its version is Debian 12's: another may find more, and no gate fails for
+what is installed on its host. Each Python file compiles, and each function says what it returns. Lines of documents, but
+of the READMEs of crates, are at most 120 columns wide, without those of tables and code.
 """
 import ast
 import os
@@ -14,6 +15,7 @@ import subprocess
 import sys
 import tempfile
 from pathlib import Path
+from typing import Callable
 
 from lib.programs import TOP
 
@@ -21,6 +23,8 @@ COLUMNS = 120
 PYTHON = ["tools", "bench", "examples"]
 SHELL = ["tools/*.sh", ".ci/*", "debian/*.sh", "bench/*/*.sh", "examples/*.sh", "examples/*/*.sh"]
 RUFF = ["ruff", "check", "--quiet", "--select", "E9,F", *PYTHON]
+# the versions of Debian 12, which has no ruff
+VERSIONS = {"mypy": "mypy 1.0.1", "shellcheck": "version: 0.9.0", "pyflakes3": "2.5.0", "ruff": "none"}
 # types of what a file imports from others are not looked at
 MYPY = ["mypy", "--explicit-package-bases", "--ignore-missing-imports", "--follow-imports=silent", "--no-error-summary"]
 # the files whose functions say the types of their parameters too
@@ -92,20 +96,33 @@ def wide_lines() -> list[str]:
     return found
 
 
+def counts(name: str) -> bool:
+    """Whether what this program finds counts, by its version."""
+    done = subprocess.run([name, "--version"], stdin=subprocess.DEVNULL, capture_output=True, text=True, timeout=60)
+    return VERSIONS[name] in done.stdout
+
+
 def main() -> int:
     found, skipped, looked = [*wide_lines(), *untyped()], [], ["documents", "return types"]
-    for name, look in [("ruff", lambda: printed_by(RUFF)), ("mypy", mistyped),
-                       ("shellcheck", lambda: printed_by(["shellcheck", "-x", "-S", "warning", *scripts()]))]:
-        if shutil.which(name):
-            looked.append(name)
-            found += look()
-        elif name == "ruff" and shutil.which("pyflakes3"):
-            looked.append("pyflakes")
-            found += printed_by(["pyflakes3", *PYTHON])
-        else:
+    looks: dict[str, Callable[[], list[str]]] = {
+        "pyflakes3": lambda: printed_by(["pyflakes3", *PYTHON]), "ruff": lambda: printed_by(RUFF), "mypy": mistyped,
+        "shellcheck": lambda: printed_by(["shellcheck", "-x", "-S", "warning", *scripts()]),
+    }
+    for name, look in looks.items():
+        if not shutil.which(name):
             skipped.append(name)
+            continue
+        looked.append(name)
+        lines = look()
+        if counts(name):
+            found += lines
+        elif lines:
+            print(*lines, f"lint: {name} is another version than Debian 12's: {len(lines)} lines do not count", sep="\n")
     for line in found:
         print(line)
+    # (either of the two looks at names)
+    if len({"pyflakes3", "ruff"} & {*skipped}) == 1:
+        skipped = [name for name in skipped if name not in ("pyflakes3", "ruff")]
     if skipped:
         print(f"lint: skipped: no {', no '.join(skipped)}")
     print(f"lint: {', '.join(looked)}: {len(found)} lines found")
