@@ -176,6 +176,27 @@ def test_the_log_says_why_it_refuses(scene) -> None:
          [rf"refused {scene.address}:\d+ WRQ n octet: ERROR 2 \(access violation\), read-only server"])
 
 
+def test_the_log_has_priorities_in_the_journal(scene) -> None:
+    """Where JOURNAL_STREAM names standard error a warning begins with its priority, and no other line does; where it
+    names another stream no line does."""
+    scene.make("a", b"ABC")
+    for other, mark in [(0, "<4>"), (1, "")]:
+        ours, errors = os.pipe()
+        found = os.fstat(errors)
+        stream = f"{found.st_dev}:{found.st_ino + other}"
+        process = scene.start("tftpd", scene.server_words(".", scene.address, ["--log"]), stderr=errors,
+                              env={**os.environ, "JOURNAL_STREAM": stream})
+        os.close(errors)
+        process.stderr = os.fdopen(ours, "rb", buffering=0)
+        server = Server(process)
+        is_refused(scene, server, rrq("none"), FILE_NOT_FOUND)
+        is_refused(scene, server, rrq("/../a"), ACCESS_VIOLATION)
+        logs(server.has_logged(2), [
+            rf"refused {scene.address}:\d+ RRQ none octet: ERROR 1 \(file not found\)",
+            rf"{mark}refused {scene.address}:\d+ RRQ /../a octet: ERROR 2 \(access violation\), name not allowed",
+        ])
+
+
 def test_the_log_says_that_a_file_was_cut(scene) -> None:
     """A file that becomes shorter is told apart from one that cannot be read."""
     scene.make("a", bytes(100_000))

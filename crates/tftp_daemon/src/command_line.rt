@@ -18,6 +18,7 @@ ghost use Rattle.tftp_daemon.specs.Words.{option_rule, tftpd_app, with_ending, w
 ghost use Rattle.tftp_daemon.specs.Words.{with_places, with_writes};
 
 use crate::daemon::DaemonConfig;
+use crate::error_output::ErrorOutput;
 use anyhow::Result;
 use clap::error::ErrorKind;
 use clap::parser::ValueSource;
@@ -74,6 +75,7 @@ pub(crate) fn read_words<'a, P: Print + Eprint, S: AsStr>(
     alloc: Global,
     texts: &'a Texts,
     words: &'a [S],
+    errors: ErrorOutput,
 ) -> Result<Asked<'a>>
     ensures valid { IfOk result (λ asked. IfOk asked (λ config. IsConfig config.config)) }
     ensures names { IfOk result (λ asked. IfOk asked (WordsConfigure (map S.text words.now))) }
@@ -82,7 +84,7 @@ pub(crate) fn read_words<'a, P: Print + Eprint, S: AsStr>(
         → AskForText tftpd_app (map S.text words.now))) }
 {
     match command(alloc, texts) {
-        Ok(mut command) => match_words(rt, alloc, &mut command, words),
+        Ok(mut command) => match_words(rt, alloc, &mut command, words, errors),
         Err(error) => Err(error),
     }
 }
@@ -93,6 +95,7 @@ fn match_words<'a, P: Print + Eprint, S: AsStr>(
     alloc: Global,
     command: &mut Command<'a>,
     words: &'a [S],
+    errors: ErrorOutput,
 ) -> Result<Asked<'a>>
     requires { IsApp tftpd_app command.old }
     ensures valid { IfOk result (λ asked. IfOk asked (λ config. IsConfig config.config)) }
@@ -102,7 +105,7 @@ fn match_words<'a, P: Print + Eprint, S: AsStr>(
         → AskForText tftpd_app (map S.text words.now))) }
 {
     match command.try_get_matches_from_mut(words) {
-        Ok(matches) => read_matches(rt, alloc, command, &matches),
+        Ok(matches) => read_matches(rt, alloc, command, &matches, errors),
         Err(error) => Ok(Err(print_usage(rt, &error))),
     }
 }
@@ -113,6 +116,7 @@ fn read_matches<'a, P: Print + Eprint>(
     alloc: Global,
     command: &mut Command<'a>,
     matches: &ArgMatches<'a>,
+    errors: ErrorOutput,
 ) -> Result<Asked<'a>>
     ensures valid { IfOk result (λ asked. IfOk asked (λ config. IsConfig config.config)) }
     ensures names { IfOk result (λ asked. IfOk asked
@@ -126,7 +130,7 @@ fn read_matches<'a, P: Print + Eprint>(
         let word = matches.get_str(PORTS);
         return Ok(Err(report_invalid(rt, alloc, command, word, NO_PORTS)?));
     };
-    match service(matches, ports) {
+    match service(matches, ports, errors) {
         Some(service) => Ok(Ok(service)),
         None => {
             let word = matches.get_str(LISTEN);
@@ -234,7 +238,11 @@ fn port_in(word: &str) -> Option<u16>
 }
 
 /// The configuration of the matched words, or `None` if the address is invalid.
-fn service<'a>(matches: &ArgMatches<'a>, ports: Option<PortRange>) -> Option<DaemonConfig<'a>>
+fn service<'a>(
+    matches: &ArgMatches<'a>,
+    ports: Option<PortRange>,
+    errors: ErrorOutput,
+) -> Option<DaemonConfig<'a>>
     requires { PortsAs (first_value (found_of matches.now) (codes "ports")) ports }
     ensures valid { IfSome result (λ config. IsConfig config.config) }
     ensures names { IfSome result (NamesServer (read_of matches.now)) }
@@ -248,7 +256,7 @@ fn service<'a>(matches: &ArgMatches<'a>, ports: Option<PortRange>) -> Option<Dae
         ending: ending(matches)?,
         longest: None,
         logs: is_set(matches, "log"),
-        has_priority: false,
+        has_priority: errors.has_priority(),
     };
     Some(DaemonConfig {
         root,

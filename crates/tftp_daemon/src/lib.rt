@@ -5,6 +5,7 @@
 
 mod command_line;
 mod daemon;
+mod error_output;
 pub mod laws;
 mod program;
 

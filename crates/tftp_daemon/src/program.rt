@@ -6,6 +6,7 @@ ghost use Rattle.tftp_daemon.specs.Configured.{MayServe, ServesWords, status_of}
 
 use crate::command_line::{Asked, Texts, read_words};
 use crate::daemon::{DaemonConfig, DaemonFault, serve};
+use crate::error_output::ErrorOutput;
 use std::alloc::Global;
 use std::convert::AsStr;
 use std::io;
@@ -63,7 +64,7 @@ pub fn tftpd_with_journal<R: Runtime + AllocGlobal + Net + RandomSource, S: AsSt
         journal.events result.1.events }
 {
     match Texts::new(rt.alloc()) {
-        Ok(texts) => serve_texts(rt, rt.alloc(), &texts, words, journal),
+        Ok(texts) => serve_texts(rt, rt.alloc(), &texts, words, ErrorOutput::of(rt), journal),
         Err(_) => (print_no_memory(rt, "tftpd"), journal),
     }
 }
@@ -74,6 +75,7 @@ fn serve_texts<'a, R: Files + Clone + Drop + ServerUdp + Clock + Print + Eprint,
     alloc: Global,
     texts: &'a Texts,
     words: &'a [S],
+    errors: ErrorOutput,
     journal: Journal,
 ) -> (u8, Journal)
     ensures status { result.0 ≤ 2 }
@@ -81,7 +83,7 @@ fn serve_texts<'a, R: Files + Clone + Drop + ServerUdp + Clock + Print + Eprint,
         ⟦<FolderSource<R::File> as Source>⟧.meaning (map S.text words.now) result.0
         journal.events result.1.events }
 {
-    match read_words(rt, alloc, texts, words) {
+    match read_words(rt, alloc, texts, words, errors) {
         Ok(asked) => serve_asked(rt, alloc, &asked, journal),
         Err(_) => (print_no_memory(rt, "tftpd"), journal),
     }
