@@ -441,7 +441,8 @@ fn ended(end: &End) -> Option<Result<(), Outcome>>
     record.outcome.map(Err)
 }
 
-/// Waits for a datagram until `due`, at most a second.
+/// Waits for a datagram until `due`, at most a second. The buffer has room for the longest one, so
+/// that none is cut.
 fn receive_until(
     socket: &mut ClientSocket,
     journal: &mut Journal,
@@ -449,6 +450,7 @@ fn receive_until(
     due: u64,
     buffer: &mut [u8],
 ) -> Receipt
+    requires room { DATAGRAM_BUFFER ≤ length buffer.old }
     ensures port { socket.new.port ≡ socket.old.port }
     ensures noted { journal.new.events ≡ receive_event socket.old.port buffer.new result
         ∷ Quiet (Slept (max (min (due - now) LONGEST_WAIT) 1)) ∷ journal.old.events }
