@@ -58,7 +58,7 @@ def tries_library(emulator: str, folder: Path) -> None:
     """The library for C does what its header says: calls of every kind, each allocation refused in turn."""
     words = ["cc", "-O1", "-I", TOP / "include", "-Wl,--wrap=malloc,--wrap=realloc", TOP / "tools/c_library.c",
              TOP / "bin/libtftp.a", "-o", folder / "layout"]
-    subprocess.run(words, stdin=subprocess.DEVNULL, check=True, timeout=LIFE)
+    subprocess.run([*map(str, words)], stdin=subprocess.DEVNULL, check=True, timeout=LIFE)
     done = subprocess.run([emulated(emulator, str(folder / "layout"), folder / "scripts")], stdin=subprocess.DEVNULL,
                           capture_output=True, text=True, timeout=LIFE)
     if done.returncode or done.stdout:
