@@ -16,7 +16,11 @@
  * - One call at a time uses an end, by one thread at a time: two would change it at once.
  * - tftp_close ends each use: without it the memory of the end is lost. Closing twice is allowed.
  * - malloc, realloc and free are of one allocator, and align to 16: the library uses them alone.
- *   A null from malloc or realloc is reported as TFTP_MEMORY, and nothing has changed.
+ *   A null from malloc or realloc is reported as TFTP_MEMORY, and nothing has changed; a call that
+ *   returns a length returns 0. An end has a block of 128 bytes, one for the datagram that it sent
+ *   last, which a timeout sends again, and, if it sends a file or receives netascii, one for the block
+ *   at hand. They are as long as what was agreed needs: a get allocates in tftp_get, in netascii also
+ *   at its first block, a sender until its first, and none at a later block.
  * - No call is made from a signal handler: malloc may not be.
  */
 #ifndef TFTP_H

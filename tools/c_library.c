@@ -1,7 +1,7 @@
 /* Holds tftp.h to the types of the library: each field of each struct has the value that the library gives the field of
- * that name, each struct its size, and each number its value. Builds packets and reads their options. Then refuses each
- * request for memory of a get in turn: the call reports it, changes nothing, and does its work when it is made again.
- * It is linked with --wrap for malloc and realloc. */
+ * that name, each struct its size, and each number its value. Builds packets and reads their options. Counts the
+ * requests for memory of transfers. Then refuses each of a get in turn: the call reports it, changes nothing, and does
+ * its work when it is made again. It is linked with --wrap for malloc and realloc. */
 #include "tftp.h"
 #include <stdio.h>
 #include <stdlib.h>
@@ -80,11 +80,41 @@ static int lacking(int number) {
     return asked >= number;
 }
 
+/* A transfer of 100 blocks of 8 bytes asks for memory until its first block, and for no later one. */
+static void blocks(bool puts, bool is_netascii) {
+    static const struct tftp_endpoint server = {{10, 0, 0, 1}, 69}, peer = {{10, 0, 0, 1}, 1024};
+    struct tftp_options options = {.max_file = 1000, .blksize = 8, .retries = 5, .is_netascii = is_netascii};
+    struct tftp_end end = {0};
+    struct tftp_event event = {0};
+    uint8_t out[TFTP_MAX_REQUEST], block[8], oack[] = "\0\6blksize\0008", datagram[12] = {0, 3};
+    const uint8_t *name = (const uint8_t *)"a";
+    asked = refused = 0;
+    uint8_t fault = puts ? tftp_put(&end, &server, name, 1, 799, &options, out, sizeof out, &event)
+        : tftp_get(&end, &server, name, 1, &options, out, sizeof out, &event);
+    expect("an opening", fault, TFTP_OK);
+    expect("whether it asked for more memory than eight times", asked > 8, 0);
+    fault = puts ? tftp_send(&end, &peer, oack, sizeof oack, block, 8, out, sizeof out, &event)
+        : tftp_receive(&end, &peer, oack, sizeof oack, block, 8, out, sizeof out, &event);
+    expect("an OACK", fault, TFTP_OK);
+    int first = 0;
+    for (unsigned number = 1; number <= 100 && !fault; number++) {
+        datagram[1] = puts ? 4 : 3;
+        datagram[3] = (uint8_t)number;
+        fault = puts ? tftp_send(&end, &peer, datagram, 4, block, number == 99 ? 7 : 8, out, sizeof out, &event)
+            : tftp_receive(&end, &peer, datagram, number == 100 ? 11 : 12, block, 8, out, sizeof out, &event);
+        if (number == 1) first = asked;
+    }
+    expect("a hundred blocks", fault, TFTP_OK);
+    expect("whether all were stored, or acknowledged", event.complete, 1);
+    expect("how often it asked for memory", asked, first);
+    tftp_close(&end);
+}
+
 #define TEXT(text) (const uint8_t *)(text), sizeof(text) - 1
 
-static void expect_bytes(const char *what, const uint8_t *found, size_t len, const char *expected, size_t expected_len) {
-    expect(what, len, expected_len);
-    if (len == expected_len) expect(what, memcmp(found, expected, len), 0);
+static void expect_bytes(const char *what, const uint8_t *found, size_t len, const char *expected, size_t count) {
+    expect(what, len, count);
+    if (len == count) expect(what, memcmp(found, expected, len), 0);
 }
 
 /* A request that is built, its options by place and by name, and what each of these calls refuses. */
@@ -97,7 +127,9 @@ static void packets(void) {
     len = tftp_add_option(len, TEXT("TSize"), TEXT("0"), request, most);
     expect_bytes("a request", request, len, whole, sizeof whole);
     expect_bytes("its second option", text, tftp_option(request, len, 1, text, most), "TSize\0000", 8);
-    expect_bytes("its blksize", text, tftp_find_option(request, len, TEXT("BLKSIZE"), text, most), "blksize\0001428", 13);
+    len = tftp_find_option(request, sizeof whole, TEXT("BLKSIZE"), text, most);
+    expect_bytes("its blksize", text, len, "blksize\0001428", 13);
+    len = sizeof whole;
     expect("a third option", tftp_option(request, len, 2, text, most), 0);
     expect("its timeout", tftp_find_option(request, len, TEXT("timeout"), text, most), 0);
     expect("an option of an ACK", tftp_option(ack, sizeof ack, 0, text, most), 0);
@@ -218,6 +250,7 @@ int main(void) {
 
     packets();
     without_memory();
+    for (int kind = 0; kind < 4; kind++) blocks(kind & 1, kind & 2);
 
     int number = 1;
     while (lacking(number)) number++;

@@ -93,7 +93,7 @@ def by_tftpd(scene, built, lossy) -> None:
     lengths = [513, 6_000] if lossy or built.before else LENGTHS
     for length in lengths:
         scene.make(f"f{length}", content(length))
-    server = scene.serve("--transfers", str(3 * len(lengths)))
+    server = scene.serve("--transfers", str(3 * len(lengths) + 3))
     for number, length in enumerate(lengths):
         blksize = [0, 1428][number % 2]
         get, put, boot = ways(scene, server, 3, lossy)
@@ -101,6 +101,7 @@ def by_tftpd(scene, built, lossy) -> None:
         puts(built, scene, put, f"f{length}", f"p{length}", blksize)
         expect((scene.folder / f"p{length}").read_bytes(), content(length), f"what put sent of {length} bytes")
         boots(built, scene, boot, f"f{length}", content(length))
+    in_netascii(scene, built, server)
     expect(server.process.wait(PATIENCE), 0, "the status of tftpd")
 
 
@@ -121,6 +122,18 @@ def serves(scene, built) -> tuple[Any, Any]:
     return at, process
 
 
+def in_netascii(scene, built, server) -> None:
+    """A text with every line end is put in netascii and read again, and is the same."""
+    text = content(2_000) + b"\n\r\r\n" * 300
+    scene.make("text", text)
+    way = server.word.split(":")
+    run(*built.words("put", *way, "text", "lines", 512, "netascii"), cwd=scene.folder)
+    run(*built.words("get", *way, "lines", "got", 1428, "netascii"), cwd=scene.folder)
+    expect((scene.folder / "got").read_bytes(), text, "a text that was put and read in netascii")
+    run(*built.words("get", *way, "lines", "got", 1428), cwd=scene.folder)
+    expect((scene.folder / "got").read_bytes(), text, "the file of that text")
+
+
 def ended(process) -> None:
     """It frees all that it has when it ends, with whatever transfers are open."""
     process.terminate()
@@ -136,6 +149,7 @@ def by_library(scene, built, lossy) -> None:
     gets(built, scene, three, "new", 0, content(3_000))
     scene.tftp("get", ":".join(four), "memory", "disk2", "--blksize", "512").completes(3_000)
     run(*built.words("get", *server.word.split(":"), "none", "got"), cwd=scene.folder, status=1)
+    in_netascii(scene, built, server)
     scene.tftp("get", server.word, "new", "disk3", "--timeout", "1", "--blksize", "1000").completes(3_000)
     expect((scene.folder / "disk3").read_bytes(), content(3_000), "what tftp stored")
     ended(process)

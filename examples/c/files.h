@@ -1,6 +1,7 @@
 /* The files of serve.c, in memory. */
 #ifndef FILES_H
 #define FILES_H
+#include "tftp.h"
 #include <stdbool.h>
 #include <stdint.h>
 #include <stdlib.h>
@@ -24,6 +25,16 @@ static bool grow(struct file *file, size_t more) {
     uint8_t *bytes = realloc(file->bytes, room);
     if (bytes) file->bytes = bytes, file->room = room;
     return bytes != NULL;
+}
+
+/* A text as it is sent in netascii, with CR LF and CR NUL. */
+static bool wire_copy(const struct file *text, struct file *wire) {
+    wire->len = tftp_wire_length(text->bytes, text->len);
+    wire->bytes = malloc(wire->len + 1);
+    if (!wire->bytes) return false;
+    if (tftp_to_wire(text->bytes, text->len, wire->bytes, wire->len) == wire->len) return true;
+    free(wire->bytes);
+    return false;
 }
 
 /* A file that is complete gets its name, unless another has it or there are too many. */

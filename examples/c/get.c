@@ -1,4 +1,4 @@
-/* Gets a file by TFTP: get ADDR PORT NAME LOCAL [BLKSIZE] */
+/* Gets a file by TFTP: get ADDR PORT NAME LOCAL [BLKSIZE [netascii]] */
 #include "udp.h"
 
 static uint8_t datagram[TFTP_HEADER + TFTP_MAX_BLOCK + 1], block[TFTP_MAX_BLOCK], reply[TFTP_MAX_REQUEST];
@@ -8,6 +8,7 @@ int main(int argc, char **argv) {
     struct tftp_endpoint server = udp_endpoint(argv[1], argv[2]), from;
     struct tftp_options options = {.max_file = UINT64_MAX, .retries = 5, .asks_tsize = true};
     if (argc > 5) options.blksize = (uint16_t)atoi(argv[5]);
+    options.is_netascii = argc > 6; /* LF is stored for CR LF */
     struct tftp_end end = {0};
     struct tftp_event event = {0};
     int fd = udp_socket((struct tftp_endpoint){0});

@@ -1,4 +1,4 @@
-/* Puts a file by TFTP: put ADDR PORT LOCAL NAME [BLKSIZE] */
+/* Puts a file by TFTP: put ADDR PORT LOCAL NAME [BLKSIZE [netascii]] */
 #include "udp.h"
 
 static uint8_t datagram[TFTP_MAX_REQUEST + 1], reply[TFTP_HEADER + TFTP_MAX_BLOCK];
@@ -10,6 +10,14 @@ int main(int argc, char **argv) {
     uint8_t *file = read_file(argv[3], &length);
     struct tftp_options options = {.retries = 5, .asks_tsize = true};
     if (argc > 5) options.blksize = (uint16_t)atoi(argv[5]);
+    if (argc > 6) { /* a text is sent with CR LF and CR NUL */
+        uint8_t *text = file, *wire = malloc(tftp_wire_length(text, length) + 1);
+        if (!wire) return 2;
+        file = wire;
+        length = tftp_to_wire(text, length, wire, tftp_wire_length(text, length));
+        options.is_netascii = true;
+        free(text);
+    }
     struct tftp_end end = {0};
     struct tftp_event event = {0};
     int fd = udp_socket((struct tftp_endpoint){0});

@@ -14,7 +14,7 @@ struct transfer {
     struct tftp_endpoint client;
     struct file file;           /* of a read the served one, of a write the one that grows */
     size_t at;
-    bool writes, published;
+    bool writes, owns;          /* whether the bytes are the transfer's own: of a new file, or a text as it is sent */
     double due;
 };
 
@@ -27,12 +27,12 @@ static volatile sig_atomic_t ended;
 static void shut(struct transfer *it) {
     tftp_close(&it->end);
     close(it->fd);
-    if (it->writes && !it->published) free(it->file.bytes);
+    if (it->owns) free(it->file.bytes);
 }
 
 static void answer(struct transfer *it, const struct tftp_event *event, bool timed_out) {
     /* before the last ACK, which says that the file is stored */
-    if (it->writes && event->complete && !it->published && !(it->published = publish(&it->file))) event = NULL;
+    if (it->writes && event->complete && it->owns && (it->owns = !publish(&it->file))) event = NULL;
     if (event) udp_send(it->fd, &event->to, reply, event->send_len);
     if (event && (timed_out || event->progress)) it->due = now() + event->interval;
     if (event && !event->outcome) return;
@@ -53,10 +53,11 @@ static const char *open_for(struct transfer *it, const struct tftp_packet *asked
     *code = it->writes ? 6 : 1;
     if (it->writes == (file != NULL)) return it->writes ? "file exists" : "file not found";
     if (file) it->file = *file;
+    if (file && asked->mode == 2 && !(it->owns = wire_copy(file, &it->file))) return "out of memory";
     uint8_t fault = it->writes
         ? tftp_serve_put(&it->end, &it->client, datagram, len, &options, reply, sizeof reply, event)
-        : tftp_serve_get(&it->end, &it->client, datagram, len, file->len, file->bytes, file->len, &options, reply,
-                         sizeof reply, event);
+        : tftp_serve_get(&it->end, &it->client, datagram, len, it->file.len, it->file.bytes, it->file.len, &options,
+                         reply, sizeof reply, event);
     *code = fault == TFTP_REFUSED_OPTIONS ? 8 : 0;
     return fault == 0 ? NULL : *code ? "options refused" : "cannot be served";
 }
@@ -72,9 +73,10 @@ static void request(size_t len, const struct tftp_endpoint *from) {
         if (!transfers[i].end.is_open) it = &transfers[i];
         else if (!memcmp(&transfers[i].client, from, sizeof *from)) return; /* a request that comes again */
     }
-    if (it) *it = (struct transfer){.client = *from, .writes = packet.opcode == 2};
+    if (it) *it = (struct transfer){.client = *from, .writes = packet.opcode == 2, .owns = packet.opcode == 2};
     const char *why = it ? open_for(it, &packet, len, &event, &code) : "too many transfers";
     if (why) {
+        if (it && it->owns) free(it->file.bytes);
         udp_send(requests, from, reply, tftp_error(code, (const uint8_t *)why, strlen(why), reply, sizeof reply));
         return;
     }
