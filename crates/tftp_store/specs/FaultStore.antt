@@ -11,7 +11,7 @@ use Rattle.tftp_store.specs.Store.{Stored, StoreMeaning}
 pub record FaultStoreState (S : Type 0) : Type 0 where
   -- the store below it
   pub inner : S
-  -- the number of its prefixes, appends and commits before the one that it refuses, if any
+  -- the number of drafts begun, appends and commits before the one that it refuses, if any
   pub calls_left : Option ℕ
   -- the fault that a refused call returns
   pub fault : StoreFault

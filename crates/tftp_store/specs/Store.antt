@@ -43,7 +43,7 @@ pub record StoreMeaning (S D : Type 0) : Type 1 where
   pub must_refuse_open : S → List ℕ → StoreFault → Type 0
   -- a fill of this many bytes of a source that is opened at the path returns Read
   pub must_fail : S → List ℕ → ℕ → Type 0
-  -- the effect of the prefix of a draft on the store, if refused with this fault or not refused:
+  -- the effect of beginning a draft on the store, if refused with this fault or not refused:
   -- it states which calls must be refused
   pub begun : S → S → Option StoreFault → Type 0
   -- the same, of an append and of a commit
@@ -117,7 +117,7 @@ module _ {F : Type 0} (sources : SourceMeaning F) where
   FailsIf must_fail (Err fault) = ⊤
 
 module _ {K : Type 0} (drafted : K → Option Drafted) where
-  -- the result of the prefix of a draft, by the content of the store; out of memory is the last
+  -- the result of beginning a draft, by the content of the store; out of memory is the last
   -- refusal
   abbrev pub Begins : Option Stored → Option Stored → List ℕ → Bool → Result K StoreFault → Type 0
   Begins None after path replace result = ⊤
