@@ -2,7 +2,7 @@
 
 ghost use Rattle.std.specs.Prelude.{◌≡◌, ◌<◌, ◌≤◌, ◌++◌, ◌∷◌, [], true, false, None, Some, IfOk};
 ghost use Rattle.std.specs.Prelude.{IfSome, vec_len, vec_capacity, map, take, length};
-ghost use Rattle.std.specs.Prelude.{if◌then◌else◌};
+ghost use Rattle.std.specs.Prelude.{◌+◌, ◌*◌, if◌then◌else◌};
 ghost use Rattle.tftp_server.specs.Port.{asks_store};
 ghost use Rattle.tftp_server.specs.Request.{Admits};
 ghost use Rattle.tftp_server.specs.State.{at};
@@ -392,6 +392,9 @@ fn file_work_limit<S: Store>(server: &Server<S>, tid: u16) -> usize {
 
 /// The longest length that can be sent in blocks of this size, in bytes: 65,535 blocks, the last
 /// one byte short (RFC 1350, section 6).
-fn longest_text(block_size: u16) -> u64 {
+fn longest_text(block_size: u16) -> u64
+    ensures fits { 1 ≤ block_size → result < 65535 * block_size }
+    ensures longest { 65535 * block_size ≤ result + 1 }
+{
     (u64::from(block_size) * 65_535).saturating_sub(1)
 }
