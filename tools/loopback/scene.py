@@ -39,7 +39,10 @@ def first_line(process) -> str:
 
 def preloaded(scene, source, **values) -> dict[str, str]:
     """The environment of a program with a library of this source, which reads these variables."""
-    library = compiled(scene.folder.parent, HERE / source)
+    # another test may compile the same source meanwhile
+    folder = scene.folder.with_name(f"{scene.folder.name}.libraries")
+    folder.mkdir(exist_ok=True)
+    library = compiled(folder, HERE / source)
     return {**os.environ, "LD_PRELOAD": str(library), **{name: str(value) for name, value in values.items()}}
 
 

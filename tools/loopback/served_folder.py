@@ -297,6 +297,17 @@ def test_what_is_replaced_is_looked_at_again(scene) -> None:
         expect((found.st_ino, found.st_mode), (before.st_ino, before.st_mode), f"what was there, {reason}")
 
 
+def test_a_protected_file_is_not_replaced(scene) -> None:
+    """With `--overwrite` a file that the server's user may not write is refused at the request."""
+    scene.make("served/a", b"old")
+    (scene.folder / "served/a").chmod(0o444)
+    server = as_commoner(scene, "--overwrite", "--log", root="served")
+    is_refused(scene, server, wrq("a"), ACCESS_VIOLATION)
+    log = server.has_logged(1)
+    expect(log[0].endswith("(access violation), permission denied"), True, f"the log {log}")
+    scene.has_files({"served/a": b"old"})
+
+
 def test_the_mode_at_the_commit(scene) -> None:
     """With `--overwrite` the new file has the mode of the file that it replaces, as that is at the commit, without the
     bits that let it run as another user; it is made too where the file has gone."""
@@ -397,7 +408,9 @@ def test_a_draft_of_a_failed_transfer(scene) -> None:
     expect(drafts(scene), [f".tftp-{port}"], "the drafts")
     (scene.folder / f".tftp-{port}").write_bytes(b"what was left" * 100)
     server = scene.serve(*words)
-    writing(scene, server, "n").is_answered(LAST, ack(1))
+    end = writing(scene, server, "n")
+    expect((drafts(scene), (scene.folder / "n").exists()), ([f".tftp-{port}"], False), "the drafts before the commit")
+    end.is_answered(LAST, ack(1))
     server.kill()
     scene.has(n=b"new")
 
@@ -406,12 +419,15 @@ def test_links(scene) -> None:
     """A ROOT that is a link is the folder that it leads to; a link that leads nowhere is a file that is missing, and is
     in the way of a write."""
     scene.make("served/a", b"ABC")
+    scene.make("served/sub/b", b"B\nB")
     (scene.folder / "root").symlink_to("served")
+    (scene.folder / "served/inner").symlink_to("sub/b")
     (scene.folder / "served/dangling").symlink_to("nowhere")
-    server = scene.serve("--transfers", "2", root="root")
+    server = scene.serve("--transfers", "3", root="root")
     is_refused(scene, server, rrq("dangling"), FILE_NOT_FOUND)
     is_refused(scene, server, wrq("dangling"), FILE_EXISTS)
     opened(scene, server, rrq("a"), data(1, b"ABC")).send(ack(1))
+    opened(scene, server, rrq("inner", "netascii"), data(1, b"B\r\nB")).send(ack(1))
     writing(scene, server, "n").is_answered(LAST, ack(1))
-    scene.has_files({"served/a": b"ABC", "served/n": b"new"})
+    scene.has_files({"served/a": b"ABC", "served/sub/b": b"B\nB", "served/n": b"new"})
     server.kill()

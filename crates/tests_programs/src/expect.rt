@@ -38,14 +38,3 @@ pub(crate) fn expect_text(rt: &impl Abort, text: &str, expected: &str, what: &st
 {
     assert_eq!(rt; text, expected, "{what}");
 }
-
-/// Ends the test unless that many lines of a picture have this part.
-pub(crate) fn expect_lines(rt: &impl Abort, svg: &str, part: &str, count: usize) {
-    let mut found = 0usize;
-    for line in svg.lines() {
-        if line.contains(part) {
-            found = found.saturating_add(1);
-        }
-    }
-    expect_equal(rt, &found, &count, part);
-}

@@ -3,8 +3,6 @@
 #![tactic(auto)]
 
 #[cfg(test)]
-mod command_rows;
-#[cfg(test)]
 mod expect;
 #[cfg(test)]
 mod faulty_streams;
@@ -13,22 +11,8 @@ mod flow_rows;
 #[cfg(test)]
 mod play_rows;
 #[cfg(test)]
-mod playing;
-#[cfg(test)]
-mod random_rows;
-#[cfg(test)]
-mod script_rows;
-#[cfg(test)]
 mod show_rows;
-#[cfg(test)]
-mod stray_rows;
-#[cfg(test)]
-mod svg_rows;
-#[cfg(test)]
-mod transfer_rows;
 #[cfg(test)]
 mod udp_lines;
 #[cfg(test)]
 mod waiting_rows;
-#[cfg(test)]
-mod write_rows;

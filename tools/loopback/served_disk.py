@@ -1,0 +1,225 @@
+"""What `tftpd` does where the disk fails at a chosen call, or a path is exchanged just before one: `disk_calls.c` is loaded
+before it."""
+import mmap
+import os
+import struct
+import time
+
+from datagrams import PATIENCE, PATIENT, ack, data, expect, free_ports, oack, rrq, wrq
+from scene import Server, preloaded
+from served_folder import LAST, TOO_LARGE, drafts, writing
+from server_alone import ACCESS_VIOLATION, DISK_FULL, FILE_EXISTS, is_refused, opened
+
+# the parts of `struct control` in disk_calls.c: what a call fails by, whether links do, whether polls repeat what they
+# found and whether a path is exchanged; then the texts, and how many letters there are
+FLAGS, TEXTS = struct.Struct("iiii"), struct.Struct("256s512s512s256s256s")
+COUNT, LETTERS = struct.Struct("i"), 4_000
+
+
+class Disk:
+    """What a test has in common with the calls of a server: its orders, and the letters of the calls."""
+
+    def __init__(self, scene) -> None:
+        self.path = scene.folder.parent / f"{scene.folder.name}.calls"
+        self.path.write_bytes(bytes(FLAGS.size + TEXTS.size + COUNT.size + LETTERS))
+        with open(self.path, "r+b") as file:
+            self.memory = mmap.mmap(file.fileno(), 0)
+        scene.ending.callback(self.memory.close)
+
+    def orders(self, error=0, lacks_links=False, is_busy=False, exchange=None, elsewhere="") -> None:
+        """From now on calls fail by this number of an error, and so on; none without words. `exchange` is the end of the
+        path of a call, the path that is exchanged before it, and the target of the link that is there then."""
+        name, path, target = exchange or ("", "", "")
+        texts = [name, path, f"{path}-away", target, elsewhere]
+        # the order to exchange is the last that is given: the server may look at any time
+        FLAGS.pack_into(self.memory, 0, 0, 0, 0, 0)
+        TEXTS.pack_into(self.memory, FLAGS.size, *[str(text).encode() for text in texts])
+        FLAGS.pack_into(self.memory, 0, error, lacks_links, is_busy, exchange is not None)
+
+    def calls(self) -> str:
+        """The letters of the calls since the last `forget`."""
+        at = FLAGS.size + TEXTS.size
+        count = COUNT.unpack_from(self.memory, at)[0]
+        return self.memory[at + COUNT.size:at + COUNT.size + count].decode()
+
+    def forget(self) -> None:
+        COUNT.pack_into(self.memory, FLAGS.size + TEXTS.size, 0)
+
+    def has(self, letter) -> None:
+        """Waits until there was such a call."""
+        end = time.monotonic() + PATIENCE
+        while letter not in self.calls():
+            expect(time.monotonic() < end, True, f"whether a call {letter} is among {self.calls()}")
+            time.sleep(0.005)
+
+
+def serve(scene, *words, root=".") -> tuple[Server, Disk]:
+    """Starts a server of a folder, and returns it with its disk."""
+    disk = Disk(scene)
+    env = preloaded(scene, "disk_calls.c", CONTROL=disk.path)
+    return Server(scene.start("tftpd", scene.server_words(root, scene.address, words), env=env)), disk
+
+
+def test_a_text_is_measured_once(scene) -> None:
+    """A text is read once for its length, whatever the block size, and again once it has changed. A file whose bytes alone
+    are too many is not read: 65,535 blocks of 512 bytes are one byte more than can be sent."""
+    scene.make("a", b"\n" * 1_000_000)
+    scene.make("b", b"")
+    os.truncate(scene.folder / "b", 65_535 * 512)
+    server, disk = serve(scene)
+    for size, is_read in [(17, True), (18, False), (8, False)]:
+        disk.forget()
+        is_refused(scene, server, rrq("a", "netascii", blksize=size), TOO_LARGE)
+        expect("r" in disk.calls(), is_read, f"whether the text is read for blocks of {size} in {disk.calls()}")
+    scene.make("a", b"\n" * 1_000_001)
+    disk.forget()
+    is_refused(scene, server, rrq("a", "netascii", blksize=17), TOO_LARGE)
+    expect("r" in disk.calls(), True, "whether the changed text is read")
+    disk.forget()
+    is_refused(scene, server, rrq("b", "netascii"), TOO_LARGE)
+    expect(disk.calls(), "o", "the calls for a file that is too long")
+    server.kill()
+
+
+def test_two_servers_share_a_folder(scene) -> None:
+    """Two servers whose transfers have one port at two addresses: the later draft is in the place of the earlier, whose
+    put fails, and neither stores the other's bytes."""
+    port = free_ports(1)
+    words = ["--ports", f"{port}:{port}", "--log"]
+    scene.make_folder("served")
+    one = scene.serve(*words, root="served")
+    other = scene.serve(*words, root="served", listen="127.0.0.1")
+    first, second = writing(scene, one, "n"), writing(scene, other, "m")
+    first.is_answered(LAST, DISK_FULL)
+    log = one.has_closed("StoreFault")
+    expect(log[-1].endswith("StoreFault, draft replaced"), True, f"the log {log}")
+    second.is_answered(data(1, b"other"), ack(1))
+    other.kill()
+    scene.has_files({"served/m": b"other"})
+
+
+def test_a_long_put_is_synced_on_its_way(scene) -> None:
+    """Each long block is one write. While other ports are ready a draft is not synced, unless 16 MiB are unsynced."""
+    server, disk = serve(scene, "--max-block", "65464")
+    asked = {"blksize": 65_464, **PATIENT}
+    end = opened(scene, server, wrq("n", **asked), oack(**asked))
+    disk.orders(is_busy=True)
+    disk.forget()
+    number = 0
+    for blocks, syncs in [(256, 0), (4, 1)]:
+        for _ in range(blocks):
+            number += 1
+            end.is_answered(data(number, bytes(65_464)), ack(number))
+        # the last block is written behind its acknowledgement
+        is_refused(scene, server, rrq("none"), b"\0\5\0\1file not found\0")
+        found = disk.calls()
+        expect((found.count("w"), found.count("d")), (number, syncs), f"the writes and syncs of {number} blocks in {found}")
+    expect(256 * 65_464 < 16 << 20 < 257 * 65_464, True, "whether 16 MiB are reached at block 257")
+    server.kill()
+
+
+def test_a_name_is_synced(scene) -> None:
+    """The calls of a commit (fsync(2)): the draft is written and synced, gets its name, and the folder is synced, which was
+    opened before. A file that is replaced is opened for writing first, to see that it may be."""
+    for words, calls in [([], "wsols"), (["--overwrite"], "wsooms")]:
+        server, disk = serve(scene, *words)
+        end = writing(scene, server, "n")
+        disk.forget()
+        end.is_answered(LAST, ack(1))
+        expect(disk.calls(), calls, f"the calls of a commit with {words}")
+        server.kill()
+
+
+def test_without_hard_links(scene) -> None:
+    """On a file system without hard links a draft is renamed, and never over a file."""
+    server, disk = serve(scene, "--log")
+    disk.orders(lacks_links=True)
+    first, second = writing(scene, server, "n"), writing(scene, server, "n")
+    disk.forget()
+    first.is_answered(data(1, b"first"), ack(1))
+    expect(disk.calls(), "wsoLms", "write, sync, no link, rename, sync")
+    second.is_answered(data(1, b"second"), FILE_EXISTS)
+    log = server.has_logged(3)
+    expect(log[-1].endswith(" ms, StoreFault"), True, f"the log {log} has no reason of the system")
+    expect((scene.folder / "n").read_bytes(), b"first", "the file")
+
+
+def test_another_device(scene) -> None:
+    """A write to another device than that of the drafts is refused when it begins, and leaves no draft."""
+    scene.make_folder("elsewhere")
+    server, disk = serve(scene, "--log")
+    disk.orders(elsewhere="/elsewhere")
+    is_refused(scene, server, wrq("elsewhere/n"), ACCESS_VIOLATION)
+    log = server.has_logged(1)
+    expect(log[0].endswith("(access violation), another device"), True, f"the log {log}")
+    expect(drafts(scene), [], "the drafts")
+
+
+def test_a_read_stays_in_the_folder(scene) -> None:
+    """A folder that is exchanged for a link out, before its file is looked at, gives no file: the path is looked up again,
+    and leads out."""
+    scene.make("secret", b"S")
+    scene.make_folder("served")
+    scene.make_folder("served/sub")
+    server, disk = serve(scene, "--log", root="served")
+    disk.orders(exchange=("/secret", scene.folder / "served/sub", ".."))
+    is_refused(scene, server, rrq("sub/secret"), ACCESS_VIOLATION)
+    log = server.has_logged(1)
+    expect(log[0].endswith("(access violation), leads out of the folder"), True, f"the log {log}")
+    expect((scene.folder / "served/sub").is_symlink(), True, "whether the folder was exchanged")
+
+
+def test_a_wrong_name_is_removed(scene) -> None:
+    """A name that is given in a folder that was exchanged for a link out, between the look at the folder and the link, is
+    removed."""
+    scene.make_folder("out")
+    scene.make("served/sub/old", b"old")
+    server, disk = serve(scene, "--log", root="served")
+    end = writing(scene, server, "sub/n")
+    # the path of the new name is looked at once more only behind its link
+    disk.orders(exchange=("/sub/n", scene.folder / "served/sub", "../out"))
+    end.is_answered(LAST, DISK_FULL)
+    log = server.has_closed("StoreFault")
+    expect(log[-1].endswith("StoreFault, folder replaced"), True, f"the log {log}")
+    expect((scene.folder / "served/sub").is_symlink(), True, "whether the folder was exchanged")
+    for name in ["out/n", "served/sub-away/n"]:
+        scene.lacks(name)
+
+
+# Error numbers of Linux (errno(3)), the answer to a write that they refuse (RFC 1350, appendix I), and the reason
+ERRORS = [
+    (28, DISK_FULL, "no space"),
+    (122, DISK_FULL, "quota exceeded"),
+    (30, ACCESS_VIOLATION, "read-only file system"),
+    (24, ACCESS_VIOLATION, "too many open files"),
+    (13, ACCESS_VIOLATION, "permission denied"),
+    (5, ACCESS_VIOLATION, "input or output error"),
+]
+
+
+def test_the_disk_fails(scene) -> None:
+    """An opening, the beginning of a write, a block that is written behind its acknowledgement, and a commit fail by each
+    error: the log has its reason, and no file is made."""
+    scene.make("a", b"ABC")
+    asked, block = {"blksize": 20_000, **PATIENT}, bytes(20_000)
+    server, disk = serve(scene, "--log", "--max-block", "20000", "--transfers", "100")
+    for number, answer, _ in ERRORS:
+        disk.orders(error=number)
+        is_refused(scene, server, rrq("a"), ACCESS_VIOLATION)
+        is_refused(scene, server, wrq("n"), answer)
+        disk.orders()
+        end = opened(scene, server, wrq("n", **asked), oack(**asked))
+        disk.orders(error=number)
+        disk.forget()
+        end.is_answered(data(1, block), ack(1))
+        disk.has("W")
+        disk.orders()
+        end.is_answered(data(2, block), DISK_FULL)
+        end = writing(scene, server, "n")
+        disk.orders(error=number)
+        end.is_answered(LAST, DISK_FULL)
+        disk.orders()
+        scene.lacks("n")
+    log = [line for line in server.has_logged(6 * len(ERRORS)) if not line.startswith("opened")]
+    reasons = [reason for _, _, reason in ERRORS for _ in range(4)]
+    expect([line.rpartition(", ")[2] for line in log], reasons, f"the reasons in {log}")
