@@ -191,13 +191,17 @@ fn closing_log_line(rt: HostRuntime) -> Result<(), Fail> {
     prints(&rt, &closed, expected)
 }
 
+/// A line as systemd's journal gets it.
+fn logged(line: LogLine<'_>) -> Logged<'_> {
+    Logged {
+        line,
+        has_priority: true,
+    }
+}
+
 /// In a journal a warning has its priority, and another line has none.
 #[test]
 fn priorities(rt: HostRuntime) -> Result<(), Fail> {
-    let logged = |line: LogLine<'_>| Logged {
-        line,
-        has_priority: true,
-    };
     let ignored = LogLine::Ignored {
         request: asked("ERROR 0 (stop)"),
     };
