@@ -2,10 +2,11 @@
 """Looks at the tools and documents: lint.py
 
 ruff and pyflakes look at the Python files of tools/, bench/ and examples/, mypy at their types, and shellcheck at the
-shell scripts; each is skipped where it is not installed, pyflakes or ruff alone suffices, and the last line but one says
-so. What one finds is shown, and counts where its version is Debian 12's: another may find more, and no gate fails for
-what is installed on its host. Each Python file compiles, and each function says what it returns. Lines of documents, but
-of the READMEs of crates, are at most 120 columns wide, without those of tables and code.
+shell scripts; each is skipped where it is not installed, pyflakes or ruff alone suffices, and a line says so. What one
+finds is shown, and counts where its version is Debian 12's: another may find more, and no gate fails for what is
+installed on its host. Each Python file compiles, and each function says what it returns. Lines of documents, but of the
+READMEs of crates, are at most 120 columns wide, without those of tables and code. The last line but one counts the words
+of README.md and docs/.
 """
 import ast
 import os
@@ -20,6 +21,8 @@ from typing import Callable
 from lib.programs import TOP
 
 COLUMNS = 120
+# as many words as README.md and docs/ are meant to have, without the documents that are made
+WORDS, MADE = 15_000, ["DEFINITIONS.md", "STATEMENT.md"]
 PYTHON = ["tools", "bench", "examples"]
 SHELL = ["tools/*.sh", ".ci/*", "debian/*.sh", "bench/*/*.sh", "examples/*.sh", "examples/*/*.sh"]
 RUFF = ["ruff", "check", "--quiet", "--select", "E9,F", *PYTHON]
@@ -96,6 +99,12 @@ def wide_lines() -> list[str]:
     return found
 
 
+def words() -> int:
+    """How many words README.md and docs/ have."""
+    paths = [TOP / "README.md", *(path for path in TOP.glob("docs/*.md") if path.name not in MADE)]
+    return sum(len(path.read_text().split()) for path in paths)
+
+
 def counts(name: str) -> bool:
     """Whether what this program finds counts, by its version."""
     done = subprocess.run([name, "--version"], stdin=subprocess.DEVNULL, capture_output=True, text=True, timeout=60)
@@ -125,6 +134,8 @@ def main() -> int:
         skipped = [name for name in skipped if name not in ("pyflakes3", "ruff")]
     if skipped:
         print(f"lint: skipped: no {', no '.join(skipped)}")
+    # (said, and no failure: who adds a paragraph shortens another)
+    print(f"lint: README.md and docs/: {words():,} words of {WORDS:,}")
     print(f"lint: {', '.join(looked)}: {len(found)} lines found")
     return 1 if found else 0
 
