@@ -11,6 +11,7 @@ The counter is refuse_memory.c, compiled into a temporary folder; a run has two 
 that `rt try` compiled with their checks.
 """
 import re
+import shutil
 import subprocess
 import sys
 import tempfile
@@ -22,7 +23,7 @@ from lib.addresses import own_address
 from lib.answerer import Answerer
 from lib.packets import ack, data
 from lib.preload import compiled
-from lib.programs import programs
+from lib.programs import TOP, programs
 
 NAMES = ["tftp-show", "tftp-play", "tftp"]
 HOST = own_address()
@@ -90,6 +91,7 @@ class Trials:
         self.paths, self.folder, self.counter = paths, folder, compiled(folder)
         self.local, self.part = folder / "local", folder / "local.part"
         (folder / "abc").write_bytes(b"ABC")
+        shutil.copy(TOP / "examples/wire.pcap", folder)
 
     def ran(self, command: Command, refused: int) -> tuple[End, int]:
         """How a command ends without that request, and how many it made."""
@@ -104,6 +106,10 @@ class Trials:
             sys.exit(f"out of memory: {command.words}: with request {refused} refused, status {done.returncode}: {errors}")
         return End(done.returncode, done.stdout.decode(), errors[:counts.start()]), int(counts[1])
 
+    @staticmethod
+    def name_of(command: Command) -> str:
+        return " ".join([command.program, *(word for word in command.words if ":" not in word)])
+
     def has_right_files(self, kind: str) -> bool:
         """Whether a local file is whole or not there, and its draft there only where it could not be stored or named."""
         is_whole = not self.local.exists() or self.local.read_bytes() == CONTENT
@@ -111,7 +117,7 @@ class Trials:
 
     def tried(self, command: Command) -> tuple[str, int]:
         """The kinds of all refused requests of a command, and how many are wrong."""
-        name = " ".join([command.program, *(word for word in command.words if ":" not in word)])
+        name = self.name_of(command)
         ample, count = self.ran(command, 0)
         if ample.errors or ample.status > 1:
             sys.exit(f"out of memory: {name}: with ample memory {ample}")
@@ -135,10 +141,14 @@ class Trials:
 def commands(server: str) -> list[Command]:
     return [
         Command("tftp-show", [], LINES, "S+U+S+"),
+        Command("tftp-show", ["wire.pcap"], b"", "S+U+S+"),
         Command("tftp-show", ["--flow"], FLOW, "S+U+S+"),
+        Command("tftp-show", ["--flow", "--json"], FLOW, "S+U+S+"),
+        Command("tftp-show", ["--flow", "--svg", "picture"], FLOW, "S+U+S+"),
         Command("tftp-play", [], SCRIPT, "S+OU+O[OWE]+[SOWEC]+"),
-        Command("tftp", ["get", server, "a", "local", "--no-dally"], b"", "S+U+F+M+ST", "local"),
-        Command("tftp", ["put", server, "abc", "a"], b"", "S+U+FM+SW", "abc"),
+        Command("tftp-play", ["--svg", "picture"], SCRIPT, "S+OU+O[OWE]+[SOWEC]+"),
+        Command("tftp", ["get", server, "a", "local", "--no-dally"], b"", "S+U+[FMS]+T", "local"),
+        Command("tftp", ["put", server, "abc", "a"], b"", "S+U+[FMS]+W?", "abc"),
     ]
 
 
@@ -151,8 +161,8 @@ def main() -> int:
         for command in commands(Answerer(HOST, answer_to).word):
             kinds, wrong = trials.tried(command)
             counts = ", ".join(f"{kinds.count(kind)} {kind}" for kind in sorted({*kinds}))
-            print(f"out of memory: {command.program} {' '.join(command.words[:1])}: {len(kinds)} requests, each refused in "
-                  f"turn: {counts}; {wrong} wrong", flush=True)
+            print(f"out of memory: {trials.name_of(command)}: {len(kinds)} requests, each refused in turn: {counts}; "
+                  f"{wrong} wrong", flush=True)
             failed += wrong
     return 1 if failed else 0
 
