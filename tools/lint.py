@@ -33,7 +33,7 @@ MYPY = ["mypy", "--explicit-package-bases", "--ignore-missing-imports", "--follo
 # the files whose functions say the types of their parameters too
 TYPED = ["lib/*.py", "gate.py", "slips.py", "processors.py", "lint.py", "mutants.py", "out_of_memory.py"]
 # the folders of the others, from each of which its files import, and what needs the types of parameters to be known
-FOLDERS = ["tools", "tools/soak", "tools/loopback", "tools/tests", "bench/*", "examples/python"]
+FOLDERS = ["tools", "tools/soak", "tools/loopback", "tools/rows", "tools/tests", "bench/*", "examples/python"]
 UNKNOWN = ["arg-type", "assignment", "attr-defined", "call-overload", "dict-item", "func-returns-value", "has-type", "index",
            "list-item", "misc", "operator", "str-bytes-safe", "union-attr", "var-annotated"]
 
