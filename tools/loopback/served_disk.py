@@ -140,7 +140,7 @@ def test_without_hard_links(scene) -> None:
     expect(disk.calls(), "wsoLms", "write, sync, no link, rename, sync")
     second.is_answered(data(1, b"second"), FILE_EXISTS)
     log = server.has_logged(3)
-    expect(log[-1].endswith(" ms, StoreFault"), True, f"the log {log} has no reason of the system")
+    expect(log[-1].endswith(" sent again, StoreFault"), True, f"the log {log} has no reason of the system")
     expect((scene.folder / "n").read_bytes(), b"first", "the file")
 
 
