@@ -5,6 +5,7 @@
 # make test: the gate, every proof from nothing, and then what is tried of the programs that it built; with REQUIRE_ALL=1
 #   nothing may be skipped. The last line is `N passed, N failed`
 # make quick CRATE=NAME: what a change of one crate is tried by in minutes
+# make docs: writes docs/DEFINITIONS.md and docs/STATEMENT.md from the definitions
 # make slips CRATES="NAME ..": tries the wrong bodies in crates/NAME/slips/, of all crates without words
 # make install, make uninstall: programs, library, manuals, completions, units and documents at DESTDIR and PREFIX; they
 #   copy what is in bin/, and build nothing. PROGRAM_PREFIX= is put before the names of the programs and their manuals
@@ -38,7 +39,7 @@ CHECKS := tools/same_options.py tools/check_install.py tools/check_documents.py 
 	'python3 -m unittest $(TESTS)' tools/mutants.py tools/c_library.py tools/loopback/run.py \
 	'tools/network.py bin/tftp bin/tftpd' tools/soak/run.py
 
-.PHONY: build programs libtftp run sample tftp-show tftp-play tftp tftpd test quick slips install uninstall dist deb soak \
+.PHONY: build programs libtftp run sample tftp-show tftp-play tftp tftpd test quick docs slips install uninstall dist deb soak \
 	mutants bench bench-udp clean
 # one after another: each crate is proved by as many processors as there are
 .NOTPARALLEL:
@@ -81,6 +82,10 @@ test:
 
 quick:
 	@tools/quick.sh '$(CRATE)'
+
+docs:
+	tools/definitions.py --write
+	tools/statement.py --write
 
 slips:
 	@tools/slips.py $(CRATES)
