@@ -1,4 +1,5 @@
 """`tftp` gets files from `tftpd`, and puts files to it."""
+import os
 import re
 from itertools import product
 from typing import Any
@@ -242,6 +243,18 @@ def test_log_lines(scene) -> None:
         r"opened \d+ 127[.\d]+:\d+ RRQ a octet: DATA 1 3",
         r"closed \d+ 127[.\d]+:\d+ RRQ a octet: DATA 1 3, 3 bytes, \d+ ms, \d+ sent again, Complete",
     ])
+
+
+def test_a_closed_pipe(scene) -> None:
+    """A client whose standard output nobody reads says so; its file is there."""
+    scene.make("a", b"ABC")
+    server = scene.serve()
+    ours, output = os.pipe()
+    os.close(ours)
+    client = scene.tftp("get", server.word, "a", "local", "--no-dally", stdout=output)
+    os.close(output)
+    client.ends(2, None, "tftp: output fault\ntftp: standard output: broken pipe\n")
+    scene.has(a=b"ABC", local=b"ABC")
 
 
 def test_the_log_says_why(scene) -> None:
