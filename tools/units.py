@@ -219,6 +219,8 @@ def try_reading(it) -> None:
     expect(it.put("new"), "tftp: PeerError(2)\ntftp: the server says: access violation\n", "the answer to a write")
     lines = [line.split()[0] for line in it.log("tftpd.service") if re.search("192|198|0[.]0[.]0[.]0", line)]
     expect(lines, ["listening", "opened", "closed", "refused"], "the lines of the journal")
+    warnings = it.run("journalctl --quiet --output=cat --priority=warning _SYSTEMD_UNIT=tftpd.service").splitlines()
+    expect([line.split()[0] for line in warnings], ["refused"], "the warnings of the journal")
     it.may("tftpd", None)
     it.sees("tftpd", False)
 
