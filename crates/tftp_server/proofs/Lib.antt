@@ -3,3 +3,4 @@ pub mod TableLemmas
 mod RequestLemmas
 mod RepeatLemmas
 mod ShortageLemmas
+mod CallersLemmas

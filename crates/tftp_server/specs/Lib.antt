@@ -8,3 +8,4 @@ pub mod Work
 pub mod Port
 pub mod Request
 pub mod Shortage
+pub mod CallersFiles

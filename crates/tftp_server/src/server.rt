@@ -1,6 +1,7 @@
 //! A server: its store and its transfers.
 
 mod admission;
+mod callers_files;
 mod port;
 mod reply;
 mod request;

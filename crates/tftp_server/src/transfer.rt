@@ -1,11 +1,14 @@
 //! A transfer that a server holds.
 
-ghost use Rattle.std.specs.Prelude.{◌≡◌, ◌↔◌, true, IsTrue, IfOk, OnErr, IsErrOf, Option};
+ghost use Rattle.std.specs.Prelude.{◌≡◌, ◌↔◌, true, false, IsTrue, IfOk, OnErr, IsErrOf, Option, Some};
 ghost use Rattle.std.specs.Prelude.{option_copied, vec_len, vec_capacity};
 ghost use Rattle.tftp_ends.specs.End.{record_of};
 ghost use Rattle.tftp_server.specs.State.{is_closed, draft_of, Repeats};
 ghost use Rattle.tftp_wire.specs.Borrowed.{owned};
 ghost use Rattle.tftp_ends.specs.Files.{AreFilesOf};
+ghost use Rattle.tftp_ends.specs.Files.{KeepsSource, KeepsSink};
+ghost use Rattle.tftp_ends.specs.OneFile.{ReceiverStep, SenderStep};
+ghost use Rattle.tftp_server.specs.CallersFiles.{is_open_sender, is_open_receiver};
 ghost use Rattle.tftp_server.specs.Steps.{with_end, lends, TakesBy, TakesIn, StaysAs};
 ghost use Rattle.tftp_ends.specs.Action.{Decodes, datagram_action, timeout_action};
 ghost use Rattle.tftp_ends.specs.Action.{timeout_response};
@@ -13,6 +16,7 @@ ghost use Rattle.tftp_ends.specs.Room.{response_room};
 ghost use Rattle.tftp_ends.specs.Shortage.{AppendsNothing, HasNoRoom};
 ghost use Rattle.tftp_server.specs.Shortage.{TransferLacksMemory};
 ghost use Rattle.tftp_ends.specs.Step.{Carries, Lends, IsAnswered, UsesFile, lent, timeout_turn};
+ghost use Rattle.tftp_ends.specs.Step.{Turn};
 ghost use Rattle.tftp_ends.specs.Step.{reported};
 ghost use Rattle.tftp_server.specs.Work.{Works};
 ghost use Rattle.tftp_wire.specs.declared.packet.Packet.{Packet};
@@ -21,7 +25,7 @@ use crate::config::Config;
 use crate::draft_sink::DraftSink;
 use std::marker::Model;
 use tftp_ends::{End, EndFault, Endpoint, Outgoing, Record, Step};
-use tftp_file::{Files, Path, Source};
+use tftp_file::{Files, Path, Sink, Source};
 use tftp_store::Store;
 use tftp_wire::PacketRef;
 
@@ -143,6 +147,54 @@ impl<F, D> Transfer<F, D> {
         ensures { result.now ≡ lent outgoing self.now.end }
     {
         self.end.bytes_of(outgoing)
+    }
+}
+
+impl<F, D> Transfer<F, D> {
+    /// If it sends, its end handles a datagram over this source instead of its own. After a fault
+    /// nothing has changed.
+    pub(crate) fn lend_source<R: Source>(
+        &mut self,
+        source: &mut R,
+        from: Endpoint,
+        bytes: &[u8],
+    ) -> Result<(Step, Outgoing), EndFault>
+        ensures steps { IfOk result (λ answer. (turn : Turn)
+            × SenderStep R.meaning from bytes.now self.old.end source.old turn source.new
+            × Lends self.old.end turn self.new.end answer.0.to answer.1
+            × (answer.0 ≡ reported self.old.end turn) × (self.new ≡ with_end self.new.end self.old)) }
+        ensures closed { IsErrOf result EndFault.Closed ↔ (is_open_sender (Some self.old) ≡ false) }
+        ensures err { OnErr result ((self.new ≡ self.old)
+            × KeepsSource R.meaning source.old source.new) }
+        ensures same { R.is_same source.old source.new }
+    {
+        match &self.files {
+            Files::Source(_) => self.end.handle_datagram_as_sender(source, from, bytes),
+            Files::Sink(_) => Err(EndFault::Closed),
+        }
+    }
+
+    /// If it stores, its end handles a datagram over this sink instead of its draft. After a fault
+    /// nothing has changed.
+    pub(crate) fn lend_sink<K: Sink>(
+        &mut self,
+        sink: &mut K,
+        from: Endpoint,
+        bytes: &[u8],
+    ) -> Result<(Step, Outgoing), EndFault>
+        ensures steps { IfOk result (λ answer. (turn : Turn)
+            × ReceiverStep K.meaning from bytes.now self.old.end sink.old turn sink.new
+            × Lends self.old.end turn self.new.end answer.0.to answer.1
+            × (answer.0 ≡ reported self.old.end turn) × (self.new ≡ with_end self.new.end self.old)) }
+        ensures closed { IsErrOf result EndFault.Closed ↔ (is_open_receiver (Some self.old) ≡ false) }
+        ensures err { OnErr result ((self.new ≡ self.old)
+            × KeepsSink K.meaning sink.old sink.new) }
+        ensures same { K.is_same sink.old sink.new }
+    {
+        match &self.files {
+            Files::Sink(_) => self.end.handle_datagram_as_receiver(sink, from, bytes),
+            Files::Source(_) => Err(EndFault::Closed),
+        }
     }
 }
 

@@ -1,0 +1,179 @@
+//! A server whose caller has the files: the caller opens the end of an admitted request, and each
+//! step of a transfer is lent its source or its sink.
+
+ghost use Rattle.std.specs.Prelude.{◌≡◌, ◌↔◌, ◌⊎◌, List, ℕ, Some, false, option_copied, option_map};
+ghost use Rattle.std.specs.Prelude.{is_some, if◌then◌else◌, IfOk, IfErr, IsErrOf, IsSome, OnOk, OnErr};
+ghost use Rattle.tftp_ends.specs.End.{record_of};
+ghost use Rattle.tftp_ends.specs.Files.{AreFilesOf, KeepsSource, KeepsSink};
+ghost use Rattle.tftp_server.specs.CallersFiles.{asked_path, read_path, refusal, write_path};
+ghost use Rattle.tftp_server.specs.CallersFiles.{is_open_sender, is_open_receiver, SendsLent, StoresLent};
+ghost use Rattle.tftp_server.specs.Request.{ask_of};
+ghost use Rattle.tftp_server.specs.State.{at, with_new, without};
+
+use crate::fault::ServerFault;
+use crate::server::Server;
+use crate::server::admission::{Admission, PortAction, ReadRequest, WriteRequest};
+use crate::transfer::Transfer;
+use tftp_ends::{End, Endpoint, ErrorReply, Outgoing, Record, Step};
+use tftp_file::{Files, Path, Sink, Source};
+use tftp_store::Store;
+
+impl<'a> Admission<'a> {
+    /// The ERROR that answers the datagram, if it is refused.
+    pub fn refusal(&self) -> Option<ErrorReply>
+        ensures { result ≡ refusal self.now.ask }
+    {
+        match &self.action {
+            PortAction::Refuse(reply) => Some(*reply),
+            PortAction::Nothing => None,
+            PortAction::Read(_) => None,
+            PortAction::Write(_) => None,
+        }
+    }
+
+    /// The path of the file that is to be opened, if the request is a read that may be served.
+    pub fn read_path(&self) -> Option<&Path>
+        ensures { option_copied result ≡ read_path self.now.ask }
+    {
+        match &self.action {
+            PortAction::Read(read) => Some(&read.path),
+            PortAction::Nothing => None,
+            PortAction::Refuse(_) => None,
+            PortAction::Write(_) => None,
+        }
+    }
+
+    /// The path of the file that is to be begun, if the request is a write that may be served.
+    pub fn write_path(&self) -> Option<&Path>
+        ensures { option_copied result ≡ write_path self.now.ask }
+    {
+        match &self.action {
+            PortAction::Write(write) => Some(&write.path),
+            PortAction::Nothing => None,
+            PortAction::Refuse(_) => None,
+            PortAction::Read(_) => None,
+        }
+    }
+}
+
+/// The path of an action that asks the store, if it does.
+fn path_in(action: PortAction<'_>) -> Option<Path>
+    ensures { result ≡ asked_path (ask_of action.entry) }
+{
+    match action {
+        PortAction::Nothing => None,
+        PortAction::Refuse(_) => None,
+        PortAction::Read(ReadRequest { path, .. }) => Some(path),
+        PortAction::Write(WriteRequest { path, .. }) => Some(path),
+    }
+}
+
+impl<S: Store> Server<S> {
+    /// Holds an end that the caller opened for an admitted request, under an unused identifier.
+    /// Its steps are [`Server::lend_source`] or [`Server::lend_sink`].
+    ///
+    /// `TidInUse` if a transfer has the identifier; `NoSuchTid` if the admission opens none;
+    /// `Memory`. After a fault nothing has changed.
+    pub fn hold(
+        &mut self,
+        admission: Admission<'_>,
+        tid: u16,
+        end: End,
+        files: Files<S::Source, S::Draft>,
+    ) -> Result<(), ServerFault>
+        requires { AreFilesOf end.role.side files }
+        ensures held { OnOk result ((path : List ℕ)
+            × (asked_path admission.entry.ask ≡ Some path)
+            × (self.new ≡ record self.old { held = with_new tid (record {
+              end = end;
+              files = files;
+              path = path;
+              request = admission.entry.bytes;
+            }) self.old.held })) }
+        ensures in_use { IsErrOf result ServerFault.TidInUse ↔ IsSome (at tid self.old.held) }
+        ensures err { OnErr result (self.new ≡ self.old) }
+    {
+        if self.table.contains(tid) {
+            return Err(ServerFault::TidInUse);
+        }
+        let Admission { incoming, action } = admission;
+        let Some(path) = path_in(action) else {
+            return Err(ServerFault::NoSuchTid);
+        };
+        let Ok(request) = Vec::from_slice(self.alloc, incoming.bytes) else {
+            return Err(ServerFault::Memory);
+        };
+        match self.table.insert(tid, Transfer::new(end, files, path, request)) {
+            Ok(()) => Ok(()),
+            Err(_) => Err(ServerFault::Memory),
+        }
+    }
+
+    /// As [`Server::handle_datagram`], for a transfer that sends: its end is lent `source` for the
+    /// step, in place of its own.
+    ///
+    /// `NoSuchTid` if no open transfer that sends has the identifier. After a fault nothing has
+    /// changed, and the source has the same bytes left.
+    pub fn lend_source<R: Source>(
+        &mut self,
+        tid: u16,
+        source: &mut R,
+        from: Endpoint,
+        bytes: &[u8],
+    ) -> Result<(Step, Outgoing), ServerFault>
+        ensures steps { IfOk result (λ answer. SendsLent R.meaning source.old source.new from
+            bytes.now tid self.old.held self.new.held answer.0 answer.1) }
+        ensures rest { self.new ≡ record self.old { held = self.new.held } }
+        ensures no_such_tid { IsErrOf result ServerFault.NoSuchTid
+            ↔ (is_open_sender (at tid self.old.held) ≡ false) }
+        ensures err { OnErr result ((self.new ≡ self.old)
+            × KeepsSource R.meaning source.old source.new) }
+        ensures same { R.is_same source.old source.new }
+    {
+        let Some(transfer) = self.table.get_mut(tid) else {
+            return Err(ServerFault::NoSuchTid);
+        };
+        Ok(transfer.lend_source(source, from, bytes)?)
+    }
+
+    /// As [`Server::handle_datagram`], for a transfer that stores: its end is lent `sink` for the
+    /// step, in place of its draft.
+    ///
+    /// `NoSuchTid` if no open transfer that stores has the identifier. After a fault nothing has
+    /// changed, and the sink holds the same.
+    pub fn lend_sink<K: Sink>(
+        &mut self,
+        tid: u16,
+        sink: &mut K,
+        from: Endpoint,
+        bytes: &[u8],
+    ) -> Result<(Step, Outgoing), ServerFault>
+        ensures steps { IfOk result (λ answer. StoresLent K.meaning sink.old sink.new from
+            bytes.now tid self.old.held self.new.held answer.0 answer.1) }
+        ensures rest { self.new ≡ record self.old { held = self.new.held } }
+        ensures no_such_tid { IsErrOf result ServerFault.NoSuchTid
+            ↔ (is_open_receiver (at tid self.old.held) ≡ false) }
+        ensures err { OnErr result ((self.new ≡ self.old)
+            × KeepsSink K.meaning sink.old sink.new) }
+        ensures same { K.is_same sink.old sink.new }
+    {
+        let Some(transfer) = self.table.get_mut(tid) else {
+            return Err(ServerFault::NoSuchTid);
+        };
+        Ok(transfer.lend_sink(sink, from, bytes)?)
+    }
+}
+
+impl<S: Store + Drop> Server<S> {
+    /// Removes the transfer at the identifier, open or closed, and returns its record: its caller
+    /// gives it up. If none has the identifier, nothing changes.
+    pub fn give_up(&mut self, tid: u16) -> Option<Record>
+        ensures record { result ≡ option_map (λ held. record_of held.end) (at tid self.old.held) }
+        ensures held { self.new ≡ record self.old { held = without tid self.old.held } }
+    {
+        match self.table.remove(tid) {
+            Some(transfer) => Some(transfer.record()),
+            None => None,
+        }
+    }
+}
