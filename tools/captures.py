@@ -3,8 +3,8 @@
 
 Captures of each format, link and fault are built by hand (`frames.py`); what is printed of them is written here. Where
 `tshark` is installed it reads them too, packet by packet; where `tcpdump` is and may capture, it records an exchange on
-the loopback interface. Then each capture is mutated, with a seed, under a limit of memory and of time. The last line is
-a count; the status is 1 where something was not as wanted.
+the loopback interface, and transfers of `tftpd` with each client that is installed. Then each capture is mutated, with a
+seed, under a limit of memory and of time. The last line is a count; the status is 1 where something was not as wanted.
 """
 import json
 import os
@@ -24,7 +24,7 @@ from typing import Any, Iterator, Optional
 from lib import frames as f
 from lib.addresses import own_address
 from lib.packets import ack, data, oack, rrq
-from lib.programs import program
+from lib.programs import found, program
 
 EXAMPLES = Path(__file__).resolve().parent.parent / "examples"
 PATIENCE = 60
@@ -294,6 +294,9 @@ def try_cuts(check) -> None:
         ("a block of 8", struct.pack("<II", 0xBAD, 8), "a block with an impossible length"),
         ("a block of 13", struct.pack("<II", 0xBAD, 13), "a block with an impossible length"),
         ("a frame past its block", struct.pack("<IIIIIII", 6, 36, 0, 0, 0, 9, 9) + bytes(8), "a block with an impossible length"),
+        ("a frame into its block's length", struct.pack("<IIIIIII", 6, 36, 0, 0, 0, 5, 5) + bytes(8), "a block with an impossible length"),
+        ("a frame to its block's end", struct.pack("<IIIIIII", 6, 36, 0, 0, 0, 8, 8) + bytes(8), "a block with an impossible length"),
+        ("a simple frame into its block's length", struct.pack("<III", 3, 20, 8) + bytes(8), "a block with an impossible length"),
         ("a frame of 4 GB", struct.pack("<IIIIIII", 6, 36, 0, 0, 0, 2**32 - 1, 5) + bytes(8), "a record is too long"),
         ("a section without an order", struct.pack("<III", 0x0A0D0D0A, 28, 0) + bytes(16), "not a capture"),
     ]:
@@ -461,15 +464,82 @@ def say(host, path) -> tuple[int, int]:
         sender.sendto(payload, to.getsockname())
         to.recv(1000)
         time.sleep(0.01)
-    # a file has a header of 24 bytes
-    end, before = time.monotonic() + 10, 24
-    while time.monotonic() < end and (path.stat().st_size == 24 or path.stat().st_size != before):
-        before = path.stat().st_size
-        time.sleep(0.5)
+    settle(path)
     ports = client.getsockname()[1], server.getsockname()[1]
     client.close()
     server.close()
     return ports
+
+
+def settle(path: Path) -> None:
+    """Waits until a capture grows no more. It has a header of 24 bytes."""
+    end, before = time.monotonic() + 10, 24
+    while time.monotonic() < end and (path.stat().st_size == 24 or path.stat().st_size != before):
+        before = path.stat().st_size
+        time.sleep(0.5)
+
+
+def peers(host: str, name: str, got: str) -> Iterator[tuple[str, list[str]]]:
+    """Gets of a file from port 69 of this host, and puts of it under another name, by each client that is installed."""
+    ours, busybox = found("tftp"), shutil.which("busybox")
+    if ours:
+        yield "tftp get", [str(ours), "get", f"{host}:69", name, got, "--blksize", "1428", "--tsize"]
+        yield "tftp put", [str(ours), "put", f"{host}:69", name, "ours", "--netascii"]
+    if shutil.which("curl"):
+        yield "curl get", ["curl", "-s", "-o", got, f"tftp://{host}/{name}"]
+        yield "curl put", ["curl", "-s", "-T", name, f"tftp://{host}/curl"]
+    if shutil.which("atftp"):
+        yield "atftp get", ["atftp", "--option", "blksize 1024", "-g", "-r", name, "-l", got, host]
+        yield "atftp put", ["atftp", "-p", "-l", name, "-r", "atftp", host]
+    if busybox and subprocess.run([busybox, "tftp", "--help"], capture_output=True).returncode == 0:
+        yield "busybox get", [busybox, "tftp", "-g", "-b", "700", "-r", name, "-l", got, host]
+
+
+def try_transfers(check) -> None:
+    """Transfers of `tftpd` with each client that is installed, as `tcpdump` records and `tshark` reads them."""
+    lacking = [name for name in ("tcpdump", "tshark") if not shutil.which(name)]
+    server = found("tftpd")
+    if lacking or not server or os.geteuid() != 0:
+        print(f"captures: {', '.join(lacking) or 'tftpd, or root'} is not there: transfers skipped")
+        return
+    host, path = own_address(), check.folder / "transfers.pcap"
+    served, here = check.folder / "served", check.folder / "here"
+    for folder in (served, here):
+        folder.mkdir()
+        folder.joinpath("boot").write_bytes(random.Random(SEED).randbytes(3000))
+    dump = begun(["tcpdump", "-i", "lo", "--immediate-mode", "-U", "-w", path, "-Z", "root", "udp", "and", "host", host], here)
+    if not any("listening on" in line for line in dump.stderr):
+        dump.wait()
+        print("captures: tcpdump may not capture: transfers skipped")
+        return
+    daemon = begun([server, served, "--listen", f"{host}:69", "--forever"], here)
+    daemon.stdout.readline()
+    done = [name for name, words in peers(host, "boot", "got") if is_run(check, name, words, here)]
+    settle(path)
+    for process in (daemon, dump):
+        process.terminate()
+        process.wait()
+    words = ["tshark", "-r", path, "-Y", "tftp", "-T", "fields", "-E", "occurrence=f", "-e", "udp.payload"]
+    seen = subprocess.run(words, capture_output=True, timeout=PATIENCE, check=True).stdout
+    _, lines, _ = check.run([], seen)
+    check.ends(f"transfers of {done}", [str(path)], b"", 0, lines)
+    status, output, errors = check.run(["--flow", str(path)])
+    if (status, errors) != (0, "") or output.count("ended    complete") != len(done) or not done:
+        check.fails(f"transfers of {done}: {status}, {output!r}, {errors!r}")
+    print(f"captures: {len(lines.splitlines())} packets of {', '.join(done)} as tshark reads them")
+
+
+def begun(words, folder: Path) -> Any:
+    """A process whose output is read."""
+    return subprocess.Popen(words, cwd=folder, text=True, stdin=subprocess.DEVNULL, stdout=subprocess.PIPE, stderr=subprocess.PIPE)
+
+
+def is_run(check, name: str, words: list[str], folder: Path) -> bool:
+    """Whether a client ends well."""
+    done = subprocess.run(words, cwd=folder, capture_output=True, stdin=subprocess.DEVNULL, timeout=PATIENCE)
+    if done.returncode != 0:
+        check.fails(f"{name}: {done}")
+    return done.returncode == 0
 
 
 def try_mutations(check) -> None:
@@ -511,7 +581,7 @@ def main() -> int:
         name = Path(show).name
         check.ends("help", ["--help"], b"", 0, HELP.replace("Usage: tftp-show", f"Usage: {name}"))
         for tries in (try_formats, try_fragments, try_cuts, try_selection, try_lines, try_live, try_many,
-                      try_examples, try_tshark, try_tcpdump, try_mutations):
+                      try_examples, try_tshark, try_tcpdump, try_transfers, try_mutations):
             tries(check)
     for wrong in check.wrong[:20]:
         print(f"captures: {wrong}")
