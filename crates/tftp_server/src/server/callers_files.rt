@@ -84,12 +84,14 @@ impl<S: Store> Server<S> {
         requires { AreFilesOf end.role.side files }
         ensures held { OnOk result ((path : List ℕ)
             × (asked_path admission.entry.ask ≡ Some path)
-            × (self.new ≡ record self.old { held = with_new tid (record {
-              end = end;
-              files = files;
-              path = path;
-              request = admission.entry.bytes;
-            }) self.old.held })) }
+            × (self.new ≡ record self.old {
+              held = with_new tid (record {
+                end = end;
+                files = files;
+                path = path;
+                request = admission.entry.bytes;
+              }) self.old.held;
+            })) }
         ensures in_use { IsErrOf result ServerFault.TidInUse ↔ IsSome (at tid self.old.held) }
         ensures err { OnErr result (self.new ≡ self.old) }
     {
@@ -103,7 +105,10 @@ impl<S: Store> Server<S> {
         let Ok(request) = Vec::from_slice(self.alloc, incoming.bytes) else {
             return Err(ServerFault::Memory);
         };
-        match self.table.insert(tid, Transfer::new(end, files, path, request)) {
+        match self
+            .table
+            .insert(tid, Transfer::new(end, files, path, request))
+        {
             Ok(()) => Ok(()),
             Err(_) => Err(ServerFault::Memory),
         }

@@ -8,8 +8,10 @@ pub returns-clause-held : goal.returns-clause-held
 returns-clause-held g c =
     elim c.match-insert.branch [
       | in-Ok-insert w ↦
-          rw (w.result-is, ← c.self.view_is, ← c.admission.view_is)
-          (c.in-Some.path, sym c.in-Some.ensures,
-          held_new _ _ c.args.tid _ _ _ _ _ _ _ _ w.in-Ok-insert.ensures.ok c.new.ensures c.in-Ok.ensures.items)
+          rw (w.result-is, ← c.self.view_is, ← c.admission.view_is) (
+            c.in-Some.path,
+            sym c.in-Some.ensures,
+            held_new _ _ c.args.tid _ _ _ _ _ _ _ _ w.in-Ok-insert.ensures.ok c.new.ensures c.in-Ok.ensures.items,
+          )
       | in-Err w ↦ rw (w.result-is) tt
     ]

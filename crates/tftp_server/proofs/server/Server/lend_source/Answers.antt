@@ -14,6 +14,7 @@ returns-clause-steps g c =
 
 pub returns-in_err-lend_source-clause-err : goal.returns-in_err-lend_source-clause-err
 returns-in_err-lend_source-clause-err g c =
-    rw (returned _ _ c.from_residual.ensures.1, ← c.self.view_is)
-    (nothing_changed c.args.tid c.in-Some.ensures.value (c.in_err-lend_source.ensures.err.0, refl),
-    c.in_err-lend_source.ensures.err.1)
+    rw (returned _ _ c.from_residual.ensures.1, ← c.self.view_is) (
+      nothing_changed c.args.tid c.in-Some.ensures.value (c.in_err-lend_source.ensures.err.0, refl),
+      c.in_err-lend_source.ensures.err.1,
+    )
