@@ -27,6 +27,7 @@ from lib.packets import ack, data, oack, rrq
 from lib.programs import found, program
 
 EXAMPLES = Path(__file__).resolve().parent.parent / "examples"
+EXAMPLE_CAPTURES = ("wire", "netboot/uefi", "netboot/bios")
 PATIENCE = 60
 MEMORY = 200 << 20
 MUTATION_SECONDS = 15
@@ -405,8 +406,10 @@ def try_many(check) -> None:
 
 
 def try_examples(check) -> None:
-    """The captures of examples/ are the lines beside them."""
-    for name in ("wire", "netboot/uefi"):
+    """Those captures of examples/ that have lines beside them are these."""
+    for name in EXAMPLE_CAPTURES:
+        if not (EXAMPLES / f"{name}.txt").exists():
+            continue
         lines = check.run(["--flow", str(EXAMPLES / f"{name}.txt")])
         status, output, errors = check.run(["--flow", str(EXAMPLES / f"{name}.pcap")])
         if "complete" not in output or (status, output.replace("frame ", "line "), errors) != lines:
@@ -427,6 +430,12 @@ def try_tshark(check) -> None:
         told = subprocess.run([*words, *fields], capture_output=True, timeout=PATIENCE, text=True).stdout
         if len(told.splitlines()) != 10:
             check.fails(f"tshark of {name}: {told!r}")
+    for name in EXAMPLE_CAPTURES:
+        path = str(EXAMPLES / f"{name}.pcap")
+        told = subprocess.run(["tshark", "-r", path, "-Y", "tftp"], capture_output=True, timeout=PATIENCE, text=True).stdout
+        status, output, errors = check.run([path])
+        if (status, len(output.splitlines()), errors) != (0, len(told.splitlines()), ""):
+            check.fails(f"tshark of {name}: {told!r}, {output!r}")
 
 
 def try_tcpdump(check) -> None:
