@@ -3,10 +3,12 @@
 _tftpd() {
     local options
     COMPREPLY=()
-    options='--listen --ports --max-block --max-file --retries --cap --overwrite --read-only --uploads
-        --transfers --rounds --forever --log --help -h --version -V'
+    options='--listen --ports --max-block --max-file --retries --cap --longest --overwrite --read-only
+        --uploads --transfers --rounds --forever --log --help -h --version -V'
     case $3 in
-    --listen | --ports | --max-block | --max-file | --retries | --cap | --uploads | --transfers | --rounds) return ;;
+    --listen | --ports | --max-block | --max-file | --retries | --cap | --longest | --uploads | --transfers | --rounds)
+        return
+        ;;
     esac
     if [[ $2 = -* ]]; then
         mapfile -t COMPREPLY < <(compgen -W "$options" -- "$2")

@@ -8,6 +8,7 @@ _arguments \
   '--max-file=[longest file that is taken]:bytes:' \
   '--retries=[how often a datagram is sent again without progress]:times, 0 to 10:' \
   '--cap=[transfers that are open at once]:transfers, 1 to 64:' \
+  '--longest=[age at which a transfer times out]:seconds:' \
   '(--read-only)--overwrite[a write replaces a file that is there]' \
   '(--overwrite --uploads)--read-only[refuse every write]' \
   '(--read-only)--uploads=[folder of ROOT that takes all writes]:folder below ROOT:' \

@@ -20,6 +20,7 @@ FAULTS = [
     (("tftpd", ".", "--max-file", "18446744073709551616"), "'--max-file <0..2^64-1>'"),
     (("tftpd", ".", "--retries", "11"), "'--retries <0..10>'"),
     (("tftpd", ".", "--cap", "65"), "'--cap <1..64>'"),
+    (("tftpd", ".", "--longest", "0"), "'--longest <1..4294967295>'"),
     (("tftpd", ".", "--transfers", "0"), "'--transfers <1..4294967295>'"),
     (("tftpd", ".", "--rounds", "0"), "'--rounds <1..4294967295>'"),
     (("tftpd", ".", "--forever", "--transfers", "2"),

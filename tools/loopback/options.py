@@ -1,11 +1,12 @@
 """Each option of the two programs has the effect that its manual states."""
 import re
 import signal
+import time
 from pathlib import Path
 
 from both_programs import bytes_of
 from client_alone import PATIENTLY, asked, patient_get
-from datagrams import PATIENCE, PATIENT, ack, data, error, expect, oack, rrq, wrq
+from datagrams import PATIENCE, PATIENT, End, ack, data, error, expect, oack, rrq, wrq
 from server_alone import is_refused, opened
 
 UNITS = Path(__file__).resolve().parent.parent.parent / "packaging"
@@ -63,6 +64,49 @@ def test_cap(scene) -> None:
         end.is_answered(ack(0), data(1, b"ABC"))
         end.send(ack(1))
     server.has_closed(*["Complete"] * 64)
+
+
+# How long a client that drips waits before it acknowledges a block, at a timeout of a second
+DRIP = 0.8
+
+
+def drips(scene, server) -> End:
+    """Requests a file, and acknowledges each of six blocks just before it is sent again. Returns the end, which has
+    received the seventh."""
+    end = opened(scene, server, rrq("a"), data(1, bytes_of(512)))
+    for number in range(1, 7):
+        time.sleep(DRIP)
+        end.is_answered(ack(number), data(number + 1, bytes_of(512 * 8)[512 * number:512 * (number + 1)]))
+    return end
+
+
+def test_a_client_drips(scene) -> None:
+    """It keeps the one slot of a server for longer than its retries last."""
+    scene.make("a", bytes_of(512 * 20))
+    server = scene.serve("--cap", "1", "--retries", "3")
+    end = drips(scene, server)
+    is_refused(scene, server, rrq("a"), error(0, "server busy"))
+    end.send(error(0, "stop"))
+    server.has_closed("PeerError(0)")
+
+
+def test_longest(scene) -> None:
+    """With `--longest 3` its transfer times out, whatever it sends from then on, and another gets the slot."""
+    scene.make("a", bytes_of(512 * 200))
+    server = scene.serve("--cap", "1", "--retries", "3", "--longest", "3", "--transfers", "2")
+    end, newest, began = opened(scene, server, rrq("a"), data(1, bytes_of(512))), 1, time.monotonic()
+    other, answer = scene.port(), error(0, "server busy")
+    while answer == error(0, "server busy"):
+        expect(time.monotonic() < began + PATIENCE, True, f"whether the transfer is closed within {PATIENCE} seconds")
+        time.sleep(DRIP)
+        end.send(ack(newest))
+        other.send(rrq("a"), server.address)
+        answer, sender = other.receive()
+        newest = max([newest, *(int.from_bytes(datagram[2:4], "big") for datagram, _ in end.port.waiting())])
+    lasted = time.monotonic() - began
+    expect((lasted > 3, 1 < newest < 200), (True, True), f"whether {newest} blocks in {lasted:.1f} s are some")
+    other.send(error(0, "stop"), sender)
+    server.has_closed("TimedOut", "PeerError(0)")
 
 
 def test_tsize(scene) -> None:

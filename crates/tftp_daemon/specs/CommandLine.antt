@@ -42,7 +42,8 @@ PortsAs None ports = ports ≡ None
 PortsAs (Some word) None = ⊥
 PortsAs (Some word) (Some range) = NamesPorts word range
 
--- the configuration has the folder, the address, the ports, the limits and the flags that were read
+-- the configuration has the folder, the address, the ports, the limits, the age and the flags that
+-- were read
 pub record NamesServer (read : Reads) (config : DaemonConfig) : Type 0 where
   pub root : read.word (codes "ROOT") ≡ Some config.root.now
   pub listen : (word : List ℕ) × (read.word (codes "listen") ≡ Some word)
@@ -51,5 +52,6 @@ pub record NamesServer (read : Reads) (config : DaemonConfig) : Type 0 where
   pub limits : ConfiguresAs read config.config
   pub read_only : IsFlag (read.text (codes "read-only")) config.read_only
   pub uploads : read.word (codes "uploads") ≡ option_map (λ folder. folder.now) config.uploads
+  pub longest : IsNumber 32 (read.text (codes "longest")) config.service.longest
   pub ending : EndsAs read config.service.ending
   pub logs : IsFlag (read.text (codes "log")) config.service.logs

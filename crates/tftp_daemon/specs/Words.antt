@@ -34,12 +34,14 @@ with_limits app =
     with_rule
     (with_rule
     (with_rule
+    (with_rule
     (with_rule app
     (by_default (decimal default_config.limits.max_block)
     (within (codes "max-block") 8 65464)))
     (by_default (decimal default_config.limits.max_file) (any_number (codes "max-file"))))
     (by_default (decimal default_config.retries) (within (codes "retries") 0 10)))
-    (by_default (decimal default_config.cap) (within (codes "cap") 1 64))
+    (by_default (decimal default_config.cap) (within (codes "cap") 1 64)))
+    (within (codes "longest") 1 4294967295)
 
 -- with the options of writes
 abbrev pub with_writes : App → App

@@ -19,6 +19,7 @@ ghost use Rattle.tftp_daemon.specs.Words.{with_places, with_writes};
 
 use crate::daemon::DaemonConfig;
 use crate::error_output::ErrorOutput;
+use crate::shown::Shown;
 use anyhow::Result;
 use clap::error::ErrorKind;
 use clap::parser::ValueSource;
@@ -59,6 +60,8 @@ const LISTEN: &str = "listen";
 const READ_ONLY: &str = "read-only";
 
 const UPLOADS: &str = "uploads";
+
+const LONGEST: &str = "longest";
 
 const TRANSFERS: &str = "transfers";
 
@@ -183,7 +186,7 @@ fn report_invalid<P: Print + Eprint>(
 ) -> Result<u8>
     ensures { IfOk result (λ status. status ≡ 2) }
 {
-    let word = word.unwrap_or("");
+    let word = Shown(word.unwrap_or(""));
     let message = format!(in alloc; "invalid value '{word}' {why}")?;
     let error = command.error(ErrorKind::InvalidValue, message.as_str())?;
     Ok(print_usage(rt, &error))
@@ -254,7 +257,7 @@ fn service<'a>(
         listen,
         ports,
         ending: ending(matches)?,
-        longest: None,
+        longest: matches.get_one::<u32>(LONGEST),
         logs: is_set(matches, "log"),
         has_priority: errors.has_priority(),
     };
@@ -410,7 +413,8 @@ fn with_limits<'a>(alloc: Global, command: Command<'a>, texts: &'a Texts) -> Res
     let command = command.arg(max_block(alloc, texts))?;
     let command = command.arg(max_file(alloc, texts))?;
     let command = command.arg(retries(alloc, texts))?;
-    Ok(command.arg(cap(alloc, texts))?)
+    let command = command.arg(cap(alloc, texts))?;
+    Ok(command.arg(longest(alloc))?)
 }
 
 /// The argument for the largest block size (RFC 2348, "Blocksize Option Specification").
@@ -471,6 +475,19 @@ fn cap<'a>(alloc: Global, texts: &'a Texts) -> Arg<'a>
         "Transfers that are open at once, 1 to 64",
     );
     cap.default_value(texts.cap.as_str())
+}
+
+/// The argument for the age at which a transfer is closed.
+fn longest<'a>(alloc: Global) -> Arg<'a>
+    ensures { HasRule (within (codes "longest") 1 4294967295) result }
+{
+    number(
+        alloc,
+        LONGEST,
+        "1..4294967295",
+        value_parser!(u32).range(1..=4_294_967_295),
+        "Has a transfer that is so many seconds old time out, whatever comes, 1 to 4294967295",
+    )
 }
 
 /// Adds the options of writes.

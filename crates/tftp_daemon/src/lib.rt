@@ -8,5 +8,6 @@ mod daemon;
 mod error_output;
 pub mod laws;
 mod program;
+mod shown;
 
 pub use program::{tftpd_command, tftpd_with_journal, tftpd_words};

@@ -7,6 +7,7 @@ ghost use Rattle.tftp_daemon.specs.Configured.{MayServe, ServesWords, status_of}
 use crate::command_line::{Asked, Texts, read_words};
 use crate::daemon::{DaemonConfig, DaemonFault, serve};
 use crate::error_output::ErrorOutput;
+use crate::shown::Shown;
 use std::alloc::Global;
 use std::convert::AsStr;
 use std::io;
@@ -149,12 +150,15 @@ fn report<R: Eprint>(
 fn print_fault<R: Eprint>(rt: &R, config: &DaemonConfig<'_>, fault: DaemonFault) -> io::Result<()> {
     rt.eprintln(first_line(fault))?;
     match fault {
-        DaemonFault::Root(reason) => eprintln!(rt; "tftpd: {}: {reason}", config.root),
+        DaemonFault::Root(reason) => eprintln!(rt; "tftpd: {}: {reason}", Shown(config.root)),
         DaemonFault::Uploads(reason) => print_uploads(rt, config.uploads.unwrap_or(""), reason),
         DaemonFault::Loop(LoopFault::Socket(reason)) => {
             eprintln!(rt; "tftpd: {}: {reason}", config.service.listen)
         }
-        _ => Ok(()),
+        DaemonFault::Loop(LoopFault::Output) => {
+            rt.eprintln("tftpd: standard output: cannot be written")
+        }
+        DaemonFault::Memory | DaemonFault::Loop(LoopFault::Memory) => Ok(()),
     }
 }
 
@@ -175,5 +179,5 @@ fn print_uploads<R: Eprint>(rt: &R, folder: &str, reason: Reason) -> io::Result<
     } else {
         ""
     };
-    eprintln!(rt; "tftpd: --uploads {folder}: {reason}{note}")
+    eprintln!(rt; "tftpd: --uploads {}: {reason}{note}", Shown(folder))
 }
