@@ -34,7 +34,7 @@ use Rattle.tftp_daemon.specs.Kept.{RunLeaves}
 pub record AreKept {S D : Type 0} (Same : S → S → Type 0) (meaning : StoreMeaning S D) : Type 0 where
   pub itself : (a : S) → Same a a
   pub joined : (a b c : S) → Same a b → Same b c → Same a c
-  pub begun : (a b : S) (fault : Option StoreFault) → meaning.begun a b fault → Same a b
+  pub begun : (path : List ℕ) (a b : S) (fault : Option StoreFault) → meaning.begun path a b fault → Same a b
   pub appended : (a b : S) (fault : Option StoreFault) → meaning.after_append a b fault → Same a b
   pub committed : (a b : S) (fault : Option StoreFault) → meaning.after_commit a b fault → Same a b
   pub behind : (a b : S) → meaning.after_write_behind a b → Same a b
@@ -145,7 +145,7 @@ module _ {S F D : Type 0} (Same : S → S → Type 0) (meaning : StoreMeaning S 
     goes_so (Refuses reply) came h = subst Left_so (sym h) (keeps.itself old.store)
     goes_so (Reads path mode options) came h = sent_so _ h.file came h.goes_on
     goes_so (Writes path mode agreed) came h = taken_so _ h.draft h.store came
-        (keeps.begun old.store h.store _ h.begun) h.goes_on
+        (keeps.begun path old.store h.store _ h.begun) h.goes_on
 
   -- ---- in a run
   abbrev store_of : LoopState S F D → S

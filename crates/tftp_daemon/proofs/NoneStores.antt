@@ -1,13 +1,16 @@
--- A run over a store that begins no draft has no transfer that stores.
+-- A run over a store that begins drafts of some paths alone, or none, has no transfer that stores
+-- elsewhere.
 use Rattle.std.proofs.Common.{◌≡◌, ℕ, Bool, true, false, cond, List, [], ◌∷◌, Option, Some, None, refl, sym, ap}
 use Rattle.std.proofs.Common.{subst, inl, inr}
-use Rattle.std.specs.Prelude.{Result, Ok, Err, IfSome, All, ⊤}
+use Rattle.std.specs.Prelude.{◌⊎◌, Result, Ok, Err, IfSome, All, ⊤}
 use Rattle.std.specs.Result.{result_err}
 use Rattle.std.specs.BTreeMap.{is_at}
 use Rattle.std.specs.Map.{lookup, values_of}
 use Rattle.std.specs.Ordering.{nat_cmp}
-use Rattle.std.proofs.lemmas.List.Elements.{All-head, All-tail}
+use Rattle.std.proofs.lemmas.List.Elements.{All-head, All-tail, All-weaker}
 use Rattle.std.proofs.lemmas.Map.Views.{All-map-remove_entry, All-values-insert_entry, All-values-set_value}
+use Rattle.tftp_wire.specs.declared.mode.Mode.{Mode}
+use Rattle.tftp_negotiate.specs.declared.known.Known.{Known}
 use Rattle.tftp_file.specs.Source.{SourceMeaning}
 use Rattle.tftp_file.specs.declared.fault.StoreFault.{StoreFault}
 use Rattle.tftp_file.specs.declared.files.Files.{Files}
@@ -17,26 +20,22 @@ use Rattle.tftp_ends.specs.Files.{AreSame, KeepsFiles}
 use Rattle.tftp_store.specs.Store.{StoreMeaning}
 use Rattle.tftp_store.specs.declared.store.Opening.{Opening}
 use Rattle.tftp_server.specs.Draft.{drafting_sink, files_in}
-use Rattle.tftp_server.specs.Port.{Ask, Ignores, Refuses, Reads, Writes, Service, Silent, Refused, Sends, Takes}
+use Rattle.tftp_server.specs.Port.{Ask, Ignores, Refuses, Reads, Writes, Service, Silent, Refused, Sends, Takes, by_draft}
 use Rattle.tftp_server.specs.Request.{Came, Goes, Left, Sent, Taken, left_by}
 use Rattle.tftp_server.specs.State.{TransferState, ServerState, at, draft_of, with_new, with_next}
 use Rattle.tftp_server.specs.Steps.{KeepsHeld, with_end}
 use Rattle.tftp_server.specs.Work.{FilesWork, WorksAt}
 use Rattle.tftp_loop.specs.Run.{Start, Then}
 use Rattle.tftp_loop.specs.Serves.{AtPort, Does, LoopState, PortState}
-use Rattle.tftp_loop.specs.Serves.AtPort.{A_datagram, A_lost_datagram, A_late_datagram, Nothing_found}
+use Rattle.tftp_loop.specs.Serves.AtPort.{A_datagram, A_late_datagram, A_lost_datagram, Nothing_found}
 use Rattle.tftp_loop.specs.Serves.AtPort.{A_failed_receive, A_timeout, A_missed_timeout, Work}
 use Rattle.tftp_loop.specs.Serves.Does.{Waited, At_port, Request_received, No_request_found, Request_not_received}
 use Rattle.tftp_loop.specs.Serves.Does.{No_port_found, Request_answered, Request_lost, Clock_read, Store_set}
 use Rattle.tftp_loop.specs.Serves.Does.{Transfer_closed}
-use Rattle.tftp_daemon.specs.Kept.{NoneStores, RunLeaves, RunStoresNothing}
+use Rattle.tftp_daemon.specs.Kept.{NoneStores, RunKeepsHeld, RunLeaves, StoresOnly}
 
 module _ {F D : Type 0} where
-  -- a transfer that stores nothing
-  abbrev IsRead : TransferState F D → Type 0
-  IsRead transfer = draft_of transfer.files ≡ None
-
-  -- ---- of one transfer
+  -- ---- of the files of one transfer
   same_so : (files files' : Files F D) → AreSame (λ (a b : F). ⊤) (λ (a b : D). ⊤) files files'
       → draft_of files ≡ None → draft_of files' ≡ None
   same_so (Source a) (Source b) same reads = refl
@@ -60,140 +59,208 @@ module _ {F D : Type 0} where
   work_so meaning sources store store' (Sink a) files' works reads = absurd (let bad : Some a ≡ None = reads in cc)
 
   -- ---- of those that are held
-  found_in : (P : TransferState F D → Type 0) (test : ℕ → Bool) (held : List (ℕ × TransferState F D))
-      → All P (values_of held) → IfSome (lookup test held) P
-  found_in P test [] all = tt
-  found_in P test (e ∷ held) all = by (test e.0) (found_in P test held (All-tail P _ _ all))
-    where
-      by : (b : Bool) → IfSome (lookup test held) P → IfSome (cond b (Some e.1) (lookup test held)) P
-      by true rest = All-head P _ _ all
-      by false rest = rest
+  module _ (P : TransferState F D → Type 0) where
+    found_in : (test : ℕ → Bool) (held : List (ℕ × TransferState F D))
+        → All P (values_of held) → IfSome (lookup test held) P
+    found_in test [] all = tt
+    found_in test (e ∷ held) all = by (test e.0) (found_in test held (All-tail P _ _ all))
+      where
+        by : (b : Bool) → IfSome (lookup test held) P → IfSome (cond b (Some e.1) (lookup test held)) P
+        by true rest = All-head P _ _ all
+        by false rest = rest
 
-  -- the one at an identifier
-  at_reads : (tid : ℕ) (held : List (ℕ × TransferState F D)) {transfer : TransferState F D} → NoneStores held
-      → at tid held ≡ Some transfer → IsRead transfer
-  at_reads tid held none found =
-      subst (λ (o : Option (TransferState F D)). IfSome o IsRead) found
-      (found_in IsRead (is_at (nat_cmp tid)) held none)
+  -- ---- that store only under such paths
+  module _ (May : List ℕ → Type 0) where
+    -- a transfer that stores nothing, or under such a path
+    abbrev IsFine : TransferState F D → Type 0
+    IsFine transfer = (draft_of transfer.files ≡ None) ⊎ May transfer.path
 
-  -- with another at an identifier, and with one more
-  next_reads : (tid : ℕ) (held after : List (ℕ × TransferState F D)) (next : TransferState F D) → NoneStores held
-      → IsRead next → after ≡ with_next tid next held → NoneStores after
-  next_reads tid held after next none reads is =
-      subst NoneStores (sym is) (All-values-set_value (is_at (nat_cmp tid)) IsRead held next none reads)
+    abbrev AreFine : List (ℕ × TransferState F D) → Type 0
+    AreFine held = All IsFine (values_of held)
 
-  new_reads : (tid : ℕ) (held : List (ℕ × TransferState F D)) (new : TransferState F D) → NoneStores held
-      → IsRead new → NoneStores (with_new tid new held)
-  new_reads tid held new none reads = All-values-insert_entry nat_cmp tid new IsRead held none reads
+    -- the next one, which stores only if this one does, and has its path
+    still_fine : (transfer next : TransferState F D)
+        → (draft_of transfer.files ≡ None → draft_of next.files ≡ None) → next.path ≡ transfer.path
+        → IsFine transfer → IsFine next
+    still_fine transfer next reads path (inl none) = inl (reads none)
+    still_fine transfer next reads path (inr may) = inr (subst May (sym path) may)
 
-module _ {S F D : Type 0} (Stops : S → Type 0) (meaning : StoreMeaning S D) (sources : SourceMeaning F)
-    (begins_none : (a b : S) → Stops a → meaning.begun a b None → ⊥) where
-  abbrev ReadsIn : ServerState S F D → Type 0
-  ReadsIn server = NoneStores server.held
+    -- the one at an identifier
+    fine_at : (tid : ℕ) (held : List (ℕ × TransferState F D)) {transfer : TransferState F D} → AreFine held
+        → at tid held ≡ Some transfer → IsFine transfer
+    fine_at tid held fine found =
+        subst (λ (o : Option (TransferState F D)). IfSome o IsFine) found
+        (found_in IsFine (is_at (nat_cmp tid)) held fine)
 
-  same_reads : (old new : ServerState S F D) → new ≡ old → ReadsIn old → ReadsIn new
-  same_reads old new is none = subst ReadsIn (sym is) none
+    -- with another at an identifier, and with one more
+    fine_next : (tid : ℕ) (held after : List (ℕ × TransferState F D)) (next : TransferState F D) → AreFine held
+        → IsFine next → after ≡ with_next tid next held → AreFine after
+    fine_next tid held after next fine is_fine is =
+        subst AreFine (sym is) (All-values-set_value (is_at (nat_cmp tid)) IsFine held next fine is_fine)
+
+    fine_new : (tid : ℕ) (held : List (ℕ × TransferState F D)) (new : TransferState F D) → AreFine held
+        → IsFine new → AreFine (with_new tid new held)
+    fine_new tid held new fine is_fine = All-values-insert_entry nat_cmp tid new IsFine held fine is_fine
+
+module _ {S F D : Type 0} (Admits : S → Type 0) (May : List ℕ → Type 0) (meaning : StoreMeaning S D)
+    (sources : SourceMeaning F)
+    (begins : (path : List ℕ) (a b : S) → Admits a → meaning.begun path a b None → May path) where
+  abbrev FineIn : ServerState S F D → Type 0
+  FineIn server = AreFine May server.held
+
+  same_fine : (old new : ServerState S F D) → new ≡ old → FineIn old → FineIn new
+  same_fine old new is fine = subst FineIn (sym is) fine
 
   -- ---- at the port of a transfer
-  held_reads : (tid : ℕ) (transfer : Option (TransferState F D)) (old new : ServerState S F D)
-      → at tid old.held ≡ transfer → KeepsHeld meaning sources tid transfer old new → ReadsIn old → ReadsIn new
-  held_reads tid None old new found kept none = same_reads old new kept none
-  held_reads tid (Some transfer) old new found kept none =
-      next_reads tid old.held new.held kept.0 none
+  held_fine : (tid : ℕ) (transfer : Option (TransferState F D)) (old new : ServerState S F D)
+      → at tid old.held ≡ transfer → KeepsHeld meaning sources tid transfer old new → FineIn old → FineIn new
+  held_fine tid None old new found kept fine = same_fine old new kept fine
+  held_fine tid (Some transfer) old new found kept fine =
+      fine_next May tid old.held new.held kept.0 fine
+      (still_fine May transfer kept.0
       (kept_so meaning sources old.store new.store transfer.path kept.0.path old.config.overwrite transfer.files
-      kept.0.files kept.1.files (at_reads tid old.held none found))
+      kept.0.files kept.1.files)
+      kept.1.path (fine_at May tid old.held fine found))
       kept.2
 
-  works_reads : (tid : ℕ) (transfer : Option (TransferState F D)) (old new : ServerState S F D)
-      → at tid old.held ≡ transfer → WorksAt meaning sources tid transfer old new → ReadsIn old → ReadsIn new
-  works_reads tid None old new found works none = same_reads old new works none
-  works_reads tid (Some transfer) old new found works none =
-      next_reads tid old.held new.held works.0 none
-      (work_so meaning sources old.store new.store transfer.files works.0.files works.1.files
-      (at_reads tid old.held none found))
+  works_fine : (tid : ℕ) (transfer : Option (TransferState F D)) (old new : ServerState S F D)
+      → at tid old.held ≡ transfer → WorksAt meaning sources tid transfer old new → FineIn old → FineIn new
+  works_fine tid None old new found works fine = same_fine old new works fine
+  works_fine tid (Some transfer) old new found works fine =
+      fine_next May tid old.held new.held works.0 fine
+      (still_fine May transfer works.0 (work_so meaning sources old.store new.store transfer.files works.0.files works.1.files)
+      (ap (λ (t : TransferState F D). t.path) works.1.rest) (fine_at May tid old.held fine found))
       works.2
 
-  port_reads : (now : ℕ) (old new : PortState S F D) → AtPort meaning sources now old new → ReadsIn old.server
-      → ReadsIn new.server
-  port_reads now old new (A_datagram d) none =
+  port_fine : (now : ℕ) (old new : PortState S F D) → AtPort meaning sources now old new → FineIn old.server
+      → FineIn new.server
+  port_fine now old new (A_datagram d) fine =
       let t = d.handles.takes in
-      next_reads old.timer.port old.server.held new.server.held t.next none
-      (same_so t.transfer.files t.next.files t.takes.kind (at_reads old.timer.port old.server.held none t.found))
+      fine_next May old.timer.port old.server.held new.server.held t.next fine
+      (still_fine May t.transfer t.next (same_so t.transfer.files t.next.files t.takes.kind) t.takes.path
+      (fine_at May old.timer.port old.server.held fine t.found))
       t.held
-  port_reads now old new (A_lost_datagram d) none =
-      held_reads old.timer.port _ old.server new.server refl d.loses.keeps none
-  port_reads now old new (A_late_datagram d) none = same_reads old.server new.server d.server none
-  port_reads now old new (Nothing_found d) none = same_reads old.server new.server d.server none
-  port_reads now old new (A_failed_receive d) none = same_reads old.server new.server d.server none
-  port_reads now old new (A_timeout d) none =
+  port_fine now old new (A_lost_datagram d) fine =
+      held_fine old.timer.port _ old.server new.server refl d.loses.keeps fine
+  port_fine now old new (A_late_datagram d) fine = same_fine old.server new.server d.server fine
+  port_fine now old new (Nothing_found d) fine = same_fine old.server new.server d.server fine
+  port_fine now old new (A_failed_receive d) fine = same_fine old.server new.server d.server fine
+  port_fine now old new (A_timeout d) fine =
       let t = d.times_out.times_out in
-      next_reads old.timer.port old.server.held new.server.held (with_end t.end t.transfer) none
-      (at_reads old.timer.port old.server.held none t.found)
+      fine_next May old.timer.port old.server.held new.server.held (with_end t.end t.transfer) fine
+      (fine_at May old.timer.port old.server.held fine t.found)
       t.held
-  port_reads now old new (A_missed_timeout d) none = same_reads old.server new.server d.server none
-  port_reads now old new (Work d) none = works_reads old.timer.port _ old.server new.server refl d.works.works none
+  port_fine now old new (A_missed_timeout d) fine = same_fine old.server new.server d.server fine
+  port_fine now old new (Work d) fine = works_fine old.timer.port _ old.server new.server refl d.works.works fine
 
   -- ---- at the request port
-  module _ (old : ServerState S F D) (from : Endpoint) (bytes : List ℕ) (tid : ℕ) (none : ReadsIn old)
-      (stops : Stops old.store) where
-    abbrev Left_reads : Came S F D → Type 0
-    Left_reads came = ReadsIn (left_by came old from tid).new
+  module _ (old : ServerState S F D) (from : Endpoint) (bytes : List ℕ) (tid : ℕ) (fine : FineIn old)
+      (admits : Admits old.store) where
+    abbrev Left_fine : Came S F D → Type 0
+    Left_fine came = FineIn (left_by came old from tid).new
 
-    sent_reads : (service : Service) (file : Result (Opening F) StoreFault) (came : Came S F D)
-        → Sent meaning sources old from bytes service file came → Left_reads came
-    sent_reads Silent file came h = absurd h
-    sent_reads (Refused reply) file came h = subst Left_reads (sym h) none
-    sent_reads (Sends path mode length agreed) (Err fault) came h = absurd h
-    sent_reads (Sends path mode length agreed) (Ok file) came (inl s) =
-        subst Left_reads (sym s.opens) (new_reads tid old.held _ none refl)
-    sent_reads (Sends path mode length agreed) (Ok file) came (inr x) = subst Left_reads (sym x.2) none
-    sent_reads (Takes path mode agreed) file came h = absurd h
+    sent_fine : (service : Service) (file : Result (Opening F) StoreFault) (came : Came S F D)
+        → Sent meaning sources old from bytes service file came → Left_fine came
+    sent_fine Silent file came h = absurd h
+    sent_fine (Refused reply) file came h = subst Left_fine (sym h) fine
+    sent_fine (Sends path mode length agreed) (Err fault) came h = absurd h
+    sent_fine (Sends path mode length agreed) (Ok file) came (inl s) =
+        subst Left_fine (sym s.opens) (fine_new May tid old.held _ fine (inl refl))
+    sent_fine (Sends path mode length agreed) (Ok file) came (inr x) = subst Left_fine (sym x.2) fine
+    sent_fine (Takes path mode agreed) file came h = absurd h
 
-    taken_reads : (service : Service) (draft : Result D StoreFault) (store : S) (came : Came S F D)
-        → meaning.begun old.store store (result_err draft) → Taken meaning sources old from bytes service draft store came
-        → Left_reads came
-    taken_reads Silent draft store came begun h = absurd h
-    taken_reads (Refused reply) draft store came begun h = subst Left_reads (sym h) none
-    taken_reads (Sends path mode length agreed) draft store came begun h = absurd h
-    taken_reads (Takes path mode agreed) (Err fault) store came begun h = absurd h
-    taken_reads (Takes path mode agreed) (Ok draft) store came begun h =
-        absurd (begins_none old.store store stops begun)
+    taken_fine : (path : List ℕ) (mode : Mode) (agreed : List Known) (draft : Result D StoreFault) (store : S)
+        (came : Came S F D) → meaning.begun path old.store store (result_err draft)
+        → Taken meaning sources old from bytes (by_draft path mode agreed draft) draft store came
+        → Left_fine came
+    taken_fine path mode agreed (Err fault) store came begun h = subst Left_fine (sym h) fine
+    taken_fine path mode agreed (Ok draft) store came begun h =
+        subst Left_fine (sym h)
+        (fine_new May tid old.held _ fine (inr (begins path old.store store admits begun)))
 
-    goes_reads : (ask : Ask) (came : Came S F D) → Goes meaning sources old from bytes ask came → Left_reads came
-    goes_reads Ignores came h = subst Left_reads (sym h) none
-    goes_reads (Refuses reply) came h = subst Left_reads (sym h) none
-    goes_reads (Reads path mode options) came h = sent_reads _ h.file came h.goes_on
-    goes_reads (Writes path mode agreed) came h = taken_reads _ h.draft h.store came h.begun h.goes_on
+    goes_fine : (ask : Ask) (came : Came S F D) → Goes meaning sources old from bytes ask came → Left_fine came
+    goes_fine Ignores came h = subst Left_fine (sym h) fine
+    goes_fine (Refuses reply) came h = subst Left_fine (sym h) fine
+    goes_fine (Reads path mode options) came h = sent_fine _ h.file came h.goes_on
+    goes_fine (Writes path mode agreed) came h = taken_fine path mode agreed h.draft h.store came h.begun h.goes_on
 
   -- ---- in a run
   abbrev held_in : LoopState S F D → List (ℕ × TransferState F D)
   held_in s = s.server.held
 
-  does_read : (old new : LoopState S F D) → Does meaning sources old new → Stops old.server.store
-      → ReadsIn old.server → ReadsIn new.server
-  does_read old new (Waited d) stops none = subst NoneStores (sym (ap held_in d.is)) none
-  does_read old new (At_port d) stops none =
-      subst NoneStores (sym (ap held_in d.is)) (port_reads old.now _ d.next d.does none)
-  does_read old new (Request_received d) stops none = subst NoneStores (sym (ap held_in d.is)) none
-  does_read old new (No_request_found d) stops none = subst NoneStores (sym (ap held_in d.is)) none
-  does_read old new (Request_not_received d) stops none = subst NoneStores (sym (ap held_in d.is)) none
-  does_read old new (No_port_found d) stops none = subst NoneStores (sym (ap held_in d.is)) none
-  does_read old new (Request_answered d) stops none =
-      let answered = goes_reads old.server d.from d.bytes d.tid none stops _ d.steps.came d.steps.goes in
-      let left = subst (λ (l : Left S F D). ReadsIn l.new) (sym d.steps.left) answered in
-      subst NoneStores (sym (ap held_in d.is)) left
-  does_read old new (Request_lost d) stops none = subst NoneStores (sym (ap held_in d.is)) none
-  does_read old new (Clock_read d) stops none = subst NoneStores (sym (ap held_in d.is)) none
-  does_read old new (Store_set d) stops none = subst NoneStores (sym (ap held_in d.is)) none
-  does_read old new (Transfer_closed d) stops none =
-      subst NoneStores (sym (ap held_in d.is))
-      (All-map-remove_entry (is_at (nat_cmp d.timer.port)) (λ (e : ℕ × TransferState F D). e.1) IsRead old.server.held
-      none)
+  does_fine : (old new : LoopState S F D) → Does meaning sources old new → Admits old.server.store
+      → FineIn old.server → FineIn new.server
+  does_fine old new (Waited d) admits fine = subst (AreFine May) (sym (ap held_in d.is)) fine
+  does_fine old new (At_port d) admits fine =
+      subst (AreFine May) (sym (ap held_in d.is)) (port_fine old.now _ d.next d.does fine)
+  does_fine old new (Request_received d) admits fine = subst (AreFine May) (sym (ap held_in d.is)) fine
+  does_fine old new (No_request_found d) admits fine = subst (AreFine May) (sym (ap held_in d.is)) fine
+  does_fine old new (Request_not_received d) admits fine = subst (AreFine May) (sym (ap held_in d.is)) fine
+  does_fine old new (No_port_found d) admits fine = subst (AreFine May) (sym (ap held_in d.is)) fine
+  does_fine old new (Request_answered d) admits fine =
+      let answered = goes_fine old.server d.from d.bytes d.tid fine admits _ d.steps.came d.steps.goes in
+      let left = subst (λ (l : Left S F D). FineIn l.new) (sym d.steps.left) answered in
+      subst (AreFine May) (sym (ap held_in d.is)) left
+  does_fine old new (Request_lost d) admits fine = subst (AreFine May) (sym (ap held_in d.is)) fine
+  does_fine old new (Clock_read d) admits fine = subst (AreFine May) (sym (ap held_in d.is)) fine
+  does_fine old new (Store_set d) admits fine = subst (AreFine May) (sym (ap held_in d.is)) fine
+  does_fine old new (Transfer_closed d) admits fine =
+      subst (AreFine May) (sym (ap held_in d.is))
+      (All-map-remove_entry (is_at (nat_cmp d.timer.port)) (λ (e : ℕ × TransferState F D). e.1) (IsFine May)
+      old.server.held fine)
 
-  -- such a store stays one
-  pub stores_nothing : {Same : S → S → Type 0} → RunLeaves Same meaning sources
-      → ((a b : S) → Same a b → Stops a → Stops b) → RunStoresNothing Stops meaning sources
-  stores_nothing leaves keeps old new Start stops none = none
-  stores_nothing leaves keeps old new (Then {middle} run does) stops none =
-      does_read middle new does (keeps old.server.store middle.server.store (leaves old middle run) stops)
-      (stores_nothing leaves keeps old middle run stops none)
+  module _ {Same : S → S → Type 0} (leaves : RunLeaves Same meaning sources)
+      (keeps : (a b : S) → Same a b → Admits a → Admits b) where
+    -- such a store stays one
+    run_fine : RunKeepsHeld Admits meaning sources (AreFine May)
+    run_fine old new Start admits fine = fine
+    run_fine old new (Then {middle} run does) admits fine =
+        does_fine middle new does (keeps old.server.store middle.server.store (leaves old middle run) admits)
+        (run_fine old middle run admits fine)
+
+-- ---- the two laws
+
+module _ {F D : Type 0} (May : List ℕ → Type 0) where
+  to_fine : (transfer : TransferState F D) → IfSome (draft_of transfer.files) (λ _. May transfer.path)
+      → IsFine May transfer
+  to_fine transfer only = by transfer.files only
+    where
+      by : (files : Files F D) → IfSome (draft_of files) (λ _. May transfer.path)
+          → (draft_of files ≡ None) ⊎ May transfer.path
+      by (Source source) only = inl refl
+      by (Sink draft) only = inr only
+
+  from_fine : (transfer : TransferState F D) → IsFine May transfer
+      → IfSome (draft_of transfer.files) (λ _. May transfer.path)
+  from_fine transfer (inl none) = rw none tt
+  from_fine transfer (inr may) = by (draft_of transfer.files)
+    where
+      by : (draft : Option D) → IfSome draft (λ _. May transfer.path)
+      by None = tt
+      by (Some draft) = may
+
+  fine_reads : (transfer : TransferState F D) → ((path : List ℕ) → May path → ⊥) → IsFine May transfer
+      → draft_of transfer.files ≡ None
+  fine_reads transfer never (inl none) = none
+  fine_reads transfer never (inr may) = absurd (never transfer.path may)
+
+module _ {S F D : Type 0} {Same : S → S → Type 0} (Admits : S → Type 0) (meaning : StoreMeaning S D)
+    (sources : SourceMeaning F) (leaves : RunLeaves Same meaning sources)
+    (keeps : (a b : S) → Same a b → Admits a → Admits b) where
+  -- over a store that begins drafts of such paths alone
+  pub stores_only : (May : List ℕ → Type 0)
+      → ((path : List ℕ) (a b : S) → Admits a → meaning.begun path a b None → May path)
+      → RunKeepsHeld Admits meaning sources (StoresOnly May)
+  stores_only May begins old new run admits only =
+      All-weaker (IsFine May) _ (from_fine May) (values_of new.server.held)
+      (run_fine Admits May meaning sources begins leaves keeps old new run admits
+      (All-weaker _ (IsFine May) (to_fine May) (values_of old.server.held) only))
+
+  -- over one that begins none
+  pub stores_nothing : ((path : List ℕ) (a b : S) → Admits a → meaning.begun path a b None → ⊥)
+      → RunKeepsHeld Admits meaning sources NoneStores
+  stores_nothing begins old new run admits none =
+      All-weaker (IsFine (λ _. ⊥)) _ (λ transfer. fine_reads (λ _. ⊥) transfer (λ path never. never))
+      (values_of new.server.held)
+      (run_fine Admits (λ _. ⊥) meaning sources begins leaves keeps old new run admits
+      (All-weaker _ (IsFine (λ _. ⊥)) (λ transfer reads. inl reads) (values_of old.server.held) none))

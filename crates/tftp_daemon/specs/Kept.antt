@@ -1,5 +1,5 @@
 -- What a run leaves of its store, by what the calls of the store leave of it (ours).
-use Rattle.std.specs.Prelude.{ℕ, ◌≡◌, true, List, All, None}
+use Rattle.std.specs.Prelude.{ℕ, ◌≡◌, true, List, All, Some, None, IfSome}
 use Rattle.std.specs.Map.{values_of}
 use Rattle.tftp_file.specs.Source.{SourceMeaning}
 use Rattle.tftp_server.specs.State.{TransferState, draft_of}
@@ -7,6 +7,7 @@ use Rattle.tftp_store.specs.Store.{StoreMeaning}
 use Rattle.tftp_loop.specs.Run.{Run}
 use Rattle.tftp_loop.specs.Serves.{Does, LoopState}
 use Rattle.tftp_folder.specs.Settings.{SameSettings}
+use Rattle.tftp_folder.specs.Uploads.{IsBelow}
 use Rattle.tftp_folder.specs.declared.folder_store.FolderStore.{FolderStore}
 
 module _ {S F D : Type 0} (Same : S → S → Type 0) (meaning : StoreMeaning S D)
@@ -27,16 +28,30 @@ abbrev pub NoneStores : {F D : Type 0} → List (ℕ × TransferState F D) → T
 NoneStores {F} {D} held =
     All (λ (transfer : TransferState F D). draft_of transfer.files ≡ None) (values_of held)
 
-module _ {S F D : Type 0} (Refuses : S → Type 0) (meaning : StoreMeaning S D)
-    (sources : SourceMeaning F) where
-  -- a run over a store that refuses so has no transfer that stores, if it began with none
-  abbrev pub RunStoresNothing : Type 0
-  RunStoresNothing =
-      (old new : LoopState S F D) → Run (Does meaning sources) old new
-      → Refuses old.server.store → NoneStores old.server.held → NoneStores new.server.held
+-- the held transfers store only under such paths
+abbrev pub StoresOnly : {F D : Type 0} → (List ℕ → Type 0) → List (ℕ × TransferState F D) → Type 0
+StoresOnly {F} {D} May held =
+    All (λ (transfer : TransferState F D). IfSome (draft_of transfer.files) (λ _.
+    May transfer.path)) (values_of held)
 
--- a run over a store that refuses writes never has a transfer that stores
+module _ {S F D : Type 0} (Admits : S → Type 0) (meaning : StoreMeaning S D)
+    (sources : SourceMeaning F) where
+  -- what a run keeps of its transfers, over a store that is so at its beginning
+  abbrev pub RunKeepsHeld : (List (ℕ × TransferState F D) → Type 0) → Type 0
+  RunKeepsHeld Holds =
+      (old new : LoopState S F D) → Run (Does meaning sources) old new
+      → Admits old.server.store → Holds old.server.held → Holds new.server.held
+
+-- a run over a store that refuses writes never has a transfer that stores, if it began with none
 abbrev pub ReadOnlyRunStoresNothing : {R G H F D : Type 0} → StoreMeaning (FolderStore R G H) D
     → SourceMeaning F → Type 0
 ReadOnlyRunStoresNothing meaning sources =
-    RunStoresNothing (λ store. store.is_read_only ≡ true) meaning sources
+    RunKeepsHeld (λ store. store.is_read_only ≡ true) meaning sources NoneStores
+
+-- a run over a store that takes writes below a folder alone never has a transfer that stores
+-- elsewhere, if it began with none
+abbrev pub UploadsStayInTheirFolder : {R G H F D : Type 0} → StoreMeaning (FolderStore R G H) D
+    → SourceMeaning F → Type 0
+UploadsStayInTheirFolder meaning sources =
+    (folder : List ℕ) → RunKeepsHeld (λ store. store.uploads ≡ Some folder) meaning sources
+    (StoresOnly (IsBelow folder))

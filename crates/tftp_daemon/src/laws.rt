@@ -1,6 +1,7 @@
 //! Laws of the runs of `tftpd`, over the definitions alone.
 
 ghost use Rattle.tftp_daemon.specs.Kept.{ReadOnlyRunStoresNothing, RunKeepsSettings};
+ghost use Rattle.tftp_daemon.specs.Kept.{UploadsStayInTheirFolder};
 
 use std::rt::Files;
 use tftp_file::Source;
@@ -18,6 +19,15 @@ pub fn a_run_keeps_the_settings<R: Files + Drop>()
 /// request opens one.
 pub fn a_read_only_run_stores_nothing<R: Files + Drop>()
     ensures { ReadOnlyRunStoresNothing ⟦<FolderStore<R> as Store>⟧.meaning
+        ⟦<FolderSource<R::File> as Source>⟧.meaning }
+{
+    a_run_keeps_the_settings::<R>();
+}
+
+/// A run whose store takes writes below a folder alone never holds a transfer that stores elsewhere,
+/// if it begins with none: each has the path of its request, and no request opens one with another.
+pub fn uploads_stay_in_their_folder<R: Files + Drop>()
+    ensures { UploadsStayInTheirFolder ⟦<FolderStore<R> as Store>⟧.meaning
         ⟦<FolderSource<R::File> as Source>⟧.meaning }
 {
     a_run_keeps_the_settings::<R>();

@@ -1,7 +1,8 @@
 -- The settings of a store over a folder (ours).
-use Rattle.std.specs.Prelude.{◌≡◌, true, Option, Some}
+use Rattle.std.specs.Prelude.{ℕ, ◌≡◌, true, List, Option, Some, None, IfSome}
 use Rattle.tftp_file.specs.declared.fault.StoreFault.{StoreFault}
 use Rattle.tftp_file.specs.declared.fault.StoreFault.TheVariants.{Io}
+use Rattle.tftp_folder.specs.Uploads.{IsBelow}
 use Rattle.tftp_folder.specs.declared.folder_store.FolderStore.{FolderStore}
 
 module _ {R G H : Type 0} where
@@ -10,8 +11,11 @@ module _ {R G H : Type 0} where
     pub read_only : after.is_read_only ≡ before.is_read_only
     pub uploads : after.uploads ≡ before.uploads
 
-  -- a draft was begun, or refused with this fault: the settings stay, and a store that refuses all
-  -- writes has refused it
-  pub record HasBegun (before after : FolderStore R G H) (fault : Option StoreFault) : Type 0 where
+  -- a draft of the path was begun, or refused with this fault: the settings stay, a store that
+  -- refuses all writes has refused it, and it was begun only below the folder of uploads, if there
+  -- is one
+  pub record HasBegun (path : List ℕ) (before after : FolderStore R G H)
+      (fault : Option StoreFault) : Type 0 where
     pub settings : SameSettings before after
     pub read_only : before.is_read_only ≡ true → fault ≡ Some Io
+    pub uploads : fault ≡ None → IfSome before.uploads (λ folder. IsBelow folder path)

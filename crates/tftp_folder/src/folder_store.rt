@@ -278,7 +278,7 @@ impl<R: Files + Drop> Store for FolderStore<R> {
       may_refuse_begin = λ _ _ replace fault. MayNotBegin replace fault;
       must_refuse_open = λ _ _ _. ⊥;
       must_fail = λ _ _ _. ⊥;
-      begun = λ before after fault. HasBegun before after fault;
+      begun = λ path before after fault. HasBegun path before after fault;
       after_append = λ before after _. SameSettings before after;
       after_commit = λ before after _. SameSettings before after;
       after_write_behind = λ before after. SameSettings before after;
@@ -315,7 +315,7 @@ impl<R: Files + Drop> Store for FolderStore<R> {
         replace: bool,
     ) -> Result<FolderDraft<R::File>, StoreFault>
         ensures refused { IfErr result (MayNotBegin replace) }
-        ensures begun { HasBegun self.old self.new (result_err result) }
+        ensures begun { HasBegun path.now self.old self.new (result_err result) }
         ensures memory { IsErrOf result StoreFault.Memory → self.new ≡ self.old }
         ensures read_only { self.old.is_read_only ≡ true → result ≡ Err StoreFault.Io }
         ensures uploads { IfOk result (λ _. IfSome self.old.uploads (λ folder.

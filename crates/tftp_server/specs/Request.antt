@@ -150,7 +150,7 @@ module _ {S F D : Type 0} (meaning : StoreMeaning S D) (sources : SourceMeaning 
     pub begins : Begins meaning.drafted (meaning.stored old.store) (meaning.stored store) path
         old.config.overwrite draft
     pub refused : IfErr draft (meaning.may_refuse_begin old.store path old.config.overwrite)
-    pub begun : meaning.begun old.store store (result_err draft)
+    pub begun : meaning.begun path old.store store (result_err draft)
     pub memory : draft ≢ Err Memory
     pub goes_on : Taken (by_draft path mode agreed draft) draft store came
 

@@ -106,7 +106,7 @@ fault_meaning inner =
       must_refuse_open = λ s path fault.
           MayAnswer s.refuses_open s.fault fault (inner.must_refuse_open s.inner path fault);
       must_fail = λ s path want. (s.fails_fill ≡ true) ⊎ inner.must_fail s.inner path want;
-      begun = Called inner.begun;
+      begun = λ path. Called (inner.begun path);
       after_append = Called inner.after_append;
       after_commit = Called inner.after_commit;
       after_write_behind = Passed inner.after_write_behind;

@@ -43,9 +43,9 @@ pub record StoreMeaning (S D : Type 0) : Type 1 where
   pub must_refuse_open : S → List ℕ → StoreFault → Type 0
   -- a fill of this many bytes of a source that is opened at the path returns Read
   pub must_fail : S → List ℕ → ℕ → Type 0
-  -- the effect of beginning a draft on the store, if refused with this fault or not refused:
-  -- it states which calls must be refused
-  pub begun : S → S → Option StoreFault → Type 0
+  -- the effect of beginning a draft of the path on the store, if refused with this fault or not
+  -- refused: it states which calls must be refused
+  pub begun : List ℕ → S → S → Option StoreFault → Type 0
   -- the same, of an append and of a commit
   pub after_append : S → S → Option StoreFault → Type 0
   pub after_commit : S → S → Option StoreFault → Type 0

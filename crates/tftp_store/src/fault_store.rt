@@ -168,7 +168,7 @@ impl<S: Store> Store for FaultStore<S> {
         ensures refused { IfErr result (λ fault. MayAnswer (is_due self.old.calls_left)
             self.old.fault fault (S.meaning.may_refuse_begin self.old.inner path.now replace
             fault)) }
-        ensures begun { Called S.meaning.begun self.old self.new (result_err result) }
+        ensures begun { Called (S.meaning.begun path.now) self.old self.new (result_err result) }
         ensures memory { IsErrOf result StoreFault.Memory → self.new ≡ self.old }
         ensures counts { Counts self.old self.new result }
         ensures passed { is_due self.old.calls_left ≡ false → Begins S.meaning.drafted

@@ -66,7 +66,7 @@ pub trait Store {
         ensures begins { Begins meaning.drafted (meaning.stored self.old)
             (meaning.stored self.new) path.now replace result }
         ensures refused { IfErr result (meaning.may_refuse_begin self.old path.now replace) }
-        ensures begun { meaning.begun self.old self.new (result_err result) }
+        ensures begun { meaning.begun path.now self.old self.new (result_err result) }
         ensures memory { IsErrOf result StoreFault.Memory → self.new ≡ self.old };
 
     /// Appends the bytes to a draft.

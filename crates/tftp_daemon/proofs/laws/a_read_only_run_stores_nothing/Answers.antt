@@ -6,7 +6,6 @@ use Rattle.tftp_daemon.proofs.laws.a_read_only_run_stores_nothing.Goals as goal
 
 pub returns : goal.returns
 returns g c =
-    stores_nothing (λ store. store.is_read_only ≡ true) _ _
-    (λ a b stops begun. let bad : None ≡ Some Io = begun.read_only stops in cc)
-    c.a_run_keeps_the_settings.ensures
+    stores_nothing (λ store. store.is_read_only ≡ true) _ _ c.a_run_keeps_the_settings.ensures
     (λ a b same stops. same.read_only ∙ stops)
+    (λ path a b stops begun. let bad : None ≡ Some Io = begun.read_only stops in cc)

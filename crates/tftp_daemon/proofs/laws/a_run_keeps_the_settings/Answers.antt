@@ -10,7 +10,7 @@ returns g c =
       itself = λ a. record { read_only = refl; uploads = refl };
       joined = λ a b c first second. record
           { read_only = second.read_only ∙ first.read_only; uploads = second.uploads ∙ first.uploads };
-      begun = λ a b fault has. has.settings;
+      begun = λ path a b fault has. has.settings;
       appended = λ a b fault same. same;
       committed = λ a b fault same. same;
       behind = λ a b same. same;
