@@ -1,16 +1,17 @@
--- The files of a script: a file is found as a search finds it, and a new path keeps them distinct.
-use Rattle.std.proofs.Common.{◌≡◌, ℕ, Bool, true, false, ◌||◌, List, [], ◌∷◌, ◌++◌, cond, refl, sym, ap, ◌∙◌, nat_eq}
+-- The files of a script: a new path keeps them distinct, and the set of their paths has it, too.
+use Rattle.std.proofs.Common.{◌≡◌, ℕ, Bool, true, false, ◌||◌, List, [], ◌∷◌, ◌++◌, cond, refl, sym, ap, ◌∙◌}
 use Rattle.std.specs.Prelude.{not, ◌&&◌, Option, Some, None, is_some}
-use Rattle.std.specs.List.{list_any}
 use Rattle.std.specs.BTreeMap.{is_at}
+use Rattle.std.specs.BTreeSet.{contains, Updates}
+use Rattle.std.specs.BTreeSet.{BTreeSet}
 use Rattle.std.specs.Ordering.{is_eq}
-use Rattle.std.specs.Cmp.Lexicographic.{pointwise, texts_ties}
 use Rattle.std.specs.declared.cmp.Ordering.{Ordering}
 use Rattle.std.specs.declared.cmp.Ordering.TheVariants.{Less, Equal, Greater}
 use Rattle.std.specs.declared.vec.Vec.{Vec}
 use Rattle.std.proofs.lemmas.Map.Lookups.{exact_bytes}
 use Rattle.tftp_store.specs.Store.{file_at, path_cmp}
 use Rattle.tftp_store.specs.Memory.{contents, has_distinct_paths}
+use Rattle.tftp_script.specs.Files.{AreThePaths}
 
 some_or : {X : Type 0} (b : Bool) (v : X) (o : Option X) → (b || is_some o) ≡ is_some (cond b (Some v) o)
 some_or true v o = refl
@@ -39,14 +40,65 @@ apart true path other here there =
     ap (λ p. is_at (path_cmp p) other) (sym same) ∙ ap (is_at (path_cmp other)) same in
     sym here ∙ sym moved ∙ there
 
+both_or_neither : (b d : Bool) → (b ≡ true → d ≡ true) → (d ≡ true → b ≡ true) → b ≡ d
+both_or_neither true d h k = sym (h refl)
+both_or_neither false true h k = k refl
+both_or_neither false false h k = refl
+
+found_from : (a b : List ℕ) → is_at (path_cmp a) b ≡ true → is_at (path_cmp b) a ≡ true
+found_from a b h =
+    let same : a ≡ b = exact_bytes a b (equal_from_is_eq (path_cmp a b) h) in
+    ap (is_at (path_cmp b)) same ∙ sym (ap (λ p. is_at (path_cmp p) b) same) ∙ h
+
+-- of two paths each is found by the other, or neither is
+is_at-sym : (a b : List ℕ) → is_at (path_cmp a) b ≡ is_at (path_cmp b) a
+is_at-sym a b = both_or_neither _ _ (found_from a b) (found_from b a)
+
+or_swap : (a b c : Bool) → (a || (b || c)) ≡ (b || (a || c))
+or_swap true true c = refl
+or_swap true false c = refl
+or_swap false b c = refl
+
+cond_or : (b c : Bool) → cond b true c ≡ (b || c)
+cond_or true c = refl
+cond_or false c = refl
+
+taken_back : (b c : Bool) → (b ≡ true → c ≡ false) → cond b false (cond b true c) ≡ c
+taken_back true c h = sym (h refl)
+taken_back false c h = refl
+
 module _ {A : Type 0} where
-  pub list_any-file : (path : List ℕ) (files : List (List ℕ × Vec ℕ A)) →
-      list_any (λ f. pointwise nat_eq path f.0) files ≡ is_some (file_at path (contents files))
-  list_any-file path [] = refl
-  list_any-file path (f ∷ files) =
-      ap (λ b. b || list_any (λ g. pointwise nat_eq path g.0) files) (texts_ties path f.0)
-      ∙ ap (λ b. is_at (path_cmp path) f.0 || b) (list_any-file path files)
-      ∙ some_or (is_at (path_cmp path) f.0) f.1.items (file_at path (contents files))
+  -- a path is among the files after a push exactly if it is the new one, or was among them
+  file_at-push : (path : List ℕ) (files : List (List ℕ × Vec ℕ A)) (e : List ℕ × Vec ℕ A) →
+      is_some (file_at path (contents (files ++ e ∷ [])))
+      ≡ (is_at (path_cmp path) e.0 || is_some (file_at path (contents files)))
+  file_at-push path [] e = sym (some_or (is_at (path_cmp path) e.0) e.1.items None)
+  file_at-push path (f ∷ files) e =
+      sym (some_or (is_at (path_cmp path) f.0) f.1.items (file_at path (contents (files ++ e ∷ []))))
+      ∙ ap (λ b. is_at (path_cmp path) f.0 || b) (file_at-push path files e)
+      ∙ or_swap (is_at (path_cmp path) f.0) (is_at (path_cmp path) e.0) (is_some (file_at path (contents files)))
+      ∙ ap (λ b. is_at (path_cmp path) e.0 || b)
+      (some_or (is_at (path_cmp path) f.0) f.1.items (file_at path (contents files)))
+
+  pub paths-push : (old new : BTreeSet (List ℕ)) (files : List (List ℕ × Vec ℕ A)) (e : List ℕ × Vec ℕ A) →
+      AreThePaths old files → Updates path_cmp old new e.0 true → AreThePaths new (files ++ e ∷ [])
+  paths-push old new files e paths updates path =
+      updates.0 path
+      ∙ cond_or (is_at (path_cmp e.0) path) (contains path_cmp old path)
+      ∙ ap (λ b. b || contains path_cmp old path) (is_at-sym e.0 path)
+      ∙ ap (λ b. is_at (path_cmp path) e.0 || b) (paths path)
+      ∙ sym (file_at-push path files e)
+
+  -- a new path that is removed again leaves the set as it was
+  pub paths-back : (old more new : BTreeSet (List ℕ)) (files : List (List ℕ × Vec ℕ A)) (k : List ℕ) →
+      AreThePaths old files → contains path_cmp old k ≡ false → Updates path_cmp old more k true →
+      Updates path_cmp more new k false → AreThePaths new files
+  paths-back old more new files k paths absent added removed path =
+      removed.0 path
+      ∙ ap (cond (is_at (path_cmp k) path) false) (added.0 path)
+      ∙ taken_back (is_at (path_cmp k) path) (contains path_cmp old path)
+      (λ same. ap (contains path_cmp old) (sym (exact_bytes k path (equal_from_is_eq (path_cmp k path) same))) ∙ absent)
+      ∙ paths path
 
   -- a file after the others is found by its path
   absent-push : (path : List ℕ) (files : List (List ℕ × Vec ℕ A)) (e : List ℕ × Vec ℕ A) →

@@ -5,14 +5,18 @@ ghost use Rattle.tftp_script.specs.declared.script.ScriptFault.TheVariants.{Line
 ghost use Rattle.tftp_server.specs.Config.{IsConfig};
 ghost use Rattle.tftp_store.specs.Memory.{contents, has_distinct_paths};
 
+mod files;
 mod flaw;
 mod keyword;
 mod line;
+mod parser;
+mod setting;
 mod statement;
 mod word;
 
 pub use flaw::{FaultyLine, Flaw};
 use line::LineFault;
+use parser::Parser;
 pub use statement::{Statement, StrayDatagram};
 use std::alloc::Global;
 use tftp_file::Path;
@@ -40,9 +44,6 @@ pub enum ScriptFault {
     Memory,
 }
 
-/// The most bytes of all contents of a script together: they are in memory at once.
-const MAX_TOTAL: usize = 400_000_000;
-
 impl Script {
     /// Parses a whole script: lines that end in LF, each of words that are separated by one space.
     /// Empty lines and lines that begin with `#` are ignored.
@@ -53,14 +54,9 @@ impl Script {
         ensures counted { IfErr result (λ fault. (line : FaultyLine) → fault ≡ Line line
             → line.number ≢ 0) }
     {
-        let mut script = Script {
-            config: Config::default(),
-            files: Vec::new(alloc),
-            statements: Vec::new(alloc),
-        };
-        let mut left = MAX_TOTAL;
+        let mut parser = Parser::new(alloc);
         for (index, line) in text.split_inclusive(|byte| *byte == b'\n').enumerate() {
-            match script.parse_line(alloc, line, &mut left) {
+            match parser.parse_line(line) {
                 Ok(()) => {}
                 Err(LineFault::Faulty(flaw, place)) => {
                     return Err(ScriptFault::Line(FaultyLine {
@@ -72,6 +68,6 @@ impl Script {
                 Err(LineFault::Memory) => return Err(ScriptFault::Memory),
             }
         }
-        Ok(script)
+        Ok(parser.finish())
     }
 }

@@ -1,6 +1,7 @@
 //! What is wrong in a faulty line of a script, and in which of its words.
 
-ghost use Rattle.std.specs.Prelude.{◌≡◌, IfOk};
+ghost use Rattle.std.specs.Prelude.{◌≡◌, IfOk, option_map};
+ghost use Rattle.tftp_script.specs.Flaw.{flaw_text, piece_of, word_of};
 
 use crate::script::line::LineFault;
 use std::fmt;
@@ -49,6 +50,11 @@ pub enum Flaw {
 }
 
 impl fmt::Display for Flaw {
+    ghost use Rattle.std.specs.Prelude.{Some};
+    ghost use Rattle.tftp_script.specs.Flaw.{flaw_text};
+
+    ghost output = { λ flaw. Some (flaw_text flaw) };
+
     fn fmt<W: fmt::Write>(&self, f: &mut fmt::Formatter<W>) -> fmt::Result {
         f.write_str(self.name())
     }
@@ -56,7 +62,9 @@ impl fmt::Display for Flaw {
 
 impl Flaw {
     /// The words for it, before the word of the line that is at fault.
-    fn name(self) -> &'static str {
+    fn name(self) -> &'static str
+        ensures { result.now ≡ flaw_text self }
+    {
         match self {
             Flaw::Unended => "no line feed at the end",
             Flaw::EmptyWord => "one space stands between two words, and no other",
@@ -94,13 +102,20 @@ pub struct FaultyLine {
 
 impl FaultyLine {
     /// The word of the script that is at fault, if it is one.
-    pub fn word<'t>(&self, script: &'t [u8]) -> Option<&'t [u8]> {
+    pub fn word<'t>(&self, script: &'t [u8]) -> Option<&'t [u8]>
+        ensures { option_map (λ word. word.now) result ≡ word_of self.now script.now }
+    {
         let place = self.place?;
-        let line = script
-            .split(|byte| *byte == b'\n')
-            .nth(self.number.checked_sub(1)?)?;
-        line.split(|byte| *byte == b' ').nth(place)
+        let line = piece(script, b'\n', self.number.checked_sub(1)?)?;
+        piece(line, b' ', place)
     }
+}
+
+/// The part of this index, counted from 0, of all that are between separators.
+fn piece(bytes: &[u8], separator: u8, index: usize) -> Option<&[u8]>
+    ensures { option_map (λ part. part.now) result ≡ piece_of separator index bytes.now }
+{
+    bytes.split(|byte| *byte == separator).nth(index)
 }
 
 /// A word of a line, and its place there, counted from 0.

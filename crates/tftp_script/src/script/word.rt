@@ -1,6 +1,6 @@
 //! The parsers of single words of a script.
 
-ghost use Rattle.std.specs.Prelude.{◌≡◌, ◌≤◌, IfOk, vec_len};
+ghost use Rattle.std.specs.Prelude.{◌≡◌, ◌≤◌, true, codes, IfOk, vec_len};
 ghost use Rattle.tftp_negotiate.specs.Asked.{IsAskable};
 ghost use Rattle.tftp_wire.specs.Modes.{mode_word};
 
@@ -160,7 +160,9 @@ pub(crate) fn endpoint(word: &Word<'_>) -> Result<Endpoint, LineFault> {
 }
 
 /// The word `yes`, which turns a setting on.
-pub(crate) fn yes(word: &Word<'_>) -> Result<bool, LineFault> {
+pub(crate) fn yes(word: &Word<'_>) -> Result<bool, LineFault>
+    ensures { IfOk result (λ on. (on ≡ true) × (word.now.bytes.now ≡ codes "yes")) }
+{
     match word.text()? {
         "yes" => Ok(true),
         _ => Err(word.fault(Flaw::Yes)),
