@@ -250,6 +250,13 @@ def test_play(check) -> None:
     many = b"".join(b"file f%d 41*100000000\n" % number for number in range(4))
     check.ends("tftp-play", [], 2, "line 5: fault\ntftp-play: more than 400000000 bytes of content: 41\n", "",
                input=many + b"file e 41\n")
+    # time grows with the lines alone
+    many, began = b"".join(b"file f%d 41\n" % number for number in range(20_000)), time.monotonic()
+    check.ends("tftp-play", [], 0, "", "", input=many)
+    check.ends("tftp-play", [], 2, "line 20001: fault\ntftp-play: two files of this name: f19999\n", "",
+               input=many + b"file f19999 42\n")
+    if time.monotonic() - began > PATIENCE / 4:
+        check.wrong.append(f"tftp-play: 20,000 files, twice, in {time.monotonic() - began:.1f} s")
     check.ends("tftp-play", ["--events"], 1, "", "#0 10.0.0.2:1024 > 10.0.0.1:69 RRQ a octet\n- refuse 1024\n"
                "#1 10.0.0.2:1024 > 10.0.0.1:69 RRQ a octet\n", at_start=True,
                input=b"get a octet\nrefuse 1024\ntimeout 1024\n")
