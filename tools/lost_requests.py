@@ -120,11 +120,14 @@ def begun(program, counter, folder, refused) -> tuple[tuple[int, str, str], int]
 
 def unbegun(program, counter, folder) -> tuple[int, int]:
     """How many requests for memory a server makes before it serves, and how many of them do not end it as they should."""
-    wrong = 0
+    wrong, without = 0, 0
     _, count = begun(program, counter, folder, 0)
     for refused in range(1, count + 1):
         end, _ = begun(program, counter, folder, refused)
-        if end not in ((2, "", "tftpd: out of memory\n"), (2, "", "error: out of memory\n")):
+        # an environment that cannot be read names no journal: the server serves, its warnings without a priority
+        if end[0] == 0 and end[1].startswith("listening ") and not end[2] and not without:
+            without += 1
+        elif end not in ((2, "", "tftpd: out of memory\n"), (2, "", "error: out of memory\n")):
             wrong += 1
             print(f"lost requests: {refused} of {count} at the start: {end}")
     return count, wrong
