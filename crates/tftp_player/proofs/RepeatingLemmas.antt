@@ -38,7 +38,7 @@ use Rattle.tftp_player.specs.declared.event.Event.TheVariants.{Get, Put, Deliver
 use Rattle.tftp_player.specs.declared.report.Report.{Report}
 use Rattle.tftp_rules.proofs.Indices.{slice_get-push_old, slice_get-set_cases}
 use Rattle.tftp_player.proofs.ServerLemmas.{says_one}
-use Rattle.tftp_player.proofs.TermsKept.{step_has, timeout_has}
+use Rattle.tftp_player.proofs.TermsKept.{same_peer, step_has, timeout_has}
 
 -- ---- what repeats a request is ignored
 
@@ -184,15 +184,6 @@ pub only_new_requests_open : OnlyNewRequestsOpen
 only_new_requests_open old new from to bytes report l more = opens old new from bytes report more to l
 
 -- ---- a request lasts as long as the end that it opened is open
-
--- the peer stays with what was agreed on
-same_peer : (phase phase' : Phase) (from : Endpoint) → peer_of phase ≡ Some from →
-    ((agreed : Terms) → terms_of phase ≡ Some agreed → terms_of phase' ≡ Some agreed) → peer_of phase' ≡ Some from
-same_peer phase phase' from peer stays = by_terms (terms_of phase) refl peer where
-  by_terms : (terms : Option Terms) → terms_of phase ≡ terms → option_map (λ t. t.peer) terms ≡ Some from →
-      peer_of phase' ≡ Some from
-  by_terms None is h = absurd (let f : None ≡ Some from = h in cc)
-  by_terms (Some agreed) is h = ap (option_map (λ t. t.peer)) (stays agreed is) ∙ h
 
 module _ (from : Endpoint) (packet : Packet) where
   -- while it is open it is repeated

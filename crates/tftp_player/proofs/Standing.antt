@@ -19,7 +19,7 @@ use Rattle.tftp_rules.specs.Rules.{Rule}
 use Rattle.tftp_rules.specs.Shows.{EndView, IsInService, IsShownWithin}
 use Rattle.tftp_player.specs.World.{WorldState, WorldEnd, Open_end, Closed_end, end_record, end_address, is_closed}
 use Rattle.tftp_player.specs.World.{datagram, closed_end, by_outcome, standing, view_of_end, end_request, file_at}
-use Rattle.tftp_player.specs.WorldKept.{IsKeptIn}
+use Rattle.tftp_player.specs.WorldKept.{HasAsker, IsKeptIn}
 
 -- an end in the world is open or closed
 pub stands_as : {A : Type 0} (f : WorldEnd → A) (a : A) (x : OpenEnd) → f (Open_end x) ≡ a →
@@ -126,14 +126,46 @@ standing_transfer x = by_case (outcome_of x.state.position.phase) where
   by_case None = and_true (not (is_client x.state.role.side))
   by_case (Some outcome) = and_false (not (is_client x.state.role.side))
 
+-- a closed end has the same peer, and its path
+ended_asked : (w : WorldState) (x : OpenEnd) → HasAsker w (Open_end x) → HasAsker w (Closed_end (closed_end x))
+ended_asked w x h = (
+  h.0,
+  h.1,
+  λ near.
+      let q = h.2 near in
+      record {
+        write = q.write;
+        request = q.request;
+        sent = q.sent;
+        opened = λ still. absurd (true≢false still);
+        path = q.path;
+      },
+)
+
 -- and it is kept in its world
 pub standing_kept : (w : WorldState) (x : OpenEnd) → EndKept two_hosts x →
     Contains w.sent (datagram x.address x.state.position.last_sent_to x.state.position.last_sent) →
     (w.overwrite ≡ false → is_client x.state.role.side ≡ false → is_sender x.state.role.side ≡ false →
     is_complete x.state.position.phase ≡ true → file_at w.files x.path ≡ Some x.stored) →
-    x.text ≡ wire_text x.state.role.mode x.file → IsKeptIn w (standing x)
-standing_kept w x kept last_sent stored text = by_case (outcome_of x.state.position.phase) refl where
+    x.text ≡ wire_text x.state.role.mode x.file →
+    (is_client x.state.role.side ≡ false → HasAsker w (Open_end x)) →
+    (w.overwrite ≡ false → is_client x.state.role.side ≡ false → is_sender x.state.role.side ≡ true →
+    file_at w.files x.path ≡ Some x.file) → IsKeptIn w (standing x)
+standing_kept w x kept last_sent stored text asked sends = by_case (outcome_of x.state.position.phase) refl where
   by_case : (o : Option Outcome) → outcome_of x.state.position.phase ≡ o → IsKeptIn w (by_outcome o x)
   by_case None e =
-      record { stands = record { still = e; kept = kept; last_sent = last_sent }; stored = stored; text = text }
-  by_case (Some outcome) e = record { stands = kept.committed; stored = stored; text = text }
+      record {
+        stands = record { still = e; kept = kept; last_sent = last_sent };
+        asked = asked;
+        sends = sends;
+        stored = stored;
+        text = text;
+      }
+  by_case (Some outcome) e =
+      record {
+        stands = kept.committed;
+        asked = λ server. ended_asked w x (asked server);
+        sends = sends;
+        stored = stored;
+        text = text;
+      }

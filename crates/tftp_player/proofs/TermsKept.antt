@@ -2,6 +2,7 @@
 use Rattle.std.proofs.Common.{◌≡◌, ℕ, Bool, true, false, List, Option, Some, None, Result, Ok, Err, refl, sym, ap, ◌∙◌}
 use Rattle.std.proofs.Common.{subst}
 use Rattle.std.specs.Prelude.{◌==◌, ◌+◌, ◌/◌, nat_lt, length, is_none, is_some, ◌&&◌, if◌then◌else◌}
+use Rattle.std.specs.Prelude.{option_map}
 use Rattle.std.proofs.lemmas.Bool.{true≢false}
 use Rattle.std.proofs.lemmas.Option.{same_Some}
 use Rattle.tftp_wire.specs.Reading.{has_error_opcode}
@@ -33,6 +34,7 @@ use Rattle.tftp_ends.specs.Text.{is_readable}
 use Rattle.tftp_ends.specs.Step.{Turn, DatagramStep, Acts, SendsFrom, StoresIn, GoesOn, Done, response_turn}
 use Rattle.tftp_ends.specs.Step.{filled_turn, committed_turn, result_count_is, block_length, timeout_turn, holding}
 use Rattle.tftp_rules.specs.Machine.{Endpoint}
+use Rattle.tftp_rules.specs.OpenEnds.{peer_of}
 use Rattle.tftp_player.specs.WorldSteps.{world_sink}
 
 module _ (agreed : Terms) where
@@ -220,3 +222,12 @@ pub still_known : (old new : Option Terms) → ((agreed : Terms) → old ≡ Som
     is_some old ≡ true → is_some new ≡ true
 still_known None new kept known = absurd (true≢false (sym known))
 still_known (Some agreed) new kept known = ap is_some (kept agreed refl)
+
+-- the peer stays with what was agreed on
+pub same_peer : (phase phase' : Phase) (from : Endpoint) → peer_of phase ≡ Some from →
+    ((agreed : Terms) → terms_of phase ≡ Some agreed → terms_of phase' ≡ Some agreed) → peer_of phase' ≡ Some from
+same_peer phase phase' from peer stays = by_terms (terms_of phase) refl peer where
+  by_terms : (terms : Option Terms) → terms_of phase ≡ terms → option_map (λ t. t.peer) terms ≡ Some from →
+      peer_of phase' ≡ Some from
+  by_terms None is h = absurd (let f : None ≡ Some from = h in cc)
+  by_terms (Some agreed) is h = ap (option_map (λ t. t.peer)) (stays agreed is) ∙ h

@@ -1,6 +1,6 @@
 -- Clients that open, and the request port, keep a world.
 use Rattle.std.proofs.Common.{◌≡◌, ℕ, ◌+◌, ◌*◌, ◌<◌, ◌≤◌, Bool, true, false, List, [], ◌∷◌, ◌++◌, length, map}
-use Rattle.std.proofs.Common.{Option, Some, None, Result, Ok, Err, sym, refl, ap, ◌∙◌, subst, arith}
+use Rattle.std.proofs.Common.{Option, Some, None, Result, Ok, Err, sym, refl, ap, ◌∙◌, subst, inl, inr, arith}
 use Rattle.std.specs.Prelude.{◌≢◌, if◌then◌else◌, nat_lt, nat_le}
 use Rattle.std.specs.List.{Contains, AllByRecursion}
 use Rattle.std.proofs.lemmas.Option.{same_Some, slice_get_within}
@@ -34,7 +34,8 @@ use Rattle.tftp_wire.specs.Reading.{has_error_opcode}
 use Rattle.tftp_ends.specs.Step.{error_bytes}
 use Rattle.tftp_store.specs.Store.{measured}
 use Rattle.tftp_rules.specs.Hosts.{host_of, server_ip, client_ip, request_port, two_hosts}
-use Rattle.tftp_rules.specs.Machine.{Endpoint, Elsewhere, Message}
+use Rattle.tftp_rules.specs.Machine.{Endpoint, Elsewhere, Message, Request as Says_request}
+use Rattle.tftp_rules.specs.OpenEnds.{OpenEnd}
 use Rattle.tftp_rules.specs.Rules.{Rule, message}
 use Rattle.tftp_rules.specs.Said.{said}
 use Rattle.tftp_rules.specs.EndOpens.{AreGranted, IsNewly}
@@ -45,19 +46,20 @@ use Rattle.tftp_rules.proofs.EndMoves.{valid_error}
 use Rattle.tftp_rules.proofs.SaidLemmas.{spells_own}
 use Rattle.tftp_rules.proofs.HostLemmas.{host_server, host_client}
 use Rattle.tftp_rules.specs.Shows.{NoneAt, requested, EndView, IsShownAt, IsShownWithin}
-use Rattle.tftp_player.specs.World.{WorldState, WorldEnd, file_at, in_the_way, datagram, said_in, view_of_end}
+use Rattle.tftp_player.specs.World.{WorldState, WorldEnd, Open_end, file_at, in_the_way, datagram, said_in, view_of_end}
 use Rattle.tftp_player.specs.Openings.{request_of, reading_client, writing_client, MayGet, MayPut, sending_end}
 use Rattle.tftp_player.specs.Openings.{receiving_end}
 use Rattle.tftp_server.specs.Port.{Ask, Ignores, Refuses, Reads, Service, Refused, Sends, accept_reply, by_draft}
 use Rattle.tftp_server.specs.Port.{by_file, by_length, by_name, by_options, by_packet, by_repeat}
 use Rattle.tftp_player.specs.Requests.{IsRepeated, open_transfers, opened_of, begun_of, served, service}
 use Rattle.tftp_player.specs.WorldSteps.{Stays, ServiceStep, OpeningStep}
-use Rattle.tftp_player.specs.WorldKept.{RefinesBy, RefinesAt, RefinesWithin}
+use Rattle.tftp_player.specs.WorldKept.{RefinesBy, RefinesAt, RefinesWithin, WasAsked}
+use Rattle.tftp_player.specs.WorldSafety.{HasRequested}
 use Rattle.tftp_player.specs.declared.report.Report.{Report}
 use Rattle.tftp_rules.proofs.Shown.{shown_still, shown_within}
 use Rattle.tftp_player.proofs.UnansweredLemmas.{none_answers}
 use Rattle.tftp_player.proofs.Measured.{measured_fits}
-use Rattle.tftp_player.proofs.WorldTurns.{viewed_at, opening_keeps, saying_keeps}
+use Rattle.tftp_player.proofs.WorldTurns.{viewed_at, opening_keeps, opens_elsewhere, saying_keeps}
 
 at_server : (a : Endpoint) → a.ip ≡ server_ip → host_of a ≢ Elsewhere
 at_server a e f = let h = sym (host_server a e) ∙ f in cc
@@ -122,7 +124,7 @@ reading_keeps first strangers w v name mode asked report ok may o =
       phase = (refl, may.options.askable, refl, refl, λ _. refl, λ e. absurd (true≢false (sym e)));
       held_back = nothing_held mode;
       committed = λ _. refl;
-    }) refl refl o
+    }) refl refl (opens_elsewhere w x refl) o
 
 pub writing_keeps :
     (first : List Rule) (strangers : Bool) (w v : WorldState) (name : List ℕ) (mode : Mode) (asked : Asked)
@@ -142,7 +144,7 @@ writing_keeps first strangers w v name mode asked file report ok may o =
       phase = (refl, may.options.askable, refl, refl, λ _. refl, λ _. refl);
       held_back = nothing_held mode;
       committed = λ e. absurd (true≢false e);
-    }) refl refl o
+    }) refl refl (opens_elsewhere w x refl) o
 
 -- the options that a server agreed to
 pub answered_values :
@@ -156,14 +158,63 @@ answered_values kind mode file_length limits options known ok e =
 spells_at : (bytes : List ℕ) (p : WirePacket) → IsValid p → bytes ≡ canonical p → Spells p bytes
 spells_at bytes p valid is = subst (λ (b : List ℕ). Spells p b) (sym is) (spells_own p valid)
 
+-- what the request port has received from one of the two hosts was sent
+request_of_said : (p : WirePacket) (write : Bool) (request : Request) → said p ≡ Says_request write request →
+    p ≡ requested write request
+request_of_said (Read r) true request e = cc
+request_of_said (Read r) false request e = cc
+request_of_said (Write r) true request e = cc
+request_of_said (Write r) false request e = cc
+request_of_said (Data number bytes) write request e = cc
+request_of_said (Ack number) write request e = cc
+request_of_said (Error code text) write request e = cc
+request_of_said (Oack options) write request e = cc
+
+was_sent :
+    (first : List Rule) (strangers : Bool) (w : WorldState) (ok : RefinesAt first strangers w) (from : Endpoint)
+    (write : Bool) (request : Request) →
+    Contains ok.messages (message from request_port (Says_request write request)) → host_of from ≢ Elsewhere →
+    HasRequested w from write request
+was_sent first strangers w ok from write request i near =
+    elim (ok.only (message from request_port (Says_request write request)) i) [
+      | inl h ↦
+          let d = h.0 in
+          let says = h.2.says in
+          let here : d.from ≡ from = ap (λ (m : Message). m.from) (sym says) in
+          let there : d.to ≡ request_port = ap (λ (m : Message). m.to) (sym says) in
+          let packet : h.2.packet ≡ requested write request =
+          request_of_said h.2.packet write request (ap (λ (m : Message). m.packet) (sym says)) in (
+            d.bytes,
+            subst (λ (a : Endpoint). Contains w.sent (datagram a request_port d.bytes)) here
+                (subst (λ (a : Endpoint). Contains w.sent (datagram d.from a d.bytes)) there h.1),
+            subst (λ (p : WirePacket). Spells p d.bytes) packet h.2.spells,
+          )
+      | inr far ↦ absurd (near far)
+    ]
+
+-- an end that opens for a request was asked by it
+asked_from :
+    (first : List Rule) (strangers : Bool) (w : WorldState) (ok : RefinesAt first strangers w) (from : Endpoint)
+    (bytes : List ℕ) (write : Bool) (request : Request) (x : OpenEnd) → x.request ≡ bytes → (path : List ℕ) →
+    IsNewly two_hosts (map view_of_end w.ends) ok.messages from bytes write request → x.path ≡ path →
+    path_of_name request.name ≡ Ok path → host_of from ≢ Elsewhere → WasAsked w from (Open_end x)
+asked_from first strangers w ok from bytes write request x same path come here named near = record {
+  write = write;
+  request = request;
+  sent = was_sent first strangers w ok from write request come.sent near;
+  opened = λ still. subst (λ (b : List ℕ). Spells (requested write request) b) (sym same) come.spells;
+  path = named ∙ ap (λ (q : List ℕ). Ok q) (sym here);
+}
+
 -- a read is served
 sending_keeps :
     (first : List Rule) (strangers : Bool) (w v : WorldState) (from : Endpoint) (bytes : List ℕ) (request : Request)
     (path file : List ℕ) (agreed : List Known) (report : Report) (ok : RefinesAt first strangers w) →
     IsNewly two_hosts (map view_of_end w.ends) ok.messages from bytes false request → AreGranted agreed →
-    Fits (wire_text request.mode file) (size agreed) →
+    Fits (wire_text request.mode file) (size agreed) → path_of_name request.name ≡ Ok path →
+    file_at w.files path ≡ Some file →
     OpeningStep w (sending_end w from bytes request.mode path file agreed) report v → RefinesWithin 3 first strangers v
-sending_keeps first strangers w v from bytes request path file [] report ok come granted fits o =
+sending_keeps first strangers w v from bytes request path file [] report ok come granted fits named there o =
     let x = sending_end w from bytes request.mode path file [] in
     let opens =
     opens_to_send two_hosts first (map view_of_end w.ends) ok.messages x.address from bytes request path file
@@ -171,8 +222,12 @@ sending_keeps first strangers w v from bytes request path file [] report ok come
     (none_at_next first strangers w ok x.address refl) come granted fits in
     let spelled = spells_at x.state.position.last_sent opens.packet opens.valid opens.last_sent in
     opening_keeps first strangers w v ok x report opens.packet spelled opens.shown (at_server x.address refl) refl refl
-    opens.kept refl refl o
-sending_keeps first strangers w v from bytes request path file (known ∷ agreed) report ok come granted fits o =
+    opens.kept refl refl (record {
+      asked = λ server. (from, refl, asked_from first strangers w ok from bytes false request x refl path come refl named);
+      sends = λ server sends. there;
+    }) o
+sending_keeps first strangers w v from bytes request path file (known ∷ agreed) report ok come granted fits named there
+    o =
     let x = sending_end w from bytes request.mode path file (known ∷ agreed) in
     let opens =
     opens_to_send two_hosts first (map view_of_end w.ends) ok.messages x.address from bytes request path file
@@ -180,15 +235,18 @@ sending_keeps first strangers w v from bytes request path file (known ∷ agreed
     (none_at_next first strangers w ok x.address refl) come granted fits in
     let spelled = spells_at x.state.position.last_sent opens.packet opens.valid opens.last_sent in
     opening_keeps first strangers w v ok x report opens.packet spelled opens.shown (at_server x.address refl) refl refl
-    opens.kept refl refl o
+    opens.kept refl refl (record {
+      asked = λ server. (from, refl, asked_from first strangers w ok from bytes false request x refl path come refl named);
+      sends = λ server sends. there;
+    }) o
 
 -- a write is served
 taking_keeps :
     (first : List Rule) (strangers : Bool) (w v : WorldState) (from : Endpoint) (bytes : List ℕ) (request : Request)
     (path : List ℕ) (agreed : List Known) (report : Report) (ok : RefinesAt first strangers w) →
     IsNewly two_hosts (map view_of_end w.ends) ok.messages from bytes true request → AreGranted agreed →
-    OpeningStep w (receiving_end w from bytes request.mode path agreed) report v → RefinesWithin 3 first strangers v
-taking_keeps first strangers w v from bytes request path [] report ok come granted o =
+    path_of_name request.name ≡ Ok path → OpeningStep w (receiving_end w from bytes request.mode path agreed) report v → RefinesWithin 3 first strangers v
+taking_keeps first strangers w v from bytes request path [] report ok come granted named o =
     let x = receiving_end w from bytes request.mode path [] in
     let opens =
     opens_to_store two_hosts first (map view_of_end w.ends) ok.messages x.address from bytes request path []
@@ -196,8 +254,11 @@ taking_keeps first strangers w v from bytes request path [] report ok come grant
     let spelled = spells_at x.state.position.last_sent opens.packet opens.valid opens.last_sent in
     opening_keeps first strangers w v ok x report opens.packet spelled opens.shown (at_server x.address refl) refl refl
     (record { phase = opens.kept.phase; held_back = opens.kept.held_back; committed = opens.kept.committed }) refl refl
-    o
-taking_keeps first strangers w v from bytes request path (known ∷ agreed) report ok come granted o =
+    (record {
+      asked = λ server. (from, refl, asked_from first strangers w ok from bytes true request x refl path come refl named);
+      sends = λ server sends. absurd (true≢false (sym sends));
+    }) o
+taking_keeps first strangers w v from bytes request path (known ∷ agreed) report ok come granted named o =
     let x = receiving_end w from bytes request.mode path (known ∷ agreed) in
     let opens =
     opens_to_store two_hosts first (map view_of_end w.ends) ok.messages x.address from bytes request path
@@ -206,7 +267,10 @@ taking_keeps first strangers w v from bytes request path (known ∷ agreed) repo
     let spelled = spells_at x.state.position.last_sent opens.packet opens.valid opens.last_sent in
     opening_keeps first strangers w v ok x report opens.packet spelled opens.shown (at_server x.address refl) refl refl
     (record { phase = opens.kept.phase; held_back = opens.kept.held_back; committed = opens.kept.committed }) refl refl
-    o
+    (record {
+      asked = λ server. (from, refl, asked_from first strangers w ok from bytes true request x refl path come refl named);
+      sends = λ server sends. absurd (true≢false (sym sends));
+    }) o
 
 -- the request port refuses
 refusing_keeps : (first : List Rule) (strangers : Bool) (w v : WorldState) (from : Endpoint) (reply : ErrorReply) →
@@ -225,16 +289,18 @@ if_served : {A : Type 0} (P : A → Type 0) (b : Bool) (r s : A) → (b ≡ true
 if_served P true r s f g = f refl
 if_served P false r s f g = g refl
 
--- a request in this mode was
-abbrev pub WasAsked : List Message → List WorldEnd → Endpoint → List ℕ → Bool → Mode → Type 0
-WasAsked messages ends from bytes write mode =
-    (q : Request) × (q.mode ≡ mode) × IsNewly two_hosts (map view_of_end ends) messages from bytes write q
+-- a request in this mode, whose name means this path or none, was
+abbrev pub AsksOnce : List Message → List WorldEnd → Endpoint → List ℕ → Bool → Mode → Result (List ℕ) PathFault
+    → Type 0
+AsksOnce messages ends from bytes write mode path =
+    (q : Request) × (q.mode ≡ mode) × (path_of_name q.name ≡ path)
+    × IsNewly two_hosts (map view_of_end ends) messages from bytes write q
 
 -- the decoded request was, unless it repeats another
 abbrev pub AsksSo : List Message → List WorldEnd → Endpoint → List ℕ → Bool → Option WirePacket → Type 0
 AsksSo messages ends from bytes repeated decoded =
     (write : Bool) (r : Request) → decoded ≡ Some (requested write r) → repeated ≡ false →
-    WasAsked messages ends from bytes write r.mode
+    AsksOnce messages ends from bytes write r.mode (path_of_name r.name)
 
 -- what was decoded was sent
 pub asked_so :
@@ -246,6 +312,7 @@ pub asked_so :
 asked_so messages ends from bytes repeated decoded come spelled same true r e new = (
   r,
   refl,
+  refl,
   record {
     sent = come (Write r) e;
     spells = spelled (Write r) e;
@@ -254,6 +321,7 @@ asked_so messages ends from bytes repeated decoded come spelled same true r e ne
 )
 asked_so messages ends from bytes repeated decoded come spelled same false r e new = (
   r,
+  refl,
   refl,
   record {
     sent = come (Read r) e;
@@ -272,7 +340,7 @@ module _ (first : List Rule) (strangers : Bool) (w v : WorldState) (from : Endpo
 
   -- a read with the server's answer to its options
   sending_served : (path file : List ℕ) (mode : Mode) (options : List RawOption) (a : Result (List Known) Refusal) →
-      WasAsked ok.messages w.ends from bytes false mode →
+      AsksOnce ok.messages w.ends from bytes false mode (Ok path) →
       file_at w.files path ≡ Some file → answer options kinds.Read mode (measured mode file) w.limits ≡ a →
       Kept_by (by_length path mode (measured mode file) a)
   sending_served path file mode options (Err refusal) come there e = refused (accept_reply refusal)
@@ -288,13 +356,15 @@ module _ (first : List Rule) (strangers : Bool) (w v : WorldState) (from : Endpo
       subst
       (λ (n : Mode). Fits (wire_text n file) (size agreed) →
       OpeningStep w (sending_end w from bytes n path file agreed) report v → RefinesWithin 3 first strangers v) come.1
-      (sending_keeps first strangers w v from bytes come.0 path file agreed report ok come.2
-      (answer_granted options kinds.Read mode m w.limits agreed (omega (arith, small)) ok.max_block e)) fits
+      (λ fits.
+      sending_keeps first strangers w v from bytes come.0 path file agreed report ok come.3
+      (answer_granted options kinds.Read mode m w.limits agreed (omega (arith, small)) ok.max_block e) fits come.2
+      there) fits
       (subst (λ (g : List ℕ). OpeningStep w (sending_end w from bytes mode path g agreed) report v) same o.2))
       (λ f. refused FileTooLarge)
 
   reading_served : (path : List ℕ) (mode : Mode) (options : List RawOption) (there : Option (List ℕ)) →
-      WasAsked ok.messages w.ends from bytes false mode →
+      AsksOnce ok.messages w.ends from bytes false mode (Ok path) →
       file_at w.files path ≡ there → Kept_by (by_file w.limits path mode options (opened_of mode there))
   reading_served path mode options None come e = refused FileNotFound
   reading_served path mode options (Some file) come e =
@@ -303,15 +373,15 @@ module _ (first : List Rule) (strangers : Bool) (w v : WorldState) (from : Endpo
   -- a write with the server's answer to its options
   taking_served :
       (path : List ℕ) (mode : Mode) (options : List RawOption) (there : Option (List ℕ)) (agreed : List Known) →
-      WasAsked ok.messages w.ends from bytes true mode →
+      AsksOnce ok.messages w.ends from bytes true mode (Ok path) →
       answer options kinds.Write mode 0 w.limits ≡ Ok agreed → Kept_by (by_draft path mode agreed (begun_of there))
   taking_served path mode options None agreed come e =
       subst
       (λ (n : Mode). OpeningStep w (receiving_end w from bytes n path agreed) report v →
       RefinesWithin 3 first strangers v)
       come.1
-      (taking_keeps first strangers w v from bytes come.0 path agreed report ok come.2
-      (answer_granted options kinds.Write mode 0 w.limits agreed (omega arith) ok.max_block e))
+      (taking_keeps first strangers w v from bytes come.0 path agreed report ok come.3
+      (answer_granted options kinds.Write mode 0 w.limits agreed (omega arith) ok.max_block e) come.2)
   taking_served path mode options (Some file) agreed come e = refused FileExists
 
   -- the result of what the port asks
@@ -319,19 +389,20 @@ module _ (first : List Rule) (strangers : Bool) (w v : WorldState) (from : Endpo
   Kept_asking ask = Kept_by (served w ask)
 
   writing_served : (path : List ℕ) (mode : Mode) (options : List RawOption) (a : Result (List Known) Refusal) →
-      WasAsked ok.messages w.ends from bytes true mode →
+      AsksOnce ok.messages w.ends from bytes true mode (Ok path) →
       answer options kinds.Write mode 0 w.limits ≡ a → Kept_asking (by_options path mode a)
   writing_served path mode options (Err refusal) come e = refused (accept_reply refusal)
   writing_served path mode options (Ok agreed) come e =
       taking_served path mode options (in_the_way w.overwrite (file_at w.files path)) agreed come e
 
-  named_served : (next : List ℕ → Ask) → ((path : List ℕ) → Kept_asking (next path)) →
-      (path : Result (List ℕ) PathFault) →
+  named_served : (write : Bool) (mode : Mode) (next : List ℕ → Ask) → ((path : List ℕ) →
+      AsksOnce ok.messages w.ends from bytes write mode (Ok path) → Kept_asking (next path)) →
+      (path : Result (List ℕ) PathFault) → AsksOnce ok.messages w.ends from bytes write mode path →
       Kept_asking (by_name w.cap (open_transfers w.ends) next path)
-  named_served next each (Err fault) = refused AccessViolation
-  named_served next each (Ok path) =
+  named_served write mode next each (Err fault) come = refused AccessViolation
+  named_served write mode next each (Ok path) come =
       if_served Kept_asking (nat_le w.cap (open_transfers w.ends)) (Refuses ServerBusy) (next path)
-      (λ b. refused ServerBusy) (λ b. each path)
+      (λ b. refused ServerBusy) (λ b. each path come)
 
   unless_repeated : (repeated : Bool) (ask : Ask) → (repeated ≡ false → Kept_asking ask) →
       Kept_asking (by_repeat repeated ask)
@@ -345,17 +416,17 @@ module _ (first : List Rule) (strangers : Bool) (w v : WorldState) (from : Endpo
       unless_repeated repeated
       (by_name w.cap (open_transfers w.ends) (λ path. Reads path r.mode r.options) (path_of_name r.name))
       (λ new.
-      named_served (λ path. Reads path r.mode r.options)
-      (λ path. reading_served path r.mode r.options (file_at w.files path) (come false r refl new) refl)
-      (path_of_name r.name))
+      named_served false r.mode (λ path. Reads path r.mode r.options)
+      (λ path asked. reading_served path r.mode r.options (file_at w.files path) asked refl)
+      (path_of_name r.name) (come false r refl new))
   by_request repeated (Some (Write r)) come =
       unless_repeated repeated
       (by_name w.cap (open_transfers w.ends)
       (λ path. by_options path r.mode (answer r.options kinds.Write r.mode 0 w.limits)) (path_of_name r.name))
-      (λ new. named_served (λ path. by_options path r.mode (answer r.options kinds.Write r.mode 0 w.limits))
-      (λ path.
-      writing_served path r.mode r.options (answer r.options kinds.Write r.mode 0 w.limits) (come true r refl new) refl)
-      (path_of_name r.name))
+      (λ new. named_served true r.mode (λ path. by_options path r.mode (answer r.options kinds.Write r.mode 0 w.limits))
+      (λ path asked.
+      writing_served path r.mode r.options (answer r.options kinds.Write r.mode 0 w.limits) asked refl)
+      (path_of_name r.name) (come true r refl new))
   by_request repeated (Some (Data number bytes)) come = refused IllegalOperation
   by_request repeated (Some (Ack number)) come = refused IllegalOperation
   by_request repeated (Some (Error code text)) come = refused IllegalOperation

@@ -30,7 +30,7 @@ use Rattle.tftp_player.specs.World.{WorldState, WorldEnd, Open_end, Closed_end, 
 use Rattle.tftp_player.specs.World.{datagram, new_world, view_of_end}
 use Rattle.tftp_player.specs.WorldSteps.{may_refuse_commit, OnDatagram, Arrives, At_request_port, At_open_end}
 use Rattle.tftp_player.specs.WorldSteps.{At_closed_end, At_nobody, TimeoutStep, armed_end, WorldStep}
-use Rattle.tftp_player.specs.WorldKept.{IsKeptIn, RefinesAt, RefinesWithin, Refines}
+use Rattle.tftp_player.specs.WorldKept.{HasAsker, IsKeptIn, RefinesAt, RefinesWithin, Refines}
 use Rattle.tftp_player.specs.WorldRuns.{PlaysAll, MayHappen, MayAllHappen, StepsKeep, StepsAreRules, most_rules}
 use Rattle.tftp_player.specs.WorldSafety.{HasPeersAtHome}
 use Rattle.tftp_player.specs.declared.datagram.Datagram.{Datagram}
@@ -43,6 +43,7 @@ use Rattle.tftp_rules.proofs.Shown.{shown_start, shown_within}
 use Rattle.tftp_rules.proofs.ViewSafe.{shown_at_home}
 use Rattle.tftp_rules.proofs.EndMoves.{end_armed as kept_armed}
 use Rattle.tftp_player.proofs.KnownSteps.{from_server, known_step}
+use Rattle.tftp_player.proofs.TermsKept.{step_has, timeout_has}
 use Rattle.tftp_player.proofs.WorldTurns.{ports_set, nothing_in, one_in, turn_keeps, view_at}
 use Rattle.tftp_player.proofs.WorldKeeps.{reading_keeps, writing_keeps, serving_keeps, asked_so, stays_ok, none_more}
 use Rattle.tftp_player.proofs.WorldKeeps.{shown_as}
@@ -112,7 +113,8 @@ module _ (first : List Rule) (strangers : Bool) (w v : WorldState) (ok : Refines
       datagram_goes two_hosts first (map view_of_end w.ends) ok.messages k x from bytes h.turn h.held (open_now k x at)
       come (from_server x from bytes)
       (known_step may_commit from bytes x.state (files_of x) h.turn h.held h.steps) in
-      turn_keeps first strangers w v ok k x h.turn h.held report at goes_now h.turns
+      turn_keeps first strangers w v ok k x h.turn h.held report at goes_now
+      (λ agreed e. step_has agreed may_commit from bytes x.state (files_of x) h.held h.turn e h.steps) h.turns
 
   -- a datagram that arrived keeps the world
   pub arrives_keeps : (from to : Endpoint) (bytes : List ℕ) →
@@ -136,7 +138,8 @@ module _ (first : List Rule) (strangers : Bool) (w v : WorldState) (ok : Refines
   timeout_keeps k (Closed_end x) at s = stays_ok first strangers w v report ok s
   timeout_keeps k (Open_end x) at t =
       turn_keeps first strangers w v ok k x (timeout_turn x.state) (files_of x) report at
-      (timeout_goes two_hosts first (map view_of_end w.ends) ok.messages k x (open_now k x at)) t
+      (timeout_goes two_hosts first (map view_of_end w.ends) ok.messages k x (open_now k x at))
+      (λ agreed e. timeout_has agreed x.state e) t
 
 -- what is to be refused is not shown of an end
 armed_open : (b : Bool) (x : OpenEnd) →
@@ -148,6 +151,16 @@ armed_view : (x : WorldEnd) → view_of_end (armed_end x) ≡ view_of_end x
 armed_view (Open_end x) = armed_open (is_sender x.state.role.side) x
 armed_view (Closed_end x) = refl
 
+armed_asked : (w : WorldState) (x : OpenEnd) → HasAsker w (Open_end x) →
+    HasAsker w (Open_end (record x { refuses = true }))
+armed_asked w x h = (
+  h.0,
+  h.1,
+  λ near.
+      let q = h.2 near in
+      record { write = q.write; request = q.request; sent = q.sent; opened = q.opened; path = q.path },
+)
+
 armed_kept : (w : WorldState) (b : Bool) (x : OpenEnd) → IsKeptIn w (Open_end x) →
     IsKeptIn w (Open_end (if b then x else record x { refuses = true }))
 armed_kept w true x h = h
@@ -157,6 +170,8 @@ armed_kept w false x h = record {
     kept = kept_armed two_hosts x true h.stands.kept;
     last_sent = h.stands.last_sent;
   };
+  asked = λ server. armed_asked w x (h.asked server);
+  sends = h.sends;
   stored = h.stored;
   text = h.text;
 }
@@ -166,15 +181,34 @@ end_armed w (Open_end x) h = armed_kept w (is_sender x.state.role.side) x h
 end_armed w (Closed_end x) h = h
 
 -- what holds of one end does not depend on the others
+same_asked : (w : WorldState) (ends : List WorldEnd) (x : WorldEnd) → HasAsker w x →
+    HasAsker (record w { ends = ends }) x
+same_asked w ends x h = (
+  h.0,
+  h.1,
+  λ near.
+      let q = h.2 near in
+      record { write = q.write; request = q.request; sent = q.sent; opened = q.opened; path = q.path },
+)
+
 same_kept : (w : WorldState) (ends : List WorldEnd) (x : WorldEnd) → IsKeptIn w x →
     IsKeptIn (record w { ends = ends }) x
 same_kept w ends (Open_end x) h =
     record {
       stands = record { still = h.stands.still; kept = h.stands.kept; last_sent = h.stands.last_sent };
+      asked = λ server. same_asked w ends (Open_end x) (h.asked server);
+      sends = h.sends;
       stored = h.stored;
       text = h.text;
     }
-same_kept w ends (Closed_end x) h = record { stands = h.stands; stored = h.stored; text = h.text }
+same_kept w ends (Closed_end x) h =
+    record {
+      stands = h.stands;
+      asked = λ server. same_asked w ends (Closed_end x) (h.asked server);
+      sends = h.sends;
+      stored = h.stored;
+      text = h.text;
+    }
 
 -- an end that is set to refuse keeps the world
 armed_keeps :

@@ -2,34 +2,41 @@
 use Rattle.std.proofs.Common.{◌≡◌, ℕ, Bool, true, false, List, [], ◌++◌, map, Some, sym, refl, ap, ◌∙◌, subst, arith}
 use Rattle.std.specs.Prelude.{◌≢◌, if◌then◌else◌, slice_get}
 use Rattle.std.specs.Cmp.Lexicographic.{same_text}
+use Rattle.std.specs.List.{Contains}
 use Rattle.std.proofs.lemmas.Bool.{true≢false}
 use Rattle.std.proofs.lemmas.List.{append-nil}
 use Rattle.std.proofs.lemmas.Option.{same_Some}
 use Rattle.tftp_wire.specs.declared.mode.Mode.{Mode}
 use Rattle.tftp_wire.specs.declared.mode.Mode.TheVariants.{Octet, Netascii}
+use Rattle.tftp_wire.specs.declared.packet.Request.{Request as WireRequest}
+use Rattle.tftp_wire.proofs.SpellingLemmas.{one_meaning}
 use Rattle.tftp_file.specs.Block.{IsPrefixOf}
 use Rattle.tftp_file.specs.Netascii.{wire_text}
 use Rattle.tftp_ends.specs.declared.phase.Phase.{Phase}
 use Rattle.tftp_ends.specs.declared.phase.Phase.TheVariants.{Waiting, Sending, Receiving, Dallying, Closed}
 use Rattle.tftp_ends.specs.End.{is_sender, is_client, is_complete}
-use Rattle.tftp_rules.specs.Facts.{home, IsSoundParty}
-use Rattle.tftp_rules.specs.Hosts.{host_of, server_ip, client_ip, two_hosts}
-use Rattle.tftp_rules.specs.Machine.{Endpoint, At_server, At_client, Elsewhere, is_same_ip}
-use Rattle.tftp_rules.specs.Shows.{EndView, Matches}
+use Rattle.tftp_rules.specs.Facts.{Attests, home, IsServing, IsSoundParty}
+use Rattle.tftp_rules.specs.Hosts.{host_of, server_ip, client_ip, request_port, two_hosts}
+use Rattle.tftp_rules.specs.Machine.{Endpoint, At_server, At_client, Elsewhere, Machine, Message, Packet, Request}
+use Rattle.tftp_rules.specs.Machine.{is_same_ip}
+use Rattle.tftp_rules.specs.Rules.{message}
+use Rattle.tftp_rules.specs.Said.{said}
+use Rattle.tftp_rules.specs.Shows.{EndView, Matches, requested}
 use Rattle.tftp_rules.specs.Safety.{AreSafe, IsSenderAt}
 use Rattle.tftp_rules.specs.ViewSafety.{IsAmong, IsSafeViews, safety_view}
 use Rattle.tftp_rules.specs.OpenEnds.{goes_on, received_text}
 use Rattle.tftp_rules.proofs.SinkMoves.{text_else}
 use Rattle.tftp_rules.proofs.SourceMoves.{text_if}
 use Rattle.tftp_player.specs.World.{WorldState, WorldEnd, Open_end, Closed_end, end_record, end_address, end_mode}
-use Rattle.tftp_player.specs.World.{end_file, end_stored, end_committed, end_text, end_wire, new_world, view_of_end}
-use Rattle.tftp_player.specs.WorldSafety.{HasPeer, IsIn, IsSafe, endpoint_of_end, safety_of}
-use Rattle.tftp_player.specs.WorldKept.{IsKeptIn, Refines}
+use Rattle.tftp_player.specs.World.{datagram, end_file, end_stored, end_committed, end_text, end_wire, new_world}
+use Rattle.tftp_player.specs.World.{view_of_end}
+use Rattle.tftp_player.specs.WorldSafety.{HasPeer, HasRequested, IsIn, IsSafe, Serves, endpoint_of_end, safety_of}
+use Rattle.tftp_player.specs.WorldKept.{IsKeptIn, Refines, WasAsked}
 use Rattle.tftp_player.specs.WorldRuns.{WorldsAreSafe, PeersStayHome, KeptIsSafe}
 use Rattle.tftp_player.proofs.HostBytes.{wire_prefix, wire_same}
 use Rattle.tftp_rules.proofs.Endpoints.{endpoint_from}
 use Rattle.tftp_rules.proofs.ViewSafe.{IsPrefixOf-trans, first_of_empty, shown_safe}
-use Rattle.tftp_player.proofs.WorldTurns.{view_at, viewed_at}
+use Rattle.tftp_player.proofs.WorldTurns.{home_not_elsewhere, view_at, viewed_at}
 use Rattle.tftp_rules.proofs.Shown.{shown_by}
 use Rattle.tftp_player.proofs.WorldRuns.{run_keeps, new_ok, any_may, ok_at_home}
 
@@ -69,6 +76,10 @@ ip_at_home a client h = home_ip client (is_same_ip a.ip server_ip) (is_same_ip a
 nothing_travels : (mode : Mode) → wire_text mode [] ≡ []
 nothing_travels Octet = refl
 nothing_travels Netascii = refl
+
+says_request : (write : Bool) (request : WireRequest) → said (requested write request) ≡ Request write request
+says_request true request = refl
+says_request false request = refl
 
 module _ (strangers : Bool) (w : WorldState) (ok : Refines strangers w) where
   safe : IsSafeViews two_hosts (map view_of_end w.ends)
@@ -145,6 +156,83 @@ module _ (strangers : Bool) (w : WorldState) (ok : Refines strangers w) where
       let m = matched i.0 x i.1 in
       ((sound i.0 x i.1).serving (m.client ∙ client) p (m.peer ∙ peer)).0
 
+  -- the machine that the world refines
+  abbrev m : Machine
+  m = (shown_by two_hosts (map view_of_end w.ends) ok.messages ok.shown).0
+
+  -- a request of one of the two hosts is its end's
+  attested : (a : Endpoint) (write : Bool) (request : WireRequest) → host_of a ≢ Elsewhere →
+      HasRequested w a write request → Attests (m.party a) request_port (Request write request)
+  attested a write request near h =
+      let shown = shown_by two_hosts (map view_of_end w.ends) ok.messages ok.shown in
+      let says = ok.sent (datagram a request_port h.0) h.1 in
+      let packet : says.1.packet ≡ requested write request =
+      one_meaning says.1.packet (requested write request) h.0 says.1.spells h.2 in
+      let message_is : says.0 ≡ message a request_port (Request write request) =
+      says.1.says
+      ∙ ap (λ (p : Packet). message a request_port p) (ap said packet ∙ says_request write request) in
+      shown.1.attested (message a request_port (Request write request))
+      (subst (λ (ms : List Message). Contains ms (message a request_port (Request write request))) (sym shown.3.sent)
+      (subst (λ (n : Message). Contains ok.messages n) message_is says.2)) near
+
+  -- the peer of a client
+  module _ (x : WorldEnd) (p : Endpoint) (i : IsIn w x) (client : is_client (end_record x).side ≡ true)
+      (peer : HasPeer x p) where
+    serving : IsServing (end_address x) (m.party (end_address x)) (m.party p)
+    serving =
+        let at_x = matched i.0 x i.1 in ((sound i.0 x i.1).serving (at_x.client ∙ client) p (at_x.peer ∙ peer)).1
+
+    near : host_of (end_address x) ≢ Elsewhere
+    near far = home_not_elsewhere (m.party (end_address x)).client (sym (sound i.0 x i.1).at_home ∙ far)
+
+    -- an end of the world is there
+    there : (y : WorldEnd) × IsIn w y × (end_address y ≡ p)
+    there =
+        let shown = shown_by two_hosts (map view_of_end w.ends) ok.messages ok.shown in
+        let at_peer = shown.3.only p serving.is_open in
+        let found = end_of w at_peer.1 (at_peer.0, at_peer.2) in
+        let address : end_address found.0 ≡ at_peer.1.address = ap (λ (v : EndView). v.address) found.2 in
+        (found.0, found.1, address ∙ at_peer.3)
+
+    module _ (y : WorldEnd) (j : IsIn w y) (address : end_address y ≡ p) where
+      at_y : Matches (view_of_end y) (m.party p)
+      at_y = subst (λ (a : Endpoint). Matches (view_of_end y) (m.party a)) address (matched j.0 y j.1)
+
+      server : is_client (end_record y).side ≡ false
+      server = sym at_y.client ∙ serving.client
+
+      its_peer : HasPeer y (end_address x)
+      its_peer = sym at_y.peer ∙ serving.peer
+
+      asked : WasAsked w (end_address x) y
+      asked =
+          let by = (ok.ends j.0 y j.1).asked server in
+          let same : by.0 ≡ end_address x = same_Some by.0 (end_address x) (sym by.1 ∙ its_peer) in
+          subst (λ (a : Endpoint). host_of a ≢ Elsewhere → WasAsked w a y) same by.2 near
+
+      its_own : (write : Bool) (request : WireRequest) → HasRequested w (end_address x) write request →
+          Attests (m.party (end_address x)) request_port (Request write request)
+      its_own write request h = attested (end_address x) write request near h
+
+      serves : Serves w (end_address x) y
+      serves = record {
+        is_in = j;
+        server = server;
+        peer = its_peer;
+        write = asked.write;
+        request = asked.request;
+        asked = asked.sent;
+        only = λ also other h. (
+          sym (its_own also other h).sender ∙ (its_own asked.write asked.request asked.sent).sender,
+          sym (its_own also other h).request ∙ (its_own asked.write asked.request asked.sent).request,
+        );
+        opened = asked.opened;
+        path = asked.path;
+      }
+
+    served : (y : WorldEnd) × (end_address y ≡ p) × Serves w (end_address x) y
+    served = (there.0, there.2, serves there.0 there.1 there.2)
+
   transfers : AreSafe safety_of (IsIn w) (λ p. host_of p ≢ Elsewhere)
   transfers = record {
     same_size = λ x y i j e f. safe.same_size (view_of_end x) (view_of_end y) (among x i) (among y j) e f;
@@ -209,6 +297,8 @@ module _ (strangers : Bool) (w : WorldState) (ok : Refines strangers w) where
         same_Some x y (sym i.1 ∙ (ap (slice_get w.ends) k ∙ j.1));
     transfers = transfers;
     at_server = at_server;
+    served = served;
+    is_from_path = λ o x i s c. (ok.ends i.0 x i.1).sends o c s;
     is_at_path = λ o x i r d c. (ok.ends i.0 x i.1).stored o c r d;
   }
 

@@ -14,9 +14,10 @@ use Rattle.tftp_file.specs.declared.files.Files.{Files}
 use Rattle.tftp_file.specs.declared.files.Files.TheVariants.{Source, Sink}
 use Rattle.tftp_file.specs.Sink.{Holding}
 use Rattle.tftp_file.specs.Netascii.{wire_text}
-use Rattle.tftp_ends.specs.End.{is_sender, is_client, is_complete, outcome_of}
+use Rattle.tftp_ends.specs.End.{is_sender, is_client, is_complete, outcome_of, terms_of}
+use Rattle.tftp_ends.specs.declared.phase.Terms.{Terms}
 use Rattle.tftp_ends.specs.Step.{Turn, Reply, after_turn}
-use Rattle.tftp_rules.specs.Hosts.{host_of, two_hosts}
+use Rattle.tftp_rules.specs.Hosts.{host_of, request_port, two_hosts}
 use Rattle.tftp_rules.specs.Machine.{Endpoint, Elsewhere, Message, Machine}
 use Rattle.tftp_rules.specs.Rules.{Rule, message}
 use Rattle.tftp_rules.specs.Said.{said}
@@ -27,16 +28,18 @@ use Rattle.tftp_rules.specs.Recorded.{AreRecorded}
 use Rattle.tftp_rules.specs.Shows.{EndView, Shows, IsShownWithin}
 use Rattle.tftp_rules.specs.EndShown.{Goes, Replies, Newest}
 use Rattle.tftp_rules.proofs.Shown.{shown_by}
-use Rattle.tftp_player.specs.World.{WorldState, WorldEnd, Open_end, Closed_end, end_address, end_path, end_stored}
+use Rattle.tftp_player.specs.World.{WorldState, WorldEnd, Open_end, Closed_end, end_address, end_path, end_file}
+use Rattle.tftp_player.specs.World.{end_stored}
 use Rattle.tftp_player.specs.World.{StoredFile, file_at, in_the_way, datagram, replied, standing, has_committed}
 use Rattle.tftp_player.specs.World.{world_after, opened_in, said_in, view_of_end}
 use Rattle.tftp_player.specs.WorldSteps.{FilesAfter, Turns, OpeningStep}
-use Rattle.tftp_player.specs.WorldKept.{HasPorts, IsOpenIn, StandsIn, IsKeptIn, SaysSo, MaySpeak, RefinesAt}
-use Rattle.tftp_player.specs.WorldKept.{RefinesWithin}
+use Rattle.tftp_player.specs.WorldKept.{HasAsker, HasPorts, IsOpenIn, StandsIn, IsKeptIn, SaysSo, MaySpeak}
+use Rattle.tftp_player.specs.WorldKept.{RefinesAt, RefinesWithin}
 use Rattle.tftp_player.specs.declared.datagram.Datagram.{Datagram}
 use Rattle.tftp_player.specs.declared.report.Report.{Report}
 use Rattle.tftp_rules.proofs.Indices.{slice_get-set_cases, slice_get-push_cases}
 use Rattle.tftp_player.proofs.Standing.{standing_address, standing_shown, standing_kept}
+use Rattle.tftp_player.proofs.TermsKept.{same_peer}
 
 pub nothing_in : {X : Type 0} (x : X) → Contains [] x → ⊥
 nothing_in x h = let l = h.1 in omega arith
@@ -83,7 +86,7 @@ replied_from : (from : Endpoint) (reply : Option Reply) (d : Datagram) → Conta
 replied_from from None d i = absurd (nothing_in d i)
 replied_from from (Some reply) d i = ap (λ (z : Datagram). z.from) (one_in d (datagram from reply.to reply.bytes) i)
 
-home_not_elsewhere : (b : Bool) → home b ≢ Elsewhere
+pub home_not_elsewhere : (b : Bool) → home b ≢ Elsewhere
 home_not_elsewhere true e = cc
 home_not_elsewhere false e = cc
 
@@ -145,6 +148,34 @@ same_wire : (x : OpenEnd) (held : Files (List ℕ) Holding) → x.text ≡ wire_
 same_wire x (Source left) wire = wire
 same_wire x (Sink holding) wire = wire
 
+-- the end after a turn has its path and its file, and its peer
+same_served : (x : OpenEnd) (held : Files (List ℕ) Holding) →
+    ((with_files x held).path ≡ x.path) × ((with_files x held).file ≡ x.file)
+same_served x (Source left) = (refl, refl)
+same_served x (Sink holding) = (refl, refl)
+
+-- the terms of an end stay in a turn
+abbrev pub TermsStay : OpenEnd → Turn → Type 0
+TermsStay x turn =
+    (agreed : Terms) → terms_of x.state.position.phase ≡ Some agreed → terms_of turn.position.phase ≡ Some agreed
+
+turned_asked : (w : WorldState) (x : OpenEnd) (turn : Turn) (held : Files (List ℕ) Holding) → TermsStay x turn →
+    HasAsker w (Open_end x) → HasAsker w (Open_end (end_after x turn held))
+turned_asked w x turn (Source left) stays h = (
+  h.0,
+  same_peer x.state.position.phase turn.position.phase h.0 h.1 stays,
+  λ near.
+      let q = h.2 near in
+      record { write = q.write; request = q.request; sent = q.sent; opened = q.opened; path = q.path },
+)
+turned_asked w x turn (Sink holding) stays h = (
+  h.0,
+  same_peer x.state.position.phase turn.position.phase h.0 h.1 stays,
+  λ near.
+      let q = h.2 near in
+      record { write = q.write; request = q.request; sent = q.sent; opened = q.opened; path = q.path },
+)
+
 -- the files stay under their paths
 files_stay : (overwrite b : Bool) (path bytes : List ℕ) (old new : List StoredFile) →
     FilesAfter overwrite b path bytes old new → overwrite ≡ false → (q c : List ℕ) → file_at old q ≡ Some c →
@@ -167,12 +198,35 @@ still_stands w v added (Open_end x) more h = record {
 }
 still_stands w v added (Closed_end x) more h = h
 
+still_asked : (w v : WorldState) (added : List Datagram) (x : WorldEnd) → v.sent ≡ w.sent ++ added → HasAsker w x →
+    HasAsker v x
+still_asked w v added x more h = (
+  h.0,
+  h.1,
+  λ near.
+      let q = h.2 near in
+      let d = datagram h.0 request_port q.sent.0 in
+      record {
+        write = q.write;
+        request = q.request;
+        sent = (
+          q.sent.0,
+          subst (λ (ds : List Datagram). Contains ds d) (sym more) (Contains-append_left w.sent added d q.sent.1),
+          q.sent.2,
+        );
+        opened = q.opened;
+        path = q.path;
+      },
+)
+
 still_kept : (w v : WorldState) (added : List Datagram) (x : WorldEnd) → v.sent ≡ w.sent ++ added →
     v.overwrite ≡ w.overwrite →
     (w.overwrite ≡ false → (q c : List ℕ) → file_at w.files q ≡ Some c → file_at v.files q ≡ Some c) → IsKeptIn w x →
     IsKeptIn v x
 still_kept w v added x more set_same stay h = record {
   stands = still_stands w v added x more h.stands;
+  asked = λ server. still_asked w v added x more (h.asked server);
+  sends = λ o c s. let kept = sym set_same ∙ o in stay kept (end_path x) (end_file x) (h.sends kept c s);
   stored = λ o c r d. let kept = sym set_same ∙ o in stay kept (end_path x) (end_stored x) (h.stored kept c r d);
   text = h.text;
 }
@@ -224,9 +278,9 @@ pub turn_keeps :
     (first : List Rule) (strangers : Bool) (w v : WorldState) (ok : RefinesAt first strangers w) (k : ℕ) (x : OpenEnd)
     (turn : Turn) (held : Files (List ℕ) Holding) (report : Report) →
     slice_get w.ends k ≡ Some (Open_end x) →
-    Goes two_hosts first (map view_of_end w.ends) ok.messages k x turn (end_after x turn held) →
+    Goes two_hosts first (map view_of_end w.ends) ok.messages k x turn (end_after x turn held) → TermsStay x turn →
     Turns w k x turn held report v → RefinesWithin 3 first strangers v
-turn_keeps first strangers w v ok k x turn held report at g t =
+turn_keeps first strangers w v ok k x turn held report at g terms t =
     subst (λ (z : WorldState). RefinesWithin 3 first strangers z) (sym t.is) later where
       was : IsOpenIn w x
       was = (ok.ends k (Open_end x) at).stands
@@ -258,6 +312,25 @@ turn_keeps first strangers w v ok k x turn held report at g t =
       stays =
           files_stay w.overwrite (not (is_client x.state.role.side) && has_committed x (end_after x turn held)) x.path
           (end_after x turn held).stored w.files t.files t.stored
+
+      asked_is : is_client (end_after x turn held).state.role.side ≡ false →
+          HasAsker (world_after w k x turn held t.files) (Open_end (end_after x turn held))
+      asked_is c =
+          let client : is_client x.state.role.side ≡ false = ap is_client (sym g.side) ∙ c in
+          still_asked w (world_after w k x turn held t.files) (replied x.address turn.reply)
+          (Open_end (end_after x turn held)) refl
+          (turned_asked w x turn held terms ((ok.ends k (Open_end x) at).asked client))
+
+      sends_is : w.overwrite ≡ false → is_client (end_after x turn held).state.role.side ≡ false →
+          is_sender (end_after x turn held).state.role.side ≡ true →
+          file_at t.files (end_after x turn held).path ≡ Some (end_after x turn held).file
+      sends_is o c s =
+          let same = same_served (record x { state = after_turn x.state turn }) held in
+          let client : is_client x.state.role.side ≡ false = ap is_client (sym g.side) ∙ c in
+          let sender : is_sender x.state.role.side ≡ true = ap is_sender (sym g.side) ∙ s in
+          ap (file_at t.files) same.0
+          ∙ (stays o x.path x.file ((ok.ends k (Open_end x) at).sends o client sender)
+          ∙ ap (λ (f : List ℕ). Some f) (sym same.1))
 
       stored_is : w.overwrite ≡ false → is_client (end_after x turn held).state.role.side ≡ false →
           is_sender (end_after x turn held).state.role.side ≡ false →
@@ -307,12 +380,26 @@ turn_keeps first strangers w v ok k x turn held report at g t =
                   Contains (w.sent ++ replied x.address turn.reply)
                   (datagram a y.state.position.last_sent_to y.state.position.last_sent)) (sym same_address)
                   (last_sent_is y.state.position.last_sent_to y.state.position.last_sent g.last_sent)) stored_is
-                  (same_wire (record x { state = after_turn x.state turn }) held (ok.ends k (Open_end x) at).text))
+                  (same_wire (record x { state = after_turn x.state turn }) held (ok.ends k (Open_end x) at).text)
+                  asked_is sends_is)
               | inr h ↦
                   still_kept w (world_after w k x turn held t.files) (replied x.address turn.reply) z refl refl stays
                   (ok.ends j z h.1)
             ];
           }
+
+-- an end that opens at the server was asked for, and sends the file under its path
+pub record OpensAsked (w : WorldState) (x : OpenEnd) : Type 0 where
+  pub asked : is_client x.state.role.side ≡ false → HasAsker w (Open_end x)
+  pub sends : is_client x.state.role.side ≡ false → is_sender x.state.role.side ≡ true →
+      file_at w.files x.path ≡ Some x.file
+
+-- a client does not open at the server
+pub opens_elsewhere : (w : WorldState) (x : OpenEnd) → is_client x.state.role.side ≡ true → OpensAsked w x
+opens_elsewhere w x client = record {
+  asked = λ server. absurd (true≢false (sym client ∙ server));
+  sends = λ server s. absurd (true≢false (sym client ∙ server));
+}
 
 -- an end that opened keeps the world
 pub opening_keeps :
@@ -323,9 +410,8 @@ pub opening_keeps :
     (ok.messages ++ message x.address x.state.position.last_sent_to (said p) ∷ []) →
     host_of x.address ≢ Elsewhere → x.address.port ≡ 1024 + length w.ends → outcome_of x.state.position.phase ≡ None →
     EndKept two_hosts x → is_complete x.state.position.phase ≡ false → x.text ≡ wire_text x.state.role.mode x.file →
-    OpeningStep w x report v →
-    RefinesWithin 3 first strangers v
-opening_keeps first strangers w v ok x report p spells shown own port still kept incomplete wire o =
+    OpensAsked w x → OpeningStep w x report v → RefinesWithin 3 first strangers v
+opening_keeps first strangers w v ok x report p spells shown own port still kept incomplete wire opens o =
     subst (λ (z : WorldState). RefinesWithin 3 first strangers z) (sym o.is) later where
       later : RefinesWithin 3 first strangers (opened_in w x)
       later =
@@ -353,6 +439,9 @@ opening_keeps first strangers w v ok x report p spells shown own port still kept
                   last_sent = let d = datagram x.address x.state.position.last_sent_to x.state.position.last_sent in
                       Contains-append_right w.sent (replied x.address reply) d (here_in d);
                 };
+                asked = λ server.
+                    still_asked w (opened_in w x) (replied x.address reply) (Open_end x) refl (opens.asked server);
+                sends = λ o server s. opens.sends server s;
                 stored = λ o c f d. absurd (true≢false (sym d ∙ incomplete));
                 text = wire;
               })

@@ -1,11 +1,13 @@
 -- The invariant of every world, which makes it safe.
 use Rattle.std.specs.Prelude.{◌≡◌, ◌≢◌, ℕ, ◌+◌, ◌⊎◌, Bool, true, false, List, map, slice_get}
-use Rattle.std.specs.Prelude.{Some, None}
+use Rattle.std.specs.Prelude.{Some, None, Ok}
 use Rattle.std.specs.List.{Contains}
 use Rattle.tftp_wire.specs.declared.packet.Packet.{Packet as WirePacket}
+use Rattle.tftp_wire.specs.declared.packet.Request.{Request}
 use Rattle.tftp_wire.specs.Spelling.{Spells}
 use Rattle.tftp_negotiate.specs.Ranges.{IsBlockSize}
 use Rattle.tftp_file.specs.Netascii.{wire_text}
+use Rattle.tftp_file.specs.Path.{path_of_name}
 use Rattle.tftp_ends.specs.End.{is_sender, is_client, outcome_of}
 use Rattle.tftp_rules.specs.EndKept.{EndKept}
 use Rattle.tftp_rules.specs.Hosts.{host_of, two_hosts}
@@ -13,10 +15,12 @@ use Rattle.tftp_rules.specs.Machine.{Endpoint, Elsewhere, Message}
 use Rattle.tftp_rules.specs.OpenEnds.{OpenEnd}
 use Rattle.tftp_rules.specs.Rules.{Rule, message}
 use Rattle.tftp_rules.specs.Said.{said}
-use Rattle.tftp_rules.specs.Shows.{EndView, IsShownAt, IsShown, IsShownWithin}
+use Rattle.tftp_rules.specs.Shows.{EndView, IsShownAt, IsShown, IsShownWithin, requested}
 use Rattle.tftp_player.specs.World.{WorldState, ClosedEnd, WorldEnd, Open_end, Closed_end}
 use Rattle.tftp_player.specs.World.{end_record, end_address, end_path, end_stored, file_at}
 use Rattle.tftp_player.specs.World.{datagram, view_of_end, end_wire, end_mode, end_file}
+use Rattle.tftp_player.specs.World.{end_request, is_closed}
+use Rattle.tftp_player.specs.WorldSafety.{HasRequested}
 use Rattle.tftp_player.specs.declared.datagram.Datagram.{Datagram}
 
 -- what holds of an open end in its world
@@ -36,11 +40,29 @@ abbrev pub StandsIn : WorldState → WorldEnd → Type 0
 StandsIn w (Open_end x) = IsOpenIn w x
 StandsIn w (Closed_end x) = ClosedKept x
 
+-- a request that was sent from there opened this end of the server, for the path of its name
+pub record WasAsked (w : WorldState) (from : Endpoint) (x : WorldEnd) : Type 0 where
+  pub write : Bool
+  pub request : Request
+  pub sent : HasRequested w from write request
+  pub opened : is_closed x ≡ false → Spells (requested write request) (end_request x)
+  pub path : path_of_name request.name ≡ Ok (end_path x)
+
+-- the end has a peer whose request opened it; what a stranger sent is not known
+abbrev pub HasAsker : WorldState → WorldEnd → Type 0
+HasAsker w x =
+    (from : Endpoint) × ((end_record x).peer ≡ Some from)
+    × (host_of from ≢ Elsewhere → WasAsked w from x)
+
 -- what holds of an end in its world
 pub record IsKeptIn (w : WorldState) (x : WorldEnd) : Type 0 where
   pub stands : StandsIn w x
-  -- what a complete receiver stored is under its path at the server, unless writes may replace
-  -- files
+  -- an end of the server was opened by its peer's request
+  pub asked : is_client (end_record x).side ≡ false → HasAsker w x
+  -- what the server sends is under its path, and so is what a complete receiver stored there,
+  -- unless writes may replace files
+  pub sends : w.overwrite ≡ false → is_client (end_record x).side ≡ false →
+      is_sender (end_record x).side ≡ true → file_at w.files (end_path x) ≡ Some (end_file x)
   pub stored : w.overwrite ≡ false → is_client (end_record x).side ≡ false →
       is_sender (end_record x).side ≡ false → (end_record x).complete ≡ true →
       file_at w.files (end_path x) ≡ Some (end_stored x)

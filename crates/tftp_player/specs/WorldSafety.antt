@@ -1,12 +1,18 @@
 -- When a world is safe, in the bytes of its hosts.
-use Rattle.std.specs.Prelude.{◌≡◌, ◌≢◌, ℕ, ◌+◌, true, false, length, slice_get, Some}
+use Rattle.std.specs.Prelude.{◌≡◌, ◌≢◌, ℕ, ◌+◌, Bool, true, false, List, length, slice_get, Some, Ok}
+use Rattle.std.specs.List.{Contains}
+use Rattle.tftp_wire.specs.Spelling.{Spells}
+use Rattle.tftp_wire.specs.declared.packet.Request.{Request}
+use Rattle.tftp_file.specs.Path.{path_of_name}
 use Rattle.tftp_ends.specs.End.{is_sender, is_client}
 use Rattle.tftp_ends.specs.declared.side.Side.{Side}
-use Rattle.tftp_rules.specs.Hosts.{host_of}
+use Rattle.tftp_rules.specs.Hosts.{host_of, request_port}
 use Rattle.tftp_rules.specs.Machine.{Endpoint, At_server, Elsewhere}
 use Rattle.tftp_rules.specs.Safety.{SafetyView, AreSafe}
+use Rattle.tftp_rules.specs.Shows.{requested}
 use Rattle.tftp_player.specs.World.{WorldState, WorldEnd, ip_of, end_record, end_address, end_mode}
-use Rattle.tftp_player.specs.World.{end_path, end_file, end_stored, end_committed, file_at}
+use Rattle.tftp_player.specs.World.{end_path, end_file, end_stored, end_committed, end_request}
+use Rattle.tftp_player.specs.World.{file_at, datagram, is_closed}
 
 -- the end was opened in this world
 abbrev pub IsIn : WorldState → WorldEnd → Type 0
@@ -15,6 +21,10 @@ IsIn w x = (k : ℕ) × (slice_get w.ends k ≡ Some x)
 -- the end has this endpoint as its peer
 abbrev pub HasPeer : WorldEnd → Endpoint → Type 0
 HasPeer x p = (end_record x).peer ≡ Some p
+
+-- the end sends
+abbrev pub IsSender : WorldEnd → Type 0
+IsSender x = is_sender (end_record x).side ≡ true
 
 -- the end receives
 abbrev pub IsReceiver : WorldEnd → Type 0
@@ -45,6 +55,27 @@ safety_of x =
       committed = end_committed x;
     }
 
+-- a request, to write or to read, was sent from this endpoint to the request port
+abbrev pub HasRequested : WorldState → Endpoint → Bool → Request → Type 0
+HasRequested w a write request =
+    (bytes : List ℕ) × Contains w.sent (datagram a request_port bytes)
+    × Spells (requested write request) bytes
+
+-- an end of the server serves the client at this endpoint: it has it as its peer, and was opened by
+-- the one request that the client sent, for the path of the name in it
+pub record Serves (w : WorldState) (client : Endpoint) (y : WorldEnd) : Type 0 where
+  pub is_in : IsIn w y
+  pub server : is_client (end_record y).side ≡ false
+  pub peer : HasPeer y client
+  pub write : Bool
+  pub request : Request
+  pub asked : HasRequested w client write request
+  pub only : (also : Bool) (other : Request) → HasRequested w client also other →
+      (also ≡ write) × (other ≡ request)
+  -- a closed end has no request
+  pub opened : is_closed y ≡ false → Spells (requested write request) (end_request y)
+  pub path : path_of_name request.name ≡ Ok (end_path y)
+
 -- what holds of every world, whatever its network did
 pub record IsSafe (w : WorldState) : Type 0 where
   -- the end at index k is at its host's address, at port 1024 + k
@@ -57,8 +88,13 @@ pub record IsSafe (w : WorldState) : Type 0 where
   -- a client's peer is at the server
   pub at_server : (x : WorldEnd) (p : Endpoint) → IsIn w x → is_client (end_record x).side ≡ true
       → HasPeer x p → host_of p ≡ At_server
-  -- what a complete receiver of the server has stored is under its path, unless writes may replace
-  -- files
+  -- where an end of the server serves it: the file that it asked for
+  pub served : (x : WorldEnd) (p : Endpoint) → IsIn w x → is_client (end_record x).side ≡ true →
+      HasPeer x p → (y : WorldEnd) × (end_address y ≡ p) × Serves w (end_address x) y
+  -- what the server sends is under its path, and so is what a complete receiver of the server has
+  -- stored, unless writes may replace files
+  pub is_from_path : w.overwrite ≡ false → (x : WorldEnd) → IsIn w x → IsSender x →
+      is_client (end_record x).side ≡ false → file_at w.files (end_path x) ≡ Some (end_file x)
   pub is_at_path : w.overwrite ≡ false → (x : WorldEnd) → IsIn w x → IsReceiver x → IsComplete x →
       is_client (end_record x).side ≡ false → file_at w.files (end_path x) ≡ Some (end_stored x)
 

@@ -22,8 +22,9 @@ ghost use Rattle.tftp_player.specs.WorldRuns.{NewWorldsBegin};
 /// After every list of events, from a world in which nothing has happened: the ends of an
 /// established transfer have one block size, what a receiver stored is a prefix of its peer's
 /// file, a receiver that is complete has stored and committed all of it, and a complete sender has
-/// a complete peer. Nothing is claimed of a peer at neither host; without strangers every peer is
-/// at one of the two.
+/// a complete peer. The peer of a client is an end of the server that was opened by the one request
+/// that the client sent, for the path of the name in it. Nothing is claimed of a peer at neither
+/// host; without strangers every peer is at one of the two.
 pub fn every_world_is_safe()
     ensures safe { WorldsAreSafe }
     ensures home { PeersStayHome }
