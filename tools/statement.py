@@ -74,6 +74,8 @@ COMMANDS = {
     "SourceMeaning": "the model of a source of bytes, which may say nothing",
     "SinkMeaning": "the model of a sink, which may say nothing",
     "StoreMeaning": "the model of a store, which may say nothing",
+    "TakesOwn": "a client that has no peer makes no step at a DATA, an ACK or an OACK of another server, so that its peer "
+                "is none",
     "moved_in": "what moved in a client's run: the block of each DATA that it sent, or the bytes that its sink was handed",
     "moved_at": "the same of the transfer that a server's run opened at a place",
     "came_if": "the transfer that opened, if this is its place",
@@ -103,9 +105,14 @@ HEADLINES = [
         "transfers keep their promises, over any store and any files. The law is `tftp_words::laws::words_keep_promises`. "
         "Its premises on the runs are the clauses `runs` of `tftp_daemon::tftpd_with_journal` and "
         "`tftp_client::tftp_with_journal`. For programs of any start, as these are, it is the clause `any_files` of "
-        "`tftp_promises::laws::programs_keep_promises`; by `each_client_keeps_promises` there it also holds of the server "
-        "and each client apart, for which the other clients are strangers.",
+        "`tftp_promises::laws::programs_keep_promises`. `others`, and what is said of it, is empty here.",
         {}, COMMANDS),
+    Headline(
+        "Several servers", "tftp_words", "WordsKept", "SeveralKeepAnyFiles",
+        "The same of several `tftpd` at one address and request port, for each of them and each client that takes its "
+        "answer. The other servers and clients are strangers then, so that a port may be used again. It is the clause "
+        "`several` of that law.",
+        {}, {}),
     Headline(
         "A world", "tftp_player", "WorldRuns", "WorldsAreSafe",
         "The same in memory: one server, any clients and a network that loses, repeats and reorders datagrams, after every "

@@ -28,8 +28,8 @@ use Rattle.tftp_promises.specs.AnyFiles.{safety_of, transfer_end}
 use Rattle.tftp_promises.specs.Arrived.{ViewsEnd}
 use Rattle.tftp_promises.specs.Moved.{Moved}
 use Rattle.tftp_promises.specs.Openings.{ArePortsFresh, moved_at, opened_at}
-use Rattle.tftp_promises.specs.Order.{Programs, IsStranger}
-use Rattle.tftp_promises.specs.Programs.{ClientProgram, endpoint, requests_at}
+use Rattle.tftp_promises.specs.Order.{Programs, IsStranger, requests_at}
+use Rattle.tftp_promises.specs.Programs.{ClientProgram, endpoint}
 use Rattle.tftp_promises.specs.Promises.{HasOpened, joined}
 use Rattle.tftp_promises.specs.Snapshots.{Has_asked, all_of}
 use Rattle.tftp_promises.proofs.ClientsServed.{one_there, served_by}
@@ -46,7 +46,7 @@ module _ {S F D G K : Type 0} {stores : StoreMeaning S D} {sources : SourceMeani
     (programs : Programs stores sources inputs outputs) (fresh : ArePortsFresh programs) (kept : (pad : ℕ) →
     IsKept programs (By_run pad) (all_of programs)) where
   abbrev Client : Type 0
-  Client = ClientProgram inputs outputs (requests_at stores sources programs.server)
+  Client = ClientProgram inputs outputs (requests_at programs)
 
   abbrev views : ℕ → List EndView
   views pad = (kept pad).views
@@ -222,7 +222,7 @@ module _ {S F D G K : Type 0} {stores : StoreMeaning S D} {sources : SourceMeani
 
   -- a transfer whose peer is ours is at its port
   at_its_port : (port : ℕ) (transfer : TransferState F D) (a p : Endpoint) → HasOpened programs port transfer a →
-      peer_of (transfer_end programs transfer a) ≡ Some p → IsOurs programs p → a ≡ endpoint programs.server.ip port
+      peer_of (transfer_end programs transfer a) ≡ Some p → IsOurs programs p → a ≡ endpoint programs.ip port
   at_its_port port transfer a p opened peer ours =
       let h = (kept 0).transfers port transfer a opened in
       elim h.seat [

@@ -74,7 +74,7 @@ module _ {G K : Type 0} {inputs : SourceMeaning G} {outputs : SinkMeaning K} whe
   converse (Goes_on run does) = does_since does (converse run)
 
   -- the request goes to the server
-  asks_there : {to : Endpoint} {first : EndState} {file : Files G K} → ClientOpens inputs outputs to first file →
+  pub asks_there : {to : Endpoint} {first : EndState} {file : Files G K} → ClientOpens inputs outputs to first file →
       first.position.last_sent_to ≡ to
   asks_there (To_read opens) = ap (λ (e : EndState). e.position.last_sent_to) opens.is
   asks_there (To_write opens) = ap (λ (e : EndState). e.position.last_sent_to) opens.is

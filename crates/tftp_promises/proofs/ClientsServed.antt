@@ -31,9 +31,8 @@ use Rattle.tftp_server.specs.State.{TransferState, at}
 use Rattle.tftp_promises.specs.AnyFiles.{IsEnd, ProgramEnd, Serves, client_end, peer_of, transfer_end}
 use Rattle.tftp_promises.specs.ClientRuns.{moved_in}
 use Rattle.tftp_promises.specs.Openings.{ArePortsFresh}
-use Rattle.tftp_promises.specs.Order.{Programs}
+use Rattle.tftp_promises.specs.Order.{Programs, requests_at}
 use Rattle.tftp_promises.specs.Programs.{ClientOpens, ClientProgram, To_read, To_write, client_at, name_of, packet_of}
-use Rattle.tftp_promises.specs.Programs.{requests_at}
 use Rattle.tftp_promises.specs.Promises.{HasOpened, joined}
 use Rattle.tftp_promises.specs.Snapshots.{Has_asked, all_of}
 use Rattle.tftp_promises.proofs.Kept.{ClientKept, How, IsKept, TransferKept}
@@ -113,10 +112,10 @@ module _ {S F D G K : Type 0} {stores : StoreMeaning S D} {sources : SourceMeani
     (programs : Programs stores sources inputs outputs) {how : How programs} (kept : IsKept programs how
     (all_of programs)) where
   abbrev Client : Type 0
-  Client = ClientProgram inputs outputs (requests_at stores sources programs.server)
+  Client = ClientProgram inputs outputs (requests_at programs)
 
   abbrev there : Client → Endpoint
-  there client = client_at inputs outputs (requests_at stores sources programs.server) client
+  there client = client_at inputs outputs (requests_at programs) client
 
   client_kept : (k : ℕ) (client : Client) → slice_get programs.clients k ≡ Some client →
       ClientKept programs how kept.views kept.messages client client.last client.files (moved_in client.runs)
@@ -172,7 +171,7 @@ module _ {S F D G K : Type 0} {stores : StoreMeaning S D} {sources : SourceMeani
   module _ (k : ℕ) (client : Client) (p : Endpoint) (found : slice_get programs.clients k ≡ Some client)
       (peer : peer_of (client_end programs client) ≡ Some p) where
     abbrev to : Endpoint
-    to = requests_at stores sources programs.server
+    to = requests_at programs
 
     x : ClientKept programs how kept.views kept.messages client client.last client.files (moved_in client.runs)
     x = client_kept k client found

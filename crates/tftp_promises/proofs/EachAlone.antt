@@ -1,251 +1,454 @@
--- The server and each of its clients are joined: the other clients are strangers then.
-use Rattle.std.proofs.Common.{◌≡◌, ℕ, List, [], ◌∷◌, Bool, true, false, Some, None, refl, sym, ap, ◌∙◌, subst, zero}
-use Rattle.std.proofs.Common.{suc, arith, inl, inr}
+-- A server and each of its clients are joined: the other servers and the other clients are strangers then.
+use Rattle.std.proofs.Common.{◌≡◌, ℕ, ◌+◌, ◌<◌, List, [], ◌∷◌, ◌++◌, length, map, Bool, true, false, Some, None, refl}
+use Rattle.std.proofs.Common.{sym, ap, ◌∙◌, subst, zero, suc, arith, inl, inr}
 use Rattle.std.specs.Prelude.{◌≢◌, ◌⊎◌, ◌==◌, if◌then◌else◌, slice_get, option_map}
 use Rattle.std.specs.List.{Contains}
-use Rattle.std.proofs.lemmas.Bool.{cases_eq, eq-eqb, eqb-true, ne_eqb}
+use Rattle.std.proofs.lemmas.Bool.{cases_Bool, cases_eq, eq-eqb, eqb-true, ne_eqb}
 use Rattle.std.proofs.lemmas.List.Elements.{All-contains, All-from_recursion, Contains-append_cases}
-use Rattle.std.proofs.lemmas.List.Elements.{Contains-append_left, Contains-append_right, Contains-push}
-use Rattle.std.proofs.lemmas.Option.{same_Some}
+use Rattle.std.proofs.lemmas.List.Elements.{Contains-append_left, Contains-append_right}
+use Rattle.std.proofs.lemmas.Option.{same_Some, slice_get-map}
 use Rattle.tftp_file.specs.Sink.{SinkMeaning}
 use Rattle.tftp_file.specs.Source.{SourceMeaning}
 use Rattle.tftp_store.specs.Store.{StoreMeaning}
 use Rattle.tftp_rules.specs.Machine.{Endpoint}
 use Rattle.tftp_sockets.specs.Journal.{Event}
 use Rattle.tftp_sockets.specs.Journal.Event.{Received, Sent, Watched, Elapsed, Printed, Quiet}
-use Rattle.tftp_promises.specs.Alone.{EachIsJoined, EachKeepsAnyFiles, EachKeepsPromises, IsServed, alone, heard_with}
+use Rattle.tftp_promises.specs.Alone.{AreAmong, EachIsJoined, EachKeepsAnyFiles, EachKeepsPromises, alone}
+use Rattle.tftp_promises.specs.Alone.{heard_with}
 use Rattle.tftp_promises.specs.Joined.{AreJoined}
 use Rattle.tftp_promises.specs.Journals.{IsOfPort}
-use Rattle.tftp_promises.specs.Order.{CanCome, IsAt, IsHonest, IsStranger, Noted, Programs, WasSent, events_of, ip_of}
-use Rattle.tftp_promises.specs.Programs.{ClientProgram, client_at, endpoint, requests_at}
+use Rattle.tftp_promises.specs.Order.{CanCome, CanComeOf, IsAtOf, IsError, IsHonest, IsHonestOf, IsStranger}
+use Rattle.tftp_promises.specs.Order.{IsOrder, IsStrangerTo, MayCome}
+use Rattle.tftp_promises.specs.Others.{TakesOwn}
+use Rattle.tftp_promises.specs.Order.{Noted, Programs, WasSent, events_of, ips}
+use Rattle.tftp_promises.specs.Programs.{ServerProgram, client_at, endpoint, has_port}
+use Rattle.tftp_promises.specs.Several.{OneClient, OneServer, Several, all_sent_from, apart_from, ips_of, known_ports}
+use Rattle.tftp_promises.specs.Several.{number_of, other_ports, others_sent_from, sent_from}
 use Rattle.tftp_promises.proofs.ClientJournals.{asks_first}
 use Rattle.tftp_promises.proofs.KeptEvents.{first_or_more, nothing_in}
-use Rattle.tftp_promises.proofs.Orders.{events_other, mapped, noted_in, one_in}
+use Rattle.tftp_promises.proofs.Orders.{first_in, later_in, mapped, noted_in, one_in}
+use Rattle.tftp_promises.proofs.Places.{port_in}
 use Rattle.tftp_promises.proofs.ProgramsShown.{programs_keep, programs_keep_any}
 
--- ---- the events of the server and of one client
+-- ---- the events of one server and of one client
 -- an event before others: of the server, or of the client
 abbrev heard_by : Bool → Bool → Noted → List Noted → List Noted
-heard_by server client e order = if server then e ∷ order else if client then (1, e.1) ∷ order else order
+heard_by server client e order =
+    if server then (0, e.1) ∷ order else if client then (1, e.1) ∷ order else order
 
-module _ (k : ℕ) where
-  server_by : (server client : Bool) (e : Noted) (order : List Noted) → (e.0 == 0) ≡ server →
-      events_of 0 (heard_with k order) ≡ events_of 0 order →
-      events_of 0 (heard_by server client e (heard_with k order))
-      ≡ (if server then e.1 ∷ events_of 0 order else events_of 0 order)
-  server_by true client e order is rest =
-      ap (λ (b : Bool). if b then e.1 ∷ events_of 0 (heard_with k order) else events_of 0 (heard_with k order)) is
-      ∙ ap (λ (es : List Event). e.1 ∷ es) rest
-  server_by false true e order is rest = rest
-  server_by false false e order is rest = rest
+module _ (s m : ℕ) (apart : s ≢ m) where
+  server_by : (server client : Bool) (e : Noted) (order : List Noted) →
+      events_of 0 (heard_with s m order) ≡ events_of s order →
+      events_of 0 (heard_by server client e (heard_with s m order))
+      ≡ (if server then e.1 ∷ events_of s order else events_of s order)
+  server_by true client e order rest = ap (λ (es : List Event). e.1 ∷ es) rest
+  server_by false true e order rest = rest
+  server_by false false e order rest = rest
 
-  server_events : (order : List Noted) → events_of 0 (heard_with k order) ≡ events_of 0 order
+  server_events : (order : List Noted) → events_of 0 (heard_with s m order) ≡ events_of s order
   server_events [] = refl
-  server_events (e ∷ order) = server_by (e.0 == 0) (e.0 == suc k) e order refl (server_events order)
+  server_events (e ∷ order) = server_by (e.0 == s) (e.0 == m) e order (server_events order)
 
-  client_by : (server client : Bool) (e : Noted) (order : List Noted) → (e.0 == 0) ≡ server → (e.0 == suc k) ≡ client →
-      events_of 1 (heard_with k order) ≡ events_of (suc k) order →
-      events_of 1 (heard_by server client e (heard_with k order))
-      ≡ (if client then e.1 ∷ events_of (suc k) order else events_of (suc k) order)
+  client_by : (server client : Bool) (e : Noted) (order : List Noted) → (e.0 == s) ≡ server → (e.0 == m) ≡ client →
+      events_of 1 (heard_with s m order) ≡ events_of m order →
+      events_of 1 (heard_by server client e (heard_with s m order))
+      ≡ (if client then e.1 ∷ events_of m order else events_of m order)
   client_by true true e order is at rest =
-      let a = eqb-true e.0 0 is in
-      let b = eqb-true e.0 (suc k) at in
-      absurd (omega (arith, a, b))
-  client_by true false e order is at rest =
-      let a = eqb-true e.0 0 is in
-      events_other 1 e.0 e.1 (heard_with k order) (λ same. omega (arith, a, same)) ∙ rest
+      absurd (apart (sym (eqb-true e.0 s is) ∙ eqb-true e.0 m at))
+  client_by true false e order is at rest = rest
   client_by false true e order is at rest = ap (λ (es : List Event). e.1 ∷ es) rest
   client_by false false e order is at rest = rest
 
-  client_events : (order : List Noted) → events_of 1 (heard_with k order) ≡ events_of (suc k) order
+  client_events : (order : List Noted) → events_of 1 (heard_with s m order) ≡ events_of m order
   client_events [] = refl
-  client_events (e ∷ order) = client_by (e.0 == 0) (e.0 == suc k) e order refl refl (client_events order)
+  client_events (e ∷ order) = client_by (e.0 == s) (e.0 == m) e order refl refl (client_events order)
 
   -- each of them is among them
   later_by : (server client : Bool) (e y : Noted) (order : List Noted) → Contains order y →
       Contains (heard_by server client e order) y
-  later_by true client e y order c = Contains-append_right (e ∷ []) order y c
-  later_by false true e y order c = Contains-append_right ((1, e.1) ∷ []) order y c
+  later_by true client e y order c = later_in (0, e.1) order y c
+  later_by false true e y order c = later_in (1, e.1) order y c
   later_by false false e y order c = c
 
-  first_of : (y : Noted) (order : List Noted) → Contains (y ∷ order) y
-  first_of y order = Contains-append_left (y ∷ []) order y (Contains-push [] y)
-
-  heard_server : (order : List Noted) (x : Event) → Contains order (0, x) → Contains (heard_with k order) (0, x)
-  heard_server [] x c = absurd (nothing_in (0, x) c)
-  heard_server (e ∷ order) x c = elim (first_or_more e (0, x) order c) [
-    | inl same ↦
-        subst (λ (y : Noted). Contains (heard_with k (y ∷ order)) (0, x)) (sym same)
-        (first_of (0, x) (heard_with k order))
-    | inr more ↦ later_by (e.0 == 0) (e.0 == suc k) e (0, x) (heard_with k order) (heard_server order x more)
+  heard_server : (order : List Noted) (x : Event) → Contains order (s, x) → Contains (heard_with s m order) (0, x)
+  heard_server [] x c = absurd (nothing_in (s, x) c)
+  heard_server (e ∷ order) x c = elim (first_or_more e (s, x) order c) [
+    | inl same ↦ subst (λ (y : Noted). Contains (heard_with s m (y ∷ order)) (0, x)) (sym same)
+        (subst (λ (b : Bool). Contains (heard_by b (s == m) (s, x) (heard_with s m order)) (0, x))
+        (sym (eq-eqb s s refl)) (first_in (0, x) (heard_with s m order)))
+    | inr more ↦ later_by (e.0 == s) (e.0 == m) e (0, x) (heard_with s m order) (heard_server order x more)
   ]
 
-  heard_client : (order : List Noted) (x : Event) → Contains order (suc k, x) → Contains (heard_with k order) (1, x)
-  heard_client [] x c = absurd (nothing_in (suc k, x) c)
-  heard_client (e ∷ order) x c = elim (first_or_more e (suc k, x) order c) [
-    | inl same ↦ subst (λ (y : Noted). Contains (heard_with k (y ∷ order)) (1, x)) (sym same)
-        (subst (λ (b : Bool). Contains (heard_by b (suc k == suc k) (suc k, x) (heard_with k order)) (1, x))
-        (sym (ne_eqb (suc k) 0 (λ zero_is. omega (arith, zero_is))))
-        (subst (λ (b : Bool). Contains (heard_by false b (suc k, x) (heard_with k order)) (1, x))
-        (sym (eq-eqb (suc k) (suc k) refl)) (first_of (1, x) (heard_with k order))))
-    | inr more ↦ later_by (e.0 == 0) (e.0 == suc k) e (1, x) (heard_with k order) (heard_client order x more)
+  heard_client : (order : List Noted) (x : Event) → Contains order (m, x) → Contains (heard_with s m order) (1, x)
+  heard_client [] x c = absurd (nothing_in (m, x) c)
+  heard_client (e ∷ order) x c = elim (first_or_more e (m, x) order c) [
+    | inl same ↦ subst (λ (y : Noted). Contains (heard_with s m (y ∷ order)) (1, x)) (sym same)
+        (subst (λ (b : Bool). Contains (heard_by b (m == m) (m, x) (heard_with s m order)) (1, x))
+        (sym (ne_eqb m s (λ e. apart (sym e))))
+        (subst (λ (b : Bool). Contains (heard_by false b (m, x) (heard_with s m order)) (1, x))
+        (sym (eq-eqb m m refl)) (first_in (1, x) (heard_with s m order))))
+    | inr more ↦ later_by (e.0 == s) (e.0 == m) e (1, x) (heard_with s m order) (heard_client order x more)
   ]
+
+-- ---- ports
+-- a port from which a program sent
+pub sent_in : (events : List Event) (port : ℕ) (to : Endpoint) (bytes : List ℕ) → Contains events (Sent port to bytes) →
+    Contains (sent_from events) port
+sent_in [] port to bytes c = absurd (nothing_in (Sent port to bytes) c)
+sent_in (e ∷ events) port to bytes c = elim (first_or_more e (Sent port to bytes) events c) [
+  | inl same ↦ subst (λ (x : Event). Contains (sent_from (x ∷ events)) port) (sym same)
+      (first_in port (sent_from events))
+  | inr more ↦ after e (sent_in events port to bytes more)
+] where
+  after : (x : Event) → Contains (sent_from events) port → Contains (sent_from (x ∷ events)) port
+  after (Received at from b) i = i
+  after (Sent at to b) i = later_in at (sent_from events) port i
+  after (Watched time) i = i
+  after (Elapsed at time) i = i
+  after (Printed line) i = i
+  after (Quiet event) i = i
+
+module _ {S F D : Type 0} {stores : StoreMeaning S D} {sources : SourceMeaning F} {to : Endpoint} where
+  in_all : (servers : List (ServerProgram stores sources to)) (j : ℕ) (x : ServerProgram stores sources to) → slice_get servers j ≡ Some x → (port : ℕ) →
+      Contains (sent_from x.noted) port → Contains (all_sent_from servers) port
+  in_all [] j x e port c = absurd (let f : None ≡ Some x = e in cc)
+  in_all (y ∷ servers) zero x e port c =
+      Contains-append_left (sent_from y.noted) (all_sent_from servers) port
+      (subst (λ (z : ServerProgram stores sources to). Contains (sent_from z.noted) port) (sym (same_Some y x e)) c)
+  in_all (y ∷ servers) (suc j) x e port c =
+      Contains-append_right (sent_from y.noted) (all_sent_from servers) port (in_all servers j x e port c)
+
+  in_others : (i : ℕ) (servers : List (ServerProgram stores sources to)) (j : ℕ) (x : ServerProgram stores sources to) → slice_get servers j ≡ Some x → j ≢ i →
+      (port : ℕ) → Contains (sent_from x.noted) port → Contains (others_sent_from i servers) port
+  in_others i [] j x e n port c = absurd (let f : None ≡ Some x = e in cc)
+  in_others zero (y ∷ servers) zero x e n port c = absurd (n refl)
+  in_others zero (y ∷ servers) (suc j) x e n port c = in_all servers j x e port c
+  in_others (suc i) (y ∷ servers) zero x e n port c =
+      Contains-append_left (sent_from y.noted) (others_sent_from i servers) port
+      (subst (λ (z : ServerProgram stores sources to). Contains (sent_from z.noted) port) (sym (same_Some y x e)) c)
+  in_others (suc i) (y ∷ servers) (suc j) x e n port c =
+      Contains-append_right (sent_from y.noted) (others_sent_from i servers) port
+      (in_others i servers j x e (λ same. n (ap suc same)) port c)
+
+-- a port that is not among these
+in_apart : (own ports : List ℕ) (port : ℕ) → has_port own port ≡ false → Contains ports port →
+    Contains (apart_from own ports) port
+in_apart own [] port n c = absurd (nothing_in port c)
+in_apart own (p ∷ ports) port n c = elim (first_or_more p port ports c) [
+  | inl same ↦ subst (λ (b : Bool). Contains (if b then apart_from own ports else p ∷ apart_from own ports) port)
+      (sym (ap (has_port own) same ∙ n)) (subst (λ (q : ℕ). Contains (p ∷ apart_from own ports) q) same
+      (first_in p (apart_from own ports)))
+  | inr more ↦ after (has_port own p) (in_apart own ports port n more)
+] where
+  after : (b : Bool) → Contains (apart_from own ports) port →
+      Contains (if b then apart_from own ports else p ∷ apart_from own ports) port
+  after true i = i
+  after false i = later_in p (apart_from own ports) port i
+
+-- ---- the programs by their numbers
+-- a number is that of a server, or of a client
+pub number_cases : {X Y : Type 0} (xs : List X) (ip : List ℕ) (f : Y → List ℕ) (ys : List Y) (p : ℕ) (at : List ℕ) →
+    slice_get (map (λ (x : X). ip) xs ++ map f ys) p ≡ Some at →
+    ((x : X) × (slice_get xs p ≡ Some x) × (at ≡ ip))
+    ⊎ ((k : ℕ) × (y : Y) × (slice_get ys k ≡ Some y) × (p ≡ length xs + k) × (at ≡ f y))
+number_cases [] ip f ys p at e =
+    let m = mapped f (slice_get ys p) at (sym (slice_get-map f ys p) ∙ e) in
+    inr (p, m.0, m.1, omega arith, sym m.2)
+number_cases (x ∷ xs) ip f ys zero at e = inl (x, refl, sym (same_Some ip at e))
+number_cases (x ∷ xs) ip f ys (suc p) at e = elim (number_cases xs ip f ys p at e) [
+  | inl h ↦ inl (h.0, h.1, h.2)
+  | inr h ↦ inr (h.0, h.1, h.2, (let is = h.3 in omega (arith, is)), h.4)
+]
+
+module _ {X Y : Type 0} (ip : List ℕ) (f : Y → List ℕ) (ys : List Y) where
+  server_ip : (xs : List X) (i : ℕ) (x : X) → slice_get xs i ≡ Some x →
+      slice_get (map (λ (z : X). ip) xs ++ map f ys) i ≡ Some ip
+  server_ip [] i x e = absurd (let g : None ≡ Some x = e in cc)
+  server_ip (y ∷ xs) zero x e = refl
+  server_ip (y ∷ xs) (suc i) x e = server_ip xs i x e
+
+  client_ip : (xs : List X) (p k : ℕ) (y : Y) → p ≡ length xs + k → slice_get ys k ≡ Some y →
+      slice_get (map (λ (z : X). ip) xs ++ map f ys) p ≡ Some (f y)
+  client_ip [] p k y is e =
+      let same : p ≡ k = omega (arith, is) in
+      ap (slice_get (map f ys)) same ∙ (slice_get-map f ys k ∙ ap (option_map f) e)
+  client_ip (x ∷ xs) zero k y is e = absurd (omega (arith, is))
+  client_ip (x ∷ xs) (suc p) k y is e = client_ip xs p k y (omega (arith, is)) e
+
+within_length : {X : Type 0} (xs : List X) (i : ℕ) (x : X) → slice_get xs i ≡ Some x → i < length xs
+within_length [] i x e = absurd (let f : None ≡ Some x = e in cc)
+within_length (y ∷ xs) zero x e = omega arith
+within_length (y ∷ xs) (suc i) x e = let l = within_length xs i x e in omega (arith, l)
 
 module _ {S F D G K : Type 0} {stores : StoreMeaning S D} {sources : SourceMeaning F} {inputs : SourceMeaning G}
     {outputs : SinkMeaning K}
-    (programs : Programs stores sources inputs outputs) (all : List Noted) (k : ℕ)
-    (client : ClientProgram inputs outputs (requests_at stores sources programs.server))
-    (found : slice_get programs.clients k ≡ Some client)
-    (served : IsServed programs all k client) where
+    (several : Several stores sources inputs outputs) (all : List Noted) (i : ℕ) (server : OneServer several) (k : ℕ)
+    (client : OneClient several) (at_i : slice_get several.servers i ≡ Some server)
+    (found : slice_get several.clients k ≡ Some client)
+    (among : AreAmong several all i server k client) where
   abbrev Client : Type 0
-  Client = ClientProgram inputs outputs (requests_at stores sources programs.server)
+  Client = OneClient several
 
   abbrev there : Client → Endpoint
-  there client = client_at inputs outputs (requests_at stores sources programs.server) client
+  there client = client_at inputs outputs (endpoint several.ip several.port) client
 
-  -- a client sends from its own port
-  sent_from : (c : Client) (port : ℕ) (to : Endpoint) (bytes : List ℕ) → Contains c.noted (Sent port to bytes) →
-      port ≡ c.port
-  sent_from c port to bytes i =
-      let asks = asks_first (requests_at stores sources programs.server) c in
-      let request = Sent c.port (requests_at stores sources programs.server) c.first.position.last_sent in
-      elim (Contains-append_cases asks.more (request ∷ []) (Sent port to bytes)
-      (subst (λ (es : List Event). Contains es (Sent port to bytes)) asks.is i)) [
+  abbrev m : ℕ
+  m = number_of several k
+
+  two_numbers : i ≢ m
+  two_numbers same = let l = within_length several.servers i server at_i in omega (arith, l, same)
+
+  -- a client notes events of its own port only
+  own_event : (c : Client) (e : Event) → Contains c.noted e →
+      IsOfPort c.port e ⊎ (Sent c.port (endpoint several.ip several.port) c.first.position.last_sent ≡ e)
+  own_event c e h =
+      let asks = asks_first (endpoint several.ip several.port) c in
+      let request = Sent c.port (endpoint several.ip several.port) c.first.position.last_sent in
+      elim (Contains-append_cases asks.more (request ∷ []) e
+      (subst (λ (es : List Event). Contains es e) asks.is h)) [
         | inl h ↦
-            All-contains (IsOfPort c.port) asks.more (Sent port to bytes)
-            (All-from_recursion (IsOfPort c.port) asks.more asks.own) h
-        | inr h ↦ let same : request ≡ Sent port to bytes = one_in (Sent port to bytes) request h in cc
+            inl (All-contains (IsOfPort c.port) asks.more e (All-from_recursion (IsOfPort c.port) asks.more asks.own) h)
+        | inr h ↦ inr (one_in e request h)
       ]
 
-  own_port : (j : ℕ) (c : Client) → slice_get programs.clients j ≡ Some c →
-      (port : ℕ) (to : Endpoint) (bytes : List ℕ) → Contains all (suc j, Sent port to bytes) → port ≡ c.port
-  own_port j c at port to bytes i =
-      sent_from c port to bytes (subst (λ (es : List Event). Contains es (Sent port to bytes))
-      (served.is_order.clients j c at) (noted_in (suc j) (Sent port to bytes) all i))
+  pub sent_own : (c : Client) (port : ℕ) (to : Endpoint) (bytes : List ℕ) → Contains c.noted (Sent port to bytes) →
+      port ≡ c.port
+  sent_own c port to bytes h = elim (own_event c (Sent port to bytes) h) [
+    | inl own ↦ own
+    | inr request ↦ cc
+  ]
+
+  received_own : (c : Client) (port : ℕ) (from : Endpoint) (bytes : List ℕ) →
+      Contains c.noted (Received port from bytes) → port ≡ c.port
+  received_own c port from bytes h = elim (own_event c (Received port from bytes) h) [
+    | inl own ↦ own
+    | inr request ↦ absurd (no_request (endpoint several.ip several.port) c.first.position.last_sent request)
+  ] where
+    no_request : (to : Endpoint) (b : List ℕ) → Sent c.port to b ≡ Received port from bytes → ⊥
+    no_request to b e = cc
+
+  own_port : (j : ℕ) (c : Client) → slice_get several.clients j ≡ Some c →
+      (port : ℕ) (to : Endpoint) (bytes : List ℕ) → Contains all (number_of several j, Sent port to bytes) →
+      port ≡ c.port
+  own_port j c at port to bytes h =
+      sent_own c port to bytes (subst (λ (es : List Event). Contains es (Sent port to bytes))
+      (among.is_order.clients j c at) (noted_in (number_of several j) (Sent port to bytes) all h))
 
   abbrev both : Programs stores sources inputs outputs
-  both = alone programs client
+  both = alone several i server client
 
   -- it is the only client
-  only : (i : ℕ) (x : Client) → slice_get both.clients i ≡ Some x → (i ≡ 0) × (x ≡ client)
+  only : (q : ℕ) (x : Client) → slice_get both.clients q ≡ Some x → (q ≡ 0) × (x ≡ client)
   only zero x e = (refl, sym (same_Some client x e))
-  only (suc i) x e = absurd (let f : None ≡ Some x = e in cc)
+  only (suc q) x e = absurd (let f : None ≡ Some x = e in cc)
 
   -- a stranger is one still, and so is another client
-  stranger_still : (a : Endpoint) → IsStranger stores sources inputs outputs programs a →
+  stranger_still : (a : Endpoint) → IsStrangerTo several.ip [] several.clients a →
       IsStranger stores sources inputs outputs both a
   stranger_still a h =
       record {
-        server = h.server;
-        clients = λ i x e same. h.clients k client found (ap there (sym (only i x e).1)
-            ∙ same);
+        server = λ same. absurd (nothing_in a.port (h.server same));
+        clients = λ q x e same. h.clients k client found (ap there (sym (only q x e).1) ∙ same);
       }
 
-  other_strange : (j : ℕ) (c : Client) → slice_get programs.clients j ≡ Some c → j ≢ k → (port : ℕ) → port ≡ c.port →
+  other_strange : (j : ℕ) (c : Client) → slice_get several.clients j ≡ Some c → j ≢ k → (port : ℕ) → port ≡ c.port →
       IsStranger stores sources inputs outputs both (endpoint c.ip port)
   other_strange j c at n port own =
       subst (λ (p : ℕ). IsStranger stores sources inputs outputs both (endpoint c.ip p)) (sym own)
-      (served.others j c at n)
+      (among.others j c at n)
+
+  -- for the server's address, or for the client
+  abbrev IsNear : Endpoint → Type 0
+  IsNear to = (to.ip ≡ several.ip) ⊎ (to ≡ there client)
+
+  -- what another server sent there is a stranger's, or an ERROR
+  by_other : (j : ℕ) (x : OneServer several) → slice_get several.servers j ≡ Some x → j ≢ i →
+      (port : ℕ) (to : Endpoint) (bytes : List ℕ) → Contains x.noted (Sent port to bytes) → IsNear to →
+      MayCome stores sources inputs outputs both (endpoint several.ip port) bytes
+  by_other j x at n port to bytes c near = elim (cases_Bool (has_port (known_ports several server client) port)) [
+    | inl own ↦
+        inr (among.apart j x port to bytes at n c (port_in (known_ports several server client) port own) near)
+    | inr out ↦
+        let other =
+        in_apart (known_ports several server client) (others_sent_from i several.servers) port out
+        (in_others i several.servers j x at n port (sent_in x.noted port to bytes c)) in
+        inl (record {
+          server = λ same. other;
+          clients = λ q z e same. among.away port other (ap there (sym (only q z e).1) ∙ same);
+        })
+  ]
 
   abbrev Comes : List Noted → Endpoint → Endpoint → List ℕ → Type 0
   Comes earlier from to bytes =
-      WasSent stores sources inputs outputs both (heard_with k earlier) from to bytes ⊎ IsStranger stores sources inputs
-      outputs both from
+      WasSent stores sources inputs outputs both (heard_with i m earlier) from to bytes
+      ⊎ MayCome stores sources inputs outputs both from bytes
 
-  -- what a program sent comes from one of both, or from a stranger
-  source : (earlier : List Noted) → ((e : Noted) → Contains earlier e → Contains all e) →
-      (p port : ℕ) (from to : Endpoint) (bytes : List ℕ) → IsAt stores sources inputs outputs programs p port from →
-      Contains earlier (p, Sent port to bytes) → Comes earlier from to bytes
-  source earlier within zero port from to bytes at c =
-      inl (record { program = 0; port = port; is_at = at; sent = heard_server k earlier (Sent port to bytes) c })
-  source earlier within (suc j) port from to bytes at c = elim (cases_eq j k) [
-    | inl same ↦
-        let ip : Some client.ip ≡ Some at.0 =
-        sym (ap (λ (i : ℕ). option_map (λ (z : Client). z.ip) (slice_get programs.clients i)) same
-        ∙ ap (option_map (λ (z : Client). z.ip)) found) ∙ at.1 in
-        inl (record {
-          program = 1;
-          port = port;
-          is_at = (at.0, ip, at.2);
-          sent = heard_client k earlier (Sent port to bytes)
-              (subst (λ (i : ℕ). Contains earlier (suc i, Sent port to bytes)) same c);
-        })
-    | inr n ↦
-        let h = mapped (λ (z : Client). z.ip) (slice_get programs.clients j) at.0 at.1 in
-        inr (subst (λ (a : Endpoint). IsStranger stores sources inputs outputs both a)
-        (ap (λ (ip : List ℕ). endpoint ip port) h.2 ∙ sym at.2)
-        (other_strange j h.0 h.1 n port (own_port j h.0 h.1 port to bytes (within (suc j, Sent port to bytes) c))))
-  ]
+  -- what a program sent comes from one of both, or may come nevertheless
+  module _ (earlier : List Noted) (within : (e : Noted) → Contains earlier e → Contains all e) (p port : ℕ)
+      (from to : Endpoint) (bytes : List ℕ) (at : IsAtOf (ips_of several) p port from)
+      (c : Contains earlier (p, Sent port to bytes)) (near : IsNear to) where
+    source_server : (x : OneServer several) → slice_get several.servers p ≡ Some x → at.0 ≡ several.ip →
+        Comes earlier from to bytes
+    source_server x is ip = elim (cases_eq p i) [
+      | inl same ↦ inl (record {
+        program = 0;
+        port = port;
+        is_at = (several.ip, refl, at.2 ∙ ap (λ (a : List ℕ). endpoint a port) ip);
+        sent = heard_server i m two_numbers earlier (Sent port to bytes)
+            (subst (λ (q : ℕ). Contains earlier (q, Sent port to bytes)) same c);
+      })
+      | inr n ↦
+          let noted =
+          subst (λ (es : List Event). Contains es (Sent port to bytes)) (among.is_order.servers p x is)
+          (noted_in p (Sent port to bytes) all (within (p, Sent port to bytes) c)) in
+          inr (subst (λ (a : Endpoint). MayCome stores sources inputs outputs both a bytes)
+          (ap (λ (a : List ℕ). endpoint a port) (sym ip) ∙ sym at.2)
+          (by_other p x is n port to bytes noted near))
+    ]
+
+    source_client : (j : ℕ) (y : Client) → slice_get several.clients j ≡ Some y → p ≡ number_of several j →
+        at.0 ≡ y.ip → Comes earlier from to bytes
+    source_client j y is number ip =
+        let sent : Contains earlier (number_of several j, Sent port to bytes) =
+        subst (λ (q : ℕ). Contains earlier (q, Sent port to bytes)) number c in
+        elim (cases_eq j k) [
+          | inl same ↦
+              let y_is : y ≡ client =
+              same_Some y client (sym is ∙ (ap (slice_get several.clients) same ∙ found)) in
+              inl (record {
+                program = 1;
+                port = port;
+                is_at = (client.ip, refl, at.2 ∙ ap (λ (a : List ℕ). endpoint a port) (ip ∙ ap (λ (z : Client). z.ip) y_is));
+                sent = heard_client i m two_numbers earlier (Sent port to bytes)
+                    (subst (λ (q : ℕ). Contains earlier (number_of several q, Sent port to bytes)) same sent);
+              })
+          | inr n ↦
+              inr (inl (subst (λ (a : Endpoint). IsStranger stores sources inputs outputs both a)
+              (ap (λ (a : List ℕ). endpoint a port) (sym ip) ∙ sym at.2)
+              (other_strange j y is n port (own_port j y is port to bytes
+              (within (number_of several j, Sent port to bytes) sent)))))
+        ]
+
+    source : Comes earlier from to bytes
+    source = elim (number_cases several.servers several.ip (λ (z : Client). z.ip) several.clients p at.0 at.1) [
+      | inl h ↦ source_server h.0 h.1 h.2
+      | inr h ↦ source_client h.0 h.1 h.2 h.3 h.4
+    ]
 
   -- what a program of both receives
-  comes : (p q : ℕ) → ip_of stores sources inputs outputs programs p ≡ ip_of stores sources inputs outputs both q →
-      (e : Event) (earlier : List Noted) → ((x : Noted) → Contains earlier x → Contains all x) →
-      CanCome stores sources inputs outputs programs p e earlier →
-      CanCome stores sources inputs outputs both q e (heard_with k earlier)
-  comes p q same (Received port from bytes) earlier within h = (
-    h.0,
-    (h.1.0, sym same ∙ h.1.1, h.1.2),
-    elim h.2 [
-      | inl s ↦ source earlier within s.program s.port from h.0 bytes s.is_at s.sent
-      | inr strange ↦ inr (stranger_still from strange)
-    ],
-  )
-  comes p q same (Sent port to bytes) earlier within h = tt
-  comes p q same (Watched time) earlier within h = tt
-  comes p q same (Elapsed port time) earlier within h = tt
-  comes p q same (Printed line) earlier within h = tt
-  comes p q same (Quiet event) earlier within h = tt
+  abbrev ForBoth : List ℕ → Event → Type 0
+  ForBoth ip (Received port from bytes) = IsNear (endpoint ip port)
+  ForBoth ip e = Unit {0}
 
-  honest_by : (server member : Bool) (e : Noted) (earlier : List Noted) →
-      ((x : Noted) → Contains earlier x → Contains all x) → (e.0 == 0) ≡ server → (e.0 == suc k) ≡ member →
-      CanCome stores sources inputs outputs programs e.0 e.1 earlier →
-      IsHonest stores sources inputs outputs both (heard_with k earlier) →
-      IsHonest stores sources inputs outputs both (heard_by server member e (heard_with k earlier))
+  nevertheless : (from : Endpoint) (bytes : List ℕ) (earlier : List Noted) (to : Endpoint) →
+      IsStrangerTo several.ip [] several.clients from ⊎ IsError bytes → Comes earlier from to bytes
+  nevertheless from bytes earlier to (inl strange) = inr (inl (stranger_still from strange))
+  nevertheless from bytes earlier to (inr error) = inr (inr error)
+
+  comes : (p q : ℕ) (ip : List ℕ) → slice_get (ips_of several) p ≡ Some ip →
+      slice_get (ips stores sources inputs outputs both) q ≡ Some ip → (e : Event) → ForBoth ip e →
+      (earlier : List Noted) → ((x : Noted) → Contains earlier x → Contains all x) →
+      CanComeOf (ips_of several) (IsStrangerTo several.ip [] several.clients) p e earlier →
+      CanCome stores sources inputs outputs both q e (heard_with i m earlier)
+  comes p q ip at_p at_q (Received port from bytes) near earlier within h =
+      let same : h.1.0 ≡ ip = same_Some h.1.0 ip (sym h.1.1 ∙ at_p) in
+      let to_is : h.0 ≡ endpoint ip port = h.1.2 ∙ ap (λ (a : List ℕ). endpoint a port) same in
+      let near_to : IsNear h.0 = subst (λ (a : Endpoint). IsNear a) (sym to_is) near in (
+        h.0,
+        (ip, at_q, to_is),
+        elim h.2 [
+          | inl s ↦ source earlier within s.program s.port from h.0 bytes s.is_at s.sent near_to
+          | inr other ↦ nevertheless from bytes earlier h.0 other
+        ],
+      )
+  comes p q ip at_p at_q (Sent port to bytes) near earlier within h = tt
+  comes p q ip at_p at_q (Watched time) near earlier within h = tt
+  comes p q ip at_p at_q (Elapsed port time) near earlier within h = tt
+  comes p q ip at_p at_q (Printed line) near earlier within h = tt
+  comes p q ip at_p at_q (Quiet event) near earlier within h = tt
+
+  for_server : (e : Event) → ForBoth several.ip e
+  for_server (Received port from bytes) = inl refl
+  for_server (Sent port to bytes) = tt
+  for_server (Watched time) = tt
+  for_server (Elapsed port time) = tt
+  for_server (Printed line) = tt
+  for_server (Quiet event) = tt
+
+  for_client : (e : Event) → Contains client.noted e → ForBoth client.ip e
+  for_client (Received port from bytes) c =
+      inr (ap (λ (q : ℕ). endpoint client.ip q) (received_own client port from bytes c))
+  for_client (Sent port to bytes) c = tt
+  for_client (Watched time) c = tt
+  for_client (Elapsed port time) c = tt
+  for_client (Printed line) c = tt
+  for_client (Quiet event) c = tt
+
+  abbrev Honest : List Noted → Type 0
+  Honest order = IsHonest stores sources inputs outputs both (heard_with i m order)
+
+  honest_by : (is_server member : Bool) (e : Noted) (earlier : List Noted) →
+      ((x : Noted) → Contains (e ∷ earlier) x → Contains all x) → (e.0 == i) ≡ is_server → (e.0 == m) ≡ member →
+      CanComeOf (ips_of several) (IsStrangerTo several.ip [] several.clients) e.0 e.1 earlier → Honest earlier →
+      IsHonest stores sources inputs outputs both (heard_by is_server member e (heard_with i m earlier))
   honest_by true member e earlier within is at h rest =
-      let same : ip_of stores sources inputs outputs programs e.0 ≡ ip_of stores sources inputs outputs both e.0 =
-      subst (λ (p : ℕ). ip_of stores sources inputs outputs programs p ≡ ip_of stores sources inputs outputs both p)
-      (sym (eqb-true e.0 0 is)) refl in
-      (comes e.0 e.0 same e.1 earlier within h, rest)
+      let here : slice_get (ips_of several) e.0 ≡ Some several.ip =
+      ap (slice_get (ips_of several)) (eqb-true e.0 i is)
+      ∙ server_ip several.ip (λ (z : Client). z.ip) several.clients several.servers i server at_i in
+      (comes e.0 0 several.ip here refl e.1 (for_server e.1) earlier (λ x c. within x (later_in e earlier x c)) h, rest)
   honest_by false true e earlier within is at h rest =
-      let same : ip_of stores sources inputs outputs programs e.0 ≡ ip_of stores sources inputs outputs both 1 =
-      subst (λ (p : ℕ). ip_of stores sources inputs outputs programs p ≡ ip_of stores sources inputs outputs both 1)
-      (sym (eqb-true e.0 (suc k) at)) (ap (option_map (λ (z : Client). z.ip)) found) in
-      (comes e.0 1 same e.1 earlier within h, rest)
+      let number = eqb-true e.0 m at in
+      let here : slice_get (ips_of several) e.0 ≡ Some client.ip =
+      client_ip several.ip (λ (z : Client). z.ip) several.clients several.servers e.0 k client number found in
+      let noted : Contains client.noted e.1 =
+      subst (λ (es : List Event). Contains es e.1) (among.is_order.clients k client found) (noted_in m e.1 all
+      (subst (λ (q : ℕ). Contains all (q, e.1)) number (within (e.0, e.1) (first_in e earlier)))) in
+      (comes e.0 1 client.ip here refl e.1 (for_client e.1 noted) earlier (λ x c. within x (later_in e earlier x c)) h, rest)
   honest_by false false e earlier within is at h rest = rest
 
   honest_heard : (earlier : List Noted) → ((x : Noted) → Contains earlier x → Contains all x) →
-      IsHonest stores sources inputs outputs programs earlier →
-      IsHonest stores sources inputs outputs both (heard_with k earlier)
+      IsHonestOf (ips_of several) (IsStrangerTo several.ip [] several.clients) earlier → Honest earlier
   honest_heard [] within h = tt
   honest_heard (e ∷ earlier) within h =
-      let later : (x : Noted) → Contains earlier x → Contains all x =
-      λ x c. within x (Contains-append_right (e ∷ []) earlier x c) in
-      honest_by (e.0 == 0) (e.0 == suc k) e earlier later refl refl h.0 (honest_heard earlier later h.1)
+      honest_by (e.0 == i) (e.0 == m) e earlier within refl refl h.0
+      (honest_heard earlier (λ x c. within x (later_in e earlier x c)) h.1)
 
-  pub joined_both : AreJoined stores sources inputs outputs both (heard_with k all)
-  joined_both = record {
-    is_order = record {
-      server = server_events k all ∙ served.is_order.server;
-      clients = λ i x e.
-          ap (λ (p : ℕ). events_of (suc p) (heard_with k all)) (only i x e).0
-          ∙ (client_events k all ∙ (served.is_order.clients k client found ∙ ap (λ (z : Client). z.noted)
-          (sym (only i x e).1)));
-    };
-    honest = honest_heard all (λ x c. c) served.honest;
-    fresh = served.fresh;
+  pub order_both : IsOrder stores sources inputs outputs both (heard_with i m all)
+  order_both = record {
+    server = server_events i m two_numbers all ∙ among.is_order.servers i server at_i;
+    clients = λ q x e.
+        ap (λ (p : ℕ). events_of (suc p) (heard_with i m all)) (only q x e).0
+        ∙ (client_events i m two_numbers all ∙ (among.is_order.clients k client found ∙ ap (λ (z : Client). z.noted)
+        (sym (only q x e).1)));
+  }
+
+  pub honest_both : IsHonest stores sources inputs outputs both (heard_with i m all)
+  honest_both = honest_heard all (λ x c. c) among.honest
+
+  pub joined_both : TakesOwn several.ip (other_ports several i server client) client.runs →
+      AreJoined stores sources inputs outputs both (heard_with i m all)
+  joined_both own = record {
+    is_order = order_both;
+    honest = honest_both;
+    fresh = among.fresh;
+    own = λ q x e. subst (λ (z : Client). TakesOwn several.ip (other_ports several i server client) z.runs)
+        (sym (only q x e).1) own;
   }
 
 module _ {S F D G K : Type 0} (stores : StoreMeaning S D) (sources : SourceMeaning F) (inputs : SourceMeaning G)
     (outputs : SinkMeaning K) where
   pub each_joined : EachIsJoined stores sources inputs outputs
-  each_joined programs order k client found served = joined_both programs order k client found served
+  each_joined several order i server k client at_i found served =
+      joined_both several order i server k client at_i found served.among served.own
 
   pub each_keeps_any : EachKeepsAnyFiles stores sources inputs outputs
-  each_keeps_any programs order k client found served =
-      programs_keep_any stores sources inputs outputs (alone programs client) (heard_with k order)
-      (each_joined programs order k client found served)
+  each_keeps_any several order i server k client at_i found served =
+      programs_keep_any stores sources inputs outputs (alone several i server client)
+      (heard_with i (number_of several k) order)
+      (each_joined several order i server k client at_i found served)
 
   pub each_keeps : EachKeepsPromises stores sources inputs outputs
-  each_keeps programs order k client found served models =
-      programs_keep stores sources inputs outputs (alone programs client) (heard_with k order)
-      (each_joined programs order k client found served) models
+  each_keeps several order i server k client at_i found served models =
+      programs_keep stores sources inputs outputs (alone several i server client)
+      (heard_with i (number_of several k) order)
+      (each_joined several order i server k client at_i found served) models

@@ -15,18 +15,25 @@ use Rattle.tftp_promises.specs.Alone.{IsServed, alone}
 use Rattle.tftp_promises.specs.Joined.{AreJoined}
 use Rattle.tftp_promises.specs.Modelled.{AreModelled, HasWhole}
 use Rattle.tftp_promises.specs.Openings.{ArePortsFresh, our_ports}
-use Rattle.tftp_promises.specs.Order.{Noted, Programs, CanCome, IsHonest, IsOrder, IsStranger, events_of, ip_of}
+use Rattle.tftp_promises.specs.Order.{Noted, Programs, CanCome, IsHonest, IsStranger, events_of, ips}
+use Rattle.tftp_promises.specs.Others.{TakesOwn}
 use Rattle.tftp_promises.specs.Ports.{AreDistinct}
-use Rattle.tftp_promises.specs.Programs.{endpoint, ClientProgram, client_at}
+use Rattle.tftp_promises.specs.Programs.{endpoint, ClientProgram, ServerProgram, client_at}
+use Rattle.tftp_promises.specs.Several.{Several, AreHonest, AreInOrder, number_of}
 use Rattle.tftp_promises.specs.Witness.{HasExchanged, SomeAreJoined, SomeAreServed, client_ip, exchange, late_exchange}
 use Rattle.tftp_promises.specs.Witness.{latecomer, other_ip, requests, read_request, server_ip, stranger}
 use Rattle.tftp_promises.specs.Witness.{agreed, read_file}
 use Rattle.tftp_promises.proofs.ExchangeReader.{asking, reading, stored}
 use Rattle.tftp_promises.proofs.ExchangeServer.{all_opened, closed_there, opened_for, server}
 use Rattle.tftp_promises.proofs.ExchangeStates.{read_by, reading_2}
+use Rattle.tftp_promises.proofs.KeptEvents.{nothing_in}
+use Rattle.tftp_promises.proofs.OthersTaken.{takes_none}
 
-abbrev Client : Type 0
+abbrev pub Client : Type 0
 Client = ClientProgram memory_source memory_sink requests
+
+abbrev pub Server : Type 0
+Server = ServerProgram memory_meaning memory_source requests
 
 last_bytes : (k : ℕ) (a b : List ℕ) → a ≡ b → get_or a k 0 ≡ get_or b k 0
 last_bytes k a b e = ap (λ (ip : List ℕ). get_or ip k 0) e
@@ -38,13 +45,13 @@ apart_by a b x y e f n same = n (sym e ∙ (last_bytes 3 a.ip b.ip (ap (λ (z : 
 -- ---- the network of the server, the reader and others, after these events
 module _ (more : List Client) (before : List Noted) where
   abbrev with_others : Programs memory_meaning memory_source memory_source memory_sink
-  with_others = record { server = server; clients = reading ∷ more }
+  with_others = record { ip = server_ip; port = 69; server = server; others = []; clients = reading ∷ more }
 
   abbrev Comes : ℕ → Event → List Noted → Type 0
   Comes program e earlier = CanCome memory_meaning memory_source memory_source memory_sink with_others program e earlier
 
   abbrev At : ℕ → List ℕ → Type 0
-  At program ip = ip_of memory_meaning memory_source memory_source memory_sink with_others program ≡ Some ip
+  At program ip = slice_get (ips memory_meaning memory_source memory_source memory_sink with_others) program ≡ Some ip
 
   abbrev Strange : Endpoint → Type 0
   Strange a = IsStranger memory_meaning memory_source memory_source memory_sink with_others a
@@ -63,7 +70,7 @@ module _ (more : List Client) (before : List Noted) where
   -- one that a stranger sent comes to the server
   strays : (port : ℕ) (from : Endpoint) (bytes : List ℕ) (earlier : List Noted) → Strange from →
       Comes 0 (Received port from bytes) earlier
-  strays port from bytes earlier strange = (endpoint server_ip port, (server_ip, refl, refl), inr strange)
+  strays port from bytes earlier strange = (endpoint server_ip port, (server_ip, refl, refl), inr (inl strange))
 
   -- the first events of the exchange are honest
   abbrev Honest : ℕ → Type 0
@@ -113,7 +120,7 @@ module _ (more : List Client) (before : List Noted) where
     honest_all comes = (tt, (comes, honest_18))
 
 -- ---- a client alone with the server
-two_apart : (p q : ℕ) → p ≢ q → AreDistinct (p ∷ q ∷ [])
+pub two_apart : (p q : ℕ) → p ≢ q → AreDistinct (p ∷ q ∷ [])
 two_apart p q n zero zero port e f = refl
 two_apart p q n zero (suc zero) port e f = absurd (n (same_Some p q (e ∙ sym f)))
 two_apart p q n (suc zero) zero port e f = absurd (n (same_Some p q (f ∙ sym e)))
@@ -124,7 +131,7 @@ two_apart p q n (suc (suc j)) k port e f = absurd (let g : None ≡ Some port = 
 
 module _ (c : Client) where
   abbrev only_with : Programs memory_meaning memory_source memory_source memory_sink
-  only_with = record { server = server; clients = c ∷ [] }
+  only_with = record { ip = server_ip; port = 69; server = server; others = []; clients = c ∷ [] }
 
   only_one : (i : ℕ) (x : Client) → slice_get (c ∷ []) i ≡ Some x → (i ≡ 0) × (x ≡ c)
   only_one zero x e = (refl, sym (same_Some c x e))
@@ -135,7 +142,7 @@ module _ (c : Client) where
       (client_at memory_source memory_sink requests x)
   not_here x away n =
       record {
-        server = away;
+        server = λ same. absurd (away same);
         clients = λ i z e same. n (ap (λ (w : Client). w.port) (sym (only_one i z e).1)
             ∙ ap (λ (a : Endpoint). a.port) same);
       }
@@ -148,16 +155,17 @@ module _ (c : Client) where
     apart =
         λ i q x e known same. away (ap (λ (w : Client). w.ip) (sym (only_one i x e).1)
         ∙ ap (λ (a : Endpoint). a.ip) same);
+    others = λ port known other. nothing_in port other;
   }
 
-client_away : client_ip ≢ server_ip
+pub client_away : client_ip ≢ server_ip
 client_away e = let n : 2 ≡ 1 = last_bytes 3 client_ip server_ip e in omega (arith, n)
 
 other_away : other_ip ≢ server_ip
 other_away e = let n : 3 ≡ 1 = last_bytes 3 other_ip server_ip e in omega (arith, n)
 
 -- ---- the latecomer is a stranger
-abbrev programs : Programs memory_meaning memory_source memory_source memory_sink
+abbrev pub programs : Programs memory_meaning memory_source memory_source memory_sink
 programs = with_others [] []
 
 abbrev order : List Noted
@@ -170,16 +178,17 @@ each P reads (suc k) c e = absurd (let f : None ≡ Some c = e in cc)
 
 strange_there : (port : ℕ) → Strange [] [] (endpoint other_ip port)
 strange_there port = record {
-  server = other_away;
+  server = λ same. absurd (other_away same);
   clients = λ k c e. each (λ j z. endpoint z.ip z.port ≢ endpoint other_ip port)
       (apart_by (endpoint client_ip 5000) (endpoint other_ip port) 2 3 refl refl (λ e. omega (arith, e))) k c e;
 }
 
-joined : AreJoined memory_meaning memory_source memory_source memory_sink programs order
+pub joined : AreJoined memory_meaning memory_source memory_source memory_sink programs order
 joined = record {
   is_order = record { server = refl; clients = each (λ k c. events_of (suc k) order ≡ c.noted) refl };
   honest = honest_all [] [] (strange_there 7000) tt (strays [] [] 69 latecomer read_request _ (strange_there 7001));
   fresh = fresh_alone reading (opened_for programs) client_away;
+  own = each (λ k c. TakesOwn server_ip [] c.runs) (takes_none server_ip reading.runs);
 }
 
 modelled : AreModelled programs
@@ -206,8 +215,8 @@ pub some_joined : SomeAreJoined
 some_joined = (programs, exchanged)
 
 -- ---- the latecomer is a client
-abbrev two : Programs memory_meaning memory_source memory_source memory_sink
-two = with_others (asking ∷ []) []
+abbrev two : Several memory_meaning memory_source memory_source memory_sink
+two = record { ip = server_ip; port = 69; servers = server ∷ []; clients = reading ∷ (asking ∷ []) }
 
 abbrev asked : List Noted
 asked = (2, Sent 7001 requests read_request) ∷ []
@@ -220,56 +229,80 @@ each_of P reads asks (suc (suc k)) c e = absurd (let f : None ≡ Some c = e in 
 
 strange_still : Strange (asking ∷ []) asked stranger
 strange_still = record {
-  server = other_away;
+  server = λ same. absurd (other_away same);
   clients = λ k c e. each_of (λ j z. endpoint z.ip z.port ≢ stranger)
       (apart_by (endpoint client_ip 5000) stranger 2 3 refl refl (λ e. omega (arith, e)))
       (λ same. let n : 7001 ≡ 7000 = ap (λ (a : Endpoint). a.port) same in omega (arith, n)) k c e;
 }
 
-honest_late : IsHonest memory_meaning memory_source memory_source memory_sink two late_exchange
+honest_late : AreHonest two late_exchange
 honest_late =
     honest_all (asking ∷ []) asked strange_still (tt, tt)
     (delivered (asking ∷ []) asked 2 0 other_ip server_ip refl refl 7001 69 read_request _ (18, omega arith, refl))
 
-in_order : IsOrder memory_meaning memory_source memory_source memory_sink two late_exchange
-in_order = record { server = refl; clients = each_of (λ k c. events_of (suc k) late_exchange ≡ c.noted) refl refl }
+-- what holds of the server holds of each
+one_server : (P : ℕ → Server → Type 0) → P 0 server → (i : ℕ) (s : Server) → slice_get two.servers i ≡ Some s → P i s
+one_server P is zero s e = subst (λ (z : Server). P 0 z) (same_Some server s e) is
+one_server P is (suc i) s e = absurd (let f : None ≡ Some s = e in cc)
+
+in_order : AreInOrder two late_exchange
+in_order = record {
+  servers = one_server (λ i s. events_of i late_exchange ≡ s.noted) refl;
+  clients = each_of (λ k c. events_of (number_of two k) late_exchange ≡ c.noted) refl refl;
+}
 
 abbrev NotOne : ℕ → Client → ℕ → Client → Type 0
 NotOne k c j x =
-    j ≢ k → IsStranger memory_meaning memory_source memory_source memory_sink (alone two c)
+    j ≢ k → IsStranger memory_meaning memory_source memory_source memory_sink (alone two 0 server c)
     (client_at memory_source memory_sink requests x)
 
-reader_served : IsServed two late_exchange 0 reading
+-- there is no other server
+no_other : (c : Client) (j : ℕ) (s : Server) → slice_get two.servers j ≡ Some s → j ≢ 0 → ⊥
+no_other c j s at n = n (one_server (λ i z. i ≡ 0) refl j s at)
+
+reader_served : IsServed two late_exchange 0 server 0 reading
 reader_served = record {
-  is_order = in_order;
-  honest = honest_late;
-  others =
-      each_of (NotOne 0 reading) (λ n. absurd (n refl))
-      (λ n. not_here reading asking other_away (λ e. omega (arith, e)));
-  fresh = fresh_alone reading (opened_for (alone two reading)) client_away;
+  among = record {
+    is_order = in_order;
+    honest = honest_late;
+    others =
+        each_of (NotOne 0 reading) (λ n. absurd (n refl))
+        (λ n. not_here reading asking other_away (λ e. omega (arith, e)));
+    fresh = fresh_alone reading (opened_for (alone two 0 server reading)) client_away;
+    apart = λ j s port to bytes at n. absurd (no_other reading j s at n);
+    away = λ port other. absurd (nothing_in port other);
+  };
+  own = takes_none server_ip reading.runs;
 }
 
-latecomer_served : IsServed two late_exchange 1 asking
+latecomer_served : IsServed two late_exchange 0 server 1 asking
 latecomer_served = record {
-  is_order = in_order;
-  honest = honest_late;
-  others =
-      each_of (NotOne 1 asking) (λ n. not_here asking reading client_away (λ e. omega (arith, e)))
-      (λ n. absurd (n refl));
-  fresh = fresh_alone asking (opened_for (alone two asking)) other_away;
+  among = record {
+    is_order = in_order;
+    honest = honest_late;
+    others =
+        each_of (NotOne 1 asking) (λ n. not_here asking reading client_away (λ e. omega (arith, e)))
+        (λ n. absurd (n refl));
+    fresh = fresh_alone asking (opened_for (alone two 0 server asking)) other_away;
+    apart = λ j s port to bytes at n. absurd (no_other asking j s at n);
+    away = λ port other. absurd (nothing_in port other);
+  };
+  own = takes_none server_ip asking.runs;
 }
 
 pub some_served : SomeAreServed
 some_served = (
   two,
   record {
+    server = server;
+    is_server = refl;
     reads = reading;
     is_reader = refl;
     reader_served = reader_served;
     asks = asking;
     is_latecomer = refl;
     latecomer_served = latecomer_served;
-    own = opened_for (alone two reading);
-    later = opened_for (alone two asking);
+    own = opened_for (alone two 0 server reading);
+    later = opened_for (alone two 0 server asking);
   },
 )

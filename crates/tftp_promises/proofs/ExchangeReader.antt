@@ -1,5 +1,6 @@
 -- The client of the exchange, which reads.
 use Rattle.std.proofs.Common.{ℕ, true, false, List, [], ◌∷◌, Some, Ok, refl, sym, arith, inl, inr}
+use Rattle.std.specs.List.{Contains}
 use Rattle.std.proofs.lemmas.Bool.{true≢false}
 use Rattle.tftp_wire.specs.declared.mode.Mode.TheVariants.{Octet}
 use Rattle.tftp_wire.specs.declared.packet.Packet.TheVariants.{Data, Oack}
@@ -25,9 +26,10 @@ use Rattle.tftp_client.specs.Converses.{State}
 use Rattle.tftp_client.specs.Converses.HandlesReceived.{Answers}
 use Rattle.tftp_client.specs.Runs.{begun}
 use Rattle.tftp_promises.specs.ClientRuns.{ClientDoes, Starts, Goes_on, Receives_one, Prints_line}
+use Rattle.tftp_promises.specs.Others.{TakesOwn}
 use Rattle.tftp_promises.specs.Programs.{ClientOpens, ClientProgram, To_read}
 use Rattle.tftp_promises.specs.Witness.{agreed, blocks_of_8, client_ip, other_ip, read_file, read_name, read_port}
-use Rattle.tftp_promises.specs.Witness.{requests}
+use Rattle.tftp_promises.specs.Witness.{requests, server_ip}
 use Rattle.tftp_promises.proofs.ExchangeParts.{block_spelled, may_read, oack_spelled, read_8, takes_all}
 
 abbrev at_first : EndState
@@ -190,3 +192,8 @@ reading = record {
   noted = s3.events;
   is_noted = refl;
 }
+
+-- it takes the answer of the server at this port, if no other is there
+pub takes_first : (others : List ℕ) → (Contains others 1024 → ⊥) → TakesOwn server_ip others reading.runs
+unfolding accepts_does stores_does
+takes_first others own = (((tt, λ no_peer h. own h.other), λ no_peer h. own h.other), tt)

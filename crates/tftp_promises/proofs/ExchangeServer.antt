@@ -40,12 +40,13 @@ use Rattle.tftp_promises.specs.Openings.{HasClosed, above, is_ours, our_ports}
 use Rattle.tftp_promises.specs.Order.{Programs}
 use Rattle.tftp_promises.specs.Ports.{opened_ports}
 use Rattle.tftp_promises.specs.Programs.{ServerProgram, endpoint}
+use Rattle.tftp_promises.specs.Several.{ports_for}
 use Rattle.tftp_promises.specs.Witness.{agreed, blocks_of_8, latecomer, read_file, read_name, read_request, reader}
-use Rattle.tftp_promises.specs.Witness.{server_ip, stranger}
+use Rattle.tftp_promises.specs.Witness.{requests, stranger}
 use Rattle.tftp_promises.proofs.ExchangeParts.{ack_spelled, read_8, read_spelled}
 use Rattle.tftp_promises.proofs.ExchangeStates.{Held, Loop, at_stranger, completes, config, late, read_by, reading_0}
 use Rattle.tftp_promises.proofs.ExchangeStates.{reading_1, reading_2, sends, serving, store, timed, s0, s1, s2, s3, s4, s5}
-use Rattle.tftp_promises.proofs.ExchangeStates.{s6, s7, s8}
+use Rattle.tftp_promises.proofs.ExchangeStates.{s6, s7, s8, t2}
 
 -- ---- the steps
 abbrev Step : Loop → Loop → Type 0
@@ -161,6 +162,29 @@ opens_read = Request_answered (record {
   is = refl;
 })
 
+-- the second server opens a transfer for the same request
+pub opens_second : Step s1 t2
+unfolding occurrences_of name_of answered_option
+opens_second = Request_answered (record {
+  from = reader;
+  bytes = read_request;
+  pending = refl;
+  tid = 2048;
+  free = refl;
+  left = left_by (A_transfer (read_by reading_0 read_file) store) (serving []) reader 2048;
+  port = tt;
+  steps = record {
+    decoded = Some (Read (request_of read_name Octet blocks_of_8));
+    says = read_spelled;
+    repeated = false;
+    repeats = (λ f. absurd (true≢false (sym f)), λ none. absurd none);
+    came = A_transfer (read_by reading_0 read_file) store;
+    goes = reads_file reader;
+    left = refl;
+  };
+  is = refl;
+})
+
 -- a stranger's datagram is answered, and the transfer goes on
 refuses_wrong_peer : StepIn memory_meaning memory_source stranger (ack_bytes 0) reading_0 (Source read_file) at_stranger
     (Source read_file)
@@ -254,14 +278,27 @@ serves =
     Then (Then (Then (Then (Then (Then (Then (Then Start asks_to_read) opens_read) answers_wrong_peer) sends_block)
     completes_read) closes_read) asks_again) opens_again
 
-abbrev pub server : ServerProgram memory_meaning memory_source
+abbrev pub server : ServerProgram memory_meaning memory_source requests
 server = record {
-  ip = server_ip;
   start = s0;
   last = s8;
   run = serves;
   noted = s8.events;
   is_noted = refl;
+  requests = refl;
+  empty = refl;
+  idle = refl;
+  max_block = agreeable;
+}
+
+abbrev pub second : ServerProgram memory_meaning memory_source requests
+second = record {
+  start = s0;
+  last = t2;
+  run = Then (Then Start asks_to_read) opens_second;
+  noted = t2.events;
+  is_noted = refl;
+  requests = refl;
   empty = refl;
   idle = refl;
   max_block = agreeable;
@@ -271,6 +308,19 @@ server = record {
 pub all_opened : opened_ports serves ≡ 1024 ∷ 1024 ∷ []
 unfolding handles asks_to_read opens_read answers_wrong_peer sends_block completes_read closes_read asks_again opens_again
 all_opened = refl
+
+pub opened_second : opened_ports second.run ≡ 2048 ∷ []
+unfolding asks_to_read opens_second
+opened_second = refl
+
+-- those of the client that reads
+pub ports_first : ports_for reader serves ≡ 1024 ∷ []
+unfolding handles asks_to_read opens_read answers_wrong_peer sends_block completes_read closes_read asks_again opens_again
+ports_first = refl
+
+pub ports_second : ports_for reader second.run ≡ 2048 ∷ []
+unfolding asks_to_read opens_second
+ports_second = refl
 
 -- those of the clients of a network
 abbrev pub ours_of : Bool → Bool → List ℕ
@@ -285,7 +335,7 @@ module _ {G K : Type 0} {inputs : SourceMeaning G} {outputs : SinkMeaning K}
   opened_for = refl
 
   pub closed_there : is_ours programs reader ≡ true →
-      HasClosed programs serves 1024 (read_by reading_2 []) (endpoint programs.server.ip 1024)
+      HasClosed programs serves 1024 (read_by reading_2 []) (endpoint programs.ip 1024)
   unfolding handles asks_to_read opens_read answers_wrong_peer sends_block completes_read closes_read asks_again
       opens_again
   closed_there reads =
@@ -293,6 +343,10 @@ module _ {G K : Type 0} {inputs : SourceMeaning G} {outputs : SinkMeaning K}
       (inr
       (inl (
         (refl, refl),
-        sym (ap (λ (b : Bool). endpoint programs.server.ip
+        sym (ap (λ (b : Bool). endpoint programs.ip
             (if b then 1024 else above programs + length (opened_ports (Then Start asks_to_read)))) reads),
       )))
+
+  pub ours_second : our_ports programs second.run ≡ (if is_ours programs reader then 2048 ∷ [] else []) ++ []
+  unfolding asks_to_read opens_second
+  ours_second = refl

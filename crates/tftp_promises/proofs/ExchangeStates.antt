@@ -110,6 +110,15 @@ s2 = record s1 {
   events = Sent 1024 reader (oack_bytes agreed) ∷ s1.events;
 }
 
+-- what the second server opens for the same request
+abbrev pub t2 : Loop
+t2 = record s1 {
+  server = serving ((2048, read_by reading_0 read_file) ∷ []);
+  pending = None;
+  timers = record (timed reader false 500) { port = 2048 } ∷ [];
+  events = Sent 2048 reader (oack_bytes agreed) ∷ s1.events;
+}
+
 abbrev pub s3 : Loop
 s3 = record s2 {
   timers = timed reader true 1000 ∷ [];

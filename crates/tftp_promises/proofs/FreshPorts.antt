@@ -82,10 +82,15 @@ module _ {S F D G K : Type 0} {stores : StoreMeaning S D} {sources : SourceMeani
 
   pub fresh_ports : DistinctPortsAreFresh programs
   fresh_ports all =
-      let first = programs.server.start.requests in
+      let first = programs.port in
       let opened = opened_ports programs.server.run in
       let ours = our_ports programs programs.server.run in
       let n = none_twice (first ∷ opened) all.server in
+      let among : (port : ℕ) → Contains (first ∷ ours) port → Contains (first ∷ opened) port =
+      λ port c. elim (Contains-append_cases (first ∷ []) ours port c) [
+        | inl h ↦ Contains-append_left (first ∷ []) opened port h
+        | inr h ↦ Contains-append_right (first ∷ []) opened port (ours_among programs programs.server.run port h)
+      ] in
       record {
         server =
             distinct (first ∷ ours) (
@@ -93,8 +98,6 @@ module _ {S F D G K : Type 0} {stores : StoreMeaning S D} {sources : SourceMeani
               ours_twice programs.server.run n.1,
             );
         clients = all.clients;
-        apart = λ k port x found c. all.apart k port x found (elim (Contains-append_cases (first ∷ []) ours port c) [
-          | inl h ↦ Contains-append_left (first ∷ []) opened port h
-          | inr h ↦ Contains-append_right (first ∷ []) opened port (ours_among programs programs.server.run port h)
-        ]);
+        apart = λ k port x found c. all.apart k port x found (among port c);
+        others = λ port c. all.others port (among port c);
       }

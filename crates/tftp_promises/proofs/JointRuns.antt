@@ -24,8 +24,9 @@ use Rattle.tftp_promises.specs.ClientRuns.{ClientDoes, ClientRun, Starts, Goes_o
 use Rattle.tftp_promises.specs.Joint.{Joint, All_begin, Server_does, Client_asks, Client_does, CanTake, WasSentBefore}
 use Rattle.tftp_promises.specs.Joint.{JournalsAreJoint}
 use Rattle.tftp_promises.specs.Moved.{Moved, nothing_moved}
-use Rattle.tftp_promises.specs.Order.{Noted, Programs, events_of, IsAt, IsHonest, IsOrder, CanCome}
-use Rattle.tftp_promises.specs.Programs.{endpoint, requests_at, ClientProgram}
+use Rattle.tftp_promises.specs.Order.{Noted, Programs, events_of, IsAt, IsHonest, IsOrder, CanCome, requests_at}
+use Rattle.tftp_promises.specs.Others.{DoesOwn, TakesOwn}
+use Rattle.tftp_promises.specs.Programs.{endpoint, ClientProgram}
 use Rattle.tftp_promises.specs.Snapshots.{ClientStage, Unasked, Has_asked, noted_by, Snapshot, just_asked, client_did}
 use Rattle.tftp_promises.specs.Snapshots.{all_of}
 use Rattle.tftp_promises.proofs.ClientJournals.{converse}
@@ -38,7 +39,7 @@ use Rattle.tftp_promises.proofs.StepEvents.{IsOther, IsQuiet, Silent, Notes, Res
 module _ {S F D G K : Type 0} {stores : StoreMeaning S D} {sources : SourceMeaning F} {inputs : SourceMeaning G}
     {outputs : SinkMeaning K} (programs : Programs stores sources inputs outputs) where
   abbrev Client : Type 0
-  Client = ClientProgram inputs outputs (requests_at stores sources programs.server)
+  Client = ClientProgram inputs outputs (requests_at programs)
 
   abbrev ServerRun : LoopState S F D → Type 0
   ServerRun state = Run (Does stores sources) (programs.server.start) state
@@ -63,13 +64,13 @@ module _ {S F D G K : Type 0} {stores : StoreMeaning S D} {sources : SourceMeani
   data ClientFits (client : Client) (seen : List Event) : ClientStage G K → Type 0 where
     Not_yet : seen ≡ [] → ClientFits client seen Unasked
     Conversed_so : {s : State} {files : Files G K} {noted : List Event} (run : Conversed client s files) →
-        s.events ≡ noted ++ client.before → (waits : List Event) → AllByRecursion IsQuiet waits →
+        TakesOwn programs.ip programs.others run → s.events ≡ noted ++ client.before → (waits : List Event) → AllByRecursion IsQuiet waits →
         waits ++ noted ≡ seen →
         ClientFits client seen (Has_asked s files noted (moved_in run))
     Conversing : {s s' : State} {files files' : Files G K} {noted : List Event} (old_noted : List Event)
-        (run : Conversed client s files) → s.events ≡ old_noted ++ client.before → (waits : List Event) →
-        AllByRecursion IsQuiet waits →
-        (does : ClientDoes inputs outputs client.port s files s' files') →
+        (run : Conversed client s files) → TakesOwn programs.ip programs.others run →
+        s.events ≡ old_noted ++ client.before → (waits : List Event) → AllByRecursion IsQuiet waits →
+        (does : ClientDoes inputs outputs client.port s files s' files') → DoesOwn programs.ip programs.others does →
         Split (waits ++ s.events) s'.events (waits ++ old_noted) noted seen →
         ClientFits client seen (Has_asked s' files' noted (client_moves does (moved_in run)))
 
@@ -82,10 +83,10 @@ module _ {S F D G K : Type 0} {stores : StoreMeaning S D} {sources : SourceMeani
       (bytes : List ℕ) → ClientFits client seen stage → Contains seen (Sent port to bytes) →
       Contains (noted_by stage) (Sent port to bytes)
   client_in port to bytes (Not_yet none) i = subst (λ (es : List Event). Contains es (Sent port to bytes)) none i
-  client_in port to bytes (Conversed_so {noted = noted} run is waits quiet seen_is) i =
+  client_in port to bytes (Conversed_so {noted = noted} run own is waits quiet seen_is) i =
       past_waits waits noted (Sent port to bytes) quiet (λ q. q)
       (subst (λ (es : List Event). Contains es (Sent port to bytes)) (sym seen_is) i)
-  client_in port to bytes (Conversing old_noted run is waits quiet does s) i = split_in (Sent port to bytes) s i
+  client_in port to bytes (Conversing old_noted run own is waits quiet does so s) i = split_in (Sent port to bytes) s i
 
   -- ---- all programs where their journals are seen so far
 
@@ -105,14 +106,15 @@ module _ {S F D G K : Type 0} {stores : StoreMeaning S D} {sources : SourceMeani
       IsAt stores sources inputs outputs programs program port from →
       Contains order (program, Sent port to bytes) → WasSentBefore programs sn from to bytes
   sent_before sn order fits zero port from to bytes at i =
-      let same = same_Some programs.server.ip at.0 at.1 in
+      let same = same_Some programs.ip at.0 at.1 in
       inl (record {
         port = port;
         at = at.2 ∙ ap (λ (ip : List ℕ). endpoint ip port) (sym same);
         sent = server_in (Sent port to bytes) fits.server (noted_in 0 (Sent port to bytes) order i);
       })
   sent_before sn order fits (suc k) port from to bytes at i =
-      let m = mapped (λ (c : Client). c.ip) (slice_get programs.clients k) at.0 at.1 in
+      let m = mapped (λ (c : Client). c.ip) (slice_get programs.clients k) at.0
+      (sym (slice_get-map (λ (c : Client). c.ip) programs.clients k) ∙ at.1) in
       let has = fits.clients k m.0 m.1 in
       inr (record {
         k = k;
@@ -138,7 +140,7 @@ module _ {S F D G K : Type 0} {stores : StoreMeaning S D} {sources : SourceMeani
         | inl sent ↦
             inl (subst (λ (a : Endpoint). WasSentBefore programs sn from a bytes) (is_ip port come.0 come.1)
             (sent_before sn order fits sent.program sent.port from come.0 bytes sent.is_at sent.sent))
-        | inr stranger ↦ inr stranger
+        | inr nevertheless ↦ inr nevertheless
       ]
 
   -- ---- the server
@@ -185,10 +187,10 @@ module _ {S F D G K : Type 0} {stores : StoreMeaning S D} {sources : SourceMeani
         record { server = Served is (sym h.1); count = count; clients = fit } in
         let joint = ih (snap run old_noted clients) fits in
         let ip_is : (port : ℕ) (a : Endpoint) → IsAt stores sources inputs outputs programs 0 port a →
-        a ≡ endpoint programs.server.ip port = λ port a at. at.2 ∙ ap (λ (ip : List ℕ). endpoint ip port)
-        (sym (same_Some programs.server.ip at.0 at.1)) in
+        a ≡ endpoint programs.ip port = λ port a at. at.2 ∙ ap (λ (ip : List ℕ). endpoint ip port)
+        (sym (same_Some programs.ip at.0 at.1)) in
         let takes =
-        can_take (snap run old_noted clients) earlier fits 0 programs.server.ip ip_is e comes ahead x others h.0 in
+        can_take (snap run old_noted clients) earlier fits 0 programs.ip ip_is e comes ahead x others h.0 in
         subst (λ (es : List Event). Joint programs (snap (Then run does) es clients)) (sym noted_is)
         (Server_does joint does (ahead ++ x ∷ []) added takes)
     server_steps {run = run} {noted = noted} is does (split ahead x (y ∷ rest) others own added noted_is seen_is) =
@@ -277,33 +279,34 @@ module _ {S F D G K : Type 0} {stores : StoreMeaning S D} {sources : SourceMeani
     at_ip port a at =
         let own : option_map (λ (c : Client). c.ip) (slice_get programs.clients k) ≡ Some client.ip =
         ap (λ (o : Option Client). option_map (λ (c : Client). c.ip) o) is_client in
-        at.2 ∙ ap (λ (ip : List ℕ). endpoint ip port) (sym (same_Some client.ip at.0 (sym own ∙ at.1)))
+        at.2 ∙ ap (λ (ip : List ℕ). endpoint ip port) (sym (same_Some client.ip at.0
+        (sym own ∙ (sym (slice_get-map (λ (c : Client). c.ip) programs.clients k) ∙ at.1))))
 
     -- the client makes a step
     client_goes : {s s' : State} {files files' : Files G K} (noted : List Event) (moved : Moved) →
         Joint programs (At (Has_asked s files noted moved)) →
-        (does : ClientDoes inputs outputs client.port s files s' files') → (added : List Event) →
-        s'.events ≡ added ++ s.events → CanTake programs (At (Has_asked s files noted moved)) client.ip added →
+        (does : ClientDoes inputs outputs client.port s files s' files') → DoesOwn programs.ip programs.others does →
+        (added : List Event) → s'.events ≡ added ++ s.events → CanTake programs (At (Has_asked s files noted moved)) client.ip added →
         Joint programs (At (Has_asked s' files' (added ++ noted) (client_moves does moved)))
-    client_goes {s = s} {s' = s'} {files = files} {files' = files'} noted moved joint does added is takes =
+    client_goes {s = s} {s' = s'} {files = files} {files' = files'} noted moved joint does so added is takes =
         subst (λ (stages : List (ClientStage G K)). Joint programs (With stages))
         (set_again sn.clients k (Has_asked s files noted moved)
         (Has_asked s' files' (added ++ noted) (client_moves does moved)))
-        (Client_does joint k client is_client (stage_is (Has_asked s files noted moved)) does added is takes)
+        (Client_does joint k client is_client (stage_is (Has_asked s files noted moved)) does so added is takes)
 
     -- the last step of the client has noted the event
     client_steps : {s s' : State} {files files' : Files G K} {noted : List Event} (old_noted : List Event)
-        (run : Conversed client s files) → s.events ≡ old_noted ++ client.before → (waits : List Event) →
-        AllByRecursion IsQuiet waits →
-        (does : ClientDoes inputs outputs client.port s files s' files') →
+        (run : Conversed client s files) → TakesOwn programs.ip programs.others run →
+        s.events ≡ old_noted ++ client.before → (waits : List Event) → AllByRecursion IsQuiet waits →
+        (does : ClientDoes inputs outputs client.port s files s' files') → DoesOwn programs.ip programs.others does →
         Split (waits ++ s.events) s'.events (waits ++ old_noted) noted (e ∷ events_of (suc k) earlier) →
         Joint programs (At (Has_asked s' files' noted (client_moves does (moved_in run))))
-    client_steps {s = s} {s' = s'} {files = files} {files' = files'} {noted = noted} old_noted run is waits quiet does
-        (split ahead x [] others_are own added noted_is seen_is) =
+    client_steps {s = s} {s' = s'} {files = files} {files' = files'} {noted = noted} old_noted run takes_own is waits quiet
+        does so (split ahead x [] others_are own added noted_is seen_is) =
         let h = heads e x (events_of (suc k) earlier) (waits ++ old_noted) seen_is in
         let fits =
         all_fit k client sn earlier is_client others (Has_asked s files old_noted (moved_in run))
-        (Conversed_so run is waits quiet (sym h.1)) in
+        (Conversed_so run takes_own is waits quiet (sym h.1)) in
         let takes =
         can_take (At (Has_asked s files old_noted (moved_in run))) earlier fits (suc k) client.ip at_ip e comes
         ahead x others_are h.0 in
@@ -313,26 +316,28 @@ module _ {S F D G K : Type 0} {stores : StoreMeaning S D} {sources : SourceMeani
         quiet (λ q. q) i) in
         subst (λ (es : List Event). Joint programs (At (Has_asked s' files' es (client_moves does (moved_in run)))))
         (sym (noted_is ∙ sym (append_assoc (ahead ++ x ∷ []) waits old_noted)))
-        (client_goes old_noted (moved_in run) (ih (At (Has_asked s files old_noted (moved_in run))) fits) does
+        (client_goes old_noted (moved_in run) (ih (At (Has_asked s files old_noted (moved_in run))) fits) does so
         ((ahead ++ x ∷ []) ++ waits) (added ∙ sym (append_assoc (ahead ++ x ∷ []) waits s.events)) all)
-    client_steps {s' = s'} {files' = files'} {noted = noted} old_noted run is waits quiet does
+    client_steps {s' = s'} {files' = files'} {noted = noted} old_noted run takes_own is waits quiet does so
         (split ahead x (y ∷ rest) others_are own added noted_is seen_is) =
         let h = heads e x (events_of (suc k) earlier) ((y ∷ rest) ++ (waits ++ old_noted)) seen_is in
         ih (At (Has_asked s' files' noted (client_moves does (moved_in run))))
         (all_fit k client sn earlier is_client others (Has_asked s' files' noted (client_moves does (moved_in run)))
-        (Conversing old_noted run is waits quiet does
+        (Conversing old_noted run takes_own is waits quiet does so
         (step_back ahead x y rest (events_of (suc k) earlier) others_are own added noted_is h.1)))
 
     -- the event is the last that the client has noted, by its last step or before
-    client_last : {s s' : State} {files files' : Files G K} (run : Conversed client s files)
-        (does : ClientDoes inputs outputs client.port s files s' files') → (noted : List Event) →
+    client_last : {s s' : State} {files files' : Files G K} (run : Conversed client s files) →
+        TakesOwn programs.ip programs.others run →
+        (does : ClientDoes inputs outputs client.port s files s' files') → DoesOwn programs.ip programs.others does →
+        (noted : List Event) →
         s'.events ≡ noted ++ client.before →
         noted ≡ e ∷ events_of (suc k) earlier → ((older : List Event) → s.events ≡ older ++ client.before →
         older ≡ e ∷ events_of (suc k) earlier → Joint programs (At (Has_asked s files older (moved_in run)))) →
         Joint programs (At (Has_asked s' files' noted (client_moves does (moved_in run))))
-    client_last {s = s} {s' = s'} run does noted is seen_is rest_of = elim (client_adds does) [
+    client_last {s = s} {s' = s'} run takes_own does so noted is seen_is rest_of = elim (client_adds does) [
       | Rests same ↦
-          client_goes noted (moved_in run) (rest_of noted (sym same ∙ is) seen_is) does [] same
+          client_goes noted (moved_in run) (rest_of noted (sym same ∙ is) seen_is) does so [] same
           (λ port from bytes i. absurd (let l = i.1 in omega arith))
       | Acts x rest waits own quiet added ↦
           let before = client_noted client run in
@@ -341,14 +346,15 @@ module _ {S F D G K : Type 0} {stores : StoreMeaning S D} {sources : SourceMeani
           ap (λ (es : List Event). waits ++ es) before.2 ∙ sym (append_assoc waits old_noted client.before) in
           let noted_is =
           past (x ∷ rest) (waits ++ old_noted) client.before (waits ++ s.events) s'.events noted added old_is is in
-          client_steps old_noted run before.2 waits quiet does
+          client_steps old_noted run takes_own before.2 waits quiet does so
           (split [] x rest tt own added noted_is (sym seen_is ∙ noted_is))
     ]
 
-    client_back : {s : State} {files : Files G K} (run : Conversed client s files) (noted : List Event) →
+    client_back : {s : State} {files : Files G K} (run : Conversed client s files) →
+        TakesOwn programs.ip programs.others run → (noted : List Event) →
         s.events ≡ noted ++ client.before → noted ≡ e ∷ events_of (suc k) earlier →
         Joint programs (At (Has_asked s files noted (moved_in run)))
-    client_back Starts noted is seen_is =
+    client_back Starts takes_own noted is seen_is =
         let request = Sent client.port client.first.position.last_sent_to client.first.position.last_sent in
         let noted_is : noted ≡ request ∷ [] = append_cancel_right noted (request ∷ []) client.before (sym is) in
         let none = (heads e request (events_of (suc k) earlier) [] (sym seen_is ∙ noted_is)).1 in
@@ -360,19 +366,21 @@ module _ {S F D G K : Type 0} {stores : StoreMeaning S D} {sources : SourceMeani
         subst (λ (es : List Event). Joint programs
         (At (Has_asked (begun client.port client.first client.before) client.file es nothing_moved))) (sym noted_is)
         asks
-    client_back (Goes_on run does) noted is seen_is =
-        client_last run does noted is seen_is (λ older i seen. client_back run older i seen)
+    client_back (Goes_on run does) takes_own noted is seen_is =
+        client_last run takes_own.0 does takes_own.1 noted is seen_is
+        (λ older i seen. client_back run takes_own.0 older i seen)
 
     client_any : {stage : ClientStage G K} → ClientFits client (e ∷ events_of (suc k) earlier) stage →
         Joint programs (At stage)
     client_any (Not_yet none) = no_more e (events_of (suc k) earlier) (sym none)
-    client_any (Conversed_so {noted = noted} run is [] quiet seen_is) = client_back run noted is seen_is
-    client_any (Conversed_so {s = s} {files = files} {noted = noted} run is (w ∷ waits) quiet seen_is) =
+    client_any (Conversed_so {noted = noted} run own is [] quiet seen_is) = client_back run own noted is seen_is
+    client_any (Conversed_so {s = s} {files = files} {noted = noted} run own is (w ∷ waits) quiet seen_is) =
         let h = heads w e (waits ++ noted) (events_of (suc k) earlier) seen_is in
         ih (At (Has_asked s files noted (moved_in run)))
         (all_fit k client sn earlier is_client others (Has_asked s files noted (moved_in run))
-        (Conversed_so run is waits quiet.1 h.1))
-    client_any (Conversing old_noted run is waits quiet does s) = client_steps old_noted run is waits quiet does s
+        (Conversed_so run own is waits quiet.1 h.1))
+    client_any (Conversing old_noted run own is waits quiet does so s) =
+        client_steps old_noted run own is waits quiet does so s
 
   -- ---- all programs
 
@@ -434,12 +442,12 @@ module _ {S F D G K : Type 0} {stores : StoreMeaning S D} {sources : SourceMeani
   -- at the prefix of the order no client has sent its request
   client_first : (client : Client) {stage : ClientStage G K} → ClientFits client [] stage → stage ≡ Unasked
   client_first client (Not_yet none) = refl
-  client_first client (Conversed_so run is (w ∷ waits) quiet none) = no_more w (waits ++ _) (sym none)
-  client_first client (Conversed_so {noted = noted} run is [] quiet none) =
+  client_first client (Conversed_so run own is (w ∷ waits) quiet none) = no_more w (waits ++ _) (sym none)
+  client_first client (Conversed_so {noted = noted} run own is [] quiet none) =
       let before = client_noted client run in
       ends_with before.0 before.1 (sym none ∙ append_cancel_right noted (before.0 ++ before.1 ∷ []) client.before
       (sym is ∙ before.2))
-  client_first client (Conversing old_noted run is waits quiet does
+  client_first client (Conversing old_noted run takes_own is waits quiet does so
       (split ahead x rest others own added noted_is none)) = no_more x (rest ++ _) none
 
   all_first : (clients : List (ClientStage G K)) {state : LoopState S F D} {run : ServerRun state}
@@ -460,8 +468,10 @@ module _ {S F D G K : Type 0} {stores : StoreMeaning S D} {sources : SourceMeani
       of_program x.0 x.1 earlier honest.0 (λ old f. joint_to earlier honest.1 old f) sn fits
 
   pub all_joint : (order : List Noted) → IsOrder stores sources inputs outputs programs order →
-      IsHonest stores sources inputs outputs programs order → Joint programs (all_of programs)
-  all_joint order is_order honest =
+      IsHonest stores sources inputs outputs programs order →
+      ((k : ℕ) (client : Client) → slice_get programs.clients k ≡ Some client →
+      TakesOwn programs.ip programs.others client.runs) → Joint programs (all_of programs)
+  all_joint order is_order honest own =
       let stage_of : Client → ClientStage G K =
       λ client. Has_asked client.last client.files client.noted (moved_in client.runs) in
       joint_to order honest (all_of programs) (record {
@@ -471,7 +481,7 @@ module _ {S F D G K : Type 0} {stores : StoreMeaning S D} {sources : SourceMeani
           stage_of client,
           slice_get-map stage_of programs.clients k
               ∙ ap (λ (o : Option Client). option_map stage_of o) is,
-          Conversed_so client.runs client.is_noted [] tt
+          Conversed_so client.runs (own k client is) client.is_noted [] tt
               (sym (is_order.clients k client is)),
         );
       })
@@ -479,4 +489,4 @@ module _ {S F D G K : Type 0} {stores : StoreMeaning S D} {sources : SourceMeani
 pub journals_joint : {S F D G K : Type 0} (stores : StoreMeaning S D) (sources : SourceMeaning F)
     (inputs : SourceMeaning G) (outputs : SinkMeaning K) → JournalsAreJoint stores sources inputs outputs
 journals_joint stores sources inputs outputs programs order joined =
-    all_joint programs order joined.is_order joined.honest
+    all_joint programs order joined.is_order joined.honest joined.own

@@ -32,9 +32,9 @@ use Rattle.tftp_promises.specs.Joint.{WasSentBefore}
 use Rattle.tftp_promises.specs.Modelled.{AreModelled}
 use Rattle.tftp_promises.specs.Moved.{Moved}
 use Rattle.tftp_promises.specs.Openings.{HasClosed, above, moved_at, opened_at, our_ports, place_at}
-use Rattle.tftp_promises.specs.Order.{Programs, IsStranger}
+use Rattle.tftp_promises.specs.Order.{Programs, IsStranger, requests_at}
 use Rattle.tftp_promises.specs.Ports.{IsStored, WasStored, AreDistinct}
-use Rattle.tftp_promises.specs.Programs.{endpoint, requests_at, ClientProgram, client_at}
+use Rattle.tftp_promises.specs.Programs.{endpoint, ClientProgram, client_at}
 use Rattle.tftp_promises.specs.Promises.{joined}
 use Rattle.tftp_promises.specs.Snapshots.{Snapshot, ClientStage, Unasked, Has_asked}
 use Rattle.tftp_promises.proofs.RunPlaces.{places}
@@ -91,7 +91,7 @@ module _ {S F D G K : Type 0} {stores : StoreMeaning S D} {sources : SourceMeani
     By_run : ℕ → How
 
   -- the text of a client that sends, by the run
-  abbrev pub client_text : ℕ → ClientProgram inputs outputs (requests_at stores sources programs.server) → List ℕ
+  abbrev pub client_text : ℕ → ClientProgram inputs outputs (requests_at programs) → List ℕ
   client_text pad client = pad_to pad client.first.role.length (moved_in client.runs).bytes
 
   -- the text of a transfer that sends, at this place
@@ -106,7 +106,7 @@ module _ {S F D G K : Type 0} {stores : StoreMeaning S D} {sources : SourceMeani
     pub text : x.text ≡ wire_text x.state.role.mode x.file
     pub left : outcome_of x.state.position.phase ≡ None → HasLeft inputs source x.left
 
-  pub record ClientGave (pad : ℕ) (client : ClientProgram inputs outputs (requests_at stores sources programs.server))
+  pub record ClientGave (pad : ℕ) (client : ClientProgram inputs outputs (requests_at programs))
       (x : OpenEnd) (moved : Moved) : Type 0 where
     pub sender : is_sender x.state.role.side ≡ true
     pub role : x.state.role ≡ client.first.role
@@ -123,7 +123,7 @@ module _ {S F D G K : Type 0} {stores : StoreMeaning S D} {sources : SourceMeani
     pub took : TookSo x moved
 
   -- what is known of the file of a client's end
-  abbrev pub HasFile : How → ClientProgram inputs outputs (requests_at stores sources programs.server) → OpenEnd →
+  abbrev pub HasFile : How → ClientProgram inputs outputs (requests_at programs) → OpenEnd →
       Files G K → Moved → Type 0
   HasFile (By_models models) client x (Source source) moved = ClientSends (models.file_of client) x source
   HasFile (By_models models) client x (Sink sink) moved = ClientStores x sink
@@ -132,21 +132,21 @@ module _ {S F D G K : Type 0} {stores : StoreMeaning S D} {sources : SourceMeani
 
   -- the end of a client that has asked
   pub record ClientKept (how : How) (views : List EndView) (messages : List Message)
-      (client : ClientProgram inputs outputs (requests_at stores sources programs.server))
+      (client : ClientProgram inputs outputs (requests_at programs))
       (s : State) (files : Files G K) (moved : Moved) : Type 0 where
     pub end : OpenEnd
-    pub address : end.address ≡ client_at inputs outputs (requests_at stores sources programs.server) client
+    pub address : end.address ≡ client_at inputs outputs (requests_at programs) client
     pub state : end.state ≡ s.end
     pub side : is_client end.state.role.side ≡ true
     pub viewed : IsViewed (joined programs) views messages end
     -- its request is among the messages
-    pub asks : IsThere messages (client_at inputs outputs (requests_at stores sources programs.server) client)
-        (requests_at stores sources programs.server) client.first.position.last_sent
+    pub asks : IsThere messages (client_at inputs outputs (requests_at programs) client)
+        (requests_at programs) client.first.position.last_sent
     pub has : HasFile how client end files moved
 
   -- the end of a client, once it has asked
   abbrev pub StageKept : How → List EndView → List Message →
-      ClientProgram inputs outputs (requests_at stores sources programs.server) → ClientStage G K → Type 0
+      ClientProgram inputs outputs (requests_at programs) → ClientStage G K → Type 0
   StageKept how views messages client Unasked = Unit {0}
   StageKept how views messages client (Has_asked s files noted moved) =
       ClientKept how views messages client s files moved
@@ -211,7 +211,7 @@ module _ {S F D G K : Type 0} {stores : StoreMeaning S D} {sources : SourceMeani
       (port : ℕ) (transfer : TransferState F D) (a : Endpoint) : Type 0 where
     pub end : OpenEnd
     pub address : end.address ≡ a
-    pub seat : (a ≡ endpoint programs.server.ip port) ⊎ IsStrangers end.state
+    pub seat : (a ≡ endpoint programs.ip port) ⊎ IsStrangers end.state
     pub state : end.state ≡ transfer.end
     pub path : end.path ≡ transfer.path
     pub request : end.request ≡ transfer.request
@@ -246,11 +246,11 @@ module _ {S F D G K : Type 0} {stores : StoreMeaning S D} {sources : SourceMeani
 
   -- the server
   pub record ServerKept (how : How) (messages : List Message) (snapshot : Snapshot programs) : Type 0 where
-    pub requests : snapshot.state.requests ≡ programs.server.start.requests
+    pub requests : snapshot.state.requests ≡ programs.port
     pub config : snapshot.state.server.config ≡ programs.server.start.server.config
     pub known : IsKnown how snapshot.state
     pub pending : (from : Endpoint) (bytes : List ℕ) → snapshot.state.pending ≡ Some (from, bytes) →
-        HasArrived messages from (requests_at stores sources programs.server) bytes
+        HasArrived messages from (requests_at programs) bytes
     pub once : AreKeyedOnce snapshot.state.server.held
     -- no two transfers that are held are at one place, and none is where one was removed
     pub seats : (p q : ℕ) (t u : TransferState F D) → at p snapshot.state.server.held ≡ Some t →
@@ -267,14 +267,14 @@ module _ {S F D G K : Type 0} {stores : StoreMeaning S D} {sources : SourceMeani
   -- the endpoint of a client that has asked
   pub record IsOfClient (snapshot : Snapshot programs) (a : Endpoint) : Type 0 where
     pub k : ℕ
-    pub client : ClientProgram inputs outputs (requests_at stores sources programs.server)
+    pub client : ClientProgram inputs outputs (requests_at programs)
     pub found : slice_get programs.clients k ≡ Some client
     pub s : State
     pub files : Files G K
     pub noted : List Event
     pub moved : Moved
     pub is_stage : slice_get snapshot.clients k ≡ Some (Has_asked s files noted moved)
-    pub address : a ≡ client_at inputs outputs (requests_at stores sources programs.server) client
+    pub address : a ≡ client_at inputs outputs (requests_at programs) client
 
   -- the place of a transfer, held or removed
   pub record IsOfTransfer (snapshot : Snapshot programs) (a : Endpoint) : Type 0 where
@@ -291,7 +291,7 @@ module _ {S F D G K : Type 0} {stores : StoreMeaning S D} {sources : SourceMeani
     pub sent : (from to : Endpoint) (bytes : List ℕ) → WasSentBefore programs snapshot from to bytes →
         IsThere messages from to bytes ⊎ IsStranger stores sources inputs outputs programs to
     pub server : ServerKept how messages snapshot
-    pub clients : (k : ℕ) (client : ClientProgram inputs outputs (requests_at stores sources programs.server))
+    pub clients : (k : ℕ) (client : ClientProgram inputs outputs (requests_at programs))
         (stage : ClientStage G K) →
         slice_get programs.clients k ≡ Some client → slice_get snapshot.clients k ≡ Some stage →
         StageKept how views messages client stage
@@ -310,18 +310,20 @@ module _ {S F D G K : Type 0} {stores : StoreMeaning S D} {sources : SourceMeani
   -- what the steps need: ports of the clients' transfers so far that no two ends have, below the places of others, and
   -- that what has moved so far begins what moved in all
   pub record IsFreshBy (snapshot : Snapshot programs) : Type 0 where
-    pub server : AreDistinct (programs.server.start.requests ∷ our_ports programs snapshot.run)
+    pub server : AreDistinct (programs.port ∷ our_ports programs snapshot.run)
     pub below : (port : ℕ) → Contains (our_ports programs snapshot.run) port → port < above programs
-    pub clients : (j k : ℕ) (x y : ClientProgram inputs outputs (requests_at stores sources programs.server)) →
+    pub clients : (j k : ℕ) (x y : ClientProgram inputs outputs (requests_at programs)) →
         slice_get programs.clients j ≡ Some x → slice_get programs.clients k ≡ Some y →
-        client_at inputs outputs (requests_at stores sources programs.server) x ≡ client_at inputs outputs
-        (requests_at stores sources programs.server) y → j ≡ k
-    pub apart : (k port : ℕ) (x : ClientProgram inputs outputs (requests_at stores sources programs.server)) →
+        client_at inputs outputs (requests_at programs) x ≡ client_at inputs outputs
+        (requests_at programs) y → j ≡ k
+    pub apart : (k port : ℕ) (x : ClientProgram inputs outputs (requests_at programs)) →
         slice_get programs.clients k ≡ Some x →
-        Contains (programs.server.start.requests ∷ our_ports programs snapshot.run) port →
-        client_at inputs outputs (requests_at stores sources programs.server) x ≢ endpoint programs.server.ip port
+        Contains (programs.port ∷ our_ports programs snapshot.run) port →
+        client_at inputs outputs (requests_at programs) x ≢ endpoint programs.ip port
+    pub others : (port : ℕ) → Contains (programs.port ∷ our_ports programs snapshot.run) port →
+        Contains programs.others port → ⊥
     pub told : (a : Endpoint) → Contains (places programs snapshot.run) a → IsToldAt snapshot a
-    pub gave : (k : ℕ) (client : ClientProgram inputs outputs (requests_at stores sources programs.server)) (s : State)
+    pub gave : (k : ℕ) (client : ClientProgram inputs outputs (requests_at programs)) (s : State)
         (files : Files G K) (noted : List Event) (moved : Moved) →
         slice_get programs.clients k ≡ Some client →
         slice_get snapshot.clients k ≡ Some (Has_asked s files noted moved) →

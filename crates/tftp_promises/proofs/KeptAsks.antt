@@ -33,8 +33,8 @@ use Rattle.tftp_rules.proofs.SaidLemmas.{spells_own}
 use Rattle.tftp_promises.specs.ClientRuns.{moved_in}
 use Rattle.tftp_promises.specs.Modelled.{AreModelled, HasWhole}
 use Rattle.tftp_promises.specs.Moved.{Moved, nothing_moved}
-use Rattle.tftp_promises.specs.Order.{Programs}
-use Rattle.tftp_promises.specs.Programs.{requests_at, ClientProgram, client_at, endpoint, ClientOpens, To_read}
+use Rattle.tftp_promises.specs.Order.{Programs, requests_at}
+use Rattle.tftp_promises.specs.Programs.{ClientProgram, client_at, endpoint, ClientOpens, To_read}
 use Rattle.tftp_promises.specs.Programs.{To_write}
 use Rattle.tftp_promises.specs.Programs.{OpensToRead, OpensToWrite}
 use Rattle.tftp_promises.specs.Promises.{joined}
@@ -65,10 +65,10 @@ opening a first bytes text =
 module _ {S F D G K : Type 0} {stores : StoreMeaning S D} {sources : SourceMeaning F} {inputs : SourceMeaning G}
     {outputs : SinkMeaning K}
     (programs : Programs stores sources inputs outputs) (how : How programs) (k : ℕ)
-    (client : ClientProgram inputs outputs (requests_at stores sources programs.server))
+    (client : ClientProgram inputs outputs (requests_at programs))
     (found : slice_get programs.clients k ≡ Some client) where
   abbrev to : Endpoint
-  to = requests_at stores sources programs.server
+  to = requests_at programs
 
   abbrev here : Endpoint
   here = client_at inputs outputs to client
@@ -212,11 +212,11 @@ module _ {S F D G K : Type 0} {stores : StoreMeaning S D} {sources : SourceMeani
     {outputs : SinkMeaning K}
     (programs : Programs stores sources inputs outputs) (how : How programs) (old : Snapshot programs)
     (kept : IsKept programs how old) (fresh : IsFreshBy programs old)
-    (k : ℕ) (client : ClientProgram inputs outputs (requests_at stores sources programs.server))
+    (k : ℕ) (client : ClientProgram inputs outputs (requests_at programs))
     (found : slice_get programs.clients k ≡ Some client)
     (unasked : slice_get old.clients k ≡ Some Unasked) where
   abbrev a : Endpoint
-  a = client_at inputs outputs (requests_at stores sources programs.server) client
+  a = client_at inputs outputs (requests_at programs) client
 
   -- no end is there
   pub nobody_there : NoneAt kept.views a

@@ -20,8 +20,8 @@ use Rattle.tftp_rules.specs.ViewSafety.{IsAmong}
 use Rattle.tftp_rules.proofs.Indices.{slice_get-set_cases, slice_get-set_same, slice_get-set_other}
 use Rattle.tftp_promises.specs.Joint.{WasSentBefore}
 use Rattle.tftp_promises.specs.Moved.{Moved}
-use Rattle.tftp_promises.specs.Order.{Programs, IsStranger}
-use Rattle.tftp_promises.specs.Programs.{endpoint, requests_at, ClientProgram, client_at}
+use Rattle.tftp_promises.specs.Order.{Programs, IsStranger, requests_at}
+use Rattle.tftp_promises.specs.Programs.{endpoint, ClientProgram, client_at}
 use Rattle.tftp_promises.specs.Promises.{joined}
 use Rattle.tftp_promises.specs.Snapshots.{Snapshot, ClientStage, Unasked, Has_asked, noted_by, client_did}
 use Rattle.tftp_promises.proofs.Kept.{How, By_models, By_run, IsOpened, IsThere, IsViewed, HasStored, HasTransferBy}
@@ -34,11 +34,11 @@ module _ {S F D G K : Type 0} {stores : StoreMeaning S D} {sources : SourceMeani
     {outputs : SinkMeaning K}
     (programs : Programs stores sources inputs outputs) where
   abbrev Client : Type 0
-  Client = ClientProgram inputs outputs (requests_at stores sources programs.server)
+  Client = ClientProgram inputs outputs (requests_at programs)
 
   -- its endpoint
   abbrev there : Client → Endpoint
-  there client = client_at inputs outputs (requests_at stores sources programs.server) client
+  there client = client_at inputs outputs (requests_at programs) client
 
   -- what a transfer stores does not depend on the clients
   opened_still : (old : Snapshot programs) (k : ℕ) (stage : ClientStage G K) (x : OpenEnd) → IsOpened programs old x →
@@ -147,7 +147,7 @@ module _ {S F D G K : Type 0} {stores : StoreMeaning S D} {sources : SourceMeani
       side = h.side;
       viewed = turns.others h.end (λ same. n (fresh.clients j k c client at found (sym (same ∙ h.address)))) h.viewed;
       asks =
-          there_still kept.messages turns.said_now (there c) (requests_at stores sources programs.server)
+          there_still kept.messages turns.said_now (there c) (requests_at programs)
           c.first.position.last_sent h.asks;
       has = h.has;
     }
@@ -176,7 +176,7 @@ module _ {S F D G K : Type 0} {stores : StoreMeaning S D} {sources : SourceMeani
       config = kept.server.config;
       known = kept.server.known;
       pending =
-          λ from bytes e. arrived_still kept.messages turns.said_now from (requests_at stores sources programs.server)
+          λ from bytes e. arrived_still kept.messages turns.said_now from (requests_at programs)
           bytes (kept.server.pending from bytes e);
       once = kept.server.once;
       seats = kept.server.seats;

@@ -13,8 +13,7 @@ use Rattle.tftp_rules.specs.Machine.{Endpoint, Message}
 use Rattle.tftp_rules.specs.Shows.{IsShown}
 use Rattle.tftp_rules.proofs.Entries.{lookup-remove_other, numbers}
 use Rattle.tftp_promises.specs.Openings.{HasClosed, place_at}
-use Rattle.tftp_promises.specs.Order.{Programs}
-use Rattle.tftp_promises.specs.Programs.{requests_at}
+use Rattle.tftp_promises.specs.Order.{Programs, requests_at}
 use Rattle.tftp_promises.specs.Promises.{joined}
 use Rattle.tftp_promises.specs.Snapshots.{Snapshot, server_did}
 use Rattle.tftp_promises.proofs.Identifiers.{at-without_cases, once-without}
@@ -128,7 +127,7 @@ module _ {S F D G K : Type 0} {stores : StoreMeaning S D} {sources : SourceMeani
         known_if programs how old.state new (ap (λ (s : ServerState S F D). stores.stored s.store) server_is)
         kept.server.known;
     pending = λ from bytes e.
-        arrived_still kept.messages [] from (requests_at stores sources programs.server) bytes
+        arrived_still kept.messages [] from (requests_at programs) bytes
         (kept.server.pending from bytes (ap (λ (s : LoopState S F D). s.pending) (sym closes.is) ∙ e));
     once =
         subst (λ (hs : List (ℕ × TransferState F D)). AreKeyedOnce hs) (sym held)

@@ -22,7 +22,7 @@ use Rattle.tftp_client.specs.Converses.MayElapse.{Stays, Elapses}
 use Rattle.tftp_rules.specs.EndShown.{Stands}
 use Rattle.tftp_rules.specs.EndKept.{IsFromServer}
 use Rattle.tftp_rules.specs.Machine.{Endpoint}
-use Rattle.tftp_rules.specs.OpenEnds.{OpenEnd, files_of, open_view}
+use Rattle.tftp_rules.specs.OpenEnds.{OpenEnd, files_of, open_view, peer_of}
 use Rattle.tftp_rules.proofs.Indices.{slice_get-set_same}
 use Rattle.tftp_rules.proofs.PhaseMoves.{same_ips}
 use Rattle.tftp_rules.proofs.EndTurns.{datagram_goes, timeout_goes}
@@ -30,8 +30,9 @@ use Rattle.tftp_promises.specs.ClientRuns.{ClientDoes, Receives_one, Reads_clock
 use Rattle.tftp_promises.specs.ClientRuns.{client_moves, line_printed, moved_in}
 use Rattle.tftp_promises.specs.Joint.{CanTake}
 use Rattle.tftp_promises.specs.Moved.{Moved, handling_moves, step_moves}
-use Rattle.tftp_promises.specs.Order.{Programs}
-use Rattle.tftp_promises.specs.Programs.{requests_at, ClientProgram, client_at}
+use Rattle.tftp_promises.specs.Order.{Programs, requests_at}
+use Rattle.tftp_promises.specs.Others.{DoesOwn, HandlesOwn, IsOtherAnswer}
+use Rattle.tftp_promises.specs.Programs.{ClientProgram, client_at}
 use Rattle.tftp_promises.specs.Promises.{joined}
 use Rattle.tftp_promises.specs.Snapshots.{Snapshot, Has_asked, client_did}
 use Rattle.tftp_promises.proofs.Kept.{How, HasArrived, IsKept, IsFreshBy}
@@ -53,12 +54,12 @@ module _ {S F D G K : Type 0} {stores : StoreMeaning S D} {sources : SourceMeani
     {outputs : SinkMeaning K}
     (programs : Programs stores sources inputs outputs) {how : How programs} (old : Snapshot programs)
     (kept : IsKept programs how old) (fresh : IsFreshBy programs old)
-    (k : ℕ) (client : ClientProgram inputs outputs (requests_at stores sources programs.server))
+    (k : ℕ) (client : ClientProgram inputs outputs (requests_at programs))
     (found : slice_get programs.clients k ≡ Some client)
     (s : State) (files : Files G K) (noted : List Event) (moved : Moved)
     (is_stage : slice_get old.clients k ≡ Some (Has_asked s files noted moved)) where
   abbrev here : Endpoint
-  here = client_at inputs outputs (requests_at stores sources programs.server) client
+  here = client_at inputs outputs (requests_at programs) client
 
   abbrev x : OpenEnd
   x = (own programs old kept fresh k client found s files noted moved is_stage).end
@@ -103,10 +104,14 @@ module _ {S F D G K : Type 0} {stores : StoreMeaning S D} {sources : SourceMeani
     receipt_silent = unsent_silent receipt (tt, (tt, (tt, tt)))
 
     -- an answer to an end without a peer comes from the server
-    serves : HasArrived kept.messages from x.address bytes → IsFromServer (joined programs) x from bytes
-    serves there no_peer same p spells answer =
+    serves : HasArrived kept.messages from x.address bytes →
+        (peer_of x.state.position.phase ≡ None → IsOtherAnswer programs.ip programs.others from bytes → ⊥) →
+        IsFromServer (joined programs) x from bytes
+    serves there takes_own no_peer same p spells answer =
+        let near : from.ip ≡ programs.ip = sym (same_ips (joined programs).request_port from same) in
         answer_from_server (joined programs) kept.views kept.messages kept.shown from x.address
-        (near_server programs from (sym (same_ips (joined programs).request_port from same)))
+        (near_server programs from near (λ other. takes_own no_peer
+        (record { near = near; other = other; packet = p; spells = spells; answer = answer })))
         (ap (joined programs).host_of (own programs old kept fresh k client found s files noted moved is_stage).address
         ∙ clients_there programs k client found)
         p answer (there p spells)
@@ -114,12 +119,13 @@ module _ {S F D G K : Type 0} {stores : StoreMeaning S D} {sources : SourceMeani
     -- the end answers it
     pub answers : HasArrived kept.messages from here bytes → (turn : Turn) (files' : Files G K) (added : List Event) →
         IsOpen s.end → (step : DatagramStep inputs outputs from bytes s.end files turn files') →
+        (peer_of s.end.position.phase ≡ None → IsOtherAnswer programs.ip programs.others from bytes → ⊥) →
         IsPrefixOf (step_moves inputs outputs from bytes s.end files turn files' step moved).bytes
         (moved_in client.runs).bytes →
         answered client.port turn.reply (receipt ++ s.events) ≡ added ++ s.events →
         Then_keeps (turned client.port turn (received client.port from bytes time s)) files' added
         (step_moves inputs outputs from bytes s.end files turn files' step moved)
-    answers arrived turn files' added still step told events =
+    answers arrived turn files' added still step takes_own told events =
         let o = own programs old kept fresh k client found s files noted moved is_stage in
         let added_is = added_by client.port turn.reply receipt s.events added events in
         let there : HasArrived kept.messages from x.address bytes =
@@ -143,7 +149,8 @@ module _ {S F D G K : Type 0} {stores : StoreMeaning S D} {sources : SourceMeani
           still = ap is_some (still_open still);
           last_sent = o.viewed.last_sent;
         })
-        there (serves there) over.steps in
+        there (serves there (subst (λ (e : EndState). peer_of e.position.phase ≡ None →
+        IsOtherAnswer programs.ip programs.others from bytes → ⊥) (sym o.state) takes_own)) over.steps in
         turn_keeps programs old kept fresh k client found s files noted moved is_stage turn over.content goes
         (turned client.port turn (received client.port from bytes time s)) refl files'
         (step_moves inputs outputs from bytes s.end files turn files' step moved) over.has
@@ -239,19 +246,19 @@ module _ {S F D G K : Type 0} {stores : StoreMeaning S D} {sources : SourceMeani
     {outputs : SinkMeaning K}
     (programs : Programs stores sources inputs outputs) {how : How programs} (old : Snapshot programs)
     (kept : IsKept programs how old) (fresh : IsFreshBy programs old)
-    (k : ℕ) (client : ClientProgram inputs outputs (requests_at stores sources programs.server))
+    (k : ℕ) (client : ClientProgram inputs outputs (requests_at programs))
     (found : slice_get programs.clients k ≡ Some client)
     (s : State) (files : Files G K) (noted : List Event) (moved : Moved)
     (is_stage : slice_get old.clients k ≡ Some (Has_asked s files noted moved)) where
   -- a datagram is handled once it is among the messages
   handles : (from : Endpoint) (bytes : List ℕ) (time : ℕ) (next : State) (files' : Files G K) (added : List Event)
       (handled : HandlesReceived inputs outputs client.port from bytes (received client.port from bytes time s) files
-      next files') →
+      next files') → HandlesOwn programs.ip programs.others handled →
       IsPrefixOf (handling_moves handled moved).bytes (moved_in client.runs).bytes →
       next.events ≡ added ++ s.events → CanTake programs old client.ip added →
       IsKept programs how (client_did programs old k
       (Has_asked next files' (added ++ noted) (handling_moves handled moved)))
-  handles from bytes time next files' added (Answers {turn} still step) told events take =
+  handles from bytes time next files' added (Answers {turn} still step) takes_own told events take =
       let receipt = Watched time ∷ Received client.port from bytes ∷ Quiet (Slept (wait_at s)) ∷ [] in
       let receipt_in : Contains receipt (Received client.port from bytes) =
       Contains-append_left (Watched time ∷ Received client.port from bytes ∷ []) (Quiet (Slept (wait_at s)) ∷ [])
@@ -261,34 +268,34 @@ module _ {S F D G K : Type 0} {stores : StoreMeaning S D} {sources : SourceMeani
       take client.port from bytes (subst (λ (es : List Event). Contains es (Received client.port from bytes))
       added_is (answered_has client.port turn.reply receipt (Received client.port from bytes) receipt_in)) in
       let a =
-      arrives programs old kept from (client_at inputs outputs (requests_at stores sources programs.server) client)
+      arrives programs old kept from (client_at inputs outputs (requests_at programs) client)
       bytes
-      (stranger_no_client programs (client_at inputs outputs (requests_at stores sources programs.server) client) k
+      (stranger_no_client programs (client_at inputs outputs (requests_at programs) client) k
       client found refl) came in
       answers programs old a.now fresh k client found s files noted moved is_stage from bytes time a.come turn files'
-      added still step told events
-  handles from bytes time next files' added (Loses lost keeps) told events take =
+      added still step takes_own told events
+  handles from bytes time next files' added (Loses lost keeps) takes_own told events take =
       loses programs old kept fresh k client found s files noted moved is_stage from bytes time files' added keeps
       events
 
   pub does_keeps : (s' : State) (files' : Files G K) (added : List Event)
-      (does : ClientDoes inputs outputs client.port s files s' files') →
+      (does : ClientDoes inputs outputs client.port s files s' files') → DoesOwn programs.ip programs.others does →
       IsFreshBy programs (client_did programs old k (Has_asked s' files' (added ++ noted) (client_moves does moved))) →
       s'.events ≡ added ++ s.events →
       CanTake programs old client.ip added →
       IsKept programs how (client_did programs old k
       (Has_asked s' files' (added ++ noted) (client_moves does moved)))
-  does_keeps s' files' added (Receives_one {from = from} {bytes = bytes} {time = time} may later handled) now events
-      take =
-      handles from bytes time s' files' added handled (told_now programs old kept fresh k client found s files noted
+  does_keeps s' files' added (Receives_one {from = from} {bytes = bytes} {time = time} may later handled) takes_own now
+      events take =
+      handles from bytes time s' files' added handled takes_own (told_now programs old kept fresh k client found s files noted
       moved is_stage s' files' (added ++ noted) (handling_moves handled moved) now) events take
-  does_keeps s' files' added (Reads_clock progress {time} later) now events take =
+  does_keeps s' files' added (Reads_clock progress {time} later) takes_own now events take =
       reads programs old kept fresh k client found s files noted moved is_stage progress time added events
-  does_keeps s' files' added (Waits_until {event = event} {time = time} may which later) now events take =
+  does_keeps s' files' added (Waits_until {event = event} {time = time} may which later) takes_own now events take =
       waits programs old kept fresh k client found s files noted moved is_stage event time added events
-  does_keeps s' files' added (Times_out may) now events take =
+  does_keeps s' files' added (Times_out may) takes_own now events take =
       elapses programs old kept fresh k client found s files noted moved is_stage s' added may events
-  does_keeps s' files' added (File_works work) now events take =
+  does_keeps s' files' added (File_works work) takes_own now events take =
       works programs old kept fresh k client found s files noted moved is_stage files' added work events
-  does_keeps s' files' added (Prints_line line) now events take =
+  does_keeps s' files' added (Prints_line line) takes_own now events take =
       prints programs old kept fresh k client found s files noted moved is_stage line added events

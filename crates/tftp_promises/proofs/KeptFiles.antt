@@ -27,8 +27,8 @@ use Rattle.tftp_rules.proofs.KnownSteps.{step_known}
 use Rattle.tftp_promises.specs.ClientRuns.{moved_in}
 use Rattle.tftp_promises.specs.Modelled.{AreModelled}
 use Rattle.tftp_promises.specs.Moved.{Moved, step_moves}
-use Rattle.tftp_promises.specs.Order.{Programs}
-use Rattle.tftp_promises.specs.Programs.{ClientProgram, requests_at}
+use Rattle.tftp_promises.specs.Order.{Programs, requests_at}
+use Rattle.tftp_promises.specs.Programs.{ClientProgram}
 use Rattle.tftp_promises.proofs.Kept.{How, By_models, By_run, HasFile}
 use Rattle.tftp_promises.proofs.MovedSends.{source_moves}
 use Rattle.tftp_promises.proofs.MovedStores.{sink_moves}
@@ -37,7 +37,7 @@ use Rattle.tftp_promises.proofs.Texts.{pad_to}
 -- a step over the content of a client's file, and what is known of the file after it
 pub record StepsOver {S F D G K : Type 0} {stores : StoreMeaning S D} {sources : SourceMeaning F}
     {inputs : SourceMeaning G} {outputs : SinkMeaning K} (programs : Programs stores sources inputs outputs)
-    (how : How programs) (client : ClientProgram inputs outputs (requests_at stores sources programs.server))
+    (how : How programs) (client : ClientProgram inputs outputs (requests_at programs))
     (x : OpenEnd) (from : Endpoint) (bytes : List ℕ) (turn : Turn) (files' : Files G K) (moved : Moved) : Type
     0 where
   pub content : Files (List ℕ) Holding
@@ -83,7 +83,7 @@ sink_is x receiver = ap (λ (b : Bool). if b then Source x.left else Sink (holdi
 module _ {S F D G K : Type 0} {stores : StoreMeaning S D} {sources : SourceMeaning F} {inputs : SourceMeaning G}
     {outputs : SinkMeaning K}
     (programs : Programs stores sources inputs outputs)
-    (client : ClientProgram inputs outputs (requests_at stores sources programs.server)) (x : OpenEnd) where
+    (client : ClientProgram inputs outputs (requests_at programs)) (x : OpenEnd) where
   abbrev Has : How programs → OpenEnd → Files G K → Moved → Type 0
   Has how y files moved = HasFile programs how client y files moved
 

@@ -21,9 +21,9 @@ use Rattle.tftp_rules.proofs.Indices.{slice_get-set_same, slice_get-set_other}
 use Rattle.tftp_promises.specs.ClientRuns.{ClientDoes, client_moves, moved_in}
 use Rattle.tftp_promises.specs.Moved.{Moved, or_before}
 use Rattle.tftp_promises.specs.Openings.{ArePortsFresh, does_move, moved_at, opened_at, our_ports, ours_by}
-use Rattle.tftp_promises.specs.Order.{Programs}
+use Rattle.tftp_promises.specs.Order.{Programs, requests_at}
 use Rattle.tftp_promises.specs.Ports.{AreDistinct}
-use Rattle.tftp_promises.specs.Programs.{ClientProgram, requests_at}
+use Rattle.tftp_promises.specs.Programs.{ClientProgram}
 use Rattle.tftp_promises.specs.Snapshots.{Snapshot, ClientStage, Unasked, Has_asked, server_did, client_did, all_of}
 use Rattle.tftp_promises.proofs.RunPlaces.{placed_by, places}
 use Rattle.tftp_promises.proofs.Kept.{IsFreshBy, IsToldAt}
@@ -87,18 +87,20 @@ module _ {S F D G K : Type 0} {stores : StoreMeaning S D} {sources : SourceMeani
       IsFreshBy programs (server_did programs old does added) → IsFreshBy programs old
   fresh_before_server old new does added h = record {
     server =
-        distinct_after programs.server.start.requests (ours_by programs does) (our_ports programs old.run) h.server;
+        distinct_after programs.port (ours_by programs does) (our_ports programs old.run) h.server;
     below = λ port i. h.below port (Contains-append_right (ours_by programs does) (our_ports programs old.run) port i);
     clients = h.clients;
     apart =
         λ k port x found i. h.apart k port x found
-        (contains_after programs.server.start.requests (ours_by programs does) (our_ports programs old.run) port i);
+        (contains_after programs.port (ours_by programs does) (our_ports programs old.run) port i);
+    others =
+        λ port i. h.others port (contains_after programs.port (ours_by programs does) (our_ports programs old.run) port i);
     told = λ a c. told_before old new does added h a c;
     gave = h.gave;
   }
 
   abbrev Client : Type 0
-  Client = ClientProgram inputs outputs (requests_at stores sources programs.server)
+  Client = ClientProgram inputs outputs (requests_at programs)
 
   -- what a client had moved before a step of it begins what it has moved
   abbrev pub HadMoved : Snapshot programs → ℕ → ClientStage G K → Type 0
@@ -116,6 +118,7 @@ module _ {S F D G K : Type 0} {stores : StoreMeaning S D} {sources : SourceMeani
     below = h.below;
     clients = h.clients;
     apart = h.apart;
+    others = h.others;
     told = λ a c. let t = h.told a c in record { bytes = t.bytes; opened = t.opened };
     gave = λ j client s files noted moved found at. elim (cases_eq j k) [
       | inl same ↦
@@ -174,6 +177,7 @@ module _ {S F D G K : Type 0} {stores : StoreMeaning S D} {sources : SourceMeani
     below = λ port i. below_above programs port i;
     clients = fresh.clients;
     apart = fresh.apart;
+    others = fresh.others;
     told = λ a c. record { bytes = begins_itself (moved_at programs a programs.server.run).bytes; opened = refl };
     gave = λ k client s files noted moved found at.
         let last : Client → ClientStage G K = λ c. Has_asked c.last c.files c.noted (moved_in c.runs) in

@@ -179,9 +179,9 @@ module _ {S F D G K : Type 0} {stores : StoreMeaning S D} {sources : SourceMeani
 
       -- it stands at its port, or is a stranger's
       seat_by : (b : Bool) → is_ours programs answers.from ≡ b →
-          (a ≡ endpoint programs.server.ip tid) ⊎ IsStrangers programs x.state
+          (a ≡ endpoint programs.ip tid) ⊎ IsStrangers programs x.state
       seat_by true e =
-          inl (ap (λ (b : Bool). endpoint programs.server.ip (if b then tid else above programs + count)) e)
+          inl (ap (λ (b : Bool). endpoint programs.ip (if b then tid else above programs + count)) e)
       seat_by false e =
           let strange = strange_if programs answers.from e in
           inr (record {
@@ -192,11 +192,11 @@ module _ {S F D G K : Type 0} {stores : StoreMeaning S D} {sources : SourceMeani
                 (sym opens.last_sent_to) strange;
           })
 
-      seat : (a ≡ endpoint programs.server.ip tid) ⊎ IsStrangers programs x.state
+      seat : (a ≡ endpoint programs.ip tid) ⊎ IsStrangers programs x.state
       seat = seat_by (is_ours programs answers.from) refl
 
-      first_by : (a ≡ endpoint programs.server.ip tid) ⊎ IsStrangers programs x.state →
-          IsThere messages (endpoint programs.server.ip tid) answers.from x.state.position.last_sent
+      first_by : (a ≡ endpoint programs.ip tid) ⊎ IsStrangers programs x.state →
+          IsThere messages (endpoint programs.ip tid) answers.from x.state.position.last_sent
           ⊎ IsStranger stores sources inputs outputs programs answers.from
       first_by (inl here) =
           inl (subst (λ (e : Endpoint). IsThere messages e answers.from x.state.position.last_sent) here says_first)

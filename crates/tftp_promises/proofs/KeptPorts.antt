@@ -19,8 +19,8 @@ use Rattle.tftp_rules.specs.ViewSafety.{IsAmong}
 use Rattle.tftp_rules.proofs.Entries.{lookup-set_other, lookup-set_same, numbers}
 use Rattle.tftp_rules.proofs.Indices.{slice_get-set_same}
 use Rattle.tftp_promises.specs.Openings.{HasClosed, place_at}
-use Rattle.tftp_promises.specs.Order.{Programs, IsStranger}
-use Rattle.tftp_promises.specs.Programs.{endpoint, requests_at}
+use Rattle.tftp_promises.specs.Order.{Programs, IsStranger, requests_at}
+use Rattle.tftp_promises.specs.Programs.{endpoint}
 use Rattle.tftp_promises.specs.Promises.{joined}
 use Rattle.tftp_promises.specs.Snapshots.{Snapshot, server_did}
 use Rattle.tftp_promises.proofs.RunPlaces.{places}
@@ -45,12 +45,12 @@ module _ {S F D G K : Type 0} {stores : StoreMeaning S D} {sources : SourceMeani
     pub held : new.server.held ≡ with_next port next old.state.server.held
     pub said_now : List Message
     pub sends : (own : ℕ) (to : Endpoint) (bytes : List ℕ) → Contains added (Sent own to bytes) →
-        IsThere (kept.messages ++ said_now) (endpoint programs.server.ip own) to bytes
+        IsThere (kept.messages ++ said_now) (endpoint programs.ip own) to bytes
         ⊎ IsStranger stores sources inputs outputs programs to
     -- its end
     pub end : OpenEnd
     pub address : end.address ≡ place_at programs port old.run
-    pub seat : (place_at programs port old.run ≡ endpoint programs.server.ip port) ⊎ IsStrangers programs end.state
+    pub seat : (place_at programs port old.run ≡ endpoint programs.ip port) ⊎ IsStrangers programs end.state
     pub state : end.state ≡ next.end
     pub path : end.path ≡ next.path
     pub request : end.request ≡ next.request
@@ -199,7 +199,7 @@ module _ {S F D G K : Type 0} {stores : StoreMeaning S D} {sources : SourceMeani
       config = stays.config ∙ kept.server.config;
       known = stays.known;
       pending =
-          λ from bytes e. arrived_still kept.messages turns.said_now from (requests_at stores sources programs.server)
+          λ from bytes e. arrived_still kept.messages turns.said_now from (requests_at programs)
           bytes (stays.pending from bytes e);
       once =
           subst (λ (held : List (ℕ × TransferState F D)). AreKeyedOnce held) (sym turns.held)

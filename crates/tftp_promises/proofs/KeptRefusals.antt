@@ -21,9 +21,9 @@ use Rattle.tftp_rules.proofs.Actions.{says_error}
 use Rattle.tftp_rules.proofs.EndMoves.{valid_error}
 use Rattle.tftp_rules.proofs.SaidLemmas.{spells_own}
 use Rattle.tftp_promises.specs.Openings.{HasClosed, place}
-use Rattle.tftp_promises.specs.Order.{Programs, IsStranger}
+use Rattle.tftp_promises.specs.Order.{Programs, IsStranger, requests_at}
 use Rattle.tftp_promises.specs.Ports.{opened_ports}
-use Rattle.tftp_promises.specs.Programs.{endpoint, requests_at}
+use Rattle.tftp_promises.specs.Programs.{endpoint}
 use Rattle.tftp_promises.specs.Promises.{joined}
 use Rattle.tftp_promises.specs.Snapshots.{Snapshot, server_did}
 use Rattle.tftp_promises.proofs.RunPlaces.{placed_by}
@@ -69,16 +69,16 @@ module _ {S F D G K : Type 0} {stores : StoreMeaning S D} {sources : SourceMeani
 
   pub one_sent : (messages : List Message) (own : ℕ) (reply : Reply) (added : List Event) →
       Sent own reply.to reply.bytes ∷ [] ≡ added →
-      SentOf messages (endpoint programs.server.ip own) reply.to reply.bytes →
+      SentOf messages (endpoint programs.ip own) reply.to reply.bytes →
       (port : ℕ) (to : Endpoint) (bytes : List ℕ) → Contains added (Sent port to bytes) →
-      SentOf messages (endpoint programs.server.ip port) to bytes
+      SentOf messages (endpoint programs.ip port) to bytes
   one_sent messages own reply added is there port to bytes c =
       let s =
       answered_sends own (Some reply) [] none_silent port to bytes
       (subst (λ (es : List Event). Contains es (Sent port to bytes)) (sym is) c) in
-      subst (λ (r : Reply). SentOf messages (endpoint programs.server.ip port) r.to r.bytes)
+      subst (λ (r : Reply). SentOf messages (endpoint programs.ip port) r.to r.bytes)
       (same_Some reply (record { to = to; bytes = bytes }) s.1)
-      (subst (λ (n : ℕ). SentOf messages (endpoint programs.server.ip n) reply.to reply.bytes) s.0 there)
+      (subst (λ (n : ℕ). SentOf messages (endpoint programs.ip n) reply.to reply.bytes) s.0 there)
 
   -- if no transfer opens and the store's content stays, all else is as it was
   stays_so : option_to_list answers.left.opened.tid ≡ [] → new.requests ≡ old.state.requests →
@@ -126,16 +126,16 @@ module _ {S F D G K : Type 0} {stores : StoreMeaning S D} {sources : SourceMeani
       let own = old.state.requests in
       let from = answers.from in
       let bytes = error_bytes r.reply in
-      let a = requests_at stores sources programs.server in
+      let a = requests_at programs in
       let m : Message = message a from Error in
       let one : Sent own from bytes ∷ [] ≡ added =
       append_cancel_right (Sent own from bytes ∷ []) added old.state.events
       (sym (ap (λ (s : LoopState S F D). s.events) e) ∙ noted) in
-      let said : IsThere (kept.messages ++ m ∷ []) (endpoint programs.server.ip programs.server.start.requests) from
+      let said : IsThere (kept.messages ++ m ∷ []) (endpoint programs.ip programs.port) from
       bytes =
       (error_packet r.reply, spells_own (error_packet r.reply) (valid_error r.reply), Contains-push kept.messages m) in
-      let there : IsThere (kept.messages ++ m ∷ []) (endpoint programs.server.ip own) from bytes =
-      subst (λ (n : ℕ). IsThere (kept.messages ++ m ∷ []) (endpoint programs.server.ip n) from bytes)
+      let there : IsThere (kept.messages ++ m ∷ []) (endpoint programs.ip own) from bytes =
+      subst (λ (n : ℕ). IsThere (kept.messages ++ m ∷ []) (endpoint programs.ip n) from bytes)
       (sym kept.server.requests) said in
       let stays =
       stays_so (ap (λ (l : Left S F D). option_to_list l.opened.tid) (left_is (Error_reply r.reply r.store) r.is))

@@ -26,7 +26,7 @@ module _ {S F D G K : Type 0} {stores : StoreMeaning S D} {sources : SourceMeani
       (old : Snapshot programs) (new : LoopState S F D) (does : Does stores sources old.state new)
       (added : List Event) → IsKept programs how old →
       IsFreshBy programs (server_did programs old does added) → new.events ≡ added ++ old.state.events →
-      CanTake programs old programs.server.ip added →
+      CanTake programs old programs.ip added →
       IsKept programs how (server_did programs old does added)
 
   module _ (programs : Programs stores sources inputs outputs) (how : How programs)
@@ -43,13 +43,13 @@ module _ {S F D G K : Type 0} {stores : StoreMeaning S D} {sources : SourceMeani
         (unasked_had programs old k (just_asked client) unasked) fresh in
         asks_keeps programs how old (joint_kept old joint before) before k client found unasked
     joint_kept snapshot (Client_does {old} {s} {s'} {files} {files'} {noted} {moved} joint k client found is_stage does
-        added events take) fresh =
+        own added events take) fresh =
         let had = asked_had programs old k client s s' files files' noted moved is_stage does added in
         let before =
         fresh_before_client programs old k (Has_asked s' files' (added ++ noted) (client_moves does moved)) had
         fresh in
         does_keeps programs old (joint_kept old joint before) before k client found s files noted moved is_stage s'
-        files' added does fresh events take
+        files' added does own fresh events take
 
 -- the invariant holds where the journals arrive
 pub kept_at_last : {S F D G K : Type 0} (stores : StoreMeaning S D) (sources : SourceMeaning F)

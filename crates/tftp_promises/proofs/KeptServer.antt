@@ -15,8 +15,8 @@ use Rattle.tftp_rules.specs.OpenEnds.{OpenEnd}
 use Rattle.tftp_rules.specs.Shows.{EndView, IsShown}
 use Rattle.tftp_rules.specs.ViewSafety.{IsAmong}
 use Rattle.tftp_promises.specs.Joint.{WasSentBefore}
-use Rattle.tftp_promises.specs.Order.{Programs, IsStranger}
-use Rattle.tftp_promises.specs.Programs.{endpoint, requests_at, ClientProgram, client_at}
+use Rattle.tftp_promises.specs.Order.{Programs, IsStranger, requests_at}
+use Rattle.tftp_promises.specs.Programs.{endpoint, ClientProgram, client_at}
 use Rattle.tftp_promises.specs.Promises.{joined}
 use Rattle.tftp_promises.specs.Snapshots.{Snapshot, ClientStage, Unasked, Has_asked, server_did}
 use Rattle.tftp_promises.proofs.Kept.{How, IsThere, IsViewed, HasTransferBy, StageKept, TransferKept, ServerKept}
@@ -33,13 +33,13 @@ module _ {S F D G K : Type 0} {stores : StoreMeaning S D} {sources : SourceMeani
     pub said_now : List Message
     pub shown : IsShown (joined programs) views (kept.messages ++ said_now)
     pub sends : (port : ℕ) (to : Endpoint) (bytes : List ℕ) → Contains added (Sent port to bytes) →
-        IsThere (kept.messages ++ said_now) (endpoint programs.server.ip port) to bytes
+        IsThere (kept.messages ++ said_now) (endpoint programs.ip port) to bytes
         ⊎ IsStranger stores sources inputs outputs programs to
     pub server : ServerKept programs how (kept.messages ++ said_now) now
     -- the end of a client stays viewed
-    pub clients : (k : ℕ) (client : ClientProgram inputs outputs (requests_at stores sources programs.server)) →
+    pub clients : (k : ℕ) (client : ClientProgram inputs outputs (requests_at programs)) →
         slice_get programs.clients k ≡ Some client →
-        (z : OpenEnd) → z.address ≡ client_at inputs outputs (requests_at stores sources programs.server) client →
+        (z : OpenEnd) → z.address ≡ client_at inputs outputs (requests_at programs) client →
         IsViewed (joined programs) kept.views kept.messages z →
         IsViewed (joined programs) views (kept.messages ++ said_now) z
     pub transfers : (port : ℕ) (transfer : TransferState F D) (a : Endpoint) →
@@ -81,7 +81,7 @@ module _ {S F D G K : Type 0} {stores : StoreMeaning S D} {sources : SourceMeani
           sent = h.sent;
         }))
 
-    all_clients : (k : ℕ) (client : ClientProgram inputs outputs (requests_at stores sources programs.server))
+    all_clients : (k : ℕ) (client : ClientProgram inputs outputs (requests_at programs))
         (stage : ClientStage G K) →
         slice_get programs.clients k ≡ Some client → StageKept programs how kept.views kept.messages client stage →
         StageKept programs how turns.views messages client stage
@@ -94,8 +94,8 @@ module _ {S F D G K : Type 0} {stores : StoreMeaning S D} {sources : SourceMeani
       viewed = turns.clients k client found h.end h.address h.viewed;
       asks =
           there_still kept.messages turns.said_now
-          (client_at inputs outputs (requests_at stores sources programs.server) client)
-          (requests_at stores sources programs.server) client.first.position.last_sent h.asks;
+          (client_at inputs outputs (requests_at programs) client)
+          (requests_at programs) client.first.position.last_sent h.asks;
       has = h.has;
     }
 

@@ -26,10 +26,11 @@ use Rattle.tftp_loop.specs.Serves.{ReceivesAndHandles, Work}
 use Rattle.tftp_rules.specs.Machine.{Endpoint}
 use Rattle.tftp_promises.specs.Joint.{CanTake, WasSentBefore}
 use Rattle.tftp_promises.specs.Moved.{Moved, port_moves}
-use Rattle.tftp_promises.specs.Openings.{is_ours, place_at}
-use Rattle.tftp_promises.specs.Order.{Programs, IsStranger}
+use Rattle.tftp_promises.specs.Openings.{is_ours, our_ports, place_at}
+use Rattle.tftp_promises.specs.Order.{Programs, IsStranger, MayCome, requests_at}
 use Rattle.tftp_promises.specs.Ports.{Removes}
-use Rattle.tftp_promises.specs.Programs.{endpoint, requests_at}
+use Rattle.tftp_promises.specs.Programs.{endpoint}
+use Rattle.tftp_promises.specs.Promises.{joined}
 use Rattle.tftp_promises.specs.Snapshots.{Snapshot, server_did}
 use Rattle.tftp_promises.proofs.RunPlaces.{placed_by}
 use Rattle.tftp_promises.proofs.Kept.{How, HasArrived, IsThere, IsKept, IsFreshBy, IsStrangers}
@@ -39,7 +40,9 @@ use Rattle.tftp_promises.proofs.KeptFresh.{fresh_before_server}
 use Rattle.tftp_promises.proofs.KeptRuns.{ServerStepsKeep}
 use Rattle.tftp_promises.proofs.KeptStill.{still_keeps}
 use Rattle.tftp_promises.proofs.MovedSteps.{MovesNone, none_at_port}
-use Rattle.tftp_promises.proofs.Places.{strange_if, stranger_no_port}
+use Rattle.tftp_promises.proofs.NewPlaces.{at_server}
+use Rattle.tftp_promises.proofs.Orders.{first_in}
+use Rattle.tftp_promises.proofs.Places.{at_port, strange_if, stranger_no_port}
 use Rattle.tftp_promises.proofs.PortDatagrams.{datagram_keeps, wrong_keeps}
 use Rattle.tftp_promises.proofs.KeptStrays.{arrives, errs, strays_in}
 use Rattle.tftp_promises.proofs.PortSteps.{received_there, datagram_silent}
@@ -57,12 +60,12 @@ module _ {S F D G K : Type 0} {stores : StoreMeaning S D} {sources : SourceMeani
       (old : Snapshot programs) (new : LoopState S F D) (answers : AnswersRequest stores sources old.state new)
       (added : List Event) → IsKept programs how old →
       IsFreshBy programs (server_did programs old (Request_answered answers) added) →
-      new.events ≡ added ++ old.state.events → CanTake programs old programs.server.ip added →
+      new.events ≡ added ++ old.state.events → CanTake programs old programs.ip added →
       IsKept programs how (server_did programs old (Request_answered answers) added)
 
   module _ (old : Snapshot programs) (new : LoopState S F D) (kept : IsKept programs how old) (added : List Event)
       (events : new.events ≡ added ++ old.state.events)
-      (take : CanTake programs old programs.server.ip added) where
+      (take : CanTake programs old programs.ip added) where
     -- the events of a step
     added_is : (noted : List Event) → new.events ≡ noted ++ old.state.events → noted ≡ added
     added_is noted e = added_by 0 None noted old.state.events added (sym e ∙ events)
@@ -72,24 +75,24 @@ module _ {S F D G K : Type 0} {stores : StoreMeaning S D} {sources : SourceMeani
 
     -- ---- a request is received
     request_came : (h : ReceivesRequest stores sources old.state new) →
-        WasSentBefore programs old h.from (requests_at stores sources programs.server) h.bytes
-        ⊎ IsStranger stores sources inputs outputs programs h.from
+        WasSentBefore programs old h.from (requests_at programs) h.bytes
+        ⊎ MayCome stores sources inputs outputs programs h.from h.bytes
     request_came h =
-        subst (λ (port : ℕ). WasSentBefore programs old h.from (endpoint programs.server.ip port) h.bytes
-        ⊎ IsStranger stores sources inputs outputs programs h.from) kept.server.requests
+        subst (λ (port : ℕ). WasSentBefore programs old h.from (endpoint programs.ip port) h.bytes
+        ⊎ MayCome stores sources inputs outputs programs h.from h.bytes) kept.server.requests
         (take old.state.requests h.from h.bytes
         (subst (λ (es : List Event). Contains es (Received old.state.requests h.from h.bytes))
         (added_is (Received old.state.requests h.from h.bytes ∷ []) (ap (λ (s : LoopState S F D). s.events) h.is))
         (Contains-push [] (Received old.state.requests h.from h.bytes))))
 
     module _ (h : ReceivesRequest stores sources old.state new)
-        (come : HasArrived kept.messages h.from (requests_at stores sources programs.server) h.bytes) where
+        (come : HasArrived kept.messages h.from (requests_at programs) h.bytes) where
       pending_sent : (from : Endpoint) (bytes : List ℕ) → new.pending ≡ Some (from, bytes) →
-          HasArrived kept.messages from (requests_at stores sources programs.server) bytes
+          HasArrived kept.messages from (requests_at programs) bytes
       pending_sent from bytes e =
           let same : (h.from, h.bytes) ≡ (from, bytes) =
           same_Some (h.from, h.bytes) (from, bytes) (sym (ap (λ (s : LoopState S F D). s.pending) h.is) ∙ e) in
-          subst (λ (p : Endpoint × List ℕ). HasArrived kept.messages p.0 (requests_at stores sources programs.server)
+          subst (λ (p : Endpoint × List ℕ). HasArrived kept.messages p.0 (requests_at programs)
           p.1) same come
 
       server_same : new.server ≡ old.state.server
@@ -247,13 +250,16 @@ module _ {S F D G K : Type 0} {stores : StoreMeaning S D} {sources : SourceMeani
       Keeps = IsKept programs how (server_did programs old (At_port serves) added)
 
       here_keeps : (h : Handles) → serves.does ≡ A_datagram h →
-          WasSentBefore programs old h.from (endpoint programs.server.ip port) h.bytes
-          ⊎ IsStranger stores sources inputs outputs programs h.from →
-          place ≡ endpoint programs.server.ip port → Keeps
+          WasSentBefore programs old h.from (endpoint programs.ip port) h.bytes
+          ⊎ MayCome stores sources inputs outputs programs h.from h.bytes →
+          place ≡ endpoint programs.ip port → Keeps
       here_keeps h is came here =
+          let known =
+          kept.server.opened port h.handles.takes.transfer place (inl (h.handles.takes.found, refl)) in
+          let there = sym (ap (joined programs).host_of here) ∙ at_server programs old old_fresh place known in
           let a =
-          arrives programs old kept h.from (endpoint programs.server.ip port) h.bytes
-          (stranger_no_port programs (endpoint programs.server.ip port) port refl) came in
+          arrives programs old kept h.from (endpoint programs.ip port) h.bytes
+          (stranger_no_port programs (endpoint programs.ip port) there) came in
           datagram_keeps programs old a.now old_fresh serves added events h is fresh_now
           (subst (λ (e : Endpoint). HasArrived a.now.messages h.from e h.bytes) (sym here) a.come) (inl here)
 
@@ -264,29 +270,29 @@ module _ {S F D G K : Type 0} {stores : StoreMeaning S D} {sources : SourceMeani
           datagram_keeps programs old a.now old_fresh serves added events h is fresh_now a.come (inr strange)
 
       ours_keeps : (h : Handles) → serves.does ≡ A_datagram h →
-          WasSentBefore programs old h.from (endpoint programs.server.ip port) h.bytes
-          ⊎ IsStranger stores sources inputs outputs programs h.from →
+          WasSentBefore programs old h.from (endpoint programs.ip port) h.bytes
+          ⊎ MayCome stores sources inputs outputs programs h.from h.bytes →
           is_ours programs h.from ≡ true → (now : IsKept programs how old) →
-          IsThere now.messages (endpoint programs.server.ip port) h.from (error_bytes UnknownTransferId) →
-          (place ≡ endpoint programs.server.ip port) ⊎ IsStrangers programs
+          IsThere now.messages (endpoint programs.ip port) h.from (error_bytes UnknownTransferId) →
+          (place ≡ endpoint programs.ip port) ⊎ IsStrangers programs
           (now.transfers port h.handles.takes.transfer place (inl (h.handles.takes.found, refl))).end.state → Keeps
       ours_keeps h is came ours now there (inl here) = here_keeps h is came here
       ours_keeps h is came ours now there (inr s) =
           wrong_keeps programs old now old_fresh serves added events h is fresh_now s ours there
 
       ours_answered : (h : Handles) → serves.does ≡ A_datagram h →
-          WasSentBefore programs old h.from (endpoint programs.server.ip port) h.bytes
-          ⊎ IsStranger stores sources inputs outputs programs h.from →
+          WasSentBefore programs old h.from (endpoint programs.ip port) h.bytes
+          ⊎ MayCome stores sources inputs outputs programs h.from h.bytes →
           is_ours programs h.from ≡ true → Keeps
       ours_answered h is came ours =
-          let a = errs programs old kept (endpoint programs.server.ip port) h.from UnknownTransferId in
+          let a = errs programs old kept (endpoint programs.ip port) h.from UnknownTransferId in
           ours_keeps h is came ours a.now a.there (a.now.transfers port h.handles.takes.transfer place
           (inl (h.handles.takes.found, refl))).seat
 
       by_seat : (h : Handles) → serves.does ≡ A_datagram h →
-          WasSentBefore programs old h.from (endpoint programs.server.ip port) h.bytes
-          ⊎ IsStranger stores sources inputs outputs programs h.from →
-          {e : EndState} → (place ≡ endpoint programs.server.ip port) ⊎ IsStrangers programs e → Keeps
+          WasSentBefore programs old h.from (endpoint programs.ip port) h.bytes
+          ⊎ MayCome stores sources inputs outputs programs h.from h.bytes →
+          {e : EndState} → (place ≡ endpoint programs.ip port) ⊎ IsStrangers programs e → Keeps
       by_seat h is came (inl here) = here_keeps h is came here
       by_seat h is came (inr s) = elim (cases_Bool (is_ours programs h.from)) [
         | inl ours ↦ ours_answered h is came ours
@@ -335,8 +341,11 @@ module _ {S F D G K : Type 0} {stores : StoreMeaning S D} {sources : SourceMeani
       port_keeps old new kept added events take serves fresh
   serves_keep answers_keep old new (Request_received h) added kept fresh events take =
       let a =
-      arrives programs old kept h.from (requests_at stores sources programs.server) h.bytes
-      (stranger_no_port programs (requests_at stores sources programs.server) programs.server.start.requests refl)
+      arrives programs old kept h.from (requests_at programs) h.bytes
+      (stranger_no_port programs (requests_at programs)
+      (at_port programs programs.port (λ k client found. fresh.apart k programs.port client found
+      (first_in programs.port (our_ports programs old.run)))
+      (fresh.others programs.port (first_in programs.port (our_ports programs old.run)))))
       (request_came old new kept added events take h) in
       receiving_keeps old new a.now added events take h a.come
   serves_keep answers_keep old new (No_request_found h) added kept fresh events take =

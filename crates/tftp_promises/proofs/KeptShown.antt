@@ -22,9 +22,9 @@ use Rattle.tftp_promises.specs.ClientRuns.{moved_in}
 use Rattle.tftp_promises.specs.Arrived.{ViewsEnd, ViewsFile, ViewsSink, ViewsOwn, ViewsClient, ViewsStored}
 use Rattle.tftp_promises.specs.Arrived.{ViewsTransfer}
 use Rattle.tftp_promises.specs.Modelled.{AreModelled}
-use Rattle.tftp_promises.specs.Order.{Programs}
+use Rattle.tftp_promises.specs.Order.{Programs, requests_at}
 use Rattle.tftp_promises.specs.Ports.{IsStored, WasStored}
-use Rattle.tftp_promises.specs.Programs.{requests_at, arrived, ClientProgram, client_at}
+use Rattle.tftp_promises.specs.Programs.{arrived, ClientProgram, client_at}
 use Rattle.tftp_promises.specs.Promises.{joined, HasClient, HasTransfer, HasOpened, IsOfSome, AreViewed, AreShown}
 use Rattle.tftp_promises.specs.Snapshots.{ClientStage, Has_asked, all_of}
 use Rattle.tftp_promises.proofs.Kept.{By_models, HasFile, HasStored, ClientKept, TransferKept, IsOfClient, IsOfTransfer}
@@ -98,7 +98,7 @@ module _ {S F D G K : Type 0} {stores : StoreMeaning S D} {sources : SourceMeani
     (programs : Programs stores sources inputs outputs) (models : AreModelled programs)
     (kept : IsKept programs (By_models models) (all_of programs)) where
   abbrev Client : Type 0
-  Client = ClientProgram inputs outputs (requests_at stores sources programs.server)
+  Client = ClientProgram inputs outputs (requests_at programs)
 
   abbrev last_stage : Client → ClientStage G K
   last_stage client = Has_asked client.last client.files client.noted (moved_in client.runs)
@@ -115,7 +115,7 @@ module _ {S F D G K : Type 0} {stores : StoreMeaning S D} {sources : SourceMeani
 
   views_own : (client : Client) (x : OpenEnd) (files : Files G K) → EndKept (joined programs) x →
       x.state ≡ client.last.end → HasFile programs (By_models models) client x files (moved_in client.runs) →
-      ViewsOwn inputs outputs (requests_at stores sources programs.server) client.last.end (models.file_of client) files
+      ViewsOwn inputs outputs (requests_at programs) client.last.end (models.file_of client) files
       (open_view x)
   views_own client x (Source source) end_kept is has =
       views_file x client.last.end (models.file_of client) is (has.text ∙ ap (wire_text x.state.role.mode) has.file_is)
@@ -129,11 +129,11 @@ module _ {S F D G K : Type 0} {stores : StoreMeaning S D} {sources : SourceMeani
       (moved_in client.runs)
 
   views_client : (client : Client) (h : Kept_client client) →
-      ViewsClient inputs outputs (requests_at stores sources programs.server) client (models.file_of client)
+      ViewsClient inputs outputs (requests_at programs) client (models.file_of client)
       (open_view h.end)
   views_client client h = record {
     end =
-        views_end h.end (client_at inputs outputs (requests_at stores sources programs.server) client) client.last.end
+        views_end h.end (client_at inputs outputs (requests_at programs) client) client.last.end
         h.address h.state;
     own = views_own client h.end client.files h.viewed.kept h.state h.has;
   }
@@ -198,7 +198,7 @@ module _ {S F D G K : Type 0} {stores : StoreMeaning S D} {sources : SourceMeani
         of.k,
         of.client,
         of.found,
-        subst (λ (v : EndView). ViewsClient inputs outputs (requests_at stores sources programs.server) of.client
+        subst (λ (v : EndView). ViewsClient inputs outputs (requests_at programs) of.client
             (models.file_of of.client) v) (sym same) (views_client of.client h),
       )
 

@@ -57,7 +57,7 @@ module _ {S F D G K : Type 0} {stores : StoreMeaning S D} {sources : SourceMeani
     shown = shown_start (joined programs);
     sent = nothing_sent;
     server = record {
-      requests = refl;
+      requests = programs.server.requests;
       config = refl;
       known = known_at_first how;
       pending = λ from bytes e. absurd (let f : None ≡ Some (from, bytes) = sym programs.server.idle ∙ e in cc);

@@ -12,8 +12,8 @@ use Rattle.tftp_sockets.specs.Journal.Event.{Sent}
 use Rattle.tftp_loop.specs.Serves.{LoopState, Does}
 use Rattle.tftp_rules.specs.Machine.{Endpoint, Message}
 use Rattle.tftp_rules.specs.Shows.{IsShown}
-use Rattle.tftp_promises.specs.Order.{Programs, IsStranger}
-use Rattle.tftp_promises.specs.Programs.{endpoint, requests_at}
+use Rattle.tftp_promises.specs.Order.{Programs, IsStranger, requests_at}
+use Rattle.tftp_promises.specs.Programs.{endpoint}
 use Rattle.tftp_promises.specs.Promises.{joined}
 use Rattle.tftp_promises.specs.Snapshots.{Snapshot, server_did}
 use Rattle.tftp_promises.proofs.Kept.{How, AreKeyedOnce, HasTransferBy, IsThere, TransferKept, ServerKept, IsKept}
@@ -47,7 +47,7 @@ module _ {S F D G K : Type 0} {stores : StoreMeaning S D} {sources : SourceMeani
   -- what it sends is shown
   module _ (said_now : List Message) (shown : IsShown (joined programs) kept.views (kept.messages ++ said_now))
       (sends : (port : ℕ) (to : Endpoint) (bytes : List ℕ) → Contains added (Sent port to bytes) →
-      IsThere (kept.messages ++ said_now) (endpoint programs.server.ip port) to bytes ⊎ IsStranger stores sources inputs
+      IsThere (kept.messages ++ said_now) (endpoint programs.ip port) to bytes ⊎ IsStranger stores sources inputs
       outputs programs to) where
     abbrev messages : List Message
     messages = kept.messages ++ said_now
@@ -65,7 +65,7 @@ module _ {S F D G K : Type 0} {stores : StoreMeaning S D} {sources : SourceMeani
       config = stays.config ∙ kept.server.config;
       known = stays.known;
       pending =
-          λ from bytes e. arrived_still kept.messages said_now from (requests_at stores sources programs.server) bytes
+          λ from bytes e. arrived_still kept.messages said_now from (requests_at programs) bytes
           (stays.pending from bytes e);
       once = subst (λ (hs : List (ℕ × TransferState F D)). AreKeyedOnce hs) (sym held) kept.server.once;
       seats =

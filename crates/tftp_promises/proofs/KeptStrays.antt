@@ -1,11 +1,12 @@
--- What a step receives is among the messages: it was sent before, or it is a stranger's, whose message may be added at
--- any time.
-use Rattle.std.proofs.Common.{ℕ, List, [], ◌∷◌, ◌++◌, subst, inl, inr}
+-- What a step receives is among the messages: it was sent before, or it is a stranger's or an ERROR, whose message may
+-- be added at any time.
+use Rattle.std.proofs.Common.{ℕ, List, [], ◌∷◌, ◌++◌, sym, ◌∙◌, subst, inl, inr}
 use Rattle.std.specs.Prelude.{◌⊎◌}
 use Rattle.std.specs.List.{Contains}
 use Rattle.std.proofs.lemmas.List.Elements.{Contains-push}
 use Rattle.tftp_wire.specs.Parts.{packet_in}
 use Rattle.tftp_wire.specs.declared.packet.Packet.{Packet as WirePacket}
+use Rattle.tftp_wire.specs.declared.packet.Packet.TheVariants.{Error}
 use Rattle.tftp_wire.proofs.SpellingLemmas.{spelled_is_found}
 use Rattle.tftp_file.specs.Sink.{SinkMeaning}
 use Rattle.tftp_file.specs.Source.{SourceMeaning}
@@ -22,8 +23,8 @@ use Rattle.tftp_rules.proofs.Actions.{says_error, strays}
 use Rattle.tftp_rules.proofs.EndMoves.{valid_error}
 use Rattle.tftp_rules.proofs.SaidLemmas.{spells_own}
 use Rattle.tftp_promises.specs.Joint.{WasSentBefore}
-use Rattle.tftp_promises.specs.Order.{Programs, IsStranger}
-use Rattle.tftp_promises.specs.Programs.{ClientProgram, client_at, requests_at}
+use Rattle.tftp_promises.specs.Order.{Programs, IsError, IsStranger, MayCome, requests_at}
+use Rattle.tftp_promises.specs.Programs.{ClientProgram, client_at}
 use Rattle.tftp_promises.specs.Promises.{joined}
 use Rattle.tftp_promises.specs.Snapshots.{Snapshot, ClientStage, Unasked, Has_asked}
 use Rattle.tftp_promises.proofs.Kept.{How, HasArrived, IsThere, IsKept, StageKept, TransferKept}
@@ -36,7 +37,7 @@ module _ {S F D G K : Type 0} {stores : StoreMeaning S D} {sources : SourceMeani
     (programs : Programs stores sources inputs outputs) {how : How programs} (snapshot : Snapshot programs)
     (kept : IsKept programs how snapshot) where
   abbrev Client : Type 0
-  Client = ClientProgram inputs outputs (requests_at stores sources programs.server)
+  Client = ClientProgram inputs outputs (requests_at programs)
 
   -- a message more changes no end
   module _ (more : List Message) where
@@ -52,8 +53,8 @@ module _ {S F D G K : Type 0} {stores : StoreMeaning S D} {sources : SourceMeani
       viewed = viewed_still (joined programs) kept.views kept.messages more h.end h.viewed;
       asks =
           there_still kept.messages more
-          (client_at inputs outputs (requests_at stores sources programs.server) client)
-          (requests_at stores sources programs.server) client.first.position.last_sent h.asks;
+          (client_at inputs outputs (requests_at programs) client)
+          (requests_at programs) client.first.position.last_sent h.asks;
       has = h.has;
     }
 
@@ -77,7 +78,7 @@ module _ {S F D G K : Type 0} {stores : StoreMeaning S D} {sources : SourceMeani
           config = kept.server.config;
           known = kept.server.known;
           pending =
-              λ a bs e. arrived_still kept.messages (m ∷ []) a (requests_at stores sources programs.server) bs
+              λ a bs e. arrived_still kept.messages (m ∷ []) a (requests_at programs) bs
               (kept.server.pending a bs e);
           once = kept.server.once;
           seats = kept.server.seats;
@@ -118,17 +119,37 @@ module _ {S F D G K : Type 0} {stores : StoreMeaning S D} {sources : SourceMeani
   strays_in from to bytes stranger =
       record { now = stray_kept from to bytes stranger; come = stray_arrived from to bytes }
 
+  -- an ERROR may be said from any endpoint
+  error_arrived : (from to : Endpoint) (bytes : List ℕ) → IsError bytes →
+      HasArrived (kept.messages ++ message from to Says_an_error ∷ []) from to bytes
+  error_arrived from to bytes error p spells =
+      subst (λ (q : WirePacket). Contains (kept.messages ++ message from to Says_an_error ∷ [])
+      (message from to (said q)))
+      (sym (spelled_is_found (Error error.0 error.1) bytes error.2) ∙ spelled_is_found p bytes spells)
+      (Contains-push kept.messages (message from to Says_an_error))
+
+  error_kept : (from to : Endpoint) → IsKept programs how snapshot
+  error_kept from to =
+      let shown = says_error (joined programs) kept.shown.0 kept.views kept.messages kept.shown.1 from to in
+      said_kept (message from to Says_an_error) (kept.shown.0 ++ shown.0, shown.2)
+
+  errors_in : (from to : Endpoint) (bytes : List ℕ) → IsError bytes → Arrived from to bytes
+  unfolding error_kept said_kept
+  errors_in from to bytes error =
+      record { now = error_kept from to; come = error_arrived from to bytes error }
+
   -- what a program receives
   pub arrives : (from to : Endpoint) (bytes : List ℕ) → (IsStranger stores sources inputs outputs programs to → ⊥) →
-      WasSentBefore programs snapshot from to bytes ⊎ IsStranger stores sources inputs outputs programs from →
+      WasSentBefore programs snapshot from to bytes ⊎ MayCome stores sources inputs outputs programs from bytes →
       Arrived from to bytes
   arrives from to bytes ours (inl sent) = elim (kept.sent from to bytes sent) [
     | inl there ↦ record { now = kept; come = there_says kept.messages from to bytes there }
     | inr strange ↦ absurd (ours strange)
   ]
-  arrives from to bytes ours (inr stranger) = strays_in from to bytes stranger
+  arrives from to bytes ours (inr (inl stranger)) = strays_in from to bytes stranger
+  arrives from to bytes ours (inr (inr error)) = errors_in from to bytes error
 
-  -- an ERROR may be said from any endpoint
+  -- and so may one of ours
   pub record SaysError (from to : Endpoint) (reply : ErrorReply) : Type 0 where
     pub now : IsKept programs how snapshot
     pub there : IsThere now.messages from to (error_bytes reply)

@@ -23,8 +23,8 @@ use Rattle.tftp_rules.specs.Shows.{EndView, IsShown}
 use Rattle.tftp_rules.proofs.Indices.{slice_get-set_same}
 use Rattle.tftp_promises.specs.Joint.{WasSentBefore}
 use Rattle.tftp_promises.specs.Moved.{Moved}
-use Rattle.tftp_promises.specs.Order.{Programs}
-use Rattle.tftp_promises.specs.Programs.{endpoint, requests_at, ClientProgram, client_at}
+use Rattle.tftp_promises.specs.Order.{Programs, requests_at}
+use Rattle.tftp_promises.specs.Programs.{endpoint, ClientProgram, client_at}
 use Rattle.tftp_promises.specs.Promises.{joined}
 use Rattle.tftp_promises.specs.Snapshots.{Snapshot, Has_asked, client_did}
 use Rattle.tftp_promises.proofs.Kept.{How, IsThere, HasFile, IsViewed, ClientKept, IsKept, IsFreshBy}
@@ -67,7 +67,7 @@ module _ {S F D G K : Type 0} {stores : StoreMeaning S D} {sources : SourceMeani
     {outputs : SinkMeaning K}
     (programs : Programs stores sources inputs outputs) {how : How programs} (old : Snapshot programs)
     (kept : IsKept programs how old) (fresh : IsFreshBy programs old)
-    (k : ℕ) (client : ClientProgram inputs outputs (requests_at stores sources programs.server))
+    (k : ℕ) (client : ClientProgram inputs outputs (requests_at programs))
     (found : slice_get programs.clients k ≡ Some client)
     (s : State) (files : Files G K) (noted : List Event) (moved : Moved)
     (is_stage : slice_get old.clients k ≡ Some (Has_asked s files noted moved)) where
@@ -76,7 +76,7 @@ module _ {S F D G K : Type 0} {stores : StoreMeaning S D} {sources : SourceMeani
   own = kept.clients k client (Has_asked s files noted moved) found is_stage
 
   abbrev here : Endpoint
-  here = client_at inputs outputs (requests_at stores sources programs.server) client
+  here = client_at inputs outputs (requests_at programs) client
 
   -- what was noted before
   noted_before : (port : ℕ) (to : Endpoint) (bytes : List ℕ) → Contains noted (Sent port to bytes) →
@@ -130,7 +130,7 @@ module _ {S F D G K : Type 0} {stores : StoreMeaning S D} {sources : SourceMeani
       side = ap is_client goes.side ∙ own.side;
       viewed = its_view;
       asks =
-          there_still kept.messages goes.said_now here (requests_at stores sources programs.server)
+          there_still kept.messages goes.said_now here (requests_at programs)
           client.first.position.last_sent own.asks;
       has = has;
     }
@@ -187,7 +187,7 @@ module _ {S F D G K : Type 0} {stores : StoreMeaning S D} {sources : SourceMeani
         side = own.side;
         viewed = viewed_still (joined programs) kept.views kept.messages [] own.end own.viewed;
         asks =
-            there_still kept.messages [] here (requests_at stores sources programs.server)
+            there_still kept.messages [] here (requests_at programs)
             client.first.position.last_sent own.asks;
         has = has;
       };

@@ -1,10 +1,12 @@
 pub mod ClientJournals
 pub mod Places
+pub mod OthersTaken
 pub mod ExchangeParts
 pub mod ExchangeReader
 pub mod ExchangeStates
 pub mod ExchangeServer
 pub mod Exchange
+pub mod ExchangeShared
 pub mod PortCounts
 pub mod OneTimerEach
 pub mod ClosedLines
@@ -48,6 +50,7 @@ pub mod KeptShown
 pub mod KeptRuns
 pub mod ProgramsShown
 pub mod EachAlone
+pub mod PassedOver
 pub mod ClosedEnds
 pub mod TurnsAtPort
 pub mod TransferFiles

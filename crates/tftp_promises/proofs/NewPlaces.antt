@@ -19,9 +19,9 @@ use Rattle.tftp_loop.specs.Serves.{Request_not_received, No_port_found, Request_
 use Rattle.tftp_loop.specs.Serves.{Store_set, Transfer_closed, AnswersRequest}
 use Rattle.tftp_rules.specs.Machine.{At_server, Endpoint}
 use Rattle.tftp_promises.specs.Openings.{above, is_ours, our_ports, ours_by, place, total}
-use Rattle.tftp_promises.specs.Order.{Programs}
+use Rattle.tftp_promises.specs.Order.{Programs, requests_at}
 use Rattle.tftp_promises.specs.Ports.{AreDistinct, opened_by, opened_ports}
-use Rattle.tftp_promises.specs.Programs.{endpoint, requests_at, client_at, ClientProgram}
+use Rattle.tftp_promises.specs.Programs.{endpoint, client_at, ClientProgram}
 use Rattle.tftp_promises.specs.Promises.{joined}
 use Rattle.tftp_promises.specs.Snapshots.{Snapshot, server_did}
 use Rattle.tftp_promises.proofs.RunPlaces.{placed_by, places}
@@ -78,20 +78,20 @@ module _ {S F D G K : Type 0} {stores : StoreMeaning S D} {sources : SourceMeani
   pub record OursAt (ports : List ℕ) (a : Endpoint) : Type 0 where
     pub port : ℕ
     pub known : Contains ports port
-    pub is : a ≡ endpoint programs.server.ip port
+    pub is : a ≡ endpoint programs.ip port
 
   pub record AsideAt (count : ℕ) (a : Endpoint) : Type 0 where
     pub number : ℕ
     pub earlier : number < count
-    pub is : a ≡ endpoint programs.server.ip (above programs + number)
+    pub is : a ≡ endpoint programs.ip (above programs + number)
 
   -- of a transfer that a step opens
   abbrev OpensOne : ℕ → List ℕ → List ℕ → Endpoint → Type 0
   OpensOne count ports opened a =
-      OursAt ports a ⊎ ((a ≡ endpoint programs.server.ip (above programs + count)) × (1 ≤ length opened))
+      OursAt ports a ⊎ ((a ≡ endpoint programs.ip (above programs + count)) × (1 ≤ length opened))
 
   by_ours : (b : Bool) (count tid : ℕ) (a : Endpoint) →
-      endpoint programs.server.ip (if b then tid else above programs + count) ≡ a →
+      endpoint programs.ip (if b then tid else above programs + count) ≡ a →
       OpensOne count (if b then tid ∷ [] else []) (tid ∷ []) a
   by_ours true count tid a e = inl (record { port = tid; known = Contains-push [] tid; is = sym e })
   by_ours false count tid a e = inr (sym e, omega arith)
@@ -156,7 +156,7 @@ module _ {S F D G K : Type 0} {stores : StoreMeaning S D} {sources : SourceMeani
       ]
 
   abbrev Client : Type 0
-  Client = ClientProgram inputs outputs (requests_at stores sources programs.server)
+  Client = ClientProgram inputs outputs (requests_at programs)
 
   port_of : (a b : Endpoint) → a ≡ b → a.port ≡ b.port
   port_of a b e = ap (λ (z : Endpoint). z.port) e
@@ -165,28 +165,33 @@ module _ {S F D G K : Type 0} {stores : StoreMeaning S D} {sources : SourceMeani
   module _ (snapshot : Snapshot programs) (fresh : IsFreshBy programs snapshot) (a : Endpoint)
       (known : Contains (places programs snapshot.run) a) where
     pub client_apart : (k : ℕ) (client : Client) → slice_get programs.clients k ≡ Some client →
-        client_at inputs outputs (requests_at stores sources programs.server) client ≢ a
+        client_at inputs outputs (requests_at programs) client ≢ a
     client_apart k client found same = elim (place_cases snapshot.run a known) [
       | inl h ↦
-          fresh.apart k h.port client found (Contains-append_right (programs.server.start.requests ∷ [])
+          fresh.apart k h.port client found (Contains-append_right (programs.port ∷ [])
           (our_ports programs snapshot.run) h.port h.known) (same ∙ h.is)
       | inr h ↦
           let most = client_most programs.clients k client found in
           let at : client.port ≡ above programs + h.number =
-          port_of (client_at inputs outputs (requests_at stores sources programs.server) client)
-          (endpoint programs.server.ip (above programs + h.number)) (same ∙ h.is) in
+          port_of (client_at inputs outputs (requests_at programs) client)
+          (endpoint programs.ip (above programs + h.number)) (same ∙ h.is) in
           omega (arith, most, at)
     ]
 
     pub at_server : (joined programs).host_of a ≡ At_server
     at_server = elim (place_cases snapshot.run a known) [
-      | inl h ↦ there h.port h.is
-      | inr h ↦ there (above programs + h.number) h.is
+      | inl h ↦
+          there h.port h.is (fresh.others h.port (Contains-append_right (programs.port ∷ [])
+          (our_ports programs snapshot.run) h.port h.known))
+      | inr h ↦
+          there (above programs + h.number) h.is
+          (λ other. let most = total_most programs.others (above programs + h.number) other in omega (arith, most))
     ] where
-      there : (port : ℕ) → a ≡ endpoint programs.server.ip port → (joined programs).host_of a ≡ At_server
-      there port is =
+      there : (port : ℕ) → a ≡ endpoint programs.ip port → (Contains programs.others port → ⊥) →
+          (joined programs).host_of a ≡ At_server
+      there port is own =
           ap (joined programs).host_of is ∙ at_port programs port (λ k client found same. client_apart k client found
-          (same ∙ sym is))
+          (same ∙ sym is)) own
 
   -- a transfer opens where none was before
   module _ (old : Snapshot programs) {new : LoopState S F D} (answers : AnswersRequest stores sources old.state new)
@@ -208,19 +213,19 @@ module _ {S F D G K : Type 0} {stores : StoreMeaning S D} {sources : SourceMeani
         ∙ ap (λ (ports : List ℕ). ports ++ our_ports programs old.run) opens
 
     place_before : (a : Endpoint) → Contains (places programs old.run) a → (b : Bool) →
-        is_ours programs answers.from ≡ b → a ≢ endpoint programs.server.ip (if b then tid else above programs + count)
+        is_ours programs answers.from ≡ b → a ≢ endpoint programs.ip (if b then tid else above programs + count)
     place_before a c true is same = elim (place_cases old.run a c) [
       | inl h ↦
-          second_apart programs.server.start.requests tid h.port (our_ports programs old.run)
-          (subst (λ (ports : List ℕ). AreDistinct (programs.server.start.requests ∷ ports)) (ports_are is)
+          second_apart programs.port tid h.port (our_ports programs old.run)
+          (subst (λ (ports : List ℕ). AreDistinct (programs.port ∷ ports)) (ports_are is)
           fresh.server) h.known
-          (port_of (endpoint programs.server.ip h.port) (endpoint programs.server.ip tid) (sym h.is ∙ same))
+          (port_of (endpoint programs.ip h.port) (endpoint programs.ip tid) (sym h.is ∙ same))
       | inr h ↦
           let low =
           fresh.below tid (subst (λ (ports : List ℕ). Contains ports tid) (sym (ports_are is))
           (Contains-append_left (tid ∷ []) (our_ports programs old.run) tid (Contains-push [] tid))) in
           let at : above programs + h.number ≡ tid =
-          port_of (endpoint programs.server.ip (above programs + h.number)) (endpoint programs.server.ip tid)
+          port_of (endpoint programs.ip (above programs + h.number)) (endpoint programs.ip tid)
           (sym h.is ∙ same) in
           omega (arith, low, at)
     ]
@@ -230,14 +235,14 @@ module _ {S F D G K : Type 0} {stores : StoreMeaning S D} {sources : SourceMeani
           fresh.below h.port (Contains-append_right (ours_by programs (Request_answered answers))
           (our_ports programs old.run) h.port h.known) in
           let at : h.port ≡ above programs + count =
-          port_of (endpoint programs.server.ip h.port) (endpoint programs.server.ip (above programs + count))
+          port_of (endpoint programs.ip h.port) (endpoint programs.ip (above programs + count))
           (sym h.is ∙ same) in
           omega (arith, low, at)
       | inr h ↦
           let less = h.earlier in
           let at : above programs + h.number ≡ above programs + count =
-          port_of (endpoint programs.server.ip (above programs + h.number))
-          (endpoint programs.server.ip (above programs + count)) (sym h.is ∙ same) in
+          port_of (endpoint programs.ip (above programs + h.number))
+          (endpoint programs.ip (above programs + count)) (sym h.is ∙ same) in
           omega (arith, less, at)
     ]
 

@@ -1,9 +1,13 @@
 -- Where the programs are in their network.
 use Rattle.std.proofs.Common.{◌≡◌, ℕ, Bool, true, false, List, [], ◌∷◌, None, Some, refl, sym, ap, ◌∙◌, subst, zero}
-use Rattle.std.proofs.Common.{suc}
-use Rattle.std.specs.Prelude.{◌≢◌, if◌then◌else◌, slice_get}
+use Rattle.std.proofs.Common.{suc, arith, inl, inr}
+use Rattle.std.specs.Prelude.{◌≢◌, ◌==◌, ◌&&◌, not, if◌then◌else◌, slice_get}
+use Rattle.std.specs.List.{Contains}
 use Rattle.std.specs.Cmp.Lexicographic.{same_text}
-use Rattle.std.proofs.lemmas.Bool.{cond-true, cond-false, false_from_ne_true}
+use Rattle.std.proofs.lemmas.Bool.{cases_Bool, cases_eq, cond-true, cond-false, eq-eqb, false_from_ne_true, ne_eqb}
+use Rattle.std.proofs.lemmas.Bool.{true≢false}
+use Rattle.std.proofs.lemmas.List.Elements.{Contains-append_cases, Contains-append_left, Contains-append_right}
+use Rattle.std.proofs.lemmas.List.Elements.{Contains-push}
 use Rattle.tftp_file.specs.Sink.{SinkMeaning}
 use Rattle.tftp_file.specs.Source.{SourceMeaning}
 use Rattle.tftp_store.specs.Store.{StoreMeaning}
@@ -13,9 +17,11 @@ use Rattle.tftp_rules.proofs.ViewSafe.{shown_apart, shown_safe}
 use Rattle.tftp_promises.specs.Hosts.{ClientsAreThere, ServerIsThere, StrangersAreElsewhere}
 use Rattle.tftp_promises.specs.Modelled.{AreModelled}
 use Rattle.tftp_promises.specs.Openings.{is_ours}
-use Rattle.tftp_promises.specs.Order.{Programs, IsStranger}
-use Rattle.tftp_promises.specs.Programs.{endpoint, requests_at, ClientProgram, client_at, has_client}
+use Rattle.tftp_promises.specs.Order.{Programs, IsStranger, requests_at}
+use Rattle.tftp_promises.specs.Programs.{endpoint, ClientProgram, client_at, has_client, has_port}
+use Rattle.tftp_promises.specs.Programs.{is_at_server}
 use Rattle.tftp_promises.specs.Promises.{joined, AreShown, KeepPromises}
+use Rattle.tftp_promises.proofs.Orders.{one_in}
 
 abbrev at_of : Bool → Bool → Host
 at_of client server = if client then At_client else if server then At_server else Elsewhere
@@ -39,6 +45,37 @@ neither_by false false e = refl
 either_way : (b r : Bool) → r ≡ true → (if b then true else r) ≡ true
 either_way true r e = refl
 either_way false r e = e
+
+-- whether it is one of the ports
+pub port_in : (ports : List ℕ) (port : ℕ) → has_port ports port ≡ true → Contains ports port
+port_in [] port e = absurd (let f : false ≡ true = e in cc)
+port_in (p ∷ ports) port e = elim (cases_eq port p) [
+  | inl same ↦
+      subst (λ (q : ℕ). Contains (p ∷ ports) q) (sym same) (Contains-append_left (p ∷ []) ports p (Contains-push [] p))
+  | inr n ↦
+      Contains-append_right (p ∷ []) ports port (port_in ports port
+      (sym (cond-false (port == p) true (has_port ports port) (ne_eqb port p n)) ∙ e))
+]
+
+pub port_has : (ports : List ℕ) (port : ℕ) → Contains ports port → has_port ports port ≡ true
+port_has [] port c = absurd (let l = c.1 in omega arith)
+port_has (p ∷ ports) port c = elim (Contains-append_cases (p ∷ []) ports port c) [
+  | inl here ↦
+      cond-true (port == p) true (has_port ports port) (eq-eqb port p (sym (one_in port p here)))
+  | inr later ↦ either_way (port == p) (has_port ports port) (port_has ports port later)
+]
+
+from_not : (b : Bool) → not b ≡ true → b ≡ false
+from_not true e = absurd (let f : false ≡ true = e in cc)
+from_not false e = refl
+
+&&-left : (a b : Bool) → (a && b) ≡ true → a ≡ true
+&&-left true b e = refl
+&&-left false b e = e
+
+&&-right : (a b : Bool) → (a && b) ≡ true → b ≡ true
+&&-right true b e = e
+&&-right false b e = absurd (let f : false ≡ true = e in cc)
 
 module _ {G K : Type 0} {inputs : SourceMeaning G} {outputs : SinkMeaning K} {to : Endpoint} where
   has_own : (clients : List (ClientProgram inputs outputs to)) (k : ℕ) (client : ClientProgram inputs outputs to) →
@@ -68,72 +105,95 @@ module _ {G K : Type 0} {inputs : SourceMeaning G} {outputs : SinkMeaning K} {to
 module _ {S F D G K : Type 0} {stores : StoreMeaning S D} {sources : SourceMeaning F} {inputs : SourceMeaning G}
     {outputs : SinkMeaning K} (programs : Programs stores sources inputs outputs) where
   abbrev has : Endpoint → Bool
-  has a = has_client inputs outputs (requests_at stores sources programs.server) programs.clients a
+  has a = has_client inputs outputs (requests_at programs) programs.clients a
+
+  abbrev near : Endpoint → Bool
+  near a = is_at_server programs.ip programs.others a
+
+  near_by : (a : Endpoint) → a.ip ≡ programs.ip → (Contains programs.others a.port → ⊥) → near a ≡ true
+  near_by a same own =
+      ap (λ (b : Bool). b && not (has_port programs.others a.port))
+      (ap (λ (ip : List ℕ). is_same_ip ip programs.ip) same ∙ same_ip programs.ip)
+      ∙ ap (λ (b : Bool). true && not b)
+      (false_from_ne_true (has_port programs.others a.port) (λ other. own (port_in programs.others a.port other)))
 
   pub clients_there : ClientsAreThere programs
   clients_there k client i =
-      let a = client_at inputs outputs (requests_at stores sources programs.server) client in
-      ap (λ (b : Bool). at_of b (is_same_ip a.ip programs.server.ip)) (has_own programs.clients k client i)
+      let a = client_at inputs outputs (requests_at programs) client in
+      ap (λ (b : Bool). at_of b (near a)) (has_own programs.clients k client i)
 
-  -- a port of the server's address that no client has is at the server
+  -- a port of the server's address that no client and no other server has is at the server
   pub at_port : (port : ℕ) →
-      ((k : ℕ) (client : ClientProgram inputs outputs (requests_at stores sources programs.server)) →
+      ((k : ℕ) (client : ClientProgram inputs outputs (requests_at programs)) →
       slice_get programs.clients k ≡ Some client →
-      client_at inputs outputs (requests_at stores sources programs.server) client ≢ endpoint programs.server.ip port) →
-      (joined programs).host_of (endpoint programs.server.ip port) ≡ At_server
-  at_port port none =
-      ap (λ (b : Bool). at_of b (is_same_ip programs.server.ip programs.server.ip))
-      (has_none programs.clients (endpoint programs.server.ip port) none)
-      ∙ ap (at_of false) (same_ip programs.server.ip)
+      client_at inputs outputs (requests_at programs) client ≢ endpoint programs.ip port) →
+      (Contains programs.others port → ⊥) → (joined programs).host_of (endpoint programs.ip port) ≡ At_server
+  at_port port none own =
+      ap (λ (b : Bool). at_of b (near (endpoint programs.ip port)))
+      (has_none programs.clients (endpoint programs.ip port) none)
+      ∙ ap (at_of false) (near_by (endpoint programs.ip port) refl own)
 
   pub server_there : ServerIsThere programs
-  server_there fresh port i = at_port port (λ k client at. fresh.apart k port client at i)
+  server_there fresh port i =
+      at_port port (λ k client at. fresh.apart k port client at i) (λ other. fresh.others port i other)
 
-  -- at the server's address nobody is elsewhere
-  pub near_server : (a : Endpoint) → a.ip ≡ programs.server.ip → (joined programs).host_of a ≢ Elsewhere
-  near_server a same e =
-      at_address (has a) (ap (at_of (has a))
-      (sym (ap (λ (ip : List ℕ). is_same_ip ip programs.server.ip) same ∙ same_ip programs.server.ip)) ∙ e)
+  -- nobody at the server is elsewhere
+  pub near_server : (a : Endpoint) → a.ip ≡ programs.ip → (Contains programs.others a.port → ⊥) →
+      (joined programs).host_of a ≢ Elsewhere
+  near_server a same own e = at_address (has a) (ap (at_of (has a)) (sym (near_by a same own)) ∙ e)
 
   elsewhere_strange : (a : Endpoint) → (joined programs).host_of a ≡ Elsewhere →
       IsStranger stores sources inputs outputs programs a
   elsewhere_strange a e = record {
-    server = λ same. near_server a same e;
+    server = λ same. elim (cases_Bool (has_port programs.others a.port)) [
+      | inl other ↦ port_in programs.others a.port other
+      | inr own ↦
+          absurd (near_server a same (λ other. true≢false (sym (port_has programs.others a.port other) ∙ own)) e)
+    ];
     clients =
         λ k client found same. client_elsewhere (ap (joined programs).host_of same ∙ e) (clients_there k client found);
   } where
     client_elsewhere : {h : Host} → h ≡ Elsewhere → h ≡ At_client → ⊥
     client_elsewhere e f = cc
 
+  -- a stranger is not at the server
+  far_by : (a : Endpoint) → (a.ip ≡ programs.ip → Contains programs.others a.port) → near a ≡ false
+  far_by a h = false_from_ne_true (near a) (λ e.
+      let same : a.ip ≡ programs.ip =
+      same_text a.ip programs.ip (sym (&&-left (is_same_ip a.ip programs.ip) (not (has_port programs.others a.port)) e)) in
+      true≢false (sym (port_has programs.others a.port (h same))
+      ∙ from_not (has_port programs.others a.port)
+      (&&-right (is_same_ip a.ip programs.ip) (not (has_port programs.others a.port)) e)))
+
   strange_elsewhere : (a : Endpoint) → IsStranger stores sources inputs outputs programs a →
       (joined programs).host_of a ≡ Elsewhere
   strange_elsewhere a h =
-      ap (λ (b : Bool). at_of b (is_same_ip a.ip programs.server.ip))
-      (has_none programs.clients a (λ k client found. h.clients k client found))
-      ∙ ap (at_of false) (false_from_ne_true (is_same_ip a.ip programs.server.ip)
-      (λ e. h.server (same_text a.ip programs.server.ip (sym e))))
+      ap (λ (b : Bool). at_of b (near a)) (has_none programs.clients a (λ k client found. h.clients k client found))
+      ∙ ap (at_of false) (far_by a h.server)
 
   pub strangers_elsewhere : StrangersAreElsewhere programs
   strangers_elsewhere a = (elsewhere_strange a, strange_elsewhere a)
 
   -- an endpoint that is not ours is a stranger's, and no other is
   pub strange_if : (a : Endpoint) → is_ours programs a ≡ false → IsStranger stores sources inputs outputs programs a
-  strange_if a e = elsewhere_strange a (elsewhere_by (has a) (is_same_ip a.ip programs.server.ip) e)
+  strange_if a e = elsewhere_strange a (elsewhere_by (has a) (near a) e)
 
   pub not_ours : (a : Endpoint) → IsStranger stores sources inputs outputs programs a → is_ours programs a ≡ false
-  not_ours a h = neither_by (has a) (is_same_ip a.ip programs.server.ip) (strange_elsewhere a h)
+  not_ours a h = neither_by (has a) (near a) (strange_elsewhere a h)
 
-  -- no stranger is at a client's endpoint, or at the server's address
+  -- no stranger is at a client's endpoint, or at the server
   pub stranger_no_client : (a : Endpoint) (k : ℕ)
-      (client : ClientProgram inputs outputs (requests_at stores sources programs.server)) →
+      (client : ClientProgram inputs outputs (requests_at programs)) →
       slice_get programs.clients k ≡ Some client →
-      a ≡ client_at inputs outputs (requests_at stores sources programs.server) client →
+      a ≡ client_at inputs outputs (requests_at programs) client →
       IsStranger stores sources inputs outputs programs a → ⊥
   stranger_no_client a k client found same h = h.clients k client found (sym same)
 
-  pub stranger_no_port : (a : Endpoint) (port : ℕ) → a ≡ endpoint programs.server.ip port →
+  pub stranger_no_port : (a : Endpoint) → (joined programs).host_of a ≡ At_server →
       IsStranger stores sources inputs outputs programs a → ⊥
-  stranger_no_port a port same h = h.server (ap (λ (e : Endpoint). e.ip) same)
+  stranger_no_port a there h = elsewhere_no_server (strange_elsewhere a h) there where
+    elsewhere_no_server : {h : Host} → h ≡ Elsewhere → h ≡ At_server → ⊥
+    elsewhere_no_server e f = cc
 
   -- what is shown is safe
   pub promises_kept : (models : AreModelled programs) → AreShown programs models → KeepPromises programs models

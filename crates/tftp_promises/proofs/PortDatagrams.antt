@@ -219,7 +219,7 @@ module _ {S F D G K : Type 0} {stores : StoreMeaning S D} {sources : SourceMeani
 
   -- a stranger's transfer answers one that is ours by an ERROR, which is there already
   pub wrong_keeps : IsStrangers programs x.state → is_ours programs from ≡ true →
-      IsThere kept.messages (endpoint programs.server.ip port) from (error_bytes UnknownTransferId) →
+      IsThere kept.messages (endpoint programs.ip port) from (error_bytes UnknownTransferId) →
       IsKept programs how now
   wrong_keeps s ours there =
       let n : s.peer ≢ from =
@@ -236,21 +236,21 @@ module _ {S F D G K : Type 0} {stores : StoreMeaning S D} {sources : SourceMeani
       (λ state. inr (record {
         strangers = s;
         replies = λ reply says.
-            inr (subst (λ (r : Reply). IsThere kept.messages (endpoint programs.server.ip port) r.to r.bytes)
+            inr (subst (λ (r : Reply). IsThere kept.messages (endpoint programs.ip port) r.to r.bytes)
             (sym (wrong_replies sources (drafting_sink stores) from x.state (has_error_opcode bytes) bytes _ turn _
             acts reply says)) there);
       }))
 
   -- ---- the datagram has arrived at its place, and it is for a transfer at its port, or a stranger's
-  module _ (arrived : HasArrived kept.messages from place bytes) (near : (place ≡ endpoint programs.server.ip port)
+  module _ (arrived : HasArrived kept.messages from place bytes) (near : (place ≡ endpoint programs.ip port)
       ⊎ IsStranger stores sources inputs outputs programs from) where
     come : HasArrived kept.messages from x.address bytes
     come = subst (λ (a : Endpoint). HasArrived kept.messages from a bytes) (sym was.address) arrived
 
     -- where it stands then
     seated_by : (y : OpenEnd) → y.state ≡ after_turn x.state turn →
-        (place ≡ endpoint programs.server.ip port) ⊎ IsStrangers programs x.state →
-        (place ≡ endpoint programs.server.ip port) ⊎ IsStranger stores sources inputs outputs programs from → Seated y
+        (place ≡ endpoint programs.ip port) ⊎ IsStrangers programs x.state →
+        (place ≡ endpoint programs.ip port) ⊎ IsStranger stores sources inputs outputs programs from → Seated y
     seated_by y is_y seat (inl here) = inl here
     seated_by y is_y (inl here) (inr strange) = inl here
     seated_by y is_y (inr s) (inr strange) =

@@ -14,7 +14,7 @@ use Rattle.tftp_sockets.specs.Journal.Event.{Received, Sent}
 use Rattle.tftp_loop.specs.Serves.{LoopState, ServesPort, At_port}
 use Rattle.tftp_rules.specs.Machine.{Endpoint}
 use Rattle.tftp_promises.specs.Joint.{CanTake, WasSentBefore}
-use Rattle.tftp_promises.specs.Order.{Programs, IsStranger}
+use Rattle.tftp_promises.specs.Order.{Programs, MayCome}
 use Rattle.tftp_promises.specs.Programs.{endpoint}
 use Rattle.tftp_promises.specs.Snapshots.{Snapshot}
 use Rattle.tftp_promises.proofs.Kept.{How, IsKnown, IsKept}
@@ -74,11 +74,11 @@ module _ {S F D G K : Type 0} {stores : StoreMeaning S D} {sources : SourceMeani
         subst (λ (es : List Event). SendsOnly serves.timer.port reply es) added_is
         (answered_sends serves.timer.port reply noted silent)
 
-    -- what was received was sent there, or is a stranger's
+    -- what was received was sent there, or may come nevertheless
     pub received_there : (port : ℕ) (from : Endpoint) (bytes : List ℕ) → Contains noted (Received port from bytes) →
-        CanTake programs old programs.server.ip added →
-        WasSentBefore programs old from (endpoint programs.server.ip port) bytes ⊎ IsStranger stores sources inputs
-        outputs programs from
+        CanTake programs old programs.ip added →
+        WasSentBefore programs old from (endpoint programs.ip port) bytes ⊎ MayCome stores sources inputs
+        outputs programs from bytes
     received_there port from bytes c take =
         take port from bytes (subst (λ (es : List Event). Contains es (Received port from bytes)) added_is
         (answered_has serves.timer.port reply noted (Received port from bytes) c))

@@ -232,7 +232,7 @@ module _ {S F D G K : Type 0} {stores : StoreMeaning S D} {sources : SourceMeani
         (elapsed_silent port old.state.now))
 
     -- where it stands then
-    seated : (place ≡ endpoint programs.server.ip port) ⊎ IsStrangers programs x.state →
+    seated : (place ≡ endpoint programs.ip port) ⊎ IsStrangers programs x.state →
         IsSeated programs old kept (At_port serves) added port timed.transfer timed.found turn y
     seated (inl here) = inl here
     seated (inr s) =

@@ -16,9 +16,8 @@ use Rattle.tftp_rules.specs.Machine.{Endpoint}
 use Rattle.tftp_rules.specs.OpenEnds.{OpenEnd}
 use Rattle.tftp_promises.specs.Moved.{Moved, or_before}
 use Rattle.tftp_promises.specs.Openings.{HasClosed, moved_at, opened_at, place_at}
-use Rattle.tftp_promises.specs.Order.{Programs}
+use Rattle.tftp_promises.specs.Order.{Programs, requests_at}
 use Rattle.tftp_promises.specs.Ports.{IsStored, Removes}
-use Rattle.tftp_promises.specs.Programs.{requests_at}
 use Rattle.tftp_promises.specs.Snapshots.{Snapshot, server_did}
 use Rattle.tftp_promises.proofs.RunPlaces.{placed_by, places}
 use Rattle.tftp_promises.proofs.Kept.{How, By_models, By_run, HasArrived, IsKnown, IsOpened, GaveSo, TookSo, HasStored}
@@ -114,7 +113,7 @@ module _ {S F D G K : Type 0} {stores : StoreMeaning S D} {sources : SourceMeani
     pub known : IsKnown programs how new
     -- a pending datagram was sent
     pub pending : (from : Endpoint) (bytes : List ℕ) → new.pending ≡ Some (from, bytes) →
-        HasArrived kept.messages from (requests_at stores sources programs.server) bytes
+        HasArrived kept.messages from (requests_at programs) bytes
     pub files : FilesStay programs how old.state new
 
 module _ {S F D G K : Type 0} {stores : StoreMeaning S D} {sources : SourceMeaning F} {inputs : SourceMeaning G}

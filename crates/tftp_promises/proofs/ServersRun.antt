@@ -26,19 +26,18 @@ server_noted {start = start} (Then run does) = elim (server_adds does) [
 
 pub servers_run : {S F D : Type 0} (stores : StoreMeaning S D) (sources : SourceMeaning F) →
     ServersAreRuns stores sources
-servers_run stores sources ip start last run empty idle max_block = record {
+servers_run stores sources to start last run requests empty idle max_block = record {
   server = record {
-    ip = ip;
     start = start;
     last = last;
     run = run;
     noted = (server_noted run).0;
     is_noted = (server_noted run).1;
+    requests = requests;
     empty = empty;
     idle = idle;
     max_block = max_block;
   };
-  address = refl;
   starts = refl;
   arrives = refl;
 }

@@ -58,11 +58,11 @@ module _ {S F D G K : Type 0} {stores : StoreMeaning S D} {sources : SourceMeani
     pub strangers : IsStrangers programs y.state
     pub replies : (reply : Reply) → turn.reply ≡ Some reply →
         IsStranger stores sources inputs outputs programs reply.to ⊎ IsThere kept.messages
-        (endpoint programs.server.ip port) reply.to reply.bytes
+        (endpoint programs.ip port) reply.to reply.bytes
 
   -- it stands at its port, or aside
   abbrev pub IsSeated : Turn → OpenEnd → Type 0
-  IsSeated turn y = (place ≡ endpoint programs.server.ip port) ⊎ Aside turn y
+  IsSeated turn y = (place ≡ endpoint programs.ip port) ⊎ Aside turn y
 
   module _ (fresh : IsFreshBy programs old) (stays : ServerStays programs old kept does) (x : OpenEnd)
       (address : x.address ≡ place) (side : is_client x.state.role.side ≡ false)
@@ -72,7 +72,7 @@ module _ {S F D G K : Type 0} {stores : StoreMeaning S D} {sources : SourceMeani
       (seated : IsSeated turn becomes.end) (none : (a : Endpoint) → place ≢ a → MovesNone programs old.run does a) where
     abbrev SentBy : ℕ → Endpoint → List ℕ → Type 0
     SentBy own to bytes =
-        IsThere (kept.messages ++ becomes.goes.said_now) (endpoint programs.server.ip own) to bytes
+        IsThere (kept.messages ++ becomes.goes.said_now) (endpoint programs.ip own) to bytes
         ⊎ IsStranger stores sources inputs outputs programs to
 
     sent_by : (to : Endpoint) (bytes : List ℕ) → turn.reply ≡ Some (record { to = to; bytes = bytes }) →
@@ -85,7 +85,7 @@ module _ {S F D G K : Type 0} {stores : StoreMeaning S D} {sources : SourceMeani
     sent_by to bytes says (inr aside) = elim (aside.replies (record { to = to; bytes = bytes }) says) [
       | inl strange ↦ inr strange
       | inr there ↦
-          inl (there_still kept.messages becomes.goes.said_now (endpoint programs.server.ip port) to bytes there)
+          inl (there_still kept.messages becomes.goes.said_now (endpoint programs.ip port) to bytes there)
     ]
 
     sent_now : (own : ℕ) (to : Endpoint) (bytes : List ℕ) → Contains added (Sent own to bytes) → SentBy own to bytes
@@ -93,7 +93,7 @@ module _ {S F D G K : Type 0} {stores : StoreMeaning S D} {sources : SourceMeani
         let h = sends own to bytes c in subst (λ (p : ℕ). SentBy p to bytes) h.0 (sent_by to bytes h.1 seated)
 
     seat_now : IsSeated turn becomes.end →
-        (place ≡ endpoint programs.server.ip port) ⊎ IsStrangers programs becomes.end.state
+        (place ≡ endpoint programs.ip port) ⊎ IsStrangers programs becomes.end.state
     seat_now (inl here) = inl here
     seat_now (inr aside) = inr aside.strangers
 

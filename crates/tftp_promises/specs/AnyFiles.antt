@@ -14,8 +14,8 @@ use Rattle.tftp_server.specs.State.{TransferState}
 use Rattle.tftp_promises.specs.ClientRuns.{moved_in}
 use Rattle.tftp_promises.specs.Moved.{Moved}
 use Rattle.tftp_promises.specs.Openings.{moved_at, opened_at}
-use Rattle.tftp_promises.specs.Order.{Programs, IsStranger}
-use Rattle.tftp_promises.specs.Programs.{endpoint, requests_at, ClientProgram, client_at, name_of}
+use Rattle.tftp_promises.specs.Order.{Programs, IsStranger, requests_at}
+use Rattle.tftp_promises.specs.Programs.{endpoint, ClientProgram, client_at, name_of}
 use Rattle.tftp_promises.specs.Programs.{packet_of}
 use Rattle.tftp_promises.specs.Promises.{HasOpened}
 
@@ -57,10 +57,10 @@ module _ {S F D G K : Type 0} {stores : StoreMeaning S D} {sources : SourceMeani
     (programs : Programs stores sources inputs outputs) where
   -- the end of a client
   abbrev pub client_end
-      : ClientProgram inputs outputs (requests_at stores sources programs.server) → ProgramEnd
+      : ClientProgram inputs outputs (requests_at programs) → ProgramEnd
   client_end client =
       record {
-        address = client_at inputs outputs (requests_at stores sources programs.server) client;
+        address = client_at inputs outputs (requests_at programs) client;
         state = client.last.end;
         moved = moved_in client.runs;
       }
@@ -78,7 +78,7 @@ module _ {S F D G K : Type 0} {stores : StoreMeaning S D} {sources : SourceMeani
   abbrev pub IsEnd : ProgramEnd → Type 0
   IsEnd x =
       ((k : ℕ) × (client : ClientProgram inputs outputs
-      (requests_at stores sources programs.server))
+      (requests_at programs))
       × (slice_get programs.clients k ≡ Some client) × (x ≡ client_end client))
       ⊎ ((port : ℕ) × (transfer : TransferState F D) × (a : Endpoint)
       × HasOpened programs port transfer a × (x ≡ transfer_end transfer a))
@@ -90,14 +90,14 @@ module _ {S F D G K : Type 0} {stores : StoreMeaning S D} {sources : SourceMeani
   -- a transfer of the server at this endpoint is the client's: it has the client as its peer, the
   -- datagram that opened it spells the client's request, and its path is that of the client's name
   pub record Serves (p : Endpoint)
-      (client : ClientProgram inputs outputs (requests_at stores sources programs.server))
+      (client : ClientProgram inputs outputs (requests_at programs))
       : Type 0 where
     pub port : ℕ
     pub transfer : TransferState F D
     pub opened : HasOpened programs port transfer p
     pub server : is_client transfer.end.role.side ≡ false
     pub peer : peer_of (transfer_end transfer p)
-        ≡ Some (client_at inputs outputs (requests_at stores sources programs.server) client)
+        ≡ Some (client_at inputs outputs (requests_at programs) client)
     pub asked : Spells (packet_of client.opens) transfer.request
     pub path : path_of_name (name_of client.opens) ≡ Ok transfer.path
 
@@ -117,13 +117,13 @@ module _ {S F D G K : Type 0} {stores : StoreMeaning S D} {sources : SourceMeani
     -- the peer of a client is a transfer of the server, which is the client's: of the file that it
     -- asked for
     pub served : (k : ℕ)
-        (client : ClientProgram inputs outputs (requests_at stores sources programs.server))
+        (client : ClientProgram inputs outputs (requests_at programs))
         (p : Endpoint) → slice_get programs.clients k ≡ Some client →
         peer_of (client_end client) ≡ Some p → Serves p client
     -- a transfer is at its port, unless its peer is a stranger
     pub at_port : (port : ℕ) (transfer : TransferState F D) (a p : Endpoint) →
         HasOpened programs port transfer a → peer_of (transfer_end transfer a) ≡ Some p →
-        IsOurs p → a ≡ endpoint programs.server.ip port
+        IsOurs p → a ≡ endpoint programs.ip port
     -- what a transfer sends was opened under its path, and what it stores was begun under its path
     pub opened : (port : ℕ) (transfer : TransferState F D) (a : Endpoint) →
         HasOpened programs port transfer a → WasOpened transfer a

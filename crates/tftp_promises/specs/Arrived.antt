@@ -51,8 +51,8 @@ module _ {G K : Type 0} (inputs : SourceMeaning G) (outputs : SinkMeaning K) (to
 
 module _ {S F D : Type 0} (stores : StoreMeaning S D) (sources : SourceMeaning F) where
   -- a transfer sends a file that was under its path, and still is unless writes may replace files
-  pub record SendsStored (server : ServerProgram stores sources) (transfer : TransferState F D)
-      (view : EndView) : Type 0 where
+  pub record SendsStored {to : Endpoint} (server : ServerProgram stores sources to)
+      (transfer : TransferState F D) (view : EndView) : Type 0 where
     pub file : List ℕ
     pub views : ViewsFile transfer.end file view
     pub was : WasStored server.run transfer.path file
@@ -61,8 +61,8 @@ module _ {S F D : Type 0} (stores : StoreMeaning S D) (sources : SourceMeaning F
 
   -- a transfer has stored this; once it is complete that is under its path, unless writes may
   -- replace files
-  pub record KeepsStored (server : ServerProgram stores sources) (transfer : TransferState F D)
-      (draft : D) (view : EndView) : Type 0 where
+  pub record KeepsStored {to : Endpoint} (server : ServerProgram stores sources to)
+      (transfer : TransferState F D) (draft : D) (view : EndView) : Type 0 where
     pub views : ViewsSink transfer.end
         (holding_of (stores.stored (arrived stores sources server).server.store)
         (stores.drafted draft)) view
@@ -71,13 +71,13 @@ module _ {S F D : Type 0} (stores : StoreMeaning S D) (sources : SourceMeaning F
         IsStored stores (arrived stores sources server) transfer.path views.holding.bytes
 
   -- what a transfer of the server sends, or what it stored
-  abbrev pub ViewsStored : ServerProgram stores sources → TransferState F D → Files F D → EndView
-      → Type 0
+  abbrev pub ViewsStored : {to : Endpoint} → ServerProgram stores sources to → TransferState F D
+      → Files F D → EndView → Type 0
   ViewsStored server transfer (Source source) view = SendsStored server transfer view
   ViewsStored server transfer (Sink draft) view = KeepsStored server transfer draft view
 
   -- the view is of the end of this transfer of the server, at this place
-  pub record ViewsTransfer (server : ServerProgram stores sources) (transfer : TransferState F D)
-      (a : Endpoint) (view : EndView) : Type 0 where
+  pub record ViewsTransfer {to : Endpoint} (server : ServerProgram stores sources to)
+      (transfer : TransferState F D) (a : Endpoint) (view : EndView) : Type 0 where
     pub end : ViewsEnd a transfer.end view
     pub own : ViewsStored server transfer transfer.files view

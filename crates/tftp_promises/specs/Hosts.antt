@@ -6,8 +6,8 @@ use Rattle.tftp_file.specs.Source.{SourceMeaning}
 use Rattle.tftp_store.specs.Store.{StoreMeaning}
 use Rattle.tftp_rules.specs.Machine.{Endpoint, At_server, At_client, Elsewhere}
 use Rattle.tftp_promises.specs.Openings.{ArePortsFresh, server_ports}
-use Rattle.tftp_promises.specs.Order.{Programs, IsStranger}
-use Rattle.tftp_promises.specs.Programs.{endpoint, requests_at, ClientProgram, client_at}
+use Rattle.tftp_promises.specs.Order.{Programs, IsStranger, requests_at}
+use Rattle.tftp_promises.specs.Programs.{endpoint, ClientProgram, client_at}
 use Rattle.tftp_promises.specs.Promises.{joined}
 
 module _ {S F D G K : Type 0} {stores : StoreMeaning S D} {sources : SourceMeaning F}
@@ -16,16 +16,16 @@ module _ {S F D G K : Type 0} {stores : StoreMeaning S D} {sources : SourceMeani
   -- each client is at a client's endpoint
   abbrev pub ClientsAreThere : Type 0
   ClientsAreThere =
-      (k : ℕ) (client : ClientProgram inputs outputs (requests_at stores sources programs.server))
+      (k : ℕ) (client : ClientProgram inputs outputs (requests_at programs))
       → slice_get programs.clients k ≡ Some client
       → (joined programs).host_of
-      (client_at inputs outputs (requests_at stores sources programs.server) client) ≡ At_client
+      (client_at inputs outputs (requests_at programs) client) ≡ At_client
 
   -- each port of the server that its clients know is at the server, if the ports are fresh
   abbrev pub ServerIsThere : Type 0
   ServerIsThere =
       ArePortsFresh programs → (port : ℕ) → Contains (server_ports programs) port
-      → (joined programs).host_of (endpoint programs.server.ip port) ≡ At_server
+      → (joined programs).host_of (endpoint programs.ip port) ≡ At_server
 
   -- only strangers are elsewhere, so that what is claimed of peers has no other exception
   abbrev pub StrangersAreElsewhere : Type 0

@@ -1,12 +1,14 @@
 -- The ends of programs in an honest network keep the promises of a transfer.
-use Rattle.std.specs.Prelude.{List}
+use Rattle.std.specs.Prelude.{ℕ, ◌≡◌, List, slice_get, Some}
 use Rattle.tftp_file.specs.Sink.{SinkMeaning}
 use Rattle.tftp_file.specs.Source.{SourceMeaning}
 use Rattle.tftp_store.specs.Store.{StoreMeaning}
 use Rattle.tftp_promises.specs.AnyFiles.{KeepAnyFiles}
 use Rattle.tftp_promises.specs.Modelled.{AreModelled}
 use Rattle.tftp_promises.specs.Openings.{ArePortsFresh}
-use Rattle.tftp_promises.specs.Order.{Noted, Programs, IsOrder, IsHonest}
+use Rattle.tftp_promises.specs.Order.{Noted, Programs, IsOrder, IsHonest, requests_at}
+use Rattle.tftp_promises.specs.Others.{TakesOwn}
+use Rattle.tftp_promises.specs.Programs.{ClientProgram}
 use Rattle.tftp_promises.specs.Promises.{KeepPromises, AreShown}
 
 module _ {S F D G K : Type 0} (stores : StoreMeaning S D) (sources : SourceMeaning F)
@@ -17,9 +19,13 @@ module _ {S F D G K : Type 0} (stores : StoreMeaning S D) (sources : SourceMeani
     pub is_order : IsOrder stores sources inputs outputs programs order
     pub honest : IsHonest stores sources inputs outputs programs order
     pub fresh : ArePortsFresh programs
+    -- no client takes another server at the address as its peer
+    pub own : (k : ℕ) (client : ClientProgram inputs outputs (requests_at programs)) →
+        slice_get programs.clients k ≡ Some client →
+        TakesOwn programs.ip programs.others client.runs
 
-  -- one server and any number of clients, over files of known content: in the end state of their
-  -- journals the ends keep the promises
+  -- a server and any number of clients, over files of known content: in the end state of their
+  -- journals the ends keep the promises. Other servers at the address are strangers
   abbrev pub ProgramsKeepPromises : Type 0
   ProgramsKeepPromises =
       (programs : Programs stores sources inputs outputs) (order : List Noted)

@@ -1,5 +1,5 @@
 -- The joint run of all programs: whole steps of theirs, one at a time, each of which receives only
--- what was sent in the steps before it, or what is a stranger's.
+-- what was sent in the steps before it, or what is a stranger's, or an ERROR.
 use Rattle.std.specs.Prelude.{ℕ, ◌≡◌, ◌⊎◌, List, ◌++◌, slice_get, Some}
 use Rattle.std.specs.List.{Contains}
 use Rattle.tftp_file.specs.Sink.{SinkMeaning}
@@ -13,8 +13,9 @@ use Rattle.tftp_loop.specs.Serves.{LoopState, Does}
 use Rattle.tftp_client.specs.Converses.{State}
 use Rattle.tftp_promises.specs.Joined.{AreJoined}
 use Rattle.tftp_promises.specs.Moved.{Moved}
-use Rattle.tftp_promises.specs.Order.{Noted, Programs, IsStranger}
-use Rattle.tftp_promises.specs.Programs.{endpoint, requests_at, ClientProgram}
+use Rattle.tftp_promises.specs.Order.{Noted, Programs, MayCome, requests_at}
+use Rattle.tftp_promises.specs.Others.{DoesOwn}
+use Rattle.tftp_promises.specs.Programs.{endpoint, ClientProgram}
 use Rattle.tftp_promises.specs.ClientRuns.{ClientDoes, client_moves}
 use Rattle.tftp_promises.specs.Snapshots.{ClientStage, Unasked, Has_asked, noted_by}
 use Rattle.tftp_promises.specs.Snapshots.{Snapshot, nothing_done, just_asked, server_did}
@@ -27,14 +28,14 @@ module _ {S F D G K : Type 0} {stores : StoreMeaning S D} {sources : SourceMeani
   pub record ServerHasSent (snapshot : Snapshot programs) (from to : Endpoint) (bytes : List ℕ)
       : Type 0 where
     pub port : ℕ
-    pub at : from ≡ endpoint programs.server.ip port
+    pub at : from ≡ endpoint programs.ip port
     pub sent : Contains snapshot.noted (Sent port to bytes)
 
   -- a client has
   pub record ClientHasSent (snapshot : Snapshot programs) (from to : Endpoint) (bytes : List ℕ)
       : Type 0 where
     pub k : ℕ
-    pub client : ClientProgram inputs outputs (requests_at stores sources programs.server)
+    pub client : ClientProgram inputs outputs (requests_at programs)
     pub is_client : slice_get programs.clients k ≡ Some client
     pub stage : ClientStage G K
     pub is_stage : slice_get snapshot.clients k ≡ Some stage
@@ -47,12 +48,12 @@ module _ {S F D G K : Type 0} {stores : StoreMeaning S D} {sources : SourceMeani
   WasSentBefore snapshot from to bytes =
       ServerHasSent snapshot from to bytes ⊎ ClientHasSent snapshot from to bytes
 
-  -- what a program at this address receives in these events was sent there, or is a stranger's
+  -- what a program at this address receives in these events was sent there, or may come all the same
   abbrev pub CanTake : Snapshot programs → List ℕ → List Event → Type 0
   CanTake snapshot ip added =
       (port : ℕ) (from : Endpoint) (bytes : List ℕ) → Contains added (Received port from bytes)
       → WasSentBefore snapshot from (endpoint ip port) bytes
-      ⊎ IsStranger stores sources inputs outputs programs from
+      ⊎ MayCome stores sources inputs outputs programs from bytes
 
   -- the programs reach this state by whole steps, one at a time
   pub data Joint : Snapshot programs → Type 0 where
@@ -60,21 +61,22 @@ module _ {S F D G K : Type 0} {stores : StoreMeaning S D} {sources : SourceMeani
     -- a step of the server
     Server_does : {old : Snapshot programs} {new : LoopState S F D}
         → Joint old → (does : Does stores sources old.state new) (added : List Event)
-        → new.events ≡ added ++ old.state.events → CanTake old programs.server.ip added
+        → new.events ≡ added ++ old.state.events → CanTake old programs.ip added
         → Joint (server_did programs old does added)
     -- a client sends its request
     Client_asks : {old : Snapshot programs} → Joint old → (k : ℕ)
-        (client : ClientProgram inputs outputs (requests_at stores sources programs.server))
+        (client : ClientProgram inputs outputs (requests_at programs))
         → slice_get programs.clients k ≡ Some client
         → slice_get old.clients k ≡ Some Unasked
         → Joint (client_did programs old k (just_asked client))
     -- a step of a client after that
     Client_does : {old : Snapshot programs} {s s' : State} {files files' : Files G K}
         {noted : List Event} {moved : Moved} → Joint old → (k : ℕ)
-        (client : ClientProgram inputs outputs (requests_at stores sources programs.server))
+        (client : ClientProgram inputs outputs (requests_at programs))
         → slice_get programs.clients k ≡ Some client
         → slice_get old.clients k ≡ Some (Has_asked s files noted moved)
-        → (does : ClientDoes inputs outputs client.port s files s' files') → (added : List Event)
+        → (does : ClientDoes inputs outputs client.port s files s' files')
+        → DoesOwn programs.ip programs.others does → (added : List Event)
         → s'.events ≡ added ++ s.events → CanTake old client.ip added
         → Joint
         (client_did programs old k (Has_asked s' files' (added ++ noted) (client_moves does moved)))

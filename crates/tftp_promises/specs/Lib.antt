@@ -1,5 +1,6 @@
 pub mod Moved
 pub mod ClientRuns
+pub mod Others
 pub mod Programs
 pub mod ClientPrograms
 pub mod Order
@@ -12,6 +13,7 @@ pub mod AnyFiles
 pub mod Hosts
 pub mod Journals
 pub mod Joined
+pub mod Several
 pub mod Alone
 pub mod Snapshots
 pub mod Joint

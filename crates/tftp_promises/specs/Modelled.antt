@@ -8,8 +8,8 @@ use Rattle.tftp_ends.specs.End.{EndState}
 use Rattle.tftp_store.specs.Store.{StoreMeaning}
 use Rattle.tftp_client.specs.Taken.{nothing}
 use Rattle.tftp_rules.specs.Machine.{Endpoint}
-use Rattle.tftp_promises.specs.Order.{Programs}
-use Rattle.tftp_promises.specs.Programs.{ClientOpens, ClientProgram, To_read, To_write, requests_at}
+use Rattle.tftp_promises.specs.Order.{Programs, requests_at}
+use Rattle.tftp_promises.specs.Programs.{ClientOpens, ClientProgram, To_read, To_write}
 
 -- a client that writes has measured this file, and its source has all of its text; one that reads
 -- sends none, and its sink has taken nothing
@@ -27,8 +27,8 @@ module _ {S F D G K : Type 0} {stores : StoreMeaning S D} {sources : SourceMeani
   -- the content of the store is known, and the file of each client
   pub record AreModelled (programs : Programs stores sources inputs outputs) : Type 0 where
     pub known : IsSome (stores.stored programs.server.start.server.store)
-    pub file_of : ClientProgram inputs outputs (requests_at stores sources programs.server)
+    pub file_of : ClientProgram inputs outputs (requests_at programs)
         → List ℕ
     pub whole : (k : ℕ)
-        (client : ClientProgram inputs outputs (requests_at stores sources programs.server)) →
+        (client : ClientProgram inputs outputs (requests_at programs)) →
         slice_get programs.clients k ≡ Some client → HasWhole client.opens (file_of client)

@@ -7,16 +7,16 @@ use Rattle.std.specs.List.{Contains}
 use Rattle.tftp_file.specs.Sink.{SinkMeaning}
 use Rattle.tftp_file.specs.Source.{SourceMeaning}
 use Rattle.tftp_store.specs.Store.{StoreMeaning}
-use Rattle.tftp_rules.specs.Machine.{Endpoint, is_same, is_same_ip}
+use Rattle.tftp_rules.specs.Machine.{Endpoint, is_same}
 use Rattle.tftp_server.specs.State.{TransferState}
 use Rattle.tftp_loop.specs.Run.{Run}
 use Rattle.tftp_loop.specs.Run.Run.{Start, Then}
 use Rattle.tftp_loop.specs.Serves.{LoopState, Does, At_port, Request_answered}
 use Rattle.tftp_promises.specs.Moved.{Moved, nothing_moved, came_if, opening_moves, or_before}
 use Rattle.tftp_promises.specs.Moved.{port_moves}
-use Rattle.tftp_promises.specs.Order.{Programs}
+use Rattle.tftp_promises.specs.Order.{Programs, requests_at}
 use Rattle.tftp_promises.specs.Ports.{AreDistinct, Removes, opened_ports}
-use Rattle.tftp_promises.specs.Programs.{endpoint, requests_at, client_at, has_client}
+use Rattle.tftp_promises.specs.Programs.{endpoint, client_at, has_client, is_at_server}
 use Rattle.tftp_promises.specs.Programs.{ClientProgram}
 
 -- their sum, which none of them exceeds
@@ -32,25 +32,24 @@ or_place None before = before
 module _ {S F D G K : Type 0} {stores : StoreMeaning S D} {sources : SourceMeaning F}
     {inputs : SourceMeaning G} {outputs : SinkMeaning K}
     (programs : Programs stores sources inputs outputs) where
-  -- the endpoint of a client of the network, or one at the server's address; all others are
-  -- strangers'
+  -- the endpoint of a client of the network, or one of the server; all others are strangers'
   abbrev pub is_ours : Endpoint → Bool
   is_ours a =
-      if has_client inputs outputs (requests_at stores sources programs.server) programs.clients a
-      then true else is_same_ip a.ip programs.server.ip
+      if has_client inputs outputs (requests_at programs) programs.clients a
+      then true else is_at_server programs.ip programs.others a
 
-  -- above all ports of the server and of its clients
+  -- above all ports at the server's address and of its clients
   abbrev pub above : ℕ
   above =
-      suc (total (programs.server.start.requests ∷ opened_ports programs.server.run)
-      + total (map (λ client. client.port) programs.clients))
+      suc (total (programs.port ∷ opened_ports programs.server.run)
+      + total (map (λ client. client.port) programs.clients) + total programs.others)
 
   -- where the server opens a transfer for the client at `from`, at this port, after `count` others:
   -- at the port; but one of a stranger, whose port another transfer may have too, at an endpoint of
   -- its own
   abbrev pub place : ℕ → Endpoint → ℕ → Endpoint
   place count from port =
-      endpoint programs.server.ip (if is_ours from then port else above + count)
+      endpoint programs.ip (if is_ours from then port else above + count)
 
   -- where the transfer is that the run opened last at the port
   abbrev pub placed_at : ℕ → {first old new : LoopState S F D}
@@ -62,7 +61,7 @@ module _ {S F D G K : Type 0} {stores : StoreMeaning S D} {sources : SourceMeani
 
   abbrev pub place_at : ℕ → {first last : LoopState S F D} → Run (Does stores sources) first last
       → Endpoint
-  place_at port Start = endpoint programs.server.ip port
+  place_at port Start = endpoint programs.ip port
   place_at port (Then run does) = or_place (placed_at port run does) (place_at port run)
 
   -- a step of the run removed this transfer, which had closed and was at this place
@@ -120,22 +119,23 @@ module _ {S F D G K : Type 0} {stores : StoreMeaning S D} {sources : SourceMeani
   -- the ports of the server that its clients know: that of its requests, and those of their
   -- transfers
   abbrev pub server_ports : List ℕ
-  server_ports = programs.server.start.requests ∷ our_ports programs.server.run
+  server_ports = programs.port ∷ our_ports programs.server.run
 
   -- no two clients have one endpoint, no two of these ports of the server are one, and no client is
-  -- at one of them
+  -- at one of them, nor another server
   pub record AreEndsApart (ports : List ℕ) : Type 0 where
     pub server : AreDistinct ports
     pub clients : (j k : ℕ)
-        (x y : ClientProgram inputs outputs (requests_at stores sources programs.server)) →
+        (x y : ClientProgram inputs outputs (requests_at programs)) →
         slice_get programs.clients j ≡ Some x → slice_get programs.clients k ≡ Some y →
-        client_at inputs outputs (requests_at stores sources programs.server) x
-        ≡ client_at inputs outputs (requests_at stores sources programs.server) y → j ≡ k
+        client_at inputs outputs (requests_at programs) x
+        ≡ client_at inputs outputs (requests_at programs) y → j ≡ k
     pub apart : (k port : ℕ)
-        (x : ClientProgram inputs outputs (requests_at stores sources programs.server)) →
+        (x : ClientProgram inputs outputs (requests_at programs)) →
         slice_get programs.clients k ≡ Some x → Contains ports port →
-        client_at inputs outputs (requests_at stores sources programs.server) x
-        ≢ endpoint programs.server.ip port
+        client_at inputs outputs (requests_at programs) x
+        ≢ endpoint programs.ip port
+    pub others : (port : ℕ) → Contains ports port → Contains programs.others port → ⊥
 
   -- the ports are fresh for the clients and their transfers; those of strangers may be any
   abbrev pub ArePortsFresh : Type 0
@@ -144,5 +144,5 @@ module _ {S F D G K : Type 0} {stores : StoreMeaning S D} {sources : SourceMeani
   -- distinct ports are fresh: if no two ends of the run have one endpoint
   abbrev pub DistinctPortsAreFresh : Type 0
   DistinctPortsAreFresh =
-      AreEndsApart (programs.server.start.requests ∷ opened_ports programs.server.run)
+      AreEndsApart (programs.port ∷ opened_ports programs.server.run)
       → ArePortsFresh

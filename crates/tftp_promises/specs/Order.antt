@@ -1,18 +1,19 @@
 -- One order of all events of the programs, and a network that delivers only what was sent.
-use Rattle.std.specs.Prelude.{ℕ, ◌≡◌, ◌≢◌, ◌⊎◌, ◌==◌, zero, suc, if◌then◌else◌, List, [], ◌∷◌}
-use Rattle.std.specs.Prelude.{slice_get}
-use Rattle.std.specs.Prelude.{Option, Some, option_map}
+use Rattle.std.specs.Prelude.{ℕ, ◌≡◌, ◌≢◌, ◌⊎◌, ◌==◌, suc, if◌then◌else◌, List, [], ◌∷◌, map}
+use Rattle.std.specs.Prelude.{slice_get, Some}
 use Rattle.std.specs.List.{Contains}
+use Rattle.tftp_wire.specs.Spelling.{Spells}
+use Rattle.tftp_wire.specs.declared.packet.Packet.TheVariants.{Error}
 use Rattle.tftp_file.specs.Sink.{SinkMeaning}
 use Rattle.tftp_file.specs.Source.{SourceMeaning}
 use Rattle.tftp_store.specs.Store.{StoreMeaning}
 use Rattle.tftp_rules.specs.Machine.{Endpoint}
 use Rattle.tftp_sockets.specs.Journal.{Event}
 use Rattle.tftp_sockets.specs.Journal.Event.{Received, Sent, Watched, Elapsed, Printed, Quiet}
-use Rattle.tftp_promises.specs.Programs.{endpoint, ServerProgram, requests_at, ClientProgram}
-use Rattle.tftp_promises.specs.Programs.{client_at}
+use Rattle.tftp_promises.specs.Programs.{endpoint, ServerProgram, ClientProgram, client_at}
 
--- an event and its program: 0 is the server, and k + 1 the client at index k
+-- an event and its program, by a number: first the servers, by their indices, then the clients.
+-- With one server, 0 is the server, and k + 1 the client at index k
 abbrev pub Noted : Type 0
 Noted = ℕ × Event
 
@@ -22,59 +23,103 @@ events_of program [] = []
 events_of program (e ∷ order) =
     if e.0 == program then e.1 ∷ events_of program order else events_of program order
 
+-- the bytes are an ERROR (RFC 1350, section 5)
+abbrev pub IsError : List ℕ → Type 0
+IsError bytes = (code : ℕ) × (text : List ℕ) × Spells (Error code text) bytes
+
+module _ {G K : Type 0} {inputs : SourceMeaning G} {outputs : SinkMeaning K} {to : Endpoint} where
+  -- a stranger: an endpoint of another program than these clients, at another address than the
+  -- server's, or at a port there that another server has
+  pub record IsStrangerTo (ip others : List ℕ) (all : List (ClientProgram inputs outputs to))
+      (a : Endpoint) : Type 0 where
+    pub server : a.ip ≡ ip → Contains others a.port
+    pub clients : (k : ℕ) (client : ClientProgram inputs outputs to) →
+        slice_get all k ≡ Some client → client_at inputs outputs to client ≢ a
+
+-- programs at these addresses, and which endpoints are strangers'
+module _ (ips : List (List ℕ)) where
+  -- the port is one of a program at this endpoint
+  abbrev pub IsAtOf : ℕ → ℕ → Endpoint → Type 0
+  IsAtOf program port a =
+      (ip : List ℕ) × (slice_get ips program ≡ Some ip) × (a ≡ endpoint ip port)
+
+  -- a program sent these bytes from this endpoint to that one
+  pub record WasSentOf (earlier : List Noted) (from to : Endpoint) (bytes : List ℕ) : Type 0 where
+    pub program : ℕ
+    pub port : ℕ
+    pub is_at : IsAtOf program port from
+    pub sent : Contains earlier (program, Sent port to bytes)
+
+  module _ (Strange : Endpoint → Type 0) where
+    -- what a program receives was sent to it before, or is a stranger's, or is an ERROR: no promise
+    -- rests on who sent one, and several servers send theirs from the request port that they share
+    abbrev pub CanComeOf : ℕ → Event → List Noted → Type 0
+    CanComeOf program (Received port from bytes) earlier =
+        (to : Endpoint) × IsAtOf program port to
+        × (WasSentOf earlier from to bytes ⊎ (Strange from ⊎ IsError bytes))
+    CanComeOf program (Sent port to bytes) earlier = Unit {0}
+    CanComeOf program (Watched time) earlier = Unit {0}
+    CanComeOf program (Elapsed port time) earlier = Unit {0}
+    CanComeOf program (Printed line) earlier = Unit {0}
+    CanComeOf program (Quiet event) earlier = Unit {0}
+
+    -- an honest network: each datagram that was received was sent to that endpoint before, from the
+    -- endpoint that it bears; it may arrive any number of times, in any order, or never. Those of
+    -- strangers, and ERRORs, may arrive at any time, with any bytes
+    abbrev pub IsHonestOf : List Noted → Type 0
+    IsHonestOf [] = Unit {0}
+    IsHonestOf (e ∷ earlier) = CanComeOf e.0 e.1 earlier × IsHonestOf earlier
+
 module _ {S F D G K : Type 0} (stores : StoreMeaning S D) (sources : SourceMeaning F)
     (inputs : SourceMeaning G) (outputs : SinkMeaning K) where
   -- a server and its clients
   pub record Programs : Type 0 where
-    pub server : ServerProgram stores sources
-    pub clients : List (ClientProgram inputs outputs (requests_at stores sources server))
+    -- the address of the server, and the port of its requests
+    pub ip : List ℕ
+    pub port : ℕ
+    pub server : ServerProgram stores sources (endpoint ip port)
+    -- the ports at its address that other servers have; none, if it is the only one
+    pub others : List ℕ
+    pub clients : List (ClientProgram inputs outputs (endpoint ip port))
 
   module _ (programs : Programs) where
     -- the order, the newest event first, has the events of each program in their own order
     pub record IsOrder (order : List Noted) : Type 0 where
       pub server : events_of 0 order ≡ programs.server.noted
       pub clients : (k : ℕ)
-          (client : ClientProgram inputs outputs (requests_at stores sources programs.server)) →
+          (client : ClientProgram inputs outputs (endpoint programs.ip programs.port)) →
           slice_get programs.clients k ≡ Some client →
           events_of (suc k) order ≡ client.noted
 
-    -- the address of a program
-    abbrev pub ip_of : ℕ → Option (List ℕ)
-    ip_of zero = Some programs.server.ip
-    ip_of (suc k) = option_map (λ client. client.ip) (slice_get programs.clients k)
+    -- the addresses of the programs
+    abbrev pub ips : List (List ℕ)
+    ips = programs.ip ∷ map (λ client. client.ip) programs.clients
 
-    -- the port is one of a program at this endpoint
     abbrev pub IsAt : ℕ → ℕ → Endpoint → Type 0
-    IsAt program port a = (ip : List ℕ) × (ip_of program ≡ Some ip) × (a ≡ endpoint ip port)
+    IsAt = IsAtOf ips
 
-    -- a program sent these bytes from this endpoint to that one
-    pub record WasSent (earlier : List Noted) (from to : Endpoint) (bytes : List ℕ) : Type 0 where
-      pub program : ℕ
-      pub port : ℕ
-      pub is_at : IsAt program port from
-      pub sent : Contains earlier (program, Sent port to bytes)
+    abbrev pub WasSent : List Noted → Endpoint → Endpoint → List ℕ → Type 0
+    WasSent = WasSentOf ips
 
-    -- a stranger: an endpoint of another program, at another address than the server's
-    pub record IsStranger (a : Endpoint) : Type 0 where
-      pub server : a.ip ≢ programs.server.ip
-      pub clients : (k : ℕ)
-          (client : ClientProgram inputs outputs (requests_at stores sources programs.server)) →
-          slice_get programs.clients k ≡ Some client →
-          client_at inputs outputs (requests_at stores sources programs.server) client ≢ a
+    -- a stranger: an endpoint of another program, at another address than the server's, or at a
+    -- port there that another server has
+    abbrev pub IsStranger : Endpoint → Type 0
+    IsStranger = IsStrangerTo programs.ip programs.others programs.clients
 
-    -- what a program receives was sent to it before, or is a stranger's
+    -- what may come though no program sent it: a stranger's datagram, or an ERROR
+    abbrev pub MayCome : Endpoint → List ℕ → Type 0
+    MayCome from bytes = IsStranger from ⊎ IsError bytes
+
+    -- what a program receives was sent to it before, or may come nevertheless
     abbrev pub CanCome : ℕ → Event → List Noted → Type 0
-    CanCome program (Received port from bytes) earlier =
-        (to : Endpoint) × IsAt program port to × (WasSent earlier from to bytes ⊎ IsStranger from)
-    CanCome program (Sent port to bytes) earlier = Unit {0}
-    CanCome program (Watched time) earlier = Unit {0}
-    CanCome program (Elapsed port time) earlier = Unit {0}
-    CanCome program (Printed line) earlier = Unit {0}
-    CanCome program (Quiet event) earlier = Unit {0}
+    CanCome = CanComeOf ips IsStranger
 
-    -- an honest network: each datagram that was received was sent to that endpoint before, from the
-    -- endpoint that it bears; it may arrive any number of times, in any order, or never. Those of
-    -- strangers may arrive at any time, with any bytes
+    -- an honest network
     abbrev pub IsHonest : List Noted → Type 0
-    IsHonest [] = Unit {0}
-    IsHonest (e ∷ earlier) = CanCome e.0 e.1 earlier × IsHonest earlier
+    IsHonest = IsHonestOf ips IsStranger
+
+-- where the clients send their requests
+abbrev pub requests_at : {S F D G K : Type 0} {stores : StoreMeaning S D}
+    {sources : SourceMeaning F} {inputs : SourceMeaning G} {outputs : SinkMeaning K}
+    → Programs stores sources inputs outputs → Endpoint
+requests_at programs = endpoint programs.ip programs.port

@@ -1,6 +1,7 @@
--- The programs of a network: a server and its clients, each with its address, its run, and what the
--- run noted in its journal (RFC 1350, section 4).
-use Rattle.std.specs.Prelude.{ℕ, ◌≡◌, Bool, true, false, if◌then◌else◌, List, [], ◌∷◌, ◌++◌, None}
+-- The programs of a network: servers and their clients, each with its address, its run, and what
+-- the run noted in its journal (RFC 1350, section 4).
+use Rattle.std.specs.Prelude.{ℕ, ◌≡◌, ◌==◌, ◌&&◌, not, Bool, true, false, if◌then◌else◌, List, []}
+use Rattle.std.specs.Prelude.{◌∷◌, ◌++◌, None}
 use Rattle.tftp_wire.specs.declared.mode.Mode.{Mode}
 use Rattle.tftp_wire.specs.declared.packet.Packet.{Packet}
 use Rattle.tftp_wire.specs.declared.packet.Packet.TheVariants.{Read, Write}
@@ -27,9 +28,8 @@ abbrev pub endpoint : List ℕ → ℕ → Endpoint
 endpoint ip port = record { ip = ip; port = port }
 
 module _ {S F D : Type 0} (stores : StoreMeaning S D) (sources : SourceMeaning F) where
-  -- a server
-  pub record ServerProgram : Type 0 where
-    pub ip : List ℕ
+  -- a server, with the endpoint where its clients send their requests
+  pub record ServerProgram (to : Endpoint) : Type 0 where
     -- it runs from its start, or from a later time, to its end state
     pub start : LoopState S F D
     pub last : LoopState S F D
@@ -37,31 +37,37 @@ module _ {S F D : Type 0} (stores : StoreMeaning S D) (sources : SourceMeaning F
     -- the events of the run, the newest first
     pub noted : List Event
     pub is_noted : last.events ≡ noted ++ start.events
+    -- its request port is that
+    pub requests : start.requests ≡ to.port
     -- it begins without transfers, and no datagram is pending
     pub empty : start.server.held ≡ []
     pub idle : start.pending ≡ None
     pub max_block : IsBlockSize start.server.config.limits.max_block
 
   -- the end state of the server
-  abbrev pub arrived : ServerProgram → LoopState S F D
+  abbrev pub arrived : {to : Endpoint} → ServerProgram to → LoopState S F D
   arrived server = server.last
 
-  -- where its clients send their requests
-  abbrev pub requests_at : ServerProgram → Endpoint
-  requests_at server = endpoint server.ip server.start.requests
-
   -- what a server did since it held no transfer is the run of a program
-  pub record IsServerRun (ip : List ℕ) (start last : LoopState S F D) : Type 0 where
-    pub server : ServerProgram
-    pub address : server.ip ≡ ip
+  pub record IsServerRun (to : Endpoint) (start last : LoopState S F D) : Type 0 where
+    pub server : ServerProgram to
     pub starts : server.start ≡ start
     pub arrives : server.last ≡ last
 
   abbrev pub ServersAreRuns : Type 0
   ServersAreRuns =
-      (ip : List ℕ) (start last : LoopState S F D) → Run (Does stores sources) start last
-      → start.server.held ≡ [] → start.pending ≡ None
-      → IsBlockSize start.server.config.limits.max_block → IsServerRun ip start last
+      (to : Endpoint) (start last : LoopState S F D) → Run (Does stores sources) start last
+      → start.requests ≡ to.port → start.server.held ≡ [] → start.pending ≡ None
+      → IsBlockSize start.server.config.limits.max_block → IsServerRun to start last
+
+-- whether it is one of the ports
+abbrev pub has_port : List ℕ → ℕ → Bool
+has_port [] port = false
+has_port (other ∷ others) port = if port == other then true else has_port others port
+
+-- whether an endpoint is at this address, and not at the port of another server there
+abbrev pub is_at_server : List ℕ → List ℕ → Endpoint → Bool
+is_at_server ip others a = is_same_ip a.ip ip && not (has_port others a.port)
 
 module _ {G K : Type 0} (inputs : SourceMeaning G) (outputs : SinkMeaning K) (to : Endpoint) where
   -- a client's end that reads, with a valid request
@@ -122,14 +128,14 @@ module _ {G K : Type 0} (inputs : SourceMeaning G) (outputs : SinkMeaning K) (to
   has_client (client ∷ clients) a =
       if is_same a (client_at client) then true else has_client clients a
 
-  -- the network of these clients and their server: every other endpoint at the server's address is
-  -- at the server, and the rest are elsewhere
-  abbrev pub network_of : List ClientProgram → Network
-  network_of clients =
+  -- the network of these clients and their server: an endpoint at the server's address is at the
+  -- server, unless it is a client's or another server's, and the rest are elsewhere
+  abbrev pub network_of : List ℕ → List ClientProgram → Network
+  network_of others clients =
       record {
         host_of = λ a.
             if has_client clients a then At_client
-            else if is_same_ip a.ip to.ip then At_server else Elsewhere;
+            else if is_at_server to.ip others a then At_server else Elsewhere;
         request_port = to;
       }
 

@@ -10,15 +10,15 @@ use Rattle.tftp_server.specs.State.{TransferState, at}
 use Rattle.tftp_promises.specs.Arrived.{ViewsClient, ViewsTransfer}
 use Rattle.tftp_promises.specs.Modelled.{AreModelled}
 use Rattle.tftp_promises.specs.Openings.{HasClosed, place_at}
-use Rattle.tftp_promises.specs.Order.{Programs}
-use Rattle.tftp_promises.specs.Programs.{requests_at, arrived, ClientProgram, network_of}
+use Rattle.tftp_promises.specs.Order.{Programs, requests_at}
+use Rattle.tftp_promises.specs.Programs.{arrived, ClientProgram, network_of}
 
 module _ {S F D G K : Type 0} {stores : StoreMeaning S D} {sources : SourceMeaning F}
     {inputs : SourceMeaning G} {outputs : SinkMeaning K}
     (programs : Programs stores sources inputs outputs) where
   -- the network of the programs
   abbrev pub joined : Network
-  joined = network_of inputs outputs (requests_at stores sources programs.server) programs.clients
+  joined = network_of inputs outputs (requests_at programs) programs.others programs.clients
 
   -- one of the views is of this transfer of the server, at this place
   abbrev pub HasTransfer : List EndView → TransferState F D → Endpoint → Type 0
@@ -36,19 +36,19 @@ module _ {S F D G K : Type 0} {stores : StoreMeaning S D} {sources : SourceMeani
   module _ (models : AreModelled programs) where
     -- one of the views is of the end of this client
     abbrev pub HasClient : List EndView
-        → ClientProgram inputs outputs (requests_at stores sources programs.server) → Type 0
+        → ClientProgram inputs outputs (requests_at programs) → Type 0
     HasClient views client =
         (view : EndView) × IsAmong views view
-        × ViewsClient inputs outputs (requests_at stores sources programs.server) client
+        × ViewsClient inputs outputs (requests_at programs) client
         (models.file_of client) view
 
     -- the view is of the end of a client, or of a transfer
     abbrev pub IsOfSome : EndView → Type 0
     IsOfSome view =
         ((k : ℕ) × (client : ClientProgram inputs outputs
-        (requests_at stores sources programs.server))
+        (requests_at programs))
         × (slice_get programs.clients k ≡ Some client)
-        × ViewsClient inputs outputs (requests_at stores sources programs.server) client
+        × ViewsClient inputs outputs (requests_at programs) client
         (models.file_of client) view)
         ⊎ ((port : ℕ) × (transfer : TransferState F D) × (a : Endpoint)
         × HasOpened port transfer a
@@ -57,7 +57,7 @@ module _ {S F D G K : Type 0} {stores : StoreMeaning S D} {sources : SourceMeani
     -- the views are those of all clients and of all transfers that the server opened, and no others
     pub record AreViewed (views : List EndView) : Type 0 where
       pub clients : (k : ℕ)
-          (client : ClientProgram inputs outputs (requests_at stores sources programs.server)) →
+          (client : ClientProgram inputs outputs (requests_at programs)) →
           slice_get programs.clients k ≡ Some client → HasClient views client
       pub transfers : (port : ℕ) (transfer : TransferState F D) (a : Endpoint) →
           HasOpened port transfer a → HasTransfer views transfer a

@@ -2,7 +2,8 @@
 -- a file in blocks of 8 bytes, by an OACK, and a stranger sends a datagram to the port of its
 -- transfer; once that has closed, another program reads the file at the same port, which may be a
 -- stranger or a client (RFC 1350, sections 2, 4 and 6; RFC 2347).
-use Rattle.std.specs.Prelude.{ℕ, ◌≡◌, true, List, [], ◌∷◌, reverse, slice_get, Some, None}
+use Rattle.std.specs.Prelude.{ℕ, ◌≡◌, zero, suc, true, List, [], ◌∷◌, map, reverse, slice_get, Some}
+use Rattle.std.specs.Prelude.{None}
 use Rattle.tftp_wire.specs.Spelling.{canonical}
 use Rattle.tftp_wire.specs.declared.mode.Mode.TheVariants.{Octet}
 use Rattle.tftp_wire.specs.declared.packet.Packet.TheVariants.{Read}
@@ -27,13 +28,14 @@ use Rattle.tftp_rules.specs.Machine.{Endpoint}
 use Rattle.tftp_server.specs.State.{TransferState}
 use Rattle.tftp_sockets.specs.Journal.Event.{Received, Sent, Watched, Printed, Quiet}
 use Rattle.tftp_sockets.specs.Journal.QuietEvent.{Slept}
-use Rattle.tftp_promises.specs.Alone.{IsServed, alone}
+use Rattle.tftp_promises.specs.Alone.{IsPassedOver, IsServed, alone}
 use Rattle.tftp_promises.specs.Joined.{AreJoined}
 use Rattle.tftp_promises.specs.Modelled.{AreModelled}
 use Rattle.tftp_promises.specs.Openings.{HasClosed, our_ports}
-use Rattle.tftp_promises.specs.Order.{Noted, Programs}
+use Rattle.tftp_promises.specs.Order.{Noted, Programs, requests_at}
 use Rattle.tftp_promises.specs.Ports.{opened_ports}
-use Rattle.tftp_promises.specs.Programs.{endpoint, requests_at, ClientProgram}
+use Rattle.tftp_promises.specs.Programs.{endpoint, ClientProgram}
+use Rattle.tftp_promises.specs.Several.{Several, OneServer, OneClient, other_ports}
 
 -- ---- the addresses and ports
 abbrev pub server_ip : List ℕ
@@ -106,7 +108,7 @@ pub record HasExchanged
       (reverse exchange)
   pub modelled : AreModelled programs
   pub reads : ClientProgram memory_source memory_sink
-      (requests_at memory_meaning memory_source programs.server)
+      (requests_at programs)
   pub is_reader : slice_get programs.clients 0 ≡ Some reads
   pub has_read : is_complete reads.last.end.position.phase ≡ true
   pub sink : MemSinkState
@@ -124,17 +126,49 @@ late_exchange = reverse ((2, Sent 7001 requests read_request) ∷ exchange)
 
 -- these programs noted it, of which the latecomer is one: the transfers of two clients had one port
 pub record HasServed
-    (programs : Programs memory_meaning memory_source memory_source memory_sink) : Type 0 where
-  pub reads : ClientProgram memory_source memory_sink
-      (requests_at memory_meaning memory_source programs.server)
-  pub is_reader : slice_get programs.clients 0 ≡ Some reads
-  pub reader_served : IsServed programs late_exchange 0 reads
-  pub asks : ClientProgram memory_source memory_sink
-      (requests_at memory_meaning memory_source programs.server)
-  pub is_latecomer : slice_get programs.clients 1 ≡ Some asks
-  pub latecomer_served : IsServed programs late_exchange 1 asks
-  pub own : our_ports (alone programs reads) programs.server.run ≡ 1024 ∷ []
-  pub later : our_ports (alone programs asks) programs.server.run ≡ 1024 ∷ []
+    (several : Several memory_meaning memory_source memory_source memory_sink) : Type 0 where
+  pub server : OneServer several
+  pub is_server : slice_get several.servers 0 ≡ Some server
+  pub reads : OneClient several
+  pub is_reader : slice_get several.clients 0 ≡ Some reads
+  pub reader_served : IsServed several late_exchange 0 server 0 reads
+  pub asks : OneClient several
+  pub is_latecomer : slice_get several.clients 1 ≡ Some asks
+  pub latecomer_served : IsServed several late_exchange 0 server 1 asks
+  pub own : our_ports (alone several 0 server reads) server.run ≡ 1024 ∷ []
+  pub later : our_ports (alone several 0 server asks) server.run ≡ 1024 ∷ []
+
+-- ---- two servers share the address and the request port, and the client's request comes to both;
+-- 0 and 1 are the servers, and 2 reads
+-- the number of a program after a second server
+abbrev pub after_second : ℕ → ℕ
+after_second zero = zero
+after_second (suc k) = suc (suc k)
+
+abbrev pub renumbered : List Noted → List Noted
+renumbered order = map (λ e. (after_second e.0, e.1)) order
+
+-- the same exchange, the newest event first: at its end the second server opens a transfer, too
+abbrev pub shared_exchange : List Noted
+shared_exchange =
+    (1, Sent 2048 reader (oack_bytes agreed)) ∷ (1, Received 69 reader read_request)
+    ∷ renumbered (reverse exchange)
+
+-- these programs noted it; the first server serves the client, which has the file, and the second
+-- is passed over
+pub record HasShared
+    (several : Several memory_meaning memory_source memory_source memory_sink) : Type 0 where
+  pub server : OneServer several
+  pub is_server : slice_get several.servers 0 ≡ Some server
+  pub second : OneServer several
+  pub is_second : slice_get several.servers 1 ≡ Some second
+  pub reads : OneClient several
+  pub is_reader : slice_get several.clients 0 ≡ Some reads
+  pub served : IsServed several shared_exchange 0 server 0 reads
+  pub passed_over : IsPassedOver several shared_exchange 1 second 0 reads
+  pub has_read : is_complete reads.last.end.position.phase ≡ true
+  pub opened : opened_ports second.run ≡ 2048 ∷ []
+  pub others : other_ports several 0 server reads ≡ 2048 ∷ []
 
 -- there are such programs
 abbrev pub SomeAreJoined : Type 0
@@ -144,5 +178,10 @@ SomeAreJoined =
 
 abbrev pub SomeAreServed : Type 0
 SomeAreServed =
-    (programs : Programs memory_meaning memory_source memory_source memory_sink)
-    × HasServed programs
+    (several : Several memory_meaning memory_source memory_source memory_sink)
+    × HasServed several
+
+abbrev pub SomeAreShared : Type 0
+SomeAreShared =
+    (several : Several memory_meaning memory_source memory_source memory_sink)
+    × HasShared several

@@ -3,6 +3,7 @@
 
 ghost use Rattle.tftp_rules.specs.Machine.{Endpoint};
 ghost use Rattle.tftp_promises.specs.Alone.{EachIsJoined, EachKeepsAnyFiles, EachKeepsPromises};
+ghost use Rattle.tftp_promises.specs.Alone.{OthersHaveNothing};
 ghost use Rattle.tftp_promises.specs.ClientPrograms.{ClientsArePrograms};
 ghost use Rattle.tftp_promises.specs.ClientRuns.{ClientsAreRuns};
 ghost use Rattle.tftp_promises.specs.Hosts.{ClientsAreThere, ServerIsThere, StrangersAreElsewhere};
@@ -15,7 +16,7 @@ ghost use Rattle.tftp_promises.specs.Openings.{DistinctPortsAreFresh};
 ghost use Rattle.tftp_promises.specs.Order.{Programs};
 ghost use Rattle.tftp_promises.specs.Programs.{ClientProgram, ServersAreRuns};
 ghost use Rattle.tftp_promises.specs.Timers.{EachHasOneTimer};
-ghost use Rattle.tftp_promises.specs.Witness.{SomeAreJoined, SomeAreServed};
+ghost use Rattle.tftp_promises.specs.Witness.{SomeAreJoined, SomeAreServed, SomeAreShared};
 
 use tftp_file::{Sink, Source};
 use tftp_store::Store;
@@ -24,21 +25,24 @@ use tftp_store::Store;
 /// any store and any files, in the end state of their journals: they have one block size; what a
 /// receiver handed to its file is a prefix of what its peer's file gave, and all of it,
 /// committed, once it is complete; a sender is complete only after its receiver. Over files with
-/// models the same holds of what these hold, and rules of the guarded machine lead to these ends
-/// (RFC 1350, sections 2, 4 and 6).
+/// models the same holds of what these hold, and rules of the guarded machine lead to these ends.
+/// Other servers at the address are strangers (RFC 1350, sections 2, 4 and 6).
 pub fn programs_keep_promises<T: Store, G: Source, K: Sink>()
     ensures any_files { ProgramsKeepAnyFiles T.meaning T.Source.meaning G.meaning K.meaning }
     ensures promises { ProgramsKeepPromises T.meaning T.Source.meaning G.meaning K.meaning }
     ensures shown { ProgramsAreShown T.meaning T.Source.meaning G.meaning K.meaning }
 {}
 
-/// The server and each of its clients keep the promises, whatever ports the transfers of other
-/// clients have, before and after: for these two programs the others are strangers, if they are at
-/// other addresses than the server's and none has the client's endpoint (RFC 1350, section 4).
+/// Each of several servers at one address and each client that takes its answer keep the promises,
+/// whatever ports the transfers of other clients have, before and after: for these two programs the
+/// others are strangers, the other servers at the address, and the other clients at other addresses
+/// and other endpoints. A transfer at a server whose answer the client passes over has nothing of
+/// its file, and is not complete. One server is the list of one (RFC 1350, section 4).
 pub fn each_client_keeps_promises<T: Store, G: Source, K: Sink>()
     ensures joined { EachIsJoined T.meaning T.Source.meaning G.meaning K.meaning }
     ensures any_files { EachKeepsAnyFiles T.meaning T.Source.meaning G.meaning K.meaning }
     ensures promises { EachKeepsPromises T.meaning T.Source.meaning G.meaning K.meaning }
+    ensures passed_over { OthersHaveNothing T.meaning T.Source.meaning G.meaning K.meaning }
 {}
 
 /// If no two ends of the run ever have one endpoint, the ports are fresh as the promises need them:
@@ -91,10 +95,12 @@ pub fn a_client_asks_first<G: Source, K: Sink>()
 /// an OACK, and its last acknowledgement is lost, so that the block is sent again; another writes a
 /// file, which is committed; a stranger sends a datagram between. At the end another program reads
 /// at the port that the first client's transfer had: a stranger, and for the law over each client
-/// apart a client (RFC 1350, sections 2, 4 and 6).
+/// apart a client. And two servers share an address: both open a transfer for the first client's
+/// request, which takes one, and passes over the other (RFC 1350, sections 2, 4 and 6).
 pub fn some_programs_are_joined()
     ensures joined { SomeAreJoined }
     ensures served { SomeAreServed }
+    ensures shared { SomeAreShared }
 {}
 
 /// At each time of a run each transfer that the server holds has one timer, at its port, and no

@@ -16,10 +16,13 @@ use Rattle.tftp_daemon.specs.Configured.{IsServerOf, ServesWords}
 use Rattle.tftp_daemon.specs.Words.{WordsConfigure}
 use Rattle.tftp_promises.specs.ClientPrograms.{ClientsArePrograms}
 use Rattle.tftp_promises.specs.Joined.{ProgramsKeepAnyFiles}
-use Rattle.tftp_promises.specs.Programs.{ClientProgram, ServerProgram, ServersAreRuns, endpoint, requests_at}
-use Rattle.tftp_words.specs.Ran.{AllAsk, AreAllRuns, ClientRan, DaemonConfig, IsServerRan, ServerRan, bound_by}
-use Rattle.tftp_words.specs.Ran.{bound_in, port_of}
-use Rattle.tftp_words.specs.WordsKept.{WordsKeepAnyFiles}
+use Rattle.tftp_promises.specs.Alone.{EachKeepsAnyFiles, OthersHaveNothing}
+use Rattle.tftp_promises.specs.Order.{Programs}
+use Rattle.tftp_promises.specs.Programs.{ClientProgram, ServerProgram, ServersAreRuns, endpoint}
+use Rattle.tftp_promises.specs.Several.{Several}
+use Rattle.tftp_words.specs.Ran.{AllAsk, AllServe, AreAllRuns, AreServersRan, ClientRan, DaemonConfig, IsServerRan}
+use Rattle.tftp_words.specs.Ran.{ServerRan, bound_by, bound_in, port_of}
+use Rattle.tftp_words.specs.WordsKept.{SeveralKeepAnyFiles, WordsKeepAnyFiles}
 use Rattle.tftp_words.proofs.ClientMade.{client_made}
 
 -- ---- the clients
@@ -35,9 +38,10 @@ module _ {G K : Type 0} {inputs : SourceMeaning G} {outputs : SinkMeaning K}
 
 -- ---- the server
 module _ {R G H F D : Type 0} {stores : StoreMeaning (FolderStore R G H) D} {sources : SourceMeaning F}
-    (are_runs : ServersAreRuns stores sources) (ran : ServerRan stores sources) (port : ℕ) where
+    (are_runs : ServersAreRuns stores sources) (ran : ServerRan stores sources) (ip : List ℕ) (there : ran.ip ≡ ip)
+    (port : ℕ) where
   abbrev Made : Type 0
-  Made = (server : ServerProgram stores sources) × IsServerRan ran port server
+  Made = (server : ServerProgram stores sources (endpoint ip port)) × IsServerRan ran port server
 
   module _ (config : DaemonConfig) (named : WordsConfigure ran.words config)
       (server : ServerState (FolderStore R G H) F D) (of : IsServerOf config server) where
@@ -49,11 +53,11 @@ module _ {R G H F D : Type 0} {stores : StoreMeaning (FolderStore R G H) D} {sou
         let start : LoopState (FolderStore R G H) F D = at_start config.service bound server before in
         let limits : IsBlockSize server.config.limits.max_block =
         subst (λ (c : Config). IsBlockSize c.limits.max_block) (sym of.limits) of.valid.max_block in
-        let r = are_runs ran.ip start serves.last serves.run of.empty refl limits in (
+        let r = are_runs (endpoint ip port) start serves.last serves.run same of.empty refl limits in (
           r.server,
           record {
-            address = r.address;
-            requests = ap (λ (s : LoopState (FolderStore R G H) F D). s.requests) r.starts ∙ same;
+            address = sym there;
+            requests = refl;
             config = config;
             named = named;
             limits = ap (λ (s : LoopState (FolderStore R G H) F D). s.server.config) r.starts ∙ of.limits;
@@ -70,7 +74,7 @@ module _ {R G H F D : Type 0} {stores : StoreMeaning (FolderStore R G H) D} {sou
         (serves : Serves stores sources config.service server result ran.before ran.after) →
         bound_by serves ≡ Some port → Made
     by_serving (Unbound ends) is = absurd (let f : None ≡ Some port = is in cc)
-    by_serving (Bound bound there serves) is = from_port bound (same_Some bound port is) serves
+    by_serving (Bound bound listens serves) is = from_port bound (same_Some bound port is) serves
 
   by_words : (did : ServesWords stores sources ran.words ran.status ran.before ran.after) →
       bound_in ran.words ran.status ran.before ran.after did ≡ Some port → Made
@@ -80,19 +84,43 @@ module _ {R G H F D : Type 0} {stores : StoreMeaning (FolderStore R G H) D} {sou
   pub server_made : port_of ran ≡ Some port → Made
   server_made is = by_words ran.ran is
 
-pub words_keep : {R G H F D I K : Type 0} (stores : StoreMeaning (FolderStore R G H) D) (sources : SourceMeaning F)
-    (inputs : SourceMeaning I) (outputs : SinkMeaning K) → ServersAreRuns stores sources →
-    ClientsArePrograms inputs outputs → ProgramsKeepAnyFiles stores sources inputs outputs →
-    WordsKeepAnyFiles stores sources inputs outputs
-words_keep stores sources inputs outputs are_runs are_programs keep server port clients bound asks =
-    let of_server = server_made are_runs server port bound in
-    let to = requests_at stores sources of_server.0 in
-    let same : endpoint server.ip port ≡ to =
-    ap (λ (ip : List ℕ). endpoint ip port) (sym of_server.1.address)
-    ∙ ap (λ (p : ℕ). endpoint of_server.0.ip p) (sym of_server.1.requests) in
-    let of_clients =
-    all_made are_programs to clients (subst (λ (a : Endpoint). AllAsk a clients) same asks) in (
-      record { server = of_server.0; clients = of_clients.0 },
-      record { of_server = of_server.1; of_clients = of_clients.1 },
-      λ order joined. keep (record { server = of_server.0; clients = of_clients.0 }) order joined,
-    )
+-- ---- several servers
+module _ {R G H F D : Type 0} {stores : StoreMeaning (FolderStore R G H) D} {sources : SourceMeaning F}
+    (are_runs : ServersAreRuns stores sources) (ip : List ℕ) (port : ℕ) where
+  pub servers_made : (servers : List (ServerRan stores sources)) → AllServe ip port servers →
+      (programs : List (ServerProgram stores sources (endpoint ip port))) × AreServersRan port servers programs
+  servers_made [] serve = ([], refl)
+  servers_made (ran ∷ servers) serve =
+      let own = server_made are_runs ran ip serve.0.0 port serve.0.1 in
+      let rest = servers_made servers serve.1 in
+      (own.0 ∷ rest.0, (own.0, rest.0, refl, own.1, rest.1))
+
+module _ {R G H F D I K : Type 0} (stores : StoreMeaning (FolderStore R G H) D) (sources : SourceMeaning F)
+    (inputs : SourceMeaning I) (outputs : SinkMeaning K) (are_runs : ServersAreRuns stores sources)
+    (are_programs : ClientsArePrograms inputs outputs) where
+  pub words_keep : ProgramsKeepAnyFiles stores sources inputs outputs →
+      WordsKeepAnyFiles stores sources inputs outputs
+  words_keep keep server port clients bound asks =
+      let of_server = server_made are_runs server server.ip refl port bound in
+      let of_clients = all_made are_programs (endpoint server.ip port) clients asks in
+      let programs : Programs stores sources inputs outputs =
+      record { ip = server.ip; port = port; server = of_server.0; others = []; clients = of_clients.0 } in (
+        programs,
+        record { of_server = of_server.1; of_clients = of_clients.1; alone = refl },
+        λ order joined. keep programs order joined,
+      )
+
+  pub several_keep : EachKeepsAnyFiles stores sources inputs outputs →
+      OthersHaveNothing stores sources inputs outputs → SeveralKeepAnyFiles stores sources inputs outputs
+  several_keep keep others ip port servers clients serve asks =
+      let of_servers = servers_made are_runs ip port servers serve in
+      let of_clients = all_made are_programs (endpoint ip port) clients asks in
+      let several : Several stores sources inputs outputs =
+      record { ip = ip; port = port; servers = of_servers.0; clients = of_clients.0 } in (
+        several,
+        record { of_servers = of_servers.1; of_clients = of_clients.1 },
+        λ order i server k client at_i found. (
+          λ served. keep several order i server k client at_i found served,
+          λ over. (others several order i server k client at_i found over).1,
+        ),
+      )

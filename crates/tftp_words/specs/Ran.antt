@@ -22,6 +22,7 @@ use Rattle.tftp_daemon.specs.Configured.{ServesWords}
 use Rattle.tftp_daemon.specs.Words.{WordsConfigure}
 use Rattle.tftp_promises.specs.Order.{Programs}
 use Rattle.tftp_promises.specs.Programs.{ClientProgram, ServerProgram, name_of}
+use Rattle.tftp_promises.specs.Several.{Several}
 
 -- ---- the commands
 -- what the words of a command line name: of `tftp` a job, and of `tftpd` a configuration
@@ -121,15 +122,29 @@ module _ {G K : Type 0} {inputs : SourceMeaning G} {outputs : SinkMeaning K} whe
 module _ {R G H F D : Type 0} {stores : StoreMeaning (FolderStore R G H) D}
     {sources : SourceMeaning F} where
   -- this program is what `tftpd` ran from its request port on
-  pub record IsServerRan (ran : ServerRan stores sources) (port : ℕ)
-      (server : ServerProgram stores sources) : Type 0 where
-    pub address : server.ip ≡ ran.ip
-    pub requests : server.start.requests ≡ port
+  pub record IsServerRan (ran : ServerRan stores sources) (port : ℕ) {to : Endpoint}
+      (server : ServerProgram stores sources to) : Type 0 where
+    pub address : to.ip ≡ ran.ip
+    pub requests : to.port ≡ port
     pub config : DaemonConfig
     pub named : WordsConfigure ran.words config
     pub limits : server.start.server.config ≡ config.config
     pub begins : server.start.events ≡ listening config.service.listen.ip port ran.before
     pub noted : ran.after ≡ server.noted ++ server.start.events
+
+  -- and these what each of several ran
+  abbrev pub AreServersRan : {to : Endpoint} → ℕ → List (ServerRan stores sources)
+      → List (ServerProgram stores sources to) → Type 0
+  AreServersRan port [] servers = servers ≡ []
+  AreServersRan {to} port (ran ∷ others) servers =
+      (server : ServerProgram stores sources to) × (rest : List (ServerProgram stores sources to))
+      × (servers ≡ server ∷ rest) × IsServerRan ran port server × AreServersRan port others rest
+
+  -- all of them ran at this address, and their request ports were bound to this port
+  abbrev pub AllServe : List ℕ → ℕ → List (ServerRan stores sources) → Type 0
+  AllServe ip port servers =
+      AllByRecursion (λ (ran : ServerRan stores sources).
+      (ran.ip ≡ ip) × (port_of ran ≡ Some port)) servers
 
 -- these programs are what all the commands ran
 pub record AreRan {R G H F D I K : Type 0} {stores : StoreMeaning (FolderStore R G H) D}
@@ -138,3 +153,13 @@ pub record AreRan {R G H F D I K : Type 0} {stores : StoreMeaning (FolderStore R
     (programs : Programs stores sources inputs outputs) : Type 0 where
   pub of_server : IsServerRan server port programs.server
   pub of_clients : AreAllRuns clients programs.clients
+  pub alone : programs.others ≡ []
+
+-- with several servers
+pub record AreSeveralRan {R G H F D I K : Type 0} {stores : StoreMeaning (FolderStore R G H) D}
+    {sources : SourceMeaning F} {inputs : SourceMeaning I} {outputs : SinkMeaning K}
+    (servers : List (ServerRan stores sources)) (port : ℕ)
+    (clients : List (ClientRan inputs outputs))
+    (several : Several stores sources inputs outputs) : Type 0 where
+  pub of_servers : AreServersRan port servers several.servers
+  pub of_clients : AreAllRuns clients several.clients

@@ -1,14 +1,17 @@
 -- What `tftpd` and `tftp` ran for their words keeps the promises of a transfer.
-use Rattle.std.specs.Prelude.{ℕ, ◌≡◌, List, Some}
+use Rattle.std.specs.Prelude.{ℕ, ◌≡◌, List, slice_get, Some}
 use Rattle.tftp_file.specs.Sink.{SinkMeaning}
 use Rattle.tftp_file.specs.Source.{SourceMeaning}
 use Rattle.tftp_store.specs.Store.{StoreMeaning}
 use Rattle.tftp_folder.specs.declared.folder_store.FolderStore.{FolderStore}
+use Rattle.tftp_promises.specs.Alone.{HasNothing, IsPassedOver, IsServed, alone, just_asking}
 use Rattle.tftp_promises.specs.AnyFiles.{KeepAnyFiles}
 use Rattle.tftp_promises.specs.Joined.{AreJoined}
 use Rattle.tftp_promises.specs.Order.{Noted, Programs}
 use Rattle.tftp_promises.specs.Programs.{endpoint}
-use Rattle.tftp_words.specs.Ran.{AllAsk, AreRan, ClientRan, ServerRan, port_of}
+use Rattle.tftp_promises.specs.Several.{Several, OneServer, OneClient}
+use Rattle.tftp_words.specs.Ran.{AllAsk, AllServe, AreRan, AreSeveralRan, ClientRan, ServerRan}
+use Rattle.tftp_words.specs.Ran.{port_of}
 
 -- `tftpd` ran these words, and its request port was bound; each `tftp` ran those, which name that
 -- server: then there are programs that noted just that, which keep the promises in whatever order
@@ -21,3 +24,23 @@ WordsKeepAnyFiles stores sources inputs outputs =
     → (programs : Programs stores sources inputs outputs) × AreRan server port clients programs
     × ((order : List Noted) → AreJoined stores sources inputs outputs programs order
     → KeepAnyFiles programs)
+
+-- each `tftpd` ran its words at one address, and the request ports were bound to one port; each
+-- `tftp` ran others, which name that: then there are programs that noted just that, and in whatever
+-- order an honest network joined them, each server and each client that it serves keep the
+-- promises, and of a client that passes it over it has nothing
+abbrev pub SeveralKeepAnyFiles : {R G H F D I K : Type 0}
+    (stores : StoreMeaning (FolderStore R G H) D) (sources : SourceMeaning F)
+    (inputs : SourceMeaning I) (outputs : SinkMeaning K) → Type 0
+SeveralKeepAnyFiles stores sources inputs outputs =
+    (ip : List ℕ) (port : ℕ) (servers : List (ServerRan stores sources))
+    (clients : List (ClientRan inputs outputs))
+    → AllServe ip port servers → AllAsk (endpoint ip port) clients
+    → (several : Several stores sources inputs outputs)
+    × AreSeveralRan servers port clients several
+    × ((order : List Noted) (i : ℕ) (server : OneServer several) (k : ℕ)
+    (client : OneClient several)
+    → slice_get several.servers i ≡ Some server → slice_get several.clients k ≡ Some client
+    → (IsServed several order i server k client → KeepAnyFiles (alone several i server client))
+    × (IsPassedOver several order i server k client
+    → HasNothing several client (alone several i server (just_asking several client))))

@@ -1,21 +1,28 @@
 //! The law from command lines to the promises, over the definitions alone.
 
-ghost use Rattle.tftp_words.specs.WordsKept.{WordsKeepAnyFiles};
+ghost use Rattle.tftp_words.specs.WordsKept.{SeveralKeepAnyFiles, WordsKeepAnyFiles};
 
 use std::rt::Files;
 use tftp_file::{Sink, Source};
 use tftp_folder::{FolderSource, FolderStore};
-use tftp_promises::laws::{a_client_is_one_run, a_server_is_one_run, programs_keep_promises};
+use tftp_promises::laws::{
+    a_client_is_one_run, a_server_is_one_run, each_client_keeps_promises, programs_keep_promises,
+};
 use tftp_server::Store;
 
 /// If `tftpd` ran these words, and each `tftp` those, which name that server, then what they noted
 /// is what programs of a network noted, which keep the promises over any files if the network is
-/// honest and their ports are fresh (RFC 1350, sections 2, 4 and 6).
+/// honest and their ports are fresh. Of several `tftpd` at one address and request port, each and
+/// each client that it serves keep them, and of one that passes it over it has nothing (RFC 1350,
+/// sections 2, 4 and 6).
 pub fn words_keep_promises<R: Files + Drop, G: Source, K: Sink>()
-    ensures { WordsKeepAnyFiles ⟦<FolderStore<R> as Store>⟧.meaning
+    ensures one { WordsKeepAnyFiles ⟦<FolderStore<R> as Store>⟧.meaning
+        ⟦<FolderSource<R::File> as Source>⟧.meaning G.meaning K.meaning }
+    ensures several { SeveralKeepAnyFiles ⟦<FolderStore<R> as Store>⟧.meaning
         ⟦<FolderSource<R::File> as Source>⟧.meaning G.meaning K.meaning }
 {
     a_client_is_one_run::<G, K>();
     a_server_is_one_run::<FolderStore<R>>();
     programs_keep_promises::<FolderStore<R>, G, K>();
+    each_client_keeps_promises::<FolderStore<R>, G, K>();
 }

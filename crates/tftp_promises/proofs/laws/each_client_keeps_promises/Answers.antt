@@ -1,5 +1,6 @@
 -- The lemmas that are the law.
 use Rattle.tftp_promises.proofs.EachAlone.{each_joined, each_keeps, each_keeps_any}
+use Rattle.tftp_promises.proofs.PassedOver.{others_nothing}
 use Rattle.tftp_promises.proofs.laws.each_client_keeps_promises.Goals as goal
 
 pub returns-clause-joined : goal.returns-clause-joined
@@ -10,3 +11,6 @@ returns-clause-any_files g c = each_keeps_any _ _ _ _
 
 pub returns-clause-promises : goal.returns-clause-promises
 returns-clause-promises g c = each_keeps _ _ _ _
+
+pub returns-clause-passed_over : goal.returns-clause-passed_over
+returns-clause-passed_over g c = others_nothing _ _ _ _

@@ -1,8 +1,13 @@
--- The lemma that is the law.
-use Rattle.tftp_words.proofs.WordsMade.{words_keep}
+-- The lemmas that are the law.
+use Rattle.tftp_words.proofs.WordsMade.{several_keep, words_keep}
 use Rattle.tftp_words.proofs.laws.words_keep_promises.Goals as goal
 
-pub returns : goal.returns
-returns g c =
+pub returns-clause-one : goal.returns-clause-one
+returns-clause-one g c =
     words_keep _ _ _ _ c.a_server_is_one_run.ensures c.a_client_is_one_run.ensures.programs
     c.programs_keep_promises.ensures.any_files
+
+pub returns-clause-several : goal.returns-clause-several
+returns-clause-several g c =
+    several_keep _ _ _ _ c.a_server_is_one_run.ensures c.a_client_is_one_run.ensures.programs
+    c.each_client_keeps_promises.ensures.any_files c.each_client_keeps_promises.ensures.passed_over

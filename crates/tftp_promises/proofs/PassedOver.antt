@@ -1,0 +1,438 @@
+-- A server that a client passes over: for these two the client has sent its request, and no more.
+use Rattle.std.proofs.Common.{◌≡◌, ℕ, List, [], ◌∷◌, ◌++◌, Bool, true, false, Some, None, refl, sym, ap, ◌∙◌}
+use Rattle.std.proofs.Common.{subst, zero, suc, arith, inl, inr}
+use Rattle.std.specs.Prelude.{◌≢◌, ◌⊎◌, ◌==◌, if◌then◌else◌, slice_get}
+use Rattle.std.specs.List.{Contains}
+use Rattle.std.proofs.lemmas.Bool.{cases_Bool, eq-eqb, eqb-true, ne_eqb, true≢false}
+use Rattle.std.proofs.lemmas.Option.{same_Some}
+use Rattle.tftp_file.specs.Block.{IsPrefixOf}
+use Rattle.tftp_file.specs.Sink.{SinkMeaning}
+use Rattle.tftp_file.specs.Source.{SourceMeaning}
+use Rattle.tftp_ends.specs.End.{EndState, is_complete, is_sender, record_of}
+use Rattle.tftp_store.specs.Store.{StoreMeaning}
+use Rattle.tftp_rules.specs.Machine.{Endpoint}
+use Rattle.tftp_rules.proofs.ViewSafe.{first_of_empty}
+use Rattle.tftp_sockets.specs.Journal.{Event}
+use Rattle.tftp_sockets.specs.Journal.Event.{Received, Sent, Watched, Elapsed, Printed, Quiet}
+use Rattle.tftp_loop.specs.Run.{Run}
+use Rattle.tftp_loop.specs.Run.Run.{Start, Then}
+use Rattle.tftp_loop.specs.Serves.{LoopState, Does, Waited, At_port, Request_received, No_request_found}
+use Rattle.tftp_loop.specs.Serves.{Request_not_received, No_port_found, Request_answered, Request_lost, Clock_read}
+use Rattle.tftp_loop.specs.Serves.{Store_set, Transfer_closed}
+use Rattle.tftp_promises.specs.Alone.{HasNothing, IsPassedOver, OthersHaveNothing, alone, heard_with, just_asking}
+use Rattle.tftp_promises.specs.AnyFiles.{IsEnd, IsOurs, KeepAnyFiles, ProgramEnd, client_end, has_of, peer_of}
+use Rattle.tftp_promises.specs.Joined.{AreJoined}
+use Rattle.tftp_promises.specs.Openings.{ArePortsFresh, our_ports, ours_by}
+use Rattle.tftp_promises.specs.Order.{CanCome, IsHonest, IsOrder, IsStranger, MayCome, Noted, Programs, events_of}
+use Rattle.tftp_promises.specs.Order.{IsAtOf, WasSent, ips}
+use Rattle.tftp_promises.specs.Others.{TakesOwn}
+use Rattle.tftp_promises.specs.Ports.{AreDistinct}
+use Rattle.tftp_promises.specs.Programs.{To_read, To_write, client_at, endpoint}
+use Rattle.tftp_promises.specs.Several.{OneClient, OneServer, Several, number_of}
+use Rattle.tftp_promises.proofs.ClientJournals.{asks_first, asks_there}
+use Rattle.tftp_promises.proofs.EachAlone.{honest_both, order_both, sent_own}
+use Rattle.tftp_promises.proofs.KeptEvents.{first_or_more, nothing_in}
+use Rattle.tftp_promises.proofs.Orders.{first_in, later_in, noted_in}
+use Rattle.tftp_promises.proofs.ProgramsShown.{programs_keep_any}
+
+-- ---- the first event of a client
+-- of an order, the events of the server, and the first of the client
+abbrev if_first : List Event → Noted → List Noted → List Noted
+if_first [] e order = e ∷ order
+if_first (x ∷ events) e order = order
+
+abbrev by_member : Bool → List Event → Noted → List Noted → List Noted
+by_member member events e order = if member then if_first events e order else e ∷ order
+
+abbrev first_only : List Noted → List Noted
+first_only [] = []
+first_only (e ∷ order) = by_member (e.0 == 1) (events_of 1 order) e (first_only order)
+
+-- the first event of the client is this, if there is one
+abbrev Begins : Event → List Event → Type 0
+Begins x events = (events ≡ []) ⊎ ((more : List Event) × (events ≡ more ++ x ∷ []))
+
+begins_after : (x y : Event) (events : List Event) → Begins x (y ∷ events) → Begins x events
+begins_after x y events (inl none) = absurd (let f : y ∷ events ≡ [] = none in cc)
+begins_after x y events (inr ([], is)) =
+    let f : y ∷ events ≡ x ∷ [] = is in let g : events ≡ [] = cc in inl g
+begins_after x y events (inr (z ∷ more, is)) =
+    let f : y ∷ events ≡ z ∷ (more ++ x ∷ []) = is in let g : events ≡ more ++ x ∷ [] = cc in inr (more, g)
+
+begins_here : (x y : Event) → Begins x (y ∷ []) → y ≡ x
+begins_here x y (inl none) = absurd (let f : y ∷ [] ≡ [] = none in cc)
+begins_here x y (inr ([], is)) = let f : y ∷ [] ≡ x ∷ [] = is in cc
+begins_here x y (inr (z ∷ [], is)) = absurd (let f : y ∷ [] ≡ z ∷ x ∷ [] = is in cc)
+begins_here x y (inr (z ∷ w ∷ more, is)) = absurd (let f : y ∷ [] ≡ z ∷ (w ∷ (more ++ x ∷ [])) = is in cc)
+
+module _ (x : Event) where
+  -- before an event the client's journal begins so, too
+  begins_by : (member : Bool) (e : Noted) (order : List Noted) → (e.0 == 1) ≡ member →
+      Begins x (events_of 1 (e ∷ order)) → Begins x (events_of 1 order)
+  begins_by true e order is h =
+      begins_after x e.1 (events_of 1 order)
+      (subst (λ (b : Bool). Begins x (if b then e.1 ∷ events_of 1 order else events_of 1 order)) is h)
+  begins_by false e order is h =
+      subst (λ (b : Bool). Begins x (if b then e.1 ∷ events_of 1 order else events_of 1 order)) is h
+
+  server_first : (member : Bool) (events : List Event) (e : Noted) (order rest : List Noted) → (e.0 == 1) ≡ member →
+      events_of 0 rest ≡ events_of 0 order →
+      events_of 0 (by_member member events e rest) ≡ events_of 0 (e ∷ order)
+  server_first true [] e order rest is same =
+      ap (λ (es : List Event). if e.0 == 0 then e.1 ∷ es else es) same
+  server_first true (y ∷ events) e order rest is same =
+      let one = eqb-true e.0 1 is in
+      same ∙ sym (ap (λ (b : Bool). if b then e.1 ∷ events_of 0 order else events_of 0 order)
+      (ne_eqb e.0 0 (λ zero_is. omega (arith, one, zero_is))))
+  server_first false events e order rest is same = ap (λ (es : List Event). if e.0 == 0 then e.1 ∷ es else es) same
+
+  pub server_all : (order : List Noted) → events_of 0 (first_only order) ≡ events_of 0 order
+  server_all [] = refl
+  server_all (e ∷ order) =
+      server_first (e.0 == 1) (events_of 1 order) e order (first_only order) refl (server_all order)
+
+  -- of the client its first
+  abbrev First : List Event → List Event → Type 0
+  First events first = (events ≡ [] → first ≡ []) × (events ≢ [] → first ≡ x ∷ [])
+
+  client_by : (member : Bool) (events : List Event) (e : Noted) (rest : List Noted) → (e.0 == 1) ≡ member →
+      Begins x (if member then e.1 ∷ events else events) → First events (events_of 1 rest) →
+      First (if member then e.1 ∷ events else events) (events_of 1 (by_member member events e rest))
+  client_by true [] e rest is begins h = (
+    λ none. absurd (let f : e.1 ∷ [] ≡ [] = none in cc),
+    λ some. ap (λ (b : Bool). if b then e.1 ∷ events_of 1 rest else events_of 1 rest) is
+        ∙ (ap (λ (es : List Event). e.1 ∷ es) (h.0 refl) ∙ ap (λ (y : Event). y ∷ []) (begins_here x e.1 begins)),
+  )
+  client_by true (y ∷ events) e rest is begins h = (
+    λ none. absurd (let f : e.1 ∷ (y ∷ events) ≡ [] = none in cc),
+    λ some. h.1 (λ none. let f : y ∷ events ≡ [] = none in cc),
+  )
+  client_by false events e rest is begins h =
+      let same : events_of 1 (e ∷ rest) ≡ events_of 1 rest =
+      ap (λ (b : Bool). if b then e.1 ∷ events_of 1 rest else events_of 1 rest) is in
+      (λ none. same ∙ h.0 none, λ some. same ∙ h.1 some)
+
+  client_all : (order : List Noted) → Begins x (events_of 1 order) →
+      First (events_of 1 order) (events_of 1 (first_only order))
+  client_all [] begins = (λ none. refl, λ some. absurd (some refl))
+  client_all (e ∷ order) begins =
+      client_by (e.0 == 1) (events_of 1 order) e (first_only order) refl begins
+      (client_all order (begins_by (e.0 == 1) e order refl begins))
+
+-- what was noted is among the events
+in_order : (p : ℕ) (order : List Noted) (x : Event) → Contains (events_of p order) x → Contains order (p, x)
+in_order p [] x c = absurd (nothing_in x c)
+in_order p (e ∷ order) x c = by (λ more. in_order p order x more) (e.0 == p) refl c where
+  by : (Contains (events_of p order) x → Contains order (p, x)) → (b : Bool) → (e.0 == p) ≡ b →
+      Contains (if b then e.1 ∷ events_of p order else events_of p order) x → Contains (e ∷ order) (p, x)
+  by rest true is c = elim (first_or_more e.1 x (events_of p order) c) [
+    | inl same ↦
+        let here : (e.0, e.1) ≡ (p, x) =
+        ap (λ (q : ℕ). (q, e.1)) (eqb-true e.0 p is) ∙ ap (λ (y : Event). (p, y)) same in
+        subst (λ (y : Noted). Contains (e ∷ order) y) here (first_in e order)
+    | inr more ↦ later_in e order (p, x) (rest more)
+  ]
+  by rest false is c = later_in e order (p, x) (rest c)
+
+module _ {S F D G K : Type 0} {stores : StoreMeaning S D} {sources : SourceMeaning F} {inputs : SourceMeaning G}
+    {outputs : SinkMeaning K}
+    (several : Several stores sources inputs outputs) (all : List Noted) (i : ℕ) (server : OneServer several) (k : ℕ)
+    (client : OneClient several) (at_i : slice_get several.servers i ≡ Some server)
+    (found : slice_get several.clients k ≡ Some client)
+    (over : IsPassedOver several all i server k client) where
+  abbrev there : Endpoint
+  there = endpoint client.ip client.port
+
+  -- the two, and the two when the client has sent its request
+  abbrev both : Programs stores sources inputs outputs
+  both = alone several i server client
+
+  abbrev less : Programs stores sources inputs outputs
+  less = alone several i server (just_asking several client)
+
+  abbrev heard : List Noted
+  heard = heard_with i (number_of several k) all
+
+  abbrev request : Event
+  request = Sent client.port client.first.position.last_sent_to client.first.position.last_sent
+
+  order_is : IsOrder stores sources inputs outputs both heard
+  order_is = order_both several all i server k client at_i found over.among
+
+  -- ---- the ports
+  ours_by_same : {old new : LoopState S F D} (does : Does stores sources old new) → ours_by both does ≡ ours_by less does
+  ours_by_same (Waited h) = refl
+  ours_by_same (At_port serves) = refl
+  ours_by_same (Request_received h) = refl
+  ours_by_same (No_request_found h) = refl
+  ours_by_same (Request_not_received h) = refl
+  ours_by_same (No_port_found h) = refl
+  ours_by_same (Request_answered answers) = refl
+  ours_by_same (Request_lost h) = refl
+  ours_by_same (Clock_read h) = refl
+  ours_by_same (Store_set h) = refl
+  ours_by_same (Transfer_closed h) = refl
+
+  ours_same : {first last : LoopState S F D} (run : Run (Does stores sources) first last) →
+      our_ports both run ≡ our_ports less run
+  ours_same Start = refl
+  ours_same (Then run does) =
+      ap (λ (ports : List ℕ). ports ++ our_ports both run) (ours_by_same does)
+      ∙ ap (λ (ports : List ℕ). ours_by less does ++ ports) (ours_same run)
+
+  only : (q : ℕ) (x : OneClient several) → slice_get less.clients q ≡ Some x →
+      (q ≡ 0) × (x ≡ just_asking several client)
+  only zero x e = (refl, sym (same_Some (just_asking several client) x e))
+  only (suc q) x e = absurd (let f : None ≡ Some x = e in cc)
+
+  abbrev at_of : OneClient several → Endpoint
+  at_of x = client_at inputs outputs (endpoint several.ip several.port) x
+
+  back : (port : ℕ) → Contains (several.port ∷ our_ports less server.run) port →
+      Contains (several.port ∷ our_ports both server.run) port
+  back port c = subst (λ (ports : List ℕ). Contains (several.port ∷ ports) port) (sym (ours_same server.run)) c
+
+  fresh : ArePortsFresh less
+  fresh = record {
+    server =
+        subst (λ (ports : List ℕ). AreDistinct (several.port ∷ ports)) (ours_same server.run) over.among.fresh.server;
+    clients = λ p q x y e f same. (only p x e).0 ∙ sym (only q y f).0;
+    apart = λ q port x e known same.
+        over.among.fresh.apart 0 port client refl (back port known) (ap at_of (sym (only q x e).1) ∙ same);
+    others = λ port known other. over.among.fresh.others port (back port known) other;
+  }
+
+  -- ---- the order
+  sent_to : client.first.position.last_sent_to ≡ endpoint several.ip several.port
+  sent_to = asks_there client.opens
+
+  begins : Begins request (events_of 1 heard)
+  begins =
+      let asks = asks_first (endpoint several.ip several.port) client in
+      inr (
+        asks.more,
+        order_is.clients 0 client refl ∙ (asks.is
+            ∙ ap (λ (a : Endpoint). asks.more ++ Sent client.port a client.first.position.last_sent ∷ [])
+            (sym sent_to)),
+      )
+
+  order_less : IsOrder stores sources inputs outputs less (first_only heard)
+  order_less = record {
+    server = server_all request heard ∙ order_is.server;
+    clients = λ q x e.
+        ap (λ (p : ℕ). events_of (suc p) (first_only heard)) (only q x e).0
+        ∙ ((client_all request heard begins).1 some ∙ ap (λ (z : OneClient several). z.noted) (sym (only q x e).1));
+  } where
+    some : events_of 1 heard ≢ []
+    some none =
+        no_more (asks_first (endpoint several.ip several.port) client).more
+        (sym (order_is.clients 0 client refl ∙ (asks_first (endpoint several.ip several.port) client).is) ∙ none) where
+          no_more : (more : List Event) →
+              more ++ Sent client.port (endpoint several.ip several.port) client.first.position.last_sent ∷ [] ≡ [] → ⊥
+          no_more [] e = cc
+          no_more (y ∷ more) e = cc
+
+  -- ---- the network
+  strange_less : (a : Endpoint) → IsStranger stores sources inputs outputs both a →
+      IsStranger stores sources inputs outputs less a
+  strange_less a h = record {
+    server = h.server;
+    clients = λ q x e same. h.clients 0 client refl (ap at_of (sym (only q x e).1) ∙ same);
+  }
+
+  nevertheless : (from : Endpoint) (bytes : List ℕ) → MayCome stores sources inputs outputs both from bytes →
+      MayCome stores sources inputs outputs less from bytes
+  nevertheless from bytes (inl strange) = inl (strange_less from strange)
+  nevertheless from bytes (inr error) = inr error
+
+  abbrev Comes : List Noted → Endpoint → Endpoint → List ℕ → Type 0
+  Comes order from to bytes =
+      WasSent stores sources inputs outputs less (first_only order) from to bytes
+      ⊎ MayCome stores sources inputs outputs less from bytes
+
+  -- what the server receives of the client is its request, or an ERROR
+  module _ (order : List Noted) (within : (e : Noted) → Contains order e → Contains heard e)
+      (starts : Begins request (events_of 1 order)) (from to : Endpoint) (bytes : List ℕ) (q : ℕ)
+      (to_is : to ≡ endpoint several.ip q) (noted : Contains server.noted (Received q from bytes)) where
+    request_there : events_of 1 order ≢ [] → Contains (first_only order) (1, request)
+    request_there some =
+        in_order 1 (first_only order) request
+        (subst (λ (es : List Event). Contains es request) (sym ((client_all request order starts).1 some))
+        (first_in request []))
+
+    by_client : (port : ℕ) → from ≡ endpoint client.ip port → Contains order (1, Sent port to bytes) →
+        Comes order from to bytes
+    by_client port at sent =
+        let events = noted_in 1 (Sent port to bytes) order sent in
+        let some : events_of 1 order ≢ [] =
+        λ none. nothing_in (Sent port to bytes) (subst (λ (es : List Event). Contains es (Sent port to bytes)) none
+        events) in
+        let own_port : port ≡ client.port =
+        sent_own several all i server k client at_i found over.among client port to bytes
+        (subst (λ (es : List Event). Contains es (Sent port to bytes)) (order_is.clients 0 client refl)
+        (noted_in 1 (Sent port to bytes) heard (within (1, Sent port to bytes) sent))) in
+        let here : from ≡ there = at ∙ ap (λ (p : ℕ). endpoint client.ip p) own_port in
+        elim (over.refused q bytes (subst (λ (a : Endpoint). Contains server.noted (Received q a bytes)) here noted)) [
+          | inl is ↦
+              let to_there : client.first.position.last_sent_to ≡ to =
+              sent_to ∙ (ap (λ (p : ℕ). endpoint several.ip p) (sym is.0) ∙ sym to_is) in
+              let same : request ≡ Sent client.port to bytes =
+              ap (λ (a : Endpoint). Sent client.port a client.first.position.last_sent) to_there
+              ∙ ap (λ (b : List ℕ). Sent client.port to b) (sym is.1) in
+              inl (record {
+                program = 1;
+                port = client.port;
+                is_at = (client.ip, refl, here);
+                sent = subst (λ (e : Event). Contains (first_only order) (1, e)) same (request_there some);
+              })
+          | inr error ↦ inr (inr error)
+        ]
+
+    by_server : (port : ℕ) → from ≡ endpoint several.ip port → Contains order (0, Sent port to bytes) →
+        Comes order from to bytes
+    by_server port at sent =
+        inl (record {
+          program = 0;
+          port = port;
+          is_at = (several.ip, refl, at);
+          sent = in_order 0 (first_only order) (Sent port to bytes)
+              (subst (λ (es : List Event). Contains es (Sent port to bytes)) (sym (server_all request order))
+              (noted_in 0 (Sent port to bytes) order sent));
+        })
+
+    came : (p port : ℕ) → IsAtOf (ips stores sources inputs outputs both) p port from →
+        Contains order (p, Sent port to bytes) → Comes order from to bytes
+    came zero port at sent =
+        by_server port (at.2 ∙ ap (λ (a : List ℕ). endpoint a port) (sym (same_Some several.ip at.0 at.1))) sent
+    came (suc zero) port at sent =
+        by_client port (at.2 ∙ ap (λ (a : List ℕ). endpoint a port) (sym (same_Some client.ip at.0 at.1))) sent
+    came (suc (suc p)) port at sent = absurd (let f : None ≡ Some at.0 = at.1 in cc)
+
+  comes : (p : ℕ) → p ≢ 1 → (e : Event) (order : List Noted) →
+      ((x : Noted) → Contains ((p, e) ∷ order) x → Contains heard x) → Begins request (events_of 1 order) →
+      CanCome stores sources inputs outputs both p e order →
+      CanCome stores sources inputs outputs less p e (first_only order)
+  comes zero n (Received q from bytes) order within starts h =
+      let to_is : h.0 ≡ endpoint several.ip q =
+      h.1.2 ∙ ap (λ (a : List ℕ). endpoint a q) (sym (same_Some several.ip h.1.0 h.1.1)) in
+      let noted : Contains server.noted (Received q from bytes) =
+      subst (λ (es : List Event). Contains es (Received q from bytes)) order_is.server
+      (noted_in 0 (Received q from bytes) heard (within (0, Received q from bytes)
+      (first_in (0, Received q from bytes) order))) in (
+        h.0,
+        h.1,
+        elim h.2 [
+          | inl s ↦
+              came order (λ x c. within x (later_in (0, Received q from bytes) order x c)) starts from h.0 bytes q to_is
+              noted s.program s.port s.is_at s.sent
+          | inr other ↦ inr (nevertheless from bytes other)
+        ],
+      )
+  comes (suc zero) n e order within starts h = absurd (n refl)
+  comes (suc (suc p)) n (Received q from bytes) order within starts h =
+      absurd (let f : None ≡ Some h.1.0 = h.1.1 in cc)
+  comes p n (Sent port to bytes) order within starts h = tt
+  comes p n (Watched time) order within starts h = tt
+  comes p n (Elapsed port time) order within starts h = tt
+  comes p n (Printed line) order within starts h = tt
+  comes p n (Quiet event) order within starts h = tt
+
+  abbrev Honest : List Noted → Type 0
+  Honest order = IsHonest stores sources inputs outputs less order
+
+  honest_by : (member : Bool) (events : List Event) (e : Noted) (order : List Noted) → (e.0 == 1) ≡ member →
+      events_of 1 order ≡ events → ((x : Noted) → Contains (e ∷ order) x → Contains heard x) →
+      Begins request (events_of 1 (e ∷ order)) → CanCome stores sources inputs outputs both e.0 e.1 order →
+      Honest (first_only order) → Honest (by_member member events e (first_only order))
+  honest_by true [] e order is none within begins h rest =
+      let own : e.1 ∷ events_of 1 order ≡ events_of 1 (e ∷ order) =
+      ap (λ (b : Bool). if b then e.1 ∷ events_of 1 order else events_of 1 order) (sym is) in
+      let same : e.1 ≡ request =
+      begins_here request e.1 (subst (λ (es : List Event). Begins request es)
+      (sym own ∙ ap (λ (es : List Event). e.1 ∷ es) none) begins) in
+      (subst (λ (x : Event). CanCome stores sources inputs outputs less e.0 x (first_only order)) (sym same) tt, rest)
+  honest_by true (y ∷ events) e order is some within begins h rest = rest
+  honest_by false events e order is some within begins h rest = (
+    comes e.0 (λ one. true≢false (sym (eq-eqb e.0 1 one) ∙ is)) e.1 order within
+        (begins_by request (e.0 == 1) e order refl begins) h,
+    rest,
+  )
+
+  honest_first : (order : List Noted) → ((x : Noted) → Contains order x → Contains heard x) →
+      Begins request (events_of 1 order) → IsHonest stores sources inputs outputs both order →
+      Honest (first_only order)
+  honest_first [] within begins h = tt
+  honest_first (e ∷ order) within begins h =
+      honest_by (e.0 == 1) (events_of 1 order) e order refl refl within begins h.0
+      (honest_first order (λ x c. within x (later_in e order x c)) (begins_by request (e.0 == 1) e order refl begins)
+      h.1)
+
+  joined_less : AreJoined stores sources inputs outputs less (first_only heard)
+  joined_less = record {
+    is_order = order_less;
+    honest =
+        honest_first heard (λ x c. c) begins (honest_both several all i server k client at_i found over.among);
+    fresh = fresh;
+    own = λ q x e. subst (λ (z : OneClient several). TakesOwn several.ip less.others z.runs) (sym (only q x e).1) tt;
+  }
+
+  -- ---- the transfers of the server with this client
+  pub kept_less : KeepAnyFiles less
+  kept_less = programs_keep_any stores sources inputs outputs less (first_only heard) joined_less
+
+  abbrev its_end : ProgramEnd
+  its_end = client_end less (just_asking several client)
+
+  its_own : IsEnd less its_end
+  its_own = inl (0, just_asking several client, refl, refl)
+
+  ours : IsOurs less there
+  ours h = h.clients 0 (just_asking several client) refl refl
+
+  no_peer : peer_of its_end ≡ None
+  no_peer = elim client.opens [
+    | To_read opens ↦ ap (λ (e : EndState). (record_of e).peer) opens.is
+    | To_write opens ↦ ap (λ (e : EndState). (record_of e).peer) opens.is
+  ]
+
+  its : (y : ProgramEnd) → IsEnd less y → y.address ≡ there → y ≡ its_end
+  its y is_end at = kept_less.unique y its_end is_end its_own at
+
+  no_peers : (y : ProgramEnd) (a : Endpoint) → IsEnd less y → y.address ≡ there → peer_of y ≡ Some a → ⊥
+  no_peers y a is_end at peer =
+      let none : None ≡ Some a = sym no_peer ∙ (sym (ap peer_of (its y is_end at)) ∙ peer) in cc
+
+  there_is : (p : Endpoint) (x : ProgramEnd) → peer_of x ≡ Some p → peer_of x ≡ Some there → p ≡ there
+  there_is p x e f = same_Some p there (sym e ∙ f)
+
+  whole : (x : ProgramEnd) → IsEnd less x → peer_of x ≡ Some there → is_complete x.state.position.phase ≡ true →
+      (sends : Bool) → is_sender x.state.role.side ≡ sends → ⊥
+  whole x is_end peer complete false sends =
+      let h = kept_less.safe.is_whole x is_end sends complete in
+      let p_is = there_is h.0 x h.1 peer in
+      let y = h.2 (subst (λ (a : Endpoint). IsOurs less a) (sym p_is) ours) in
+      no_peers y.0 x.address y.1.is_end (y.1.address ∙ p_is) y.2
+  whole x is_end peer complete true sends =
+      let h = kept_less.safe.sender_last x is_end sends complete in
+      let p_is = there_is h.0 x h.1 peer in
+      let y = h.2 (subst (λ (a : Endpoint). IsOurs less a) (sym p_is) ours) in
+      no_peers y.0 x.address y.1.is_end (y.1.address ∙ p_is) y.1.peer
+
+  pub has_nothing : HasNothing several client less
+  has_nothing = record {
+    empty = λ x is_end peer receives.
+        let h = kept_less.safe.is_prefix x there is_end receives peer ours in
+        first_of_empty (has_of x) (subst (λ (y : ProgramEnd). IsPrefixOf (has_of x) y.moved.bytes)
+        (its h.0 h.1.is_end h.1.address) h.2);
+    incomplete = λ x is_end peer. elim (cases_Bool (is_complete x.state.position.phase)) [
+      | inl complete ↦ absurd (whole x is_end peer complete (is_sender x.state.role.side) refl)
+      | inr not ↦ not
+    ];
+  }
+
+pub others_nothing : {S F D G K : Type 0} (stores : StoreMeaning S D) (sources : SourceMeaning F)
+    (inputs : SourceMeaning G) (outputs : SinkMeaning K) → OthersHaveNothing stores sources inputs outputs
+others_nothing stores sources inputs outputs several order i server k client at_i found over = (
+  kept_less several order i server k client at_i found over,
+  has_nothing several order i server k client at_i found over,
+)

@@ -1,0 +1,44 @@
+-- Other servers at the address of a server, behind the same request port: a request may come to any
+-- of them, and the client takes the first that answers (RFC 1350, section 4).
+use Rattle.std.specs.Prelude.{ℕ, ◌≡◌, List, None}
+use Rattle.std.specs.List.{Contains}
+use Rattle.tftp_wire.specs.Spelling.{Spells}
+use Rattle.tftp_wire.specs.declared.packet.Packet.{Packet}
+use Rattle.tftp_file.specs.Sink.{SinkMeaning}
+use Rattle.tftp_file.specs.Source.{SourceMeaning}
+use Rattle.tftp_file.specs.declared.files.Files.{Files}
+use Rattle.tftp_client.specs.Converses.{State, HandlesReceived}
+use Rattle.tftp_client.specs.Converses.HandlesReceived.{Answers, Loses}
+use Rattle.tftp_rules.specs.EndKept.{IsAnswer}
+use Rattle.tftp_rules.specs.Machine.{Endpoint}
+use Rattle.tftp_rules.specs.OpenEnds.{peer_of}
+use Rattle.tftp_promises.specs.ClientRuns.{ClientDoes, Receives_one, ClientRun, Starts, Goes_on}
+
+-- a DATA, an ACK or an OACK of another server, at one of these ports of the address
+pub record IsOtherAnswer (ip others : List ℕ) (from : Endpoint) (bytes : List ℕ) : Type 0 where
+  pub near : from.ip ≡ ip
+  pub other : Contains others from.port
+  pub packet : Packet
+  pub spells : Spells packet bytes
+  pub answer : IsAnswer packet
+
+module _ {G K : Type 0} {inputs : SourceMeaning G} {outputs : SinkMeaning K}
+    (ip others : List ℕ) where
+  -- a client that has no peer makes no step at one
+  abbrev pub HandlesOwn : {port : ℕ} {from : Endpoint} {bytes : List ℕ} {s next : State}
+      {files files' : Files G K}
+      → HandlesReceived inputs outputs port from bytes s files next files' → Type 0
+  HandlesOwn {from = from} {bytes = bytes} {s = s} (Answers still step) =
+      peer_of s.end.position.phase ≡ None → IsOtherAnswer ip others from bytes → ⊥
+  HandlesOwn (Loses lost keeps) = Unit {0}
+
+  abbrev pub DoesOwn : {port : ℕ} {s s' : State} {files files' : Files G K}
+      → ClientDoes inputs outputs port s files s' files' → Type 0
+  DoesOwn (Receives_one may later handles) = HandlesOwn handles
+  DoesOwn does = Unit {0}
+
+  -- so the peer that it takes is no other server
+  abbrev pub TakesOwn : {port : ℕ} {first : State} {file : Files G K} {s : State}
+      {files : Files G K} → ClientRun inputs outputs port first file s files → Type 0
+  TakesOwn Starts = Unit {0}
+  TakesOwn (Goes_on run does) = TakesOwn run × DoesOwn does
