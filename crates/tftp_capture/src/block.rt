@@ -12,7 +12,7 @@ use crate::number::after;
 use crate::order::Order;
 use crate::section::Section;
 use std::alloc::Global;
-use std::io::Read;
+use std::io::{BufReader, Read};
 
 /// The type of a section's block, which reads the same in both byte orders.
 pub(crate) const SECTION: u32 = 0x0a0d_0d0a;
@@ -48,7 +48,10 @@ pub(crate) struct Blocks {
 
 impl Blocks {
     /// Reads the header of the first section after its type.
-    pub(crate) fn read<R: Read>(alloc: Global, input: &mut R) -> Result<Blocks, CaptureFault> {
+    pub(crate) fn read<R: Read>(
+        alloc: Global,
+        input: &mut BufReader<R>,
+    ) -> Result<Blocks, CaptureFault> {
         let mut size = [0; 4];
         match fill(input, &mut size) {
             Ok(()) => Blocks::begin(alloc, &size, input),
@@ -57,7 +60,11 @@ impl Blocks {
     }
 
     /// Reads the byte order of a section, whose block has this length.
-    fn begin<R: Read>(alloc: Global, size: &[u8], input: &mut R) -> Result<Blocks, CaptureFault>
+    fn begin<R: Read>(
+        alloc: Global,
+        size: &[u8],
+        input: &mut BufReader<R>,
+    ) -> Result<Blocks, CaptureFault>
         requires { 4 ≤ length size.now }
     {
         let mut magic = [0; 4];
@@ -84,7 +91,7 @@ impl Blocks {
     /// Reads the next block.
     pub(crate) fn next<R: Read>(
         &mut self,
-        input: &mut R,
+        input: &mut BufReader<R>,
         bytes: &mut Vec<u8>,
     ) -> Result<Found, CaptureFault>
         ensures { StaysWithin (vec_len bytes.old) (vec_len bytes.new) }
@@ -103,7 +110,7 @@ impl Blocks {
 
     fn read_block<R: Read>(
         &mut self,
-        input: &mut R,
+        input: &mut BufReader<R>,
         header: [u8; 8],
         bytes: &mut Vec<u8>,
     ) -> Result<Found, CaptureFault>
@@ -127,7 +134,11 @@ impl Blocks {
     }
 
     /// Begins another section, with interfaces of its own.
-    fn read_section<R: Read>(&mut self, input: &mut R, size: &[u8]) -> Result<Found, CaptureFault>
+    fn read_section<R: Read>(
+        &mut self,
+        input: &mut BufReader<R>,
+        size: &[u8],
+    ) -> Result<Found, CaptureFault>
         requires { 4 ≤ length size.now }
     {
         match Blocks::begin(self.alloc, size, input) {
@@ -140,7 +151,7 @@ impl Blocks {
     /// Takes so many bytes of the block's body.
     fn take_part<R: Read>(
         &mut self,
-        input: &mut R,
+        input: &mut BufReader<R>,
         count: u64,
         bytes: &mut Vec<u8>,
     ) -> Result<(), CaptureFault>
@@ -158,7 +169,7 @@ impl Blocks {
 
     fn read_interface<R: Read>(
         &mut self,
-        input: &mut R,
+        input: &mut BufReader<R>,
         bytes: &mut Vec<u8>,
     ) -> Result<Found, CaptureFault>
         ensures { StaysWithin (vec_len bytes.old) (vec_len bytes.new) }
@@ -176,7 +187,7 @@ impl Blocks {
 
     fn read_simple<R: Read>(
         &mut self,
-        input: &mut R,
+        input: &mut BufReader<R>,
         bytes: &mut Vec<u8>,
     ) -> Result<Found, CaptureFault>
         ensures { StaysWithin (vec_len bytes.old) (vec_len bytes.new) }
@@ -196,7 +207,7 @@ impl Blocks {
 
     fn read_enhanced<R: Read>(
         &mut self,
-        input: &mut R,
+        input: &mut BufReader<R>,
         bytes: &mut Vec<u8>,
     ) -> Result<Found, CaptureFault>
         ensures { StaysWithin (vec_len bytes.old) (vec_len bytes.new) }
@@ -221,7 +232,7 @@ impl Blocks {
     /// Fills a buffer with the next bytes of the block's body.
     fn take_header<R: Read>(
         &mut self,
-        input: &mut R,
+        input: &mut BufReader<R>,
         header: &mut [u8],
     ) -> Result<(), CaptureFault> {
         match self.pass(header.len() as u64) {

@@ -9,7 +9,7 @@ use crate::fault::CaptureFault;
 use crate::input::fill;
 use crate::link::Link;
 use std::alloc::Global;
-use std::io::Read;
+use std::io::{BufReader, Read};
 
 /// The longest record that is read, in bytes: what `tcpdump` captures of a frame at most.
 pub const MAX_RECORD: usize = 262_144;
@@ -44,7 +44,7 @@ enum Format {
 #[derive(Drop)]
 pub struct Capture<R> {
     alloc: Global,
-    input: R,
+    input: BufReader<R>,
     format: Format,
     frames: u64,
 }
@@ -55,8 +55,8 @@ pub fn is_capture(head: [u8; 4]) -> bool {
 }
 
 impl<R: Read> Capture<R> {
-    /// A capture of which no byte was read. The input has to have a buffer of its own.
-    pub fn new(alloc: Global, input: R) -> Capture<R> {
+    /// A capture of which no byte was read.
+    pub fn new(alloc: Global, input: BufReader<R>) -> Capture<R> {
         Capture {
             alloc,
             input,
@@ -84,7 +84,7 @@ impl<R: Read> Capture<R> {
     }
 
     /// The reader.
-    pub fn get_ref(&self) -> &R {
+    pub fn get_ref(&self) -> &BufReader<R> {
         &self.input
     }
 
@@ -129,7 +129,7 @@ impl<R: Read> Capture<R> {
 fn read_format<R: Read>(
     alloc: Global,
     head: [u8; 4],
-    input: &mut R,
+    input: &mut BufReader<R>,
 ) -> Result<Format, CaptureFault> {
     if u32::from_be_bytes(head) == SECTION {
         return match Blocks::read(alloc, input) {

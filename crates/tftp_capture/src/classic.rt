@@ -9,7 +9,7 @@ use crate::fault::CaptureFault;
 use crate::input::{begins, fill, take_bytes};
 use crate::link::Link;
 use crate::order::Order;
-use std::io::Read;
+use std::io::{BufReader, Read};
 
 /// What the header of a capture says.
 #[derive(Clone, Copy)]
@@ -35,7 +35,7 @@ impl Classic {
     pub(crate) fn read<R: Read>(
         order: Order,
         clock: Clock,
-        input: &mut R,
+        input: &mut BufReader<R>,
     ) -> Result<Classic, CaptureFault> {
         let mut header = [0; 20];
         match fill(input, &mut header) {
@@ -52,7 +52,7 @@ impl Classic {
     /// Reads the next record: `None` at the end.
     pub(crate) fn next<R: Read>(
         self,
-        input: &mut R,
+        input: &mut BufReader<R>,
         bytes: &mut Vec<u8>,
     ) -> Result<Option<Stamp>, CaptureFault>
         ensures { StaysWithin (vec_len bytes.old) (vec_len bytes.new) }
@@ -67,7 +67,7 @@ impl Classic {
 
     fn read_record<R: Read>(
         self,
-        input: &mut R,
+        input: &mut BufReader<R>,
         header: &[u8; 16],
         bytes: &mut Vec<u8>,
     ) -> Result<Option<Stamp>, CaptureFault>

@@ -5,10 +5,17 @@ ghost use Rattle.tftp_capture.specs.Record.{StaysWithin};
 
 use crate::capture::MAX_RECORD;
 use crate::fault::CaptureFault;
-use std::io::{ErrorKind, Read};
+use crate::number::first;
+use std::io::{BufRead, BufReader, ErrorKind, Read};
 
 /// Fills a buffer. It fails if the input ends before.
-pub(crate) fn fill<R: Read>(input: &mut R, buffer: &mut [u8]) -> Result<(), CaptureFault> {
+pub(crate) fn fill<R: Read>(
+    input: &mut BufReader<R>,
+    buffer: &mut [u8],
+) -> Result<(), CaptureFault> {
+    if take_ready(input, buffer) {
+        return Ok(());
+    }
     match input.read_exact(buffer) {
         Ok(()) => Ok(()),
         Err(error) => Err(CaptureFault::of(&error)),
@@ -16,9 +23,15 @@ pub(crate) fn fill<R: Read>(input: &mut R, buffer: &mut [u8]) -> Result<(), Capt
 }
 
 /// Fills the buffer of a header, and returns whether there is one: `false` at the input's end.
-pub(crate) fn begins<R: Read>(input: &mut R, header: &mut [u8]) -> Result<bool, CaptureFault>
+pub(crate) fn begins<R: Read>(
+    input: &mut BufReader<R>,
+    header: &mut [u8],
+) -> Result<bool, CaptureFault>
     requires { 0 < length header.old }
 {
+    if take_ready(input, header) {
+        return Ok(true);
+    }
     let (first, rest) = header.split_at_mut(1);
     match input.read_exact(first) {
         Ok(()) => {}
@@ -33,7 +46,29 @@ pub(crate) fn begins<R: Read>(input: &mut R, header: &mut [u8]) -> Result<bool, 
 
 /// Replaces the bytes by the next `count` of the input.
 pub(crate) fn take_bytes<R: Read>(
-    input: &mut R,
+    input: &mut BufReader<R>,
+    count: usize,
+    bytes: &mut Vec<u8>,
+) -> Result<(), CaptureFault>
+    ensures ok { OnOk result (vec_len bytes.new ≡ count) }
+    ensures bound { count ≤ MAX_RECORD → StaysWithin (vec_len bytes.old) (vec_len bytes.new) }
+{
+    let ready = input.buffer();
+    if ready.len() < count {
+        return read_bytes(input, count, bytes);
+    }
+    bytes.clear();
+    match bytes.extend_from_slice(first(ready, count)) {
+        Ok(()) => {}
+        Err(_) => return Err(CaptureFault::Memory),
+    }
+    input.consume(count);
+    Ok(())
+}
+
+/// The same, of more than the reader's buffer has.
+fn read_bytes<R: Read>(
+    input: &mut BufReader<R>,
     count: usize,
     bytes: &mut Vec<u8>,
 ) -> Result<(), CaptureFault>
@@ -47,9 +82,9 @@ pub(crate) fn take_bytes<R: Read>(
 }
 
 /// Passes over bytes of the input.
-pub(crate) fn skip<R: Read>(input: &mut R, count: u64) -> Result<(), CaptureFault> {
-    let mut part = [0; 256];
+pub(crate) fn skip<R: Read>(input: &mut BufReader<R>, count: u64) -> Result<(), CaptureFault> {
     let mut left = count;
+    let mut part = [0; 256];
     while left > 0 {
         let most = left.min(256) as usize;
         match fill(input, &mut part[..most]) {
@@ -59,4 +94,15 @@ pub(crate) fn skip<R: Read>(input: &mut R, count: u64) -> Result<(), CaptureFaul
         left -= most as u64;
     }
     Ok(())
+}
+
+/// Fills a buffer from the reader's own, if that has enough, and returns whether it has.
+fn take_ready<R: Read>(input: &mut BufReader<R>, buffer: &mut [u8]) -> bool {
+    let ready = input.buffer();
+    if ready.len() < buffer.len() {
+        return false;
+    }
+    buffer.copy_from_slice(first(ready, buffer.len()));
+    input.consume(buffer.len());
+    true
 }
