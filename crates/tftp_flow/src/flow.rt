@@ -1,7 +1,8 @@
 //! The transfers of a capture that are not over, and what belongs to none.
 
-ghost use Rattle.std.specs.Prelude.{◌≡◌, ◌<◌, ◌≤◌, ◌↔◌, true, IfOk, IsSome, OnErr, vec_len};
+ghost use Rattle.std.specs.Prelude.{◌≡◌, ◌<◌, ◌≤◌, ◌↔◌, true, false, max, IfOk, IsSome, OnErr, vec_len};
 ghost use Rattle.tftp_flow.specs.Flow.{Adds, IsSameLines, is_whole, lines_in};
+ghost use Rattle.tftp_flow.specs.Transfer.{is_due, is_silent, micros_of};
 
 mod choice;
 mod event;
@@ -11,6 +12,7 @@ mod line;
 mod moment;
 mod picture;
 mod place;
+mod recent;
 mod report;
 mod seen;
 mod transfer;
@@ -18,6 +20,7 @@ mod transfer;
 use crate::flow::index::Index;
 use crate::flow::line::read_fields;
 use crate::flow::place::{Place, Places};
+use crate::flow::recent::{Owner, Recent, index_of};
 use crate::flow::seen::line_of;
 use crate::flow::transfer::Part;
 pub use event::{Event, Party, What};
@@ -45,6 +48,7 @@ pub struct Flow {
     /// The lines that are no datagrams.
     pub unread: Vec<Unread>,
     index: Index,
+    recent: Recent,
     /// The port of requests; `None` if all that is read is TFTP.
     port: Option<u16>,
     /// The requests so far.
@@ -107,6 +111,7 @@ impl Flow {
             strays: Vec::new(alloc),
             unread: Vec::new(alloc),
             index: Index::new(alloc),
+            recent: Recent::new(alloc),
             port,
             begun: 0,
             newest: Moment::of_micros(0),
@@ -142,8 +147,20 @@ impl Flow {
     pub fn add_seen(&mut self, seen: &Seen<'_>) -> Result<Placed, AllocError>
         ensures ok { IfOk result (λ placed. Adds self.old self.new placed) }
         ensures err { OnErr result (IsSameLines self.old self.new) }
+        ensures newest { micros_of self.new.newest
+            ≡ max (micros_of self.old.newest) (micros_of seen.now.at) }
     {
-        self.newest = self.newest.later(seen.at);
+        let newest = self.newest.later(seen.at);
+        let placed = self.put(seen);
+        self.newest = newest;
+        placed
+    }
+
+    /// Puts a datagram where it belongs.
+    fn put(&mut self, seen: &Seen<'_>) -> Result<Placed, AllocError>
+        ensures ok { IfOk result (λ placed. Adds self.old self.new placed) }
+        ensures err { OnErr result (IsSameLines self.old self.new) }
+    {
         let what = What::of(seen.bytes, seen.length);
         match self.place_of(seen, what) {
             Some(place) => self.give(place, seen, what),
@@ -173,12 +190,16 @@ impl Flow {
     }
 
     /// Whether a second has passed since transfers that are over were dropped.
-    pub fn is_due(&self) -> bool {
+    pub fn is_due(&self) -> bool
+        ensures { result ≡ is_due self.now }
+    {
         self.looked < self.newest.second()
     }
 
     /// Whether a transfer is over: it has been silent for its timeouts.
-    pub fn is_over(&self, transfer: &Transfer) -> bool {
+    pub fn is_over(&self, transfer: &Transfer) -> bool
+        ensures { result ≡ is_silent self.now.newest transfer.now }
+    {
         transfer.is_silent(self.newest)
     }
 
@@ -188,9 +209,11 @@ impl Flow {
         ensures strays { self.new.strays ≡ self.old.strays }
         ensures unread { self.new.unread ≡ self.old.unread }
         ensures whole { is_whole self.new ≡ is_whole self.old }
+        ensures due { is_due self.new ≡ false }
     {
         let now = self.newest;
         self.looked = now.second();
+        self.recent.forget_all();
         self.index.remove_silent(self.transfers.as_slice(), now);
         self.transfers.retain(|transfer| !transfer.is_silent(now));
     }
@@ -204,13 +227,43 @@ impl Flow {
     }
 
     /// The transfer that a datagram belongs to.
-    fn place_of(&self, seen: &Seen<'_>, what: What) -> Option<Place> {
+    fn place_of(&mut self, seen: &Seen<'_>, what: What) -> Option<Place>
+        ensures { IsSameLines self.old self.new }
+    {
+        let at_hand = self.place_at_hand(seen, what);
+        if at_hand.is_some() {
+            return at_hand;
+        }
         let mut places = Places::new();
         self.look(self.index.of_client(seen.from), seen, what, &mut places);
         self.look(self.index.of_client(seen.to), seen, what, &mut places);
         self.look_at(self.index.of_server(seen.from), seen, what, &mut places);
         self.look_at(self.index.of_server(seen.to), seen, what, &mut places);
         places.chosen()
+    }
+
+    /// The transfer that a datagram belongs to, where one end alone is a client's, and it is between
+    /// the two ends of that one's newest transfer. No other transfer is chosen before this one: what
+    /// has the same two ends is older, and so is what waits for an answer there.
+    fn place_at_hand(&mut self, seen: &Seen<'_>, what: What) -> Option<Place>
+        ensures { IsSameLines self.old self.new }
+    {
+        let transfers = self.transfers.as_slice();
+        let from = self.recent.owner_of(seen.from, &self.index, transfers)?;
+        let to = self.recent.owner_of(seen.to, &self.index, transfers)?;
+        let index = match (from, to) {
+            (Owner::Client(index), Owner::Nobody) => index,
+            (Owner::Nobody, Owner::Client(index)) => index,
+            (Owner::Client(_), Owner::Client(_)) => return None,
+            (Owner::Nobody, Owner::Nobody) => return None,
+        };
+        match transfers.get(index)?.part_of(seen, what)? {
+            Part::Own(by) if !what.is_request() => Some(Place {
+                index,
+                part: Part::Own(by),
+            }),
+            _ => None,
+        }
     }
 
     /// Looks at the newest transfer of a client's endpoint, and at those before it.
@@ -232,11 +285,7 @@ impl Flow {
         what: What,
         places: &mut Places,
     ) -> Option<u64> {
-        let number = number?;
-        let found = self
-            .transfers
-            .binary_search_by_key(&number, |transfer| transfer.number);
-        let index = found.ok()?;
+        let index = index_of(self.transfers.as_slice(), number?)?;
         let transfer = self.transfers.get(index)?;
         if let Some(part) = transfer.part_of(seen, what) {
             places.add(Place { index, part }, transfer.is_open());
@@ -308,6 +357,8 @@ impl Flow {
     {
         let number = self.begun.saturating_add(1);
         let mut transfer = Transfer::new(self.alloc, number, seen, what)?;
+        self.recent.open()?;
+        self.recent.forget(seen.from);
         transfer.before = self.index.of_client(seen.from);
         self.index.add_client(seen.from, number)?;
         self.transfers.push(transfer)?;

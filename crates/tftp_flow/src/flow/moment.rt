@@ -1,5 +1,8 @@
 //! When a datagram was seen, and how long after another.
 
+ghost use Rattle.std.specs.Prelude.{◌≡◌, ◌-◌, max, nat_lt};
+ghost use Rattle.tftp_flow.specs.Transfer.{micros_of, micros_in, second_of};
+
 use std::fmt;
 
 /// The digits of a fraction of a second that count.
@@ -27,22 +30,30 @@ impl Moment {
     }
 
     /// The moment of so many microseconds.
-    pub fn of_micros(micros: u64) -> Moment {
+    pub fn of_micros(micros: u64) -> Moment
+        ensures { micros_of result ≡ micros }
+    {
         Moment(micros)
     }
 
     /// The second that it is in.
-    pub(crate) fn second(self) -> u64 {
+    pub(crate) fn second(self) -> u64
+        ensures { result ≡ second_of self }
+    {
         self.0 / SECOND
     }
 
     /// The later of two.
-    pub(crate) fn later(self, other: Moment) -> Moment {
+    pub(crate) fn later(self, other: Moment) -> Moment
+        ensures { micros_of result ≡ max (micros_of self) (micros_of other) }
+    {
         Moment(self.0.max(other.0))
     }
 
     /// How long after an earlier moment this is; nothing, if it is before.
-    pub(crate) fn since(self, earlier: Moment) -> Span {
+    pub(crate) fn since(self, earlier: Moment) -> Span
+        ensures { micros_in result ≡ micros_of self - micros_of earlier }
+    {
         Span(self.0.saturating_sub(earlier.0))
     }
 }
@@ -54,7 +65,9 @@ impl Span {
     }
 
     /// Whether it is longer than another.
-    pub(crate) fn exceeds(self, other: Span) -> bool {
+    pub(crate) fn exceeds(self, other: Span) -> bool
+        ensures { result ≡ nat_lt (micros_in other) (micros_in self) }
+    {
         self.0 > other.0
     }
 }

@@ -66,6 +66,12 @@ impl Seen<'_> {
     }
 }
 
+/// Whether two endpoints are the same. As numbers they are compared at once, and ports first, which
+/// differ most often.
+pub(crate) fn is_same(one: SocketAddrV4, other: SocketAddrV4) -> bool {
+    one.port() == other.port() && one.ip().to_bits() == other.ip().to_bits()
+}
+
 /// Appends the line of a datagram, and returns whether it is a packet. Of a DATA whose beginning
 /// alone was seen the line has the length that its header says.
 ///

@@ -1,11 +1,12 @@
 //! A transfer of a capture: its request, and the datagrams between its two transfer identifiers.
 
-ghost use Rattle.std.specs.Prelude.{◌≡◌, ◌+◌, IfOk, OnErr, OnOk};
+ghost use Rattle.std.specs.Prelude.{◌≡◌, ◌+◌, ◌-◌, IfOk, OnErr, OnOk, Some, is_some};
 ghost use Rattle.tftp_flow.specs.Flow.{given_to};
+ghost use Rattle.tftp_flow.specs.Transfer.{is_open, is_silent, reported};
 
 use crate::flow::event::{Event, Party, What};
 use crate::flow::moment::{Moment, Span};
-use crate::flow::seen::{Seen, Spot, line_of};
+use crate::flow::seen::{Seen, Spot, is_same, line_of};
 use std::alloc::{AllocError, Global};
 use std::fmt;
 use std::net::SocketAddrV4;
@@ -188,10 +189,10 @@ impl Transfer {
     }
 
     fn part_of_request(&self, seen: &Seen<'_>) -> Option<Part> {
-        let is_same = seen.from == self.client
-            && seen.to == self.asked_at
+        let is_repeat = is_same(seen.from, self.client)
+            && is_same(seen.to, self.asked_at)
             && seen.bytes == self.request_bytes.as_slice();
-        if is_same {
+        if is_repeat {
             Some(Part::Own(Party::Client))
         } else {
             None
@@ -199,15 +200,19 @@ impl Transfer {
     }
 
     fn part_of_bound(&self, server: SocketAddrV4, seen: &Seen<'_>) -> Option<Part> {
-        if seen.from == server && seen.to == self.client {
+        let is_to_client = is_same(seen.to, self.client);
+        let is_from_client = is_same(seen.from, self.client);
+        let is_from_server = is_same(seen.from, server);
+        let is_to_server = is_same(seen.to, server);
+        if is_from_server && is_to_client {
             Some(Part::Own(Party::Server))
-        } else if seen.from == self.client && seen.to == server {
+        } else if is_from_client && is_to_server {
             Some(Part::Own(Party::Client))
-        } else if seen.to == self.client && seen.from.ip() == server.ip() {
+        } else if is_to_client && seen.from.ip() == server.ip() {
             Some(Part::Beside(Why::SecondPort))
-        } else if seen.to == self.client || seen.to == server {
+        } else if is_to_client || is_to_server {
             Some(Part::Beside(Why::Stranger))
-        } else if seen.from == self.client || seen.from == server {
+        } else if is_from_client || is_from_server {
             Some(Part::Beside(Why::ToAnother))
         } else {
             None
@@ -215,11 +220,12 @@ impl Transfer {
     }
 
     fn part_of_answer(&self, seen: &Seen<'_>) -> Option<Part> {
-        if seen.to == self.client && seen.from.ip() == self.asked_at.ip() {
+        let is_to_client = is_same(seen.to, self.client);
+        if is_to_client && seen.from.ip() == self.asked_at.ip() {
             Some(Part::Answer)
-        } else if seen.to == self.client {
+        } else if is_to_client {
             Some(Part::Beside(Why::Stranger))
-        } else if seen.from == self.client {
+        } else if is_same(seen.from, self.client) {
             Some(Part::Beside(Why::ToAnother))
         } else {
             None
@@ -367,34 +373,45 @@ impl Transfer {
     }
 
     /// Whether it did not end.
-    pub fn is_open(&self) -> bool {
+    pub fn is_open(&self) -> bool
+        ensures { result ≡ is_open self.now.ending }
+    {
         matches!(self.ending, Ending::Open)
     }
 
     /// Notes that it is reported.
     pub fn tell(&mut self)
-        ensures { given_to self.new ≡ given_to self.old }
+        ensures datagrams { given_to self.new ≡ given_to self.old }
+        ensures told { self.new.told ≡ Some (given_to self.old) }
     {
         self.told = Some(self.len());
     }
 
     /// Whether it was reported.
-    pub fn is_told(&self) -> bool {
+    pub fn is_told(&self) -> bool
+        ensures { result ≡ is_some self.now.told }
+    {
         self.told.is_some()
     }
 
     /// The datagrams since it was reported.
-    pub fn untold(&self) -> usize {
+    pub fn untold(&self) -> usize
+        ensures { result ≡ given_to self.now - reported self.now.told }
+    {
         self.len().saturating_sub(self.told.unwrap_or(0))
     }
 
     /// The datagrams of it and beside it.
-    fn len(&self) -> usize {
+    fn len(&self) -> usize
+        ensures { result ≡ given_to self.now }
+    {
         self.events.len().saturating_add(self.asides.len())
     }
 
     /// Whether it is over at a moment: it was silent for its timeouts.
-    pub(crate) fn is_silent(&self, at: Moment) -> bool {
+    pub(crate) fn is_silent(&self, at: Moment) -> bool
+        ensures { result ≡ is_silent at self.now }
+    {
         at.since(self.newest).exceeds(self.silence)
     }
 

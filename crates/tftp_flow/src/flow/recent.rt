@@ -1,0 +1,95 @@
+//! Who has the endpoints of the last datagrams, so that the next ones between them are placed at
+//! once.
+
+use crate::flow::index::Index;
+use crate::flow::seen::is_same;
+use crate::flow::transfer::Transfer;
+use std::alloc::{AllocError, Global};
+use std::net::SocketAddrV4;
+
+/// How many endpoints are remembered at most: 2 to this power.
+const BITS: u32 = 10;
+
+/// Who has an endpoint.
+#[derive(Clone, Copy)]
+pub(crate) enum Owner {
+    /// No client.
+    Nobody,
+    /// A client, whose newest transfer from there has this index.
+    Client(usize),
+}
+
+/// An endpoint and its owner.
+#[derive(Clone, Copy)]
+struct Known {
+    at: SocketAddrV4,
+    owner: Owner,
+}
+
+/// The owners of endpoints, each at the place of its endpoint, where a later one replaces it.
+#[derive(Drop)]
+pub(crate) struct Recent {
+    known: Vec<Option<Known>>,
+}
+
+impl Recent {
+    pub(crate) fn new(alloc: Global) -> Recent {
+        Recent {
+            known: Vec::new(alloc),
+        }
+    }
+
+    /// Remembers owners from now on.
+    pub(crate) fn open(&mut self) -> Result<(), AllocError> {
+        self.known.resize(1 << BITS, None)
+    }
+
+    /// The owner of an endpoint, by what is remembered or else by the index.
+    pub(crate) fn owner_of(
+        &mut self,
+        at: SocketAddrV4,
+        index: &Index,
+        transfers: &[Transfer],
+    ) -> Option<Owner> {
+        let place = place_of(at);
+        if let Some(Some(known)) = self.known.get(place) {
+            if is_same(known.at, at) {
+                return Some(known.owner);
+            }
+        }
+        let owner = match index.of_client(at) {
+            Some(number) => Owner::Client(index_of(transfers, number)?),
+            None => Owner::Nobody,
+        };
+        if let Some(known) = self.known.get_mut(place) {
+            *known = Some(Known { at, owner });
+        }
+        Some(owner)
+    }
+
+    /// Forgets an endpoint, which has another owner now.
+    pub(crate) fn forget(&mut self, at: SocketAddrV4) {
+        if let Some(known) = self.known.get_mut(place_of(at)) {
+            *known = None;
+        }
+    }
+
+    /// Forgets all, since transfers have other indices now.
+    pub(crate) fn forget_all(&mut self) {
+        self.known.fill(None);
+    }
+}
+
+/// The index of the transfer of a number, if it is there. They are in the order of their numbers.
+pub(crate) fn index_of(transfers: &[Transfer], number: u64) -> Option<usize> {
+    transfers
+        .binary_search_by_key(&number, |transfer| transfer.number)
+        .ok()
+}
+
+/// The place of an endpoint: the highest bits of its product with 2^64 over the golden ratio, since
+/// the endpoints of a capture have the same port, or addresses and ports in sequence.
+fn place_of(at: SocketAddrV4) -> usize {
+    let number = u64::from(at.ip().to_bits()) * 0x1_0000 + u64::from(at.port());
+    (number.wrapping_mul(0x9e37_79b9_7f4a_7c15) >> (u64::BITS - BITS)) as usize
+}
