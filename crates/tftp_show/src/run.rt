@@ -12,6 +12,9 @@ use std::io::{self, BufReader, BufWriter, Cursor, ErrorKind, Read, Write};
 use tftp_capture::{Capture, CaptureFault, is_capture};
 use tftp_diagram::svg_text;
 
+/// The bytes that are read at once.
+const AT_ONCE: usize = 65_536;
+
 /// The most letters of a line of a capture beside the digits of a datagram.
 const FIELDS: usize = 128;
 
@@ -165,7 +168,7 @@ fn read_all<R: Read + Drop, W: Write + Drop>(
     task: Task,
     is_frames: bool,
 ) -> Result<Outcome, ShowFault> {
-    let input = BufReader::new(alloc, input)?;
+    let input = BufReader::with_capacity(alloc, AT_ONCE, input)?;
     let output = BufWriter::new(alloc, output)?;
     if is_frames {
         let printer = Printer::new(alloc, output, task, Some(task.port));
