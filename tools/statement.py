@@ -74,8 +74,6 @@ COMMANDS = {
     "SourceMeaning": "the model of a source of bytes, which may say nothing",
     "SinkMeaning": "the model of a sink, which may say nothing",
     "StoreMeaning": "the model of a store, which may say nothing",
-    "TakesOwn": "a client that has no peer makes no step at a DATA, an ACK or an OACK of another server, so that its peer "
-                "is none",
     "moved_in": "what moved in a client's run: the block of each DATA that it sent, or the bytes that its sink was handed",
     "moved_at": "the same of the transfer that a server's run opened at a place",
     "came_if": "the transfer that opened, if this is its place",
@@ -88,6 +86,11 @@ COMMANDS = {
     "Spells": "the bytes are this packet's, whatever the case of the mode's letters",
     "path_of_name": "the path that a name means, without a leading slash; or the fault of the name",
     "IsBlockSize": "a number from 8 to 65,464",
+}
+
+SEVERAL = {
+    "TakesOwn": "a client that has no peer makes no step at a DATA, an ACK or an OACK of another server, so that its peer "
+                "is none",
 }
 
 WORLD = {
@@ -112,7 +115,7 @@ HEADLINES = [
         "The same of several `tftpd` at one address and request port, for each of them and each client that takes its "
         "answer. The other servers and clients are strangers then, so that a port may be used again. It is the clause "
         "`several` of that law.",
-        {}, {}),
+        {}, SEVERAL),
     Headline(
         "A world", "tftp_player", "WorldRuns", "WorldsAreSafe",
         "The same in memory: one server, any clients and a network that loses, repeats and reorders datagrams, after every "

@@ -1,13 +1,15 @@
 -- A client takes no answer of other servers where there are none.
-use Rattle.std.proofs.Common.{ℕ, List, []}
+use Rattle.std.proofs.Common.{ℕ, List, [], sym, subst}
 use Rattle.tftp_file.specs.Sink.{SinkMeaning}
 use Rattle.tftp_file.specs.Source.{SourceMeaning}
 use Rattle.tftp_file.specs.declared.files.Files.{Files}
+use Rattle.tftp_store.specs.Store.{StoreMeaning}
 use Rattle.tftp_client.specs.Converses.{State, HandlesReceived}
 use Rattle.tftp_client.specs.Converses.HandlesReceived.{Answers, Loses}
 use Rattle.tftp_rules.specs.Machine.{Endpoint}
 use Rattle.tftp_promises.specs.ClientRuns.{ClientDoes, ClientRun, Starts, Goes_on, Receives_one, Reads_clock, Waits_until}
 use Rattle.tftp_promises.specs.ClientRuns.{Times_out, File_works, Prints_line}
+use Rattle.tftp_promises.specs.Joined.{ServersAloneAreJoined}
 use Rattle.tftp_promises.specs.Others.{DoesOwn, HandlesOwn, TakesOwn}
 use Rattle.tftp_promises.proofs.KeptEvents.{nothing_in}
 
@@ -30,3 +32,13 @@ module _ {G K : Type 0} {inputs : SourceMeaning G} {outputs : SinkMeaning K} (ip
       (run : ClientRun inputs outputs port first file s files) → TakesOwn ip [] run
   takes_none Starts = tt
   takes_none (Goes_on run does) = (takes_none run, does_none does)
+
+pub alone_joined : {S F D G K : Type 0} (stores : StoreMeaning S D) (sources : SourceMeaning F)
+    (inputs : SourceMeaning G) (outputs : SinkMeaning K) → ServersAloneAreJoined stores sources inputs outputs
+alone_joined stores sources inputs outputs programs order alone is_order honest fresh = record {
+  is_order = is_order;
+  honest = honest;
+  fresh = fresh;
+  own = λ k client found. subst (λ (others : List ℕ). TakesOwn programs.ip others client.runs) (sym alone)
+      (takes_none programs.ip client.runs);
+}

@@ -1,5 +1,5 @@
 -- The ends of programs in an honest network keep the promises of a transfer.
-use Rattle.std.specs.Prelude.{ℕ, ◌≡◌, List, slice_get, Some}
+use Rattle.std.specs.Prelude.{ℕ, ◌≡◌, List, [], slice_get, Some}
 use Rattle.tftp_file.specs.Sink.{SinkMeaning}
 use Rattle.tftp_file.specs.Source.{SourceMeaning}
 use Rattle.tftp_store.specs.Store.{StoreMeaning}
@@ -23,6 +23,15 @@ module _ {S F D G K : Type 0} (stores : StoreMeaning S D) (sources : SourceMeani
     pub own : (k : ℕ) (client : ClientProgram inputs outputs (requests_at programs)) →
         slice_get programs.clients k ≡ Some client →
         TakesOwn programs.ip programs.others client.runs
+
+  -- of a server that is alone at its address no more is asked than the order, the network and the
+  -- ports
+  abbrev pub ServersAloneAreJoined : Type 0
+  ServersAloneAreJoined =
+      (programs : Programs stores sources inputs outputs) (order : List Noted)
+      → programs.others ≡ [] → IsOrder stores sources inputs outputs programs order
+      → IsHonest stores sources inputs outputs programs order → ArePortsFresh programs
+      → AreJoined programs order
 
   -- a server and any number of clients, over files of known content: in the end state of their
   -- journals the ends keep the promises. Other servers at the address are strangers

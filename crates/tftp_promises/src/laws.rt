@@ -8,7 +8,7 @@ ghost use Rattle.tftp_promises.specs.ClientPrograms.{ClientsArePrograms};
 ghost use Rattle.tftp_promises.specs.ClientRuns.{ClientsAreRuns};
 ghost use Rattle.tftp_promises.specs.Hosts.{ClientsAreThere, ServerIsThere, StrangersAreElsewhere};
 ghost use Rattle.tftp_promises.specs.Joined.{ProgramsAreShown, ProgramsKeepAnyFiles};
-ghost use Rattle.tftp_promises.specs.Joined.{ProgramsKeepPromises};
+ghost use Rattle.tftp_promises.specs.Joined.{ProgramsKeepPromises, ServersAloneAreJoined};
 ghost use Rattle.tftp_promises.specs.Joint.{JournalsAreJoint};
 ghost use Rattle.tftp_promises.specs.Journals.{AsksFirst};
 ghost use Rattle.tftp_promises.specs.Lines.{EachLineIsAClose};
@@ -26,11 +26,13 @@ use tftp_store::Store;
 /// receiver handed to its file is a prefix of what its peer's file gave, and all of it,
 /// committed, once it is complete; a sender is complete only after its receiver. Over files with
 /// models the same holds of what these hold, and rules of the guarded machine lead to these ends.
-/// Other servers at the address are strangers (RFC 1350, sections 2, 4 and 6).
+/// Other servers at the address are strangers; of a server that is alone there nothing is asked of
+/// them (RFC 1350, sections 2, 4 and 6).
 pub fn programs_keep_promises<T: Store, G: Source, K: Sink>()
     ensures any_files { ProgramsKeepAnyFiles T.meaning T.Source.meaning G.meaning K.meaning }
     ensures promises { ProgramsKeepPromises T.meaning T.Source.meaning G.meaning K.meaning }
     ensures shown { ProgramsAreShown T.meaning T.Source.meaning G.meaning K.meaning }
+    ensures alone { ServersAloneAreJoined T.meaning T.Source.meaning G.meaning K.meaning }
 {}
 
 /// Each of several servers at one address and each client that takes its answer keep the promises,

@@ -15,7 +15,7 @@ use Rattle.tftp_folder.specs.declared.folder_store.FolderStore.{FolderStore}
 use Rattle.tftp_daemon.specs.Configured.{IsServerOf, ServesWords}
 use Rattle.tftp_daemon.specs.Words.{WordsConfigure}
 use Rattle.tftp_promises.specs.ClientPrograms.{ClientsArePrograms}
-use Rattle.tftp_promises.specs.Joined.{ProgramsKeepAnyFiles}
+use Rattle.tftp_promises.specs.Joined.{ProgramsKeepAnyFiles, ServersAloneAreJoined}
 use Rattle.tftp_promises.specs.Alone.{EachKeepsAnyFiles, OthersHaveNothing}
 use Rattle.tftp_promises.specs.Order.{Programs}
 use Rattle.tftp_promises.specs.Programs.{ClientProgram, ServerProgram, ServersAreRuns, endpoint}
@@ -99,15 +99,15 @@ module _ {R G H F D I K : Type 0} (stores : StoreMeaning (FolderStore R G H) D) 
     (inputs : SourceMeaning I) (outputs : SinkMeaning K) (are_runs : ServersAreRuns stores sources)
     (are_programs : ClientsArePrograms inputs outputs) where
   pub words_keep : ProgramsKeepAnyFiles stores sources inputs outputs →
-      WordsKeepAnyFiles stores sources inputs outputs
-  words_keep keep server port clients bound asks =
+      ServersAloneAreJoined stores sources inputs outputs → WordsKeepAnyFiles stores sources inputs outputs
+  words_keep keep join server port clients bound asks =
       let of_server = server_made are_runs server server.ip refl port bound in
       let of_clients = all_made are_programs (endpoint server.ip port) clients asks in
       let programs : Programs stores sources inputs outputs =
       record { ip = server.ip; port = port; server = of_server.0; others = []; clients = of_clients.0 } in (
         programs,
         record { of_server = of_server.1; of_clients = of_clients.1; alone = refl },
-        λ order joined. keep programs order joined,
+        λ order is_order honest fresh. keep programs order (join programs order refl is_order honest fresh),
       )
 
   pub several_keep : EachKeepsAnyFiles stores sources inputs outputs →

@@ -6,8 +6,8 @@ use Rattle.tftp_store.specs.Store.{StoreMeaning}
 use Rattle.tftp_folder.specs.declared.folder_store.FolderStore.{FolderStore}
 use Rattle.tftp_promises.specs.Alone.{HasNothing, IsPassedOver, IsServed, alone, just_asking}
 use Rattle.tftp_promises.specs.AnyFiles.{KeepAnyFiles}
-use Rattle.tftp_promises.specs.Joined.{AreJoined}
-use Rattle.tftp_promises.specs.Order.{Noted, Programs}
+use Rattle.tftp_promises.specs.Openings.{ArePortsFresh}
+use Rattle.tftp_promises.specs.Order.{IsHonest, IsOrder, Noted, Programs}
 use Rattle.tftp_promises.specs.Programs.{endpoint}
 use Rattle.tftp_promises.specs.Several.{Several, OneServer, OneClient}
 use Rattle.tftp_words.specs.Ran.{AllAsk, AllServe, AreRan, AreSeveralRan, ClientRan, ServerRan}
@@ -22,7 +22,8 @@ WordsKeepAnyFiles stores sources inputs outputs =
     (server : ServerRan stores sources) (port : ℕ) (clients : List (ClientRan inputs outputs))
     → port_of server ≡ Some port → AllAsk (endpoint server.ip port) clients
     → (programs : Programs stores sources inputs outputs) × AreRan server port clients programs
-    × ((order : List Noted) → AreJoined stores sources inputs outputs programs order
+    × ((order : List Noted) → IsOrder stores sources inputs outputs programs order
+    → IsHonest stores sources inputs outputs programs order → ArePortsFresh programs
     → KeepAnyFiles programs)
 
 -- each `tftpd` ran its words at one address, and the request ports were bound to one port; each

@@ -1,4 +1,5 @@
 -- The lemmas that are the law.
+use Rattle.tftp_promises.proofs.OthersTaken.{alone_joined}
 use Rattle.tftp_promises.proofs.ProgramsShown.{programs_keep, programs_keep_any, programs_shown}
 use Rattle.tftp_promises.proofs.laws.programs_keep_promises.Goals as goal
 
@@ -10,3 +11,6 @@ returns-clause-shown g c = programs_shown _ _ _ _
 
 pub returns-clause-any_files : goal.returns-clause-any_files
 returns-clause-any_files g c = programs_keep_any _ _ _ _
+
+pub returns-clause-alone : goal.returns-clause-alone
+returns-clause-alone g c = alone_joined _ _ _ _

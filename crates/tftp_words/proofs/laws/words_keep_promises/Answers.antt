@@ -5,7 +5,7 @@ use Rattle.tftp_words.proofs.laws.words_keep_promises.Goals as goal
 pub returns-clause-one : goal.returns-clause-one
 returns-clause-one g c =
     words_keep _ _ _ _ c.a_server_is_one_run.ensures c.a_client_is_one_run.ensures.programs
-    c.programs_keep_promises.ensures.any_files
+    c.programs_keep_promises.ensures.any_files c.programs_keep_promises.ensures.alone
 
 pub returns-clause-several : goal.returns-clause-several
 returns-clause-several g c =
