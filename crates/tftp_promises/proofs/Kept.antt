@@ -173,10 +173,12 @@ module _ {S F D G K : Type 0} {stores : StoreMeaning S D} {sources : SourceMeani
     pub was : WasStored snapshot.run x.path x.file
     pub stays : programs.server.start.server.config.overwrite ≡ false → IsStored stores snapshot.state x.path x.file
 
-  -- what a transfer has stored; once it is complete that is under its path, unless writes may replace files
+  -- what a transfer has stored; once it is complete that was under its path, and still is unless writes may replace
+  -- files
   pub record StoresKept (snapshot : Snapshot programs) (x : OpenEnd) (draft : D) : Type 0 where
     pub receiver : is_sender x.state.role.side ≡ false
     pub drafted : stores.drafted draft ≡ Some (record { bytes = x.stored; committed = x.committed })
+    pub was : is_complete x.state.position.phase ≡ true → WasStored snapshot.run x.path x.stored
     pub stays : programs.server.start.server.config.overwrite ≡ false → is_complete x.state.position.phase ≡ true →
         IsStored stores snapshot.state x.path x.stored
 

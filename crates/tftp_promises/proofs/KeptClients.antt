@@ -51,7 +51,7 @@ module _ {S F D G K : Type 0} {stores : StoreMeaning S D} {sources : SourceMeani
   stored_still (By_models models) old k stage x (Source source) h =
       record { sender = h.sender; text = h.text; left = h.left; was = h.was; stays = h.stays }
   stored_still (By_models models) old k stage x (Sink draft) h =
-      record { receiver = h.receiver; drafted = h.drafted; stays = h.stays }
+      record { receiver = h.receiver; drafted = h.drafted; was = h.was; stays = h.stays }
   stored_still (By_run pad) old k stage x (Source source) h =
       record { sender = h.sender; opened = opened_still old k stage x h.opened; text = h.text; gave = h.gave }
   stored_still (By_run pad) old k stage x (Sink draft) h =

@@ -264,6 +264,9 @@ module _ {S F D G K : Type 0} {stores : StoreMeaning S D} {sources : SourceMeani
           drafted =
               (if_some programs (stores.stored server.store) (λ stored. stores.drafted o.draft ≡ Some new_draft) known
               drafted).2;
+          was =
+              λ done. absurd (true≢false (sym done ∙ write_begins o.agreed answers.from asked.request.mode
+              server.config.retries));
           stays =
               λ _ done. absurd (true≢false (sym done ∙ write_begins o.agreed answers.from asked.request.mode
               server.config.retries));

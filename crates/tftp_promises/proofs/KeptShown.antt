@@ -167,6 +167,7 @@ module _ {S F D G K : Type 0} {stores : StoreMeaning S D} {sources : SourceMeani
           text = receiver_text x has.receiver;
           committed = λ done. end_kept.committed has.receiver ∙ done;
         };
+        was = λ done. subst (λ (p : List ℕ). WasStored programs.server.run p x.stored) path (has.was done);
         stays =
             λ o done. subst (λ (p : List ℕ). IsStored stores (arrived stores sources programs.server) p x.stored) path
             (has.stays o done);

@@ -29,7 +29,7 @@ use Rattle.tftp_rules.proofs.EndTurns.{timeout_goes}
 use Rattle.tftp_rules.proofs.PhaseMoves.{if_acts}
 use Rattle.tftp_promises.specs.Openings.{moved_at, place_at}
 use Rattle.tftp_promises.specs.Order.{Programs, IsStranger}
-use Rattle.tftp_promises.specs.Ports.{IsStored}
+use Rattle.tftp_promises.specs.Ports.{IsStored, WasStored}
 use Rattle.tftp_promises.specs.Programs.{endpoint}
 use Rattle.tftp_promises.specs.Promises.{joined}
 use Rattle.tftp_promises.specs.Snapshots.{Snapshot, server_did}
@@ -148,6 +148,10 @@ module _ {S F D G K : Type 0} {stores : StoreMeaning S D} {sources : SourceMeani
           receiver = h.receiver;
           drafted =
               h.drafted ∙ ap (λ (z : Holding). Some (record { bytes = z.bytes; committed = z.committed })) (sym n);
+          was = λ c.
+              subst (λ (bs : List ℕ). WasStored now.run x.path bs) (ap (λ (z : Holding). z.bytes) (sym n))
+              (h.was (sym (was.viewed.kept.committed h.receiver)
+              ∙ (ap (λ (z : Holding). z.committed) (sym n) ∙ (done h.receiver ∙ c))));
           stays = λ o c.
               subst (λ (bs : List ℕ). IsStored stores new x.path bs) (ap (λ (z : Holding). z.bytes) (sym n))
               (h.stays o (sym (was.viewed.kept.committed h.receiver)

@@ -138,7 +138,12 @@ module _ {S F D G K : Type 0} {stores : StoreMeaning S D} {sources : SourceMeani
         let stored = some_is (stores.stored store') known' in
         record {
           has =
-              record { receiver = h.receiver; drafted = drafted; stays = λ o c. stay o x.path x.stored (h.stays o c) };
+              record {
+                receiver = h.receiver;
+                drafted = drafted;
+                was = λ c. inr (h.was c);
+                stays = λ o c. stay o x.path x.stored (h.stays o c);
+              };
           known = known_by (stores.stored store') stored.0 refl stored.1;
           stay = stay;
         }

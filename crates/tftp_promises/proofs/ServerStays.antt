@@ -151,7 +151,12 @@ module _ {S F D G K : Type 0} {stores : StoreMeaning S D} {sources : SourceMeani
         stays = λ o. stay o x.path x.file (h.stays o);
       }
   stored_after (By_models models) old does added stay x none (Sink draft) h =
-      record { receiver = h.receiver; drafted = h.drafted; stays = λ o c. stay o x.path x.stored (h.stays o c) }
+      record {
+        receiver = h.receiver;
+        drafted = h.drafted;
+        was = λ c. inr (h.was c);
+        stays = λ o c. stay o x.path x.stored (h.stays o c);
+      }
   stored_after (By_run pad) old does added stay x none (Source source) h =
       record {
         sender = h.sender;

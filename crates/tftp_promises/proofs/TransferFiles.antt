@@ -1,6 +1,6 @@
 -- What is known of the file of a transfer, and of the server's files, before a step of the transfer and after it.
 use Rattle.std.proofs.Common.{◌≡◌, ℕ, Bool, true, false, List, Option, Some, None, refl, sym, ap, ◌∙◌, subst, inl, inr}
-use Rattle.std.specs.Prelude.{if◌then◌else◌, is_some, IsSome, ⊤}
+use Rattle.std.specs.Prelude.{◌⊎◌, if◌then◌else◌, is_some, IsSome, ⊤}
 use Rattle.tftp_file.specs.Sink.{Holding, SinkMeaning}
 use Rattle.tftp_file.specs.Source.{SourceMeaning}
 use Rattle.tftp_file.specs.declared.files.Files.{Files}
@@ -24,7 +24,7 @@ use Rattle.tftp_rules.specs.Shows.{EndView}
 use Rattle.tftp_rules.proofs.KnownSteps.{HaveContentAfter}
 use Rattle.tftp_promises.specs.Modelled.{AreModelled}
 use Rattle.tftp_promises.specs.Order.{Programs}
-use Rattle.tftp_promises.specs.Ports.{IsStored}
+use Rattle.tftp_promises.specs.Ports.{IsStored, WasStored}
 use Rattle.tftp_promises.specs.Promises.{joined}
 use Rattle.tftp_promises.specs.Snapshots.{Snapshot, server_did}
 use Rattle.tftp_promises.proofs.DraftSteps.{are_held, Leaves, HasPut, step_leaves}
@@ -155,6 +155,23 @@ module _ {S F D G K : Type 0} {stores : StoreMeaning S D} {sources : SourceMeani
             subst (λ (bs : List ℕ). IsStored stores new x.path bs) (sym (goes.stored was))
             (stay o x.path x.stored (h.stays o was))
 
+        -- and was there
+        complete_was : Leaves stores d d' before now →
+            Goes (joined programs) first views messages k (armed stored.refuses x) turn (y (Sink now)) →
+            is_complete (y (Sink now)).state.position.phase ≡ true →
+            IsStored stores new x.path now.bytes ⊎ WasStored old.run x.path now.bytes
+        complete_was (inr put) goes c =
+            inl
+            (in_new x.path now.bytes
+            (subst (λ (p : List ℕ). IsIn (stores.stored store') p now.bytes) path_is
+            (put_is_in (stores.stored old.state.server.store) (stores.stored store') path now.bytes put.files put.before
+            put.after)))
+        complete_was (inl u) goes c =
+            let done : now.committed ≡ true = goes.kept.committed h.receiver ∙ c in
+            let was : is_complete x.state.position.phase ≡ true =
+            sym (is_kept.committed h.receiver) ∙ u.committed done in
+            inr (subst (λ (bs : List ℕ). WasStored old.run x.path bs) (sym (goes.stored was)) (h.was was))
+
         sink_after : (from : Endpoint) (bytes : List ℕ) (e : EndState) →
             StepIn stores sources from bytes e (Sink d) turn (Sink d') →
             HaveContentAfter sources (drafting_sink stores) turn (Sink d') (Sink now) →
@@ -167,7 +184,13 @@ module _ {S F D G K : Type 0} {stores : StoreMeaning S D} {sources : SourceMeani
             let m = are_held (stores.stored store') (stores.drafted draft') now known in
             let stay = stay_new (all_stay leaves) in
             record {
-              has = record { receiver = h.receiver; drafted = m.draft_is; stays = complete_stays leaves goes stay };
+              has =
+                  record {
+                    receiver = h.receiver;
+                    drafted = m.draft_is;
+                    was = complete_was leaves goes;
+                    stays = complete_stays leaves goes stay;
+                  };
               known = subst (λ (s : Option Stored). IsSome s) (sym (ap stores.stored store_is ∙ m.store_is)) refl;
               stay = stay;
             }

@@ -59,13 +59,15 @@ module _ {S F D : Type 0} (stores : StoreMeaning S D) (sources : SourceMeaning F
     pub stays : server.start.server.config.overwrite ≡ false →
         IsStored stores (arrived stores sources server) transfer.path file
 
-  -- a transfer has stored this; once it is complete that is under its path, unless writes may
-  -- replace files
+  -- a transfer has stored this; once it is complete that was under its path, and still is unless
+  -- writes may replace files
   pub record KeepsStored {to : Endpoint} (server : ServerProgram stores sources to)
       (transfer : TransferState F D) (draft : D) (view : EndView) : Type 0 where
     pub views : ViewsSink transfer.end
         (holding_of (stores.stored (arrived stores sources server).server.store)
         (stores.drafted draft)) view
+    pub was : is_complete transfer.end.position.phase ≡ true →
+        WasStored server.run transfer.path views.holding.bytes
     pub stays : server.start.server.config.overwrite ≡ false →
         is_complete transfer.end.position.phase ≡ true →
         IsStored stores (arrived stores sources server) transfer.path views.holding.bytes
