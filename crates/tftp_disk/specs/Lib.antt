@@ -1,2 +1,9 @@
+pub mod Calls
+pub mod Changes
+pub mod DiskEventRef
 pub mod DiskFault
+pub mod DiskJournal
+pub mod DiskWriter
 pub mod Folder
+pub mod Found
+pub mod NamedFolder

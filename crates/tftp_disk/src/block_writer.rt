@@ -6,10 +6,10 @@ use tftp_wire::MAX_BLOCK;
 
 /// The bytes in the buffer from which on it is due: so few that the write ends before the peer has
 /// sent its next block.
-const FLUSH_AT: usize = 8_192;
+pub(crate) const FLUSH_AT: usize = 8_192;
 
 /// The capacity of the write buffer, in bytes: before it is due there is space for any block.
-const WRITE_BUFFER: usize = FLUSH_AT + MAX_BLOCK as usize;
+pub(crate) const WRITE_BUFFER: usize = FLUSH_AT + MAX_BLOCK as usize;
 
 /// A file that is written block by block. It buffers what is appended until [`BlockWriter::flush`],
 /// at most 8 KiB and a block.

@@ -7,13 +7,27 @@
 #![tactic(auto)]
 
 mod block_writer;
+mod calls;
 mod disk;
+mod disk_event_ref;
+mod disk_journal;
+mod disk_writer;
 mod error_keeper;
 mod existing;
 mod folder;
+mod found;
+mod named_folder;
 
 pub use block_writer::BlockWriter;
+pub use calls::{
+    DiskFile, DiskFolder, follow, link, look, make, open, open_folder, remove, rename, resolve,
+    try_to_write,
+};
 pub use disk::{check_length, length_on_wire, name_fault, open_fault, write_fault};
+pub use disk_journal::DiskJournal;
+pub use disk_writer::{DiskWriter, write_buffer};
 pub use error_keeper::ErrorKeeper;
 pub use existing::Existing;
 pub use folder::{Folder, folder_of, folder_or_root};
+pub use found::{FileId, Found, Kind};
+pub use named_folder::NamedFolder;

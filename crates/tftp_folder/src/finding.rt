@@ -1,16 +1,15 @@
 //! Finds the files of a folder on the system.
 
 ghost use Rattle.std.specs.Prelude.{◌≡◌, IfErr, IfOk};
-ghost use Rattle.tftp_disk.specs.DiskFault.{MayNotOpen, MayNotStore, MayNotBegin, is_replaced};
+ghost use Rattle.tftp_disk.specs.DiskFault.{MayNotOpen, MayNotStore, MayNotName, is_replaced};
 
-use crate::folder_store::FolderStore;
-use crate::naming::{FileId, NameFault, has_no_link};
-use crate::replacing::{check_replaced, take_permissions};
-use std::alloc::Global;
-use std::fs::{self, Metadata, OpenFile, OpenOptions};
+use crate::naming::{NameFault, has_no_link};
+use crate::replacing::check_replaced;
+use crate::served_folder::ServedFolder;
+use std::alloc::{AllocError, Global};
 use std::io::ErrorKind;
 use std::rt::Files;
-use tftp_disk::{Existing, folder_of, folder_or_root};
+use tftp_disk::{DiskFile, DiskJournal, Existing, FileId, Found, Kind, folder_of, folder_or_root};
 use tftp_file::{Path, StoreFault};
 use tftp_lines::Reason;
 
@@ -27,8 +26,8 @@ pub(crate) struct Location {
     has_link: bool,
     /// The parent folder, if that is not the root.
     folder: Option<FileId>,
-    /// The metadata of the path itself; links are not followed.
-    found: Option<Metadata>,
+    /// What was found at the path itself; links are not followed.
+    found: Option<Found>,
 }
 
 /// A place for a new file, in a folder without links on its path.
@@ -38,20 +37,38 @@ pub(crate) struct Place {
     pub(crate) path: String,
     /// The folder of the path.
     pub(crate) folder: FileId,
-    /// The metadata of the file that is to be replaced, if there is one.
-    pub(crate) replaced: Option<Metadata>,
+    /// What was found of the file that is to be replaced, if there is one.
+    pub(crate) replaced: Option<Found>,
 }
 
-impl<R: Files + Drop> FolderStore<R> {
-    /// Resolves a path from the root, component by component. `Missing` if a parent folder is.
-    fn walk(&self, alloc: Global, path: &Path) -> Result<Location, StoreFault>
+impl<R: Files + Drop> ServedFolder<R> {
+    /// The path of the root, with space for a path of the store below it.
+    pub(crate) fn root_for(&self, alloc: Global, path: &Path) -> Result<String, AllocError> {
+        let root = self.root.as_str();
+        let space = root
+            .len()
+            .saturating_add(1)
+            .saturating_add(path.as_bytes().len());
+        let mut at = String::with_capacity(alloc, space)?;
+        at.push_str(root)?;
+        Ok(at)
+    }
+
+    /// Resolves a path from the root, component by component. `Missing` if a parent folder is. The
+    /// first path is that of the root.
+    fn walk(
+        &self,
+        journal: &mut DiskJournal,
+        path: &Path,
+        root: String,
+    ) -> Result<Location, StoreFault>
         ensures { IfErr result MayNotOpen }
     {
         let Ok(name) = str::from_utf8(path.as_bytes()) else {
             return Err(StoreFault::Missing);
         };
         let mut location = Location {
-            path: String::from_str(alloc, self.root.as_str())?,
+            path: root,
             has_link: false,
             folder: None,
             found: None,
@@ -61,14 +78,14 @@ impl<R: Files + Drop> FolderStore<R> {
             if is_missing {
                 return Err(StoreFault::Missing);
             }
-            if let Some(folder) = &location.found {
-                location.folder = Some(FileId::of(folder));
+            if let Some(folder) = location.found {
+                location.folder = Some(folder.id);
             }
             location.path.push('/')?;
             location.path.push_str(segment)?;
-            match fs::symlink_metadata(&self.files, location.path.as_str()) {
+            match tftp_disk::look(&self.files, journal, location.path.as_str()) {
                 Ok(found) => {
-                    location.has_link |= found.is_symlink();
+                    location.has_link |= found.kind == Kind::Link;
                     location.found = Some(found);
                 }
                 Err(error) if error.kind() == ErrorKind::NotFound => {
@@ -82,11 +99,15 @@ impl<R: Files + Drop> FolderStore<R> {
     }
 
     /// The target of a path with links. `Io` if it is outside the folder.
-    fn follow(&self, alloc: Global, path: &str) -> Result<Location, StoreFault>
+    fn follow(
+        &self,
+        journal: &mut DiskJournal,
+        alloc: Global,
+        path: &str,
+    ) -> Result<Location, StoreFault>
         ensures { IfErr result MayNotOpen }
     {
-        let rt = (&self.files, alloc);
-        let canonical = match fs::canonicalize(&rt, path) {
+        let canonical = match tftp_disk::resolve(&self.files, journal, alloc, path) {
             Ok(canonical) => canonical,
             Err(error) => return Err(self.open_refused(&error)),
         };
@@ -97,7 +118,7 @@ impl<R: Files + Drop> FolderStore<R> {
         if !is_inside {
             return Err(self.refused(Reason::LeadsOut));
         }
-        match fs::symlink_metadata(&self.files, text) {
+        match tftp_disk::look(&self.files, journal, text) {
             Ok(found) => Ok(Location {
                 path: String::from_str(alloc, text)?,
                 has_link: false,
@@ -108,17 +129,19 @@ impl<R: Files + Drop> FolderStore<R> {
         }
     }
 
-    /// Opens the regular file at the path, and returns it with its metadata. A folder is `Missing`,
-    /// and any other file that is not regular is `Io`, as is one that is replaced again and again.
+    /// Opens the regular file at the path, and returns it with what was found of it. A folder is
+    /// `Missing`, and any other file that is not regular is `Io`, as is one that is replaced again
+    /// and again.
     pub(crate) fn open_file(
         &self,
+        journal: &mut DiskJournal,
         alloc: Global,
         path: &Path,
-    ) -> Result<(R::File, Metadata), StoreFault>
+    ) -> Result<(DiskFile<R::File>, Found), StoreFault>
         ensures { IfErr result MayNotOpen }
     {
         for _ in 0..MOST_LOOKS {
-            if let Some(opened) = self.open_found(alloc, path)? {
+            if let Some(opened) = self.open_found(journal, alloc, path)? {
                 return Ok(opened);
             }
         }
@@ -129,67 +152,82 @@ impl<R: Files + Drop> FolderStore<R> {
     /// is checked before the open, because opening a FIFO blocks.
     fn open_found(
         &self,
+        journal: &mut DiskJournal,
         alloc: Global,
         path: &Path,
-    ) -> Result<Option<(R::File, Metadata)>, StoreFault>
+    ) -> Result<Option<(DiskFile<R::File>, Found)>, StoreFault>
         ensures { IfErr result MayNotOpen }
     {
-        let mut location = self.walk(alloc, path)?;
+        let root = self.root_for(alloc, path)?;
+        let mut location = self.walk(journal, path, root)?;
         if location.has_link {
-            location = self.follow(alloc, location.path.as_str())?;
+            location = self.follow(journal, alloc, location.path.as_str())?;
         }
         let Some(found) = location.found else {
             return Err(StoreFault::Missing);
         };
-        if found.is_dir() {
-            return Err(StoreFault::Missing);
+        match found.kind {
+            Kind::Regular => self.open_seen(journal, location.path.as_str(), found.id),
+            Kind::Folder => Err(StoreFault::Missing),
+            Kind::Link | Kind::Special => Err(self.refused(Reason::NotAFile)),
         }
-        if !found.is_file() {
-            return Err(self.refused(Reason::NotAFile));
-        }
-        let file = match fs::open(&self.files, location.path.as_str()) {
+    }
+
+    /// Opens the file that was seen at the path; `None` if that was replaced meanwhile.
+    fn open_seen(
+        &self,
+        journal: &mut DiskJournal,
+        path: &str,
+        seen: FileId,
+    ) -> Result<Option<(DiskFile<R::File>, Found)>, StoreFault>
+        ensures { IfErr result MayNotOpen }
+    {
+        let mut file = match tftp_disk::open(&self.files, journal, path) {
             Ok(file) => file,
             Err(error) => return Err(self.open_refused(&error)),
         };
-        match file.metadata() {
-            Ok(opened) if self.is_still(location.path.as_str(), &found, &opened) => {
-                Ok(Some((file, opened)))
+        match file.examine() {
+            Ok(opened) => {
+                if opened.id.is(seen) && self.is_still(journal, path, seen) {
+                    Ok(Some((file, opened)))
+                } else {
+                    Ok(None)
+                }
             }
-            Ok(_) => Ok(None),
             Err(error) => Err(self.open_refused(&error)),
         }
     }
 
-    /// Whether the opened file is the one that was found at the path, and that still is there,
-    /// below folders alone.
-    fn is_still(&self, path: &str, found: &Metadata, opened: &Metadata) -> bool {
-        FileId::of(opened).is(found)
-            && has_no_link(&self.files, self.root.as_str(), folder_of(path))
-            && self.is_of(path, opened)
+    /// Whether the file still is at the path, below folders alone.
+    fn is_still(&self, journal: &mut DiskJournal, path: &str, id: FileId) -> bool {
+        has_no_link(&self.files, journal, self.root.as_str(), folder_of(path))
+            && self.is_at(journal, path, id)
     }
 
-    /// Whether the path is that of an open file.
-    fn is_of(&self, path: &str, opened: &Metadata) -> bool {
-        match fs::symlink_metadata(&self.files, path) {
-            Ok(found) => FileId::of(opened).is(&found),
+    /// Whether the file is at the path.
+    fn is_at(&self, journal: &mut DiskJournal, path: &str, id: FileId) -> bool {
+        match tftp_disk::look(&self.files, journal, path) {
+            Ok(found) => id.is(found.id),
             Err(_) => false,
         }
     }
 
     /// The place to write a file at. Its path has no link and is on the device of the drafts. A
     /// regular file may be there only if it is to be replaced, and then the server's user may write
-    /// it.
+    /// it. The path of the root has space for the path below it.
     pub(crate) fn place_to_write(
         &self,
-        alloc: Global,
+        journal: &mut DiskJournal,
         path: &Path,
+        root: String,
         existing: Existing,
     ) -> Result<Place, StoreFault>
-        ensures { IfErr result (MayNotBegin (is_replaced existing)) }
+        ensures { IfErr result (MayNotName (is_replaced existing)) }
     {
-        let location = match self.walk(alloc, path) {
+        let location = match self.walk(journal, path, root) {
             Ok(location) => location,
-            Err(StoreFault::Memory) => return Err(StoreFault::Memory),
+            // The path has space: this is the system's memory.
+            Err(StoreFault::Memory) => return Err(StoreFault::Full),
             // A missing folder is not created.
             Err(StoreFault::Missing) => return Err(self.refused(Reason::NoFolder)),
             Err(_) => return Err(StoreFault::Io),
@@ -201,9 +239,9 @@ impl<R: Files + Drop> FolderStore<R> {
             return Err(self.refused(Reason::ThroughLink));
         }
         if let Some(found) = &location.found {
-            self.may_replace(location.path.as_str(), found)?;
+            self.may_replace(journal, location.path.as_str(), found)?;
         }
-        let folder = self.folder_to_write(location.folder)?;
+        let folder = self.folder_to_write(journal, location.folder)?;
         Ok(Place {
             path: location.path,
             folder,
@@ -212,10 +250,15 @@ impl<R: Files + Drop> FolderStore<R> {
     }
 
     /// Refuses to replace what is no regular file, or what the server's user may not write.
-    fn may_replace(&self, path: &str, found: &Metadata) -> Result<(), StoreFault>
+    fn may_replace(
+        &self,
+        journal: &mut DiskJournal,
+        path: &str,
+        found: &Found,
+    ) -> Result<(), StoreFault>
         ensures { IfErr result MayNotStore }
     {
-        match check_replaced(&self.files, path, found) {
+        match check_replaced(&self.files, journal, path, found) {
             Ok(()) => Ok(()),
             Err(NameFault::System(error)) => Err(self.write_refused(&error)),
             Err(NameFault::Rule(reason)) => Err(self.refused(reason)),
@@ -224,14 +267,18 @@ impl<R: Files + Drop> FolderStore<R> {
 
     /// The folder of a new file, which is the root if no other was found. `Io` if the drafts are
     /// not on its device.
-    fn folder_to_write(&self, found: Option<FileId>) -> Result<FileId, StoreFault>
+    fn folder_to_write(
+        &self,
+        journal: &mut DiskJournal,
+        found: Option<FileId>,
+    ) -> Result<FileId, StoreFault>
         ensures { IfErr result MayNotStore }
     {
         let folder = match found {
             Some(folder) => folder,
-            None => self.id_of(folder_or_root(self.root.as_str()))?,
+            None => self.id_of(journal, folder_or_root(self.root.as_str()))?,
         };
-        let drafts = self.id_of(folder_or_root(self.drafts.as_str()))?;
+        let drafts = self.id_of(journal, folder_or_root(self.drafts.as_str()))?;
         if folder.device == drafts.device {
             Ok(folder)
         } else {
@@ -240,38 +287,32 @@ impl<R: Files + Drop> FolderStore<R> {
     }
 
     /// The folder at a path.
-    fn id_of(&self, folder: &str) -> Result<FileId, StoreFault>
+    fn id_of(&self, journal: &mut DiskJournal, folder: &str) -> Result<FileId, StoreFault>
         ensures { IfErr result MayNotStore }
     {
-        match fs::symlink_metadata(&self.files, folder) {
-            Ok(found) => Ok(FileId::of(&found)),
+        match tftp_disk::look(&self.files, journal, folder) {
+            Ok(found) => Ok(found.id),
             Err(error) => Err(self.write_refused(&error)),
         }
     }
 
-    /// Creates the draft file, after removing an old one of that name. It has the permissions of
-    /// the file that it is to replace.
+    /// The path of the draft of the transfer at the port.
+    pub(crate) fn draft_path(&self, alloc: Global, port: u16) -> Result<String, AllocError> {
+        let folder = self.drafts.as_str();
+        format!(in alloc; "{folder}/.tftp-{port}")
+    }
+
+    /// Creates the draft file, after removing an old one of that name.
     pub(crate) fn make_draft(
         &self,
+        journal: &mut DiskJournal,
         draft: &str,
-        replaced: Option<&Metadata>,
-    ) -> Result<R::File, StoreFault>
+    ) -> Result<DiskFile<R::File>, StoreFault>
         ensures { IfErr result MayNotStore }
     {
-        let _ = fs::remove_file(&self.files, draft);
-        let made = OpenOptions::new()
-            .write(true)
-            .create_new(true)
-            .open(&self.files, draft);
-        let file = match made {
-            Ok(file) => file,
-            Err(error) => return Err(self.write_refused(&error)),
-        };
-        let Some(replaced) = replaced else {
-            return Ok(file);
-        };
-        match take_permissions(&file, replaced) {
-            Ok(_) => Ok(file),
+        let _ = tftp_disk::remove(&self.files, journal, draft);
+        match tftp_disk::make(&self.files, journal, draft) {
+            Ok(file) => Ok(file),
             Err(error) => Err(self.write_refused(&error)),
         }
     }

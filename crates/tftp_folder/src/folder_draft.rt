@@ -1,12 +1,11 @@
 //! A file that is being written to a folder.
 
 use crate::finding::Place;
-use crate::naming::FileId;
-use std::alloc::Global;
-use std::fs::{self, OpenFile};
+use crate::replacing::permissions_of;
+use std::fs::OpenFile;
 use std::io::{self, Write};
 use std::rt::Files;
-use tftp_disk::BlockWriter;
+use tftp_disk::{DiskFile, DiskJournal, DiskWriter, FileId, Found};
 
 /// The number of unsynced bytes from which on a draft is to be synced once no transfer waits: so
 /// few that those that come meanwhile do not wait long.
@@ -22,8 +21,8 @@ const MOST_UNSYNCED: u64 = 16 << 20;
 /// that the commit has little left to sync. After a failed write or sync, each append and commit
 /// fails.
 #[derive(Drop)]
-pub struct FolderDraft<F: Write + Drop> {
-    writer: BlockWriter<F>,
+pub struct FolderDraft<F> {
+    writer: DiskWriter<F>,
     /// The port of the transfer.
     pub(crate) port: u16,
     /// The path of the draft.
@@ -38,26 +37,22 @@ pub struct FolderDraft<F: Write + Drop> {
     failure: Option<io::Error>,
 }
 
-impl<F: Write + Drop> FolderDraft<F> {
+impl<F: Write> FolderDraft<F> {
     /// A draft with nothing written.
     pub(crate) fn new(
-        alloc: Global,
-        file: F,
+        writer: DiskWriter<F>,
         port: u16,
         draft: String,
         place: Place,
-    ) -> io::Result<FolderDraft<F>> {
-        match BlockWriter::new(alloc, file) {
-            Ok(writer) => Ok(FolderDraft {
-                writer,
-                port,
-                draft,
-                target: place.path,
-                folder: place.folder,
-                unsynced: 0,
-                failure: None,
-            }),
-            Err(error) => Err(error),
+    ) -> FolderDraft<F> {
+        FolderDraft {
+            writer,
+            port,
+            draft,
+            target: place.path,
+            folder: place.folder,
+            unsynced: 0,
+            failure: None,
         }
     }
 
@@ -89,9 +84,14 @@ impl<F: Write + Drop> FolderDraft<F> {
             Err(error) => Err(self.fail(error)),
         }
     }
+
+    /// The open file.
+    pub(crate) fn file(&self) -> &DiskFile<F> {
+        self.writer.file()
+    }
 }
 
-impl<F: Write + OpenFile + Drop> FolderDraft<F> {
+impl<F: Write + OpenFile> FolderDraft<F> {
     /// Writes the buffered bytes once they are due. It syncs them only if too many are unsynced.
     pub(crate) fn write_behind(&mut self) {
         if self.writer.is_due() && self.flush().is_ok() && self.unsynced >= MOST_UNSYNCED {
@@ -110,7 +110,7 @@ impl<F: Write + OpenFile + Drop> FolderDraft<F> {
         if self.flush().is_err() {
             return;
         }
-        if let Err(error) = self.file().sync_data() {
+        if let Err(error) = self.writer.sync_data() {
             self.failure = Some(error);
         }
     }
@@ -118,21 +118,49 @@ impl<F: Write + OpenFile + Drop> FolderDraft<F> {
     /// Writes and syncs all appended bytes.
     pub(crate) fn finish(&mut self) -> io::Result<()> {
         match self.flush() {
-            Ok(()) => self.file().sync_all(),
+            Ok(()) => self.sync_all(),
             Err(error) => Err(error),
         }
     }
 
-    /// Whether the path is that of the open file.
-    pub(crate) fn is_at<R: Files>(&self, files: &R, path: &str) -> bool {
-        match (self.file().metadata(), fs::symlink_metadata(files, path)) {
-            (Ok(opened), Ok(found)) => FileId::of(&opened).is(&found),
-            _ => false,
+    /// Syncs the file.
+    pub(crate) fn sync_all(&mut self) -> io::Result<()> {
+        match self.writer.sync_all() {
+            Ok(()) => Ok(()),
+            Err(error) => Err(self.fail(error)),
         }
     }
 
-    /// The open file.
-    pub(crate) fn file(&self) -> &F {
-        self.writer.file()
+    /// Gives the file the permissions of another. Returns whether it had others.
+    pub(crate) fn take_permissions(&mut self, replaced: &Found) -> io::Result<bool> {
+        let wanted = permissions_of(replaced);
+        if permissions_of(&self.writer.examine()?) == wanted {
+            return Ok(false);
+        }
+        self.writer.set_mode(wanted)?;
+        Ok(true)
+    }
+
+    /// Whether the path of the draft is that of the open file.
+    pub(crate) fn is_at_draft<R: Files>(&mut self, files: &R, journal: &mut DiskJournal) -> bool {
+        is_at(&mut self.writer, files, journal, self.draft.as_str())
+    }
+
+    /// Whether the path of the file after the commit is that of the open file.
+    pub(crate) fn is_at_target<R: Files>(&mut self, files: &R, journal: &mut DiskJournal) -> bool {
+        is_at(&mut self.writer, files, journal, self.target.as_str())
+    }
+}
+
+/// Whether the path is that of the file.
+fn is_at<R: Files, F: OpenFile>(
+    writer: &mut DiskWriter<F>,
+    files: &R,
+    journal: &mut DiskJournal,
+    path: &str,
+) -> bool {
+    match (writer.examine(), tftp_disk::look(files, journal, path)) {
+        (Ok(opened), Ok(found)) => opened.id.is(found.id),
+        _ => false,
     }
 }

@@ -4,6 +4,7 @@ use std::alloc::{AllocError, Global};
 use std::cell::Cell;
 use std::io::{self, BufReader, Read, Seek, SeekFrom};
 use std::rc::Rc;
+use tftp_disk::{DiskFile, DiskJournal};
 use tftp_file::{Ahead, FileFault, ReadSource, Source};
 use tftp_lines::{Reason, reason_of};
 use tftp_wire::Mode;
@@ -91,13 +92,15 @@ impl<F: Seek + Drop> Seek for NotedFile<F> {
 }
 
 /// The wire text of a file, which is read ahead.
-type FileText<F> = Ahead<ReadSource<BufReader<NotedFile<F>>>>;
+type FileText<F> = Ahead<ReadSource<BufReader<NotedFile<DiskFile<F>>>>>;
 
 /// The source of a file of a [`FolderStore`](crate::FolderStore). Its store gets the reason for a
 /// fill that fails, or that finds fewer bytes than it requests.
 #[derive(Drop)]
 pub struct FolderSource<F: Read + Drop> {
     text: FileText<F>,
+    /// The calls that found the file.
+    found: DiskJournal,
     /// The reason of the file's failure.
     failure: SharedReason,
     /// The reason of the store.
@@ -108,7 +111,8 @@ impl<F: Read + Drop> FolderSource<F> {
     /// The source of an open file whose text has this length. It fails only when out of memory.
     pub(crate) fn new(
         alloc: Global,
-        file: NotedFile<F>,
+        file: NotedFile<DiskFile<F>>,
+        found: DiskJournal,
         mode: Mode,
         length: u64,
         reason: SharedReason,
@@ -118,6 +122,7 @@ impl<F: Read + Drop> FolderSource<F> {
         let reader = BufReader::with_capacity(alloc, room, file)?;
         Ok(FolderSource {
             text: Ahead::new(alloc, ReadSource::new(reader, mode)),
+            found,
             failure,
             reason,
         })

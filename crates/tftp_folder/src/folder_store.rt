@@ -1,25 +1,26 @@
 //! A store over the files in a folder and its subfolders.
 
 ghost use Rattle.std.specs.Prelude.{◌≡◌, ◌≢◌, ℕ, List, true, false, None, Some, Ok, IfOk, IfErr};
-ghost use Rattle.std.specs.Prelude.{IfSome, OnErr};
+ghost use Rattle.std.specs.Prelude.{[], IfSome, OnErr};
 ghost use Rattle.std.specs.String.{string_bytes};
 ghost use Rattle.tftp_file.specs.Path.{path_of_name};
 ghost use Rattle.tftp_disk.specs.DiskFault.{MayNotOpen, MayNotStore, MayNotName, is_replaced};
 ghost use Rattle.tftp_folder.specs.Settings.{SameSettings};
 ghost use Rattle.tftp_folder.specs.Uploads.{IsBelow, path_below};
 
+use crate::beginning::{DraftMemory, begin_draft};
 use crate::folder_draft::FolderDraft;
 use crate::folder_source::{FolderSource, NotedFile, SharedReason};
 use crate::naming::{NameFault, give_name, has_no_link};
+use crate::served_folder::ServedFolder;
 use crate::wire_lengths::WireLengths;
 use std::alloc::Global;
 use std::cell::Cell;
-use std::fs::{self, Metadata};
 use std::io::{self, ErrorKind};
 use std::rt::Files;
-use tftp_disk::{Existing, check_length, name_fault, open_fault, write_fault};
+use tftp_disk::{DiskFile, DiskJournal, Existing, Found, Kind, check_length};
 use tftp_file::{FileFault, MAX_WIRE, Path, PathFault, StoreFault, path_of};
-use tftp_lines::{Reason, reason_of};
+use tftp_lines::Reason;
 use tftp_store::{Opening, ServedStore, Store};
 use tftp_wire::Mode;
 
@@ -38,19 +39,15 @@ const ENOTDIR: i32 = 20;
 /// a file.
 #[derive(Drop)]
 pub struct FolderStore<R: Files + Drop> {
-    pub(crate) files: R,
-    /// The canonical path, without a trailing slash.
-    pub(crate) root: String,
+    folder: ServedFolder<R>,
     /// Every write is refused.
     is_read_only: bool,
     /// The folder below the root that takes all writes, if not every folder does.
     uploads: Option<Path>,
-    /// The path of the folder of the drafts, without a trailing slash.
-    pub(crate) drafts: String,
+    /// The calls on paths for settings and for drafts. Those of an opening are the source's.
+    journal: DiskJournal,
     port: u16,
     lengths: WireLengths,
-    /// The reason for the last refused call, until it is taken.
-    reason: SharedReason,
     /// The port of a transfer whose draft is to be synced.
     unsynced: Cell<Option<u16>>,
     /// Whether the next `write_behind` may sync.
@@ -63,23 +60,27 @@ impl<R: Files + Drop> FolderStore<R> {
     pub fn new(files: R, alloc: Global, root: &str) -> io::Result<FolderStore<R>>
         ensures { IfOk result (λ store. (store.is_read_only ≡ false) × (store.uploads ≡ None)) }
     {
-        let rt = (&files, alloc);
-        let canonical = fs::canonicalize(&rt, root)?;
-        if !fs::metadata(&rt, canonical.as_path())?.is_dir() {
+        let mut journal = DiskJournal::new();
+        let canonical = tftp_disk::resolve(&files, &mut journal, alloc, root)?;
+        let text = canonical.as_path().as_str();
+        if tftp_disk::follow(&files, &mut journal, text)?.kind != Kind::Folder {
             return Err(io::Error::from_raw_os_error(ENOTDIR));
         }
-        let text = canonical.as_path().as_str();
         let root = String::from_str(alloc, text.strip_suffix('/').unwrap_or(text))?;
         let drafts = root.clone()?;
+        let reason = SharedReason::new(alloc)?;
         Ok(FolderStore {
-            files,
-            root,
+            folder: ServedFolder {
+                files,
+                root,
+                drafts,
+                reason,
+            },
             is_read_only: false,
             uploads: None,
-            drafts,
+            journal,
             port: 0,
             lengths: WireLengths::new(alloc)?,
-            reason: SharedReason::new(alloc)?,
             unsynced: Cell::new(None),
             may_sync: Cell::new(false),
         })
@@ -100,107 +101,53 @@ impl<R: Files + Drop> FolderStore<R> {
     pub fn admit_uploads(&mut self, alloc: Global, folder: &str) -> io::Result<()>
         ensures ok { IfOk result (λ _. (path : List ℕ) × (path_of_name folder.now ≡ Ok path)
             × (self.new.uploads ≡ Some path)
-            × (string_bytes self.new.drafts ≡ path_below (string_bytes self.old.root) path)) }
+            × (string_bytes self.new.folder.drafts
+            ≡ path_below (string_bytes self.old.folder.root) path)) }
         ensures rest { self.new ≡ record self.old {
           uploads = self.new.uploads;
-          drafts = self.new.drafts;
+          folder = record self.old.folder { drafts = self.new.folder.drafts };
+          journal = self.new.journal;
         } }
-        ensures err { OnErr result (self.new ≡ self.old) }
+        ensures err { OnErr result (self.new ≡ record self.old {
+          journal = self.new.journal;
+        }) }
     {
         let path = match path_of(alloc, folder.as_bytes()) {
             Ok(path) => path,
             Err(PathFault::Memory) => return Err(io::Error::from(ErrorKind::OutOfMemory)),
             Err(_) => return Err(io::Error::from_raw_os_error(ENOENT)),
         };
-        let drafts = self.folder_below(alloc, path.as_bytes())?;
-        self.drafts = drafts;
-        self.uploads = Some(path);
-        Ok(())
-    }
-
-    /// The path of a folder below the root, which no link leads to.
-    fn folder_below(&self, alloc: Global, name: &[u8]) -> io::Result<String>
-        ensures { IfOk result (λ folder.
-            string_bytes folder ≡ path_below (string_bytes self.now.root) name.now) }
-    {
-        let Ok(name) = str::from_utf8(name) else {
-            return Err(io::Error::from_raw_os_error(ENOENT));
-        };
-        let root = self.root.as_str();
-        let folder = format!(in alloc; "{root}/{name}")?;
-        let is_folder = fs::symlink_metadata(&self.files, folder.as_str())?.is_dir();
-        if is_folder && has_no_link(&self.files, root, folder.as_str()) {
-            Ok(folder)
-        } else {
-            Err(io::Error::from_raw_os_error(ENOTDIR))
+        match folder_below(&self.folder, &mut self.journal, alloc, path.as_bytes()) {
+            Ok(drafts) => {
+                self.folder.drafts = drafts;
+                self.uploads = Some(path);
+                Ok(())
+            }
+            Err(error) => Err(error),
         }
-    }
-
-    /// Keeps the reason for a refusal by a rule of the folder.
-    pub(crate) fn refused(&self, reason: Reason) -> StoreFault
-        ensures { result ≡ StoreFault.Io }
-    {
-        self.reason.set(reason);
-        StoreFault::Io
-    }
-
-    /// Keeps the system's reason, unless the fault is `Missing` or `Exists`.
-    fn keep_reason(&self, fault: StoreFault, reason: Reason) {
-        if fault != StoreFault::Missing && fault != StoreFault::Exists {
-            self.reason.set(reason);
-        }
-    }
-
-    /// The fault of a failed open; keeps the reason.
-    pub(crate) fn open_refused(&self, error: &io::Error) -> StoreFault
-        ensures { MayNotOpen result }
-    {
-        let fault = open_fault(error);
-        self.keep_reason(fault, reason_of(error));
-        fault
-    }
-
-    /// The fault of a failed write; keeps the reason.
-    pub(crate) fn write_refused(&self, error: &io::Error) -> StoreFault
-        ensures stored { MayNotStore result }
-        ensures not_memory { result ≢ StoreFault.Memory }
-    {
-        let fault = write_fault(error);
-        self.keep_reason(fault, reason_of(error));
-        fault
-    }
-
-    /// The fault of a failed rename or link; keeps the reason.
-    fn name_refused(&self, error: &io::Error, existing: Existing) -> StoreFault
-        ensures named { MayNotName (is_replaced existing) result }
-        ensures not_memory { result ≢ StoreFault.Memory }
-    {
-        let fault = name_fault(error, existing);
-        self.keep_reason(fault, reason_of(error));
-        fault
     }
 
     /// The length of an opened file on the wire, or `MAX_WIRE + 1` if it is longer. `Io` if the
     /// file cannot be read, or has a byte though its length is 0.
     fn measure(
         &self,
-        file: &mut NotedFile<R::File>,
-        found: &Metadata,
+        file: &mut NotedFile<DiskFile<R::File>>,
+        found: &Found,
         mode: Mode,
     ) -> Result<u64, StoreFault>
         ensures { IfErr result MayNotOpen }
     {
-        match check_length(file, found.len()) {
+        match check_length(file, found.bytes) {
             Ok(()) => {}
             Err(error) if error.kind() == ErrorKind::InvalidData => {
-                return Err(self.refused(Reason::LengthUnknown));
+                return Err(self.folder.refused(Reason::LengthUnknown));
             }
-            Err(error) => return Err(self.open_refused(&error)),
+            Err(error) => return Err(self.folder.open_refused(&error)),
         }
         match self.lengths.length_of(file, found, mode) {
             Ok(length) => Ok(length.unwrap_or(MAX_WIRE + 1)),
             Err(FileFault::Memory) => Err(StoreFault::Memory),
-            Err(FileFault::Read) => Err(self.refused(file.failure())),
+            Err(FileFault::Read) => Err(self.folder.refused(file.failure())),
         }
     }
 
@@ -212,14 +159,37 @@ impl<R: Files + Drop> FolderStore<R> {
             IsBelow folder path.now)) }
     {
         if self.is_read_only {
-            return Err(self.refused(Reason::ReadOnlyServer));
+            return Err(self.folder.refused(Reason::ReadOnlyServer));
         }
         match &self.uploads {
             Some(folder) if !is_below(folder.as_bytes(), path.as_bytes()) => {
-                Err(self.refused(Reason::NotInUploads))
+                Err(self.folder.refused(Reason::NotInUploads))
             }
             _ => Ok(()),
         }
+    }
+}
+
+/// The path of a folder below the root, which no link leads to.
+fn folder_below<R: Files + Drop>(
+    served: &ServedFolder<R>,
+    journal: &mut DiskJournal,
+    alloc: Global,
+    name: &[u8],
+) -> io::Result<String>
+    ensures { IfOk result (λ folder.
+        string_bytes folder ≡ path_below (string_bytes served.now.root) name.now) }
+{
+    let Ok(name) = str::from_utf8(name) else {
+        return Err(io::Error::from_raw_os_error(ENOENT));
+    };
+    let root = served.root.as_str();
+    let folder = format!(in alloc; "{root}/{name}")?;
+    let is_folder = tftp_disk::look(&served.files, journal, folder.as_str())?.kind == Kind::Folder;
+    if is_folder && has_no_link(&served.files, journal, root, folder.as_str()) {
+        Ok(folder)
+    } else {
+        Err(io::Error::from_raw_os_error(ENOTDIR))
     }
 }
 
@@ -248,7 +218,7 @@ impl<R: Files + Drop> ServedStore<Reason> for FolderStore<R> {
 
     /// `None` if no call was refused, or if the fault was `Missing` or `Exists`.
     fn take_reason(&self) -> Option<Reason> {
-        self.reason.take()
+        self.folder.reason.take()
     }
 
     fn take_unsynced(&self) -> Option<u16> {
@@ -294,12 +264,13 @@ impl<R: Files + Drop> Store for FolderStore<R> {
         path: &Path,
         mode: Mode,
     ) -> Result<Opening<FolderSource<R::File>>, StoreFault> {
-        self.reason.clear();
-        let (file, found) = self.open_file(alloc, path)?;
+        self.folder.reason.clear();
+        let mut journal = DiskJournal::new();
+        let (file, found) = self.folder.open_file(&mut journal, alloc, path)?;
         let mut file = NotedFile::new(alloc, file)?;
         let length = self.measure(&mut file, &found, mode)?;
-        let reason = self.reason.share()?;
-        match FolderSource::new(alloc, file, mode, length, reason) {
+        let reason = self.folder.reason.share()?;
+        match FolderSource::new(alloc, file, journal, mode, length, reason) {
             Ok(source) => Ok(Opening { source, length }),
             Err(_) => Err(StoreFault::Memory),
         }
@@ -321,23 +292,25 @@ impl<R: Files + Drop> Store for FolderStore<R> {
         ensures uploads { IfOk result (λ _. IfSome self.old.uploads (λ folder.
             IsBelow folder path.now)) }
     {
-        self.reason.clear();
+        self.folder.reason.clear();
         self.check_admitted(path)?;
-        let place = self.place_to_write(alloc, path, Existing::of(replace))?;
-        let folder = self.drafts.as_str();
-        let port = self.port;
-        let draft = format!(in alloc; "{folder}/.tftp-{port}")?;
-        let file = self.make_draft(draft.as_str(), place.replaced.as_ref())?;
-        match FolderDraft::new(alloc, file, port, draft, place) {
-            Ok(draft) => Ok(draft),
-            Err(_) => Err(StoreFault::Memory),
-        }
+        // Memory comes first: a call that is out of memory leaves the store unchanged.
+        let memory = DraftMemory::new(&self.folder, alloc, path, self.port)?;
+        let existing = Existing::of(replace);
+        begin_draft(
+            &self.folder,
+            &mut self.journal,
+            path,
+            self.port,
+            memory,
+            existing,
+        )
     }
 
     fn append(&mut self, draft: &mut FolderDraft<R::File>, bytes: &[u8]) -> Result<(), StoreFault> {
         match draft.append(bytes) {
             Ok(()) => Ok(()),
-            Err(error) => Err(self.write_refused(&error)),
+            Err(error) => Err(self.folder.write_refused(&error)),
         }
     }
 
@@ -355,13 +328,19 @@ impl<R: Files + Drop> Store for FolderStore<R> {
         replace: bool,
     ) -> Result<(), StoreFault> {
         if let Err(error) = draft.finish() {
-            return Err(self.write_refused(&error));
+            return Err(self.folder.write_refused(&error));
         }
         let existing = Existing::of(replace);
-        match give_name(&self.files, self.root.as_str(), draft, existing) {
+        match give_name(
+            &self.folder.files,
+            &mut self.journal,
+            self.folder.root.as_str(),
+            draft,
+            existing,
+        ) {
             Ok(()) => Ok(()),
-            Err(NameFault::System(error)) => Err(self.name_refused(&error, existing)),
-            Err(NameFault::Rule(reason)) => Err(self.refused(reason)),
+            Err(NameFault::System(error)) => Err(self.folder.name_refused(&error, existing)),
+            Err(NameFault::Rule(reason)) => Err(self.folder.refused(reason)),
         }
     }
 

@@ -6,12 +6,14 @@
 //! Begin with [`FolderStore`].
 #![tactic(auto)]
 
+mod beginning;
 mod finding;
 mod folder_draft;
 mod folder_source;
 mod folder_store;
 mod naming;
 mod replacing;
+mod served_folder;
 mod wire_lengths;
 
 pub use folder_draft::FolderDraft;

@@ -2,37 +2,13 @@
 
 use crate::folder_draft::FolderDraft;
 use crate::replacing::rename_over;
-use std::fs::{self, Metadata};
 use std::io::{self, ErrorKind};
-use std::os::unix::fs::MetadataExt;
 use std::rt::Files;
-use tftp_disk::{Existing, Folder, folder_of};
+use tftp_disk::{DiskJournal, Existing, FileId, Kind, NamedFolder, folder_of};
 use tftp_lines::Reason;
 
 /// The most folders on a path below the root.
 const MOST_FOLDERS: u32 = 8;
-
-/// A file or a folder of the system, whatever its name.
-#[derive(Clone, Copy)]
-pub(crate) struct FileId {
-    pub(crate) device: u64,
-    inode: u64,
-}
-
-impl FileId {
-    /// The file or the folder with this metadata.
-    pub(crate) fn of(found: &Metadata) -> FileId {
-        FileId {
-            device: found.dev(),
-            inode: found.ino(),
-        }
-    }
-
-    /// Whether this metadata is of the same file.
-    pub(crate) fn is(self, found: &Metadata) -> bool {
-        self.device == found.dev() && self.inode == found.ino()
-    }
-}
 
 /// Why a draft got no name.
 #[derive(Clone, Copy)]
@@ -57,39 +33,41 @@ impl From<io::Error> for NameFault {
 /// is new.
 pub(crate) fn give_name<R: Files>(
     files: &R,
+    journal: &mut DiskJournal,
     root: &str,
-    draft: &FolderDraft<R::File>,
+    draft: &mut FolderDraft<R::File>,
     existing: Existing,
 ) -> Result<(), NameFault> {
-    if !draft.is_at(files, draft.draft.as_str()) {
+    if !draft.is_at_draft(files, journal) {
         return Err(NameFault::Rule(Reason::DraftReplaced));
     }
     let folder = folder_of(draft.target.as_str());
-    if !leads_to(files, root, folder, draft.folder) {
+    if !leads_to(files, journal, root, folder, draft.folder) {
         return Err(NameFault::Rule(Reason::FolderReplaced));
     }
     // The folder is opened first: if that fails, no name is given.
-    let folder = Folder::of(files, draft.target.as_str())?;
-    name_in(files, &folder, root, draft, existing)
+    let folder = NamedFolder::of(files, journal, draft.target.as_str())?;
+    name_in(files, journal, &folder, root, draft, existing)
 }
 
 /// Gives a draft its name, looks at the name again, and syncs the open folder.
 fn name_in<R: Files>(
     files: &R,
-    folder: &Folder<R::File>,
+    journal: &mut DiskJournal,
+    folder: &NamedFolder<R::File>,
     root: &str,
-    draft: &FolderDraft<R::File>,
+    draft: &mut FolderDraft<R::File>,
     existing: Existing,
 ) -> Result<(), NameFault> {
-    put_name(files, draft, existing)?;
-    if let Err(reason) = look_again(files, root, draft, existing) {
+    put_name(files, journal, draft, existing)?;
+    if let Err(reason) = look_again(files, journal, root, draft, existing) {
         return Err(NameFault::Rule(reason));
     }
-    match folder.sync() {
+    match folder.sync(journal) {
         Ok(()) => Ok(()),
         Err(error) => {
             if existing == Existing::Refused {
-                let _ = fs::remove_file(files, draft.target.as_str());
+                let _ = tftp_disk::remove(files, journal, draft.target.as_str());
             }
             Err(NameFault::System(error))
         }
@@ -99,32 +77,36 @@ fn name_in<R: Files>(
 /// Names the file of a draft, by a rename if it may replace one.
 fn put_name<R: Files>(
     files: &R,
-    draft: &FolderDraft<R::File>,
+    journal: &mut DiskJournal,
+    draft: &mut FolderDraft<R::File>,
     existing: Existing,
 ) -> Result<(), NameFault> {
     match existing {
-        Existing::Refused => name_new(files, draft.draft.as_str(), draft.target.as_str())?,
-        Existing::Replaced => rename_over(files, draft)?,
+        Existing::Refused => match name_new(files, journal, draft) {
+            Ok(()) => Ok(()),
+            Err(error) => Err(NameFault::System(error)),
+        },
+        Existing::Replaced => rename_over(files, journal, draft),
     }
-    Ok(())
 }
 
 /// Looks at the name that a draft was given, and removes a wrong one. One that replaced a file
 /// stays, unless it leads out of the root.
 fn look_again<R: Files>(
     files: &R,
+    journal: &mut DiskJournal,
     root: &str,
-    draft: &FolderDraft<R::File>,
+    draft: &mut FolderDraft<R::File>,
     existing: Existing,
 ) -> Result<(), Reason> {
-    let target = draft.target.as_str();
-    let is_in_place = leads_to(files, root, folder_of(target), draft.folder);
-    let is_of_draft = draft.is_at(files, target);
+    let folder = folder_of(draft.target.as_str());
+    let is_in_place = leads_to(files, journal, root, folder, draft.folder);
+    let is_of_draft = draft.is_at_target(files, journal);
     if is_in_place && is_of_draft {
         return Ok(());
     }
     if is_of_draft || (is_in_place && existing == Existing::Refused) {
-        let _ = fs::remove_file(files, target);
+        let _ = tftp_disk::remove(files, journal, draft.target.as_str());
     }
     if is_in_place {
         Err(Reason::DraftReplaced)
@@ -134,21 +116,36 @@ fn look_again<R: Files>(
 }
 
 /// Whether a path leads to this folder, through no link below the root.
-fn leads_to<R: Files>(files: &R, root: &str, folder: &str, id: FileId) -> bool {
-    match fs::symlink_metadata(files, folder) {
-        Ok(found) => found.is_dir() && id.is(&found) && has_no_link(files, root, folder),
+fn leads_to<R: Files>(
+    files: &R,
+    journal: &mut DiskJournal,
+    root: &str,
+    folder: &str,
+    id: FileId,
+) -> bool {
+    match tftp_disk::look(files, journal, folder) {
+        Ok(found) => {
+            found.kind == Kind::Folder
+                && id.is(found.id)
+                && has_no_link(files, journal, root, folder)
+        }
         Err(_) => false,
     }
 }
 
 /// Whether this path and each above it, up to the root, is that of a folder and no link.
-pub(crate) fn has_no_link<R: Files>(files: &R, root: &str, folder: &str) -> bool {
+pub(crate) fn has_no_link<R: Files>(
+    files: &R,
+    journal: &mut DiskJournal,
+    root: &str,
+    folder: &str,
+) -> bool {
     let mut folder = folder;
     for _ in 0..MOST_FOLDERS {
         if folder.len() <= root.len().max(1) {
             return true;
         }
-        if !is_folder(files, folder) {
+        if !is_folder(files, journal, folder) {
             return false;
         }
         folder = folder_of(folder);
@@ -157,31 +154,46 @@ pub(crate) fn has_no_link<R: Files>(files: &R, root: &str, folder: &str) -> bool
 }
 
 /// Whether the path is that of a folder, and no link.
-fn is_folder<R: Files>(files: &R, path: &str) -> bool {
-    match fs::symlink_metadata(files, path) {
-        Ok(found) => found.is_dir(),
+fn is_folder<R: Files>(files: &R, journal: &mut DiskJournal, path: &str) -> bool {
+    match tftp_disk::look(files, journal, path) {
+        Ok(found) => found.kind == Kind::Folder,
         Err(_) => false,
     }
 }
 
 /// Gives a draft a new name. A hard link never replaces a file. If the system refuses the link, the
 /// draft is renamed once no file was found.
-fn name_new<R: Files>(files: &R, draft: &str, target: &str) -> io::Result<()> {
-    match fs::hard_link(files, draft, target) {
+fn name_new<R: Files>(
+    files: &R,
+    journal: &mut DiskJournal,
+    draft: &FolderDraft<R::File>,
+) -> io::Result<()> {
+    let (path, target) = (draft.draft.as_str(), draft.target.as_str());
+    match tftp_disk::link(files, journal, draft.file(), path, target) {
         Ok(()) => {
-            let _ = fs::remove_file(files, draft);
+            let _ = tftp_disk::remove(files, journal, path);
             Ok(())
         }
         Err(error) if error.kind() == ErrorKind::AlreadyExists => Err(error),
-        Err(_) => rename_new(files, draft, target),
+        Err(_) => rename_new(files, journal, draft),
     }
 }
 
 /// Renames a draft if no file has the name.
-fn rename_new<R: Files>(files: &R, draft: &str, target: &str) -> io::Result<()> {
-    match fs::symlink_metadata(files, target) {
+fn rename_new<R: Files>(
+    files: &R,
+    journal: &mut DiskJournal,
+    draft: &FolderDraft<R::File>,
+) -> io::Result<()> {
+    let (path, target) = (draft.draft.as_str(), draft.target.as_str());
+    match tftp_disk::look(files, journal, target) {
         Ok(_) => Err(io::Error::from(ErrorKind::AlreadyExists)),
-        Err(error) if error.kind() == ErrorKind::NotFound => fs::rename(files, draft, target),
-        Err(error) => Err(error),
+        Err(error) => {
+            if error.kind() == ErrorKind::NotFound {
+                tftp_disk::rename(files, journal, draft.file(), path, target)
+            } else {
+                Err(error)
+            }
+        }
     }
 }

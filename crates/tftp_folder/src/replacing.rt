@@ -2,40 +2,35 @@
 
 use crate::folder_draft::FolderDraft;
 use crate::naming::NameFault;
-use std::fs::{self, Metadata, OpenFile, OpenOptions, Permissions};
-use std::io::{self, ErrorKind};
-use std::os::unix::fs::{MetadataExt, PermissionsExt};
+use std::io::ErrorKind;
 use std::rt::Files;
+use tftp_disk::{DiskJournal, Found, Kind};
 use tftp_lines::Reason;
 
 /// The bits of a file's mode that say who may read, write and run it.
 const PERMISSIONS: u32 = 0o777;
 
-/// Refuses to replace what is no regular file, or what the server's user may not write. `found` is
-/// the metadata of the path itself.
-pub(crate) fn check_replaced<R: Files>(
-    files: &R,
-    path: &str,
-    found: &Metadata,
-) -> Result<(), NameFault> {
-    if found.is_symlink() {
-        return Err(NameFault::Rule(Reason::ThroughLink));
-    }
-    if !found.is_file() {
-        return Err(NameFault::Rule(Reason::NotAFile));
-    }
-    OpenOptions::new().write(true).open(files, path)?;
-    Ok(())
+/// The bits of the permissions in a file's mode.
+pub(crate) fn permissions_of(found: &Found) -> u32 {
+    found.mode & PERMISSIONS
 }
 
-/// Gives a file the permissions of another. Returns whether it had others.
-pub(crate) fn take_permissions<F: OpenFile>(file: &F, replaced: &Metadata) -> io::Result<bool> {
-    let wanted = replaced.mode() & PERMISSIONS;
-    if file.metadata()?.mode() & PERMISSIONS == wanted {
-        return Ok(false);
+/// Refuses to replace what is no regular file, or what the server's user may not write. `found` is
+/// what was found at the path itself.
+pub(crate) fn check_replaced<R: Files>(
+    files: &R,
+    journal: &mut DiskJournal,
+    path: &str,
+    found: &Found,
+) -> Result<(), NameFault> {
+    match found.kind {
+        Kind::Regular => match tftp_disk::try_to_write(files, journal, path) {
+            Ok(()) => Ok(()),
+            Err(error) => Err(NameFault::System(error)),
+        },
+        Kind::Link => Err(NameFault::Rule(Reason::ThroughLink)),
+        Kind::Folder | Kind::Special => Err(NameFault::Rule(Reason::NotAFile)),
     }
-    file.set_permissions(Permissions::from_mode(wanted))?;
-    Ok(true)
 }
 
 /// Renames a draft over the file that has its name by now, if there is one. That is looked at once
@@ -43,19 +38,25 @@ pub(crate) fn take_permissions<F: OpenFile>(file: &F, replaced: &Metadata) -> io
 /// gets its permissions.
 pub(crate) fn rename_over<R: Files>(
     files: &R,
-    draft: &FolderDraft<R::File>,
+    journal: &mut DiskJournal,
+    draft: &mut FolderDraft<R::File>,
 ) -> Result<(), NameFault> {
-    let target = draft.target.as_str();
-    match fs::symlink_metadata(files, target) {
+    match tftp_disk::look(files, journal, draft.target.as_str()) {
         Ok(found) => {
-            check_replaced(files, target, &found)?;
-            if take_permissions(draft.file(), &found)? {
-                draft.file().sync_all()?;
+            check_replaced(files, journal, draft.target.as_str(), &found)?;
+            if draft.take_permissions(&found)? {
+                draft.sync_all()?;
             }
         }
-        Err(error) if error.kind() == ErrorKind::NotFound => {}
-        Err(error) => return Err(NameFault::System(error)),
+        Err(error) => {
+            if error.kind() != ErrorKind::NotFound {
+                return Err(NameFault::System(error));
+            }
+        }
     }
-    fs::rename(files, draft.draft.as_str(), target)?;
-    Ok(())
+    let (path, target) = (draft.draft.as_str(), draft.target.as_str());
+    match tftp_disk::rename(files, journal, draft.file(), path, target) {
+        Ok(()) => Ok(()),
+        Err(error) => Err(NameFault::System(error)),
+    }
 }

@@ -3,11 +3,9 @@
 use lru::LruCache;
 use std::alloc::{AllocError, Global};
 use std::cell::RefCell;
-use std::fs::Metadata;
 use std::io::{Read, Seek};
 use std::num::NonZeroUsize;
-use std::os::unix::fs::MetadataExt;
-use tftp_disk::length_on_wire;
+use tftp_disk::{FileId, Found, length_on_wire};
 use tftp_file::{FileFault, MAX_WIRE};
 use tftp_wire::Mode;
 
@@ -17,22 +15,20 @@ const MOST_LENGTHS: usize = 1_024;
 /// Identifies the contents of a file: another file, or a changed one, has another value.
 #[derive(Clone, Copy, PartialEq, Eq, Hash)]
 struct Contents {
-    device: u64,
-    inode: u64,
+    id: FileId,
     bytes: u64,
     changed: i64,
     changed_nanos: i64,
 }
 
 impl Contents {
-    /// The contents of the file with this metadata.
-    fn of(file: &Metadata) -> Contents {
+    /// The contents of the file of which this was found.
+    fn of(found: &Found) -> Contents {
         Contents {
-            device: file.dev(),
-            inode: file.ino(),
-            bytes: file.len(),
-            changed: file.ctime(),
-            changed_nanos: file.ctime_nsec(),
+            id: found.id,
+            bytes: found.bytes,
+            changed: found.changed,
+            changed_nanos: found.changed_nanos,
         }
     }
 }
@@ -68,17 +64,17 @@ impl WireLengths {
     pub(crate) fn length_of<F: Read + Seek>(
         &self,
         file: &mut F,
-        found: &Metadata,
+        found: &Found,
         mode: Mode,
     ) -> Result<Option<u64>, FileFault> {
-        if mode == Mode::Octet || found.len() > self.longest {
-            return length_on_wire(file, mode, found.len(), self.longest);
+        if mode == Mode::Octet || found.bytes > self.longest {
+            return length_on_wire(file, mode, found.bytes, self.longest);
         }
         let contents = Contents::of(found);
         if let Some(length) = self.recall(contents) {
             return Ok(length);
         }
-        let length = length_on_wire(file, mode, found.len(), MAX_WIRE)?;
+        let length = length_on_wire(file, mode, found.bytes, MAX_WIRE)?;
         self.remember(contents, length);
         Ok(length)
     }

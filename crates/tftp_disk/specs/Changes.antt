@@ -1,0 +1,26 @@
+-- The calls of a disk journal that change something of the disk (ours).
+use Rattle.std.specs.Prelude.{ℕ, ◌≡◌, ◌⊎◌, ⊤, List, [], ◌∷◌, Option, Some, None, Ok, Err}
+use Rattle.std.specs.IoError.{error_kind}
+use Rattle.std.specs.declared.io.Error.{Error}
+use Rattle.std.specs.declared.io.ErrorKind.TheVariants as kinds
+use Rattle.tftp_disk.specs.DiskJournal.{DiskEvent, Done}
+use Rattle.tftp_disk.specs.DiskJournal.DiskEvent.{Made, Linked, Renamed, Removed}
+use Rattle.tftp_disk.specs.DiskJournal.DiskEvent.{Folder_opened, Folder_synced}
+
+-- the calls that make, name or remove a file, and those that open and sync a folder, whatever their
+-- answer; all others only look, open a file and read
+abbrev pub changes : List DiskEvent → List DiskEvent
+changes [] = []
+changes (Made path answer ∷ events) = Made path answer ∷ changes events
+changes (Linked file from to answer ∷ events) = Linked file from to answer ∷ changes events
+changes (Renamed file from to answer ∷ events) = Renamed file from to answer ∷ changes events
+changes (Removed path answer ∷ events) = Removed path answer ∷ changes events
+changes (Folder_opened path answer ∷ events) = Folder_opened path answer ∷ changes events
+changes (Folder_synced path answer ∷ events) = Folder_synced path answer ∷ changes events
+changes (event ∷ events) = changes events
+
+-- a folder was synced, or its file system syncs none
+abbrev pub IsSynced : Done → Type 0
+IsSynced (Ok done) = ⊤
+IsSynced (Err error) =
+    (error_kind error ≡ kinds.InvalidInput) ⊎ (error_kind error ≡ kinds.Unsupported)

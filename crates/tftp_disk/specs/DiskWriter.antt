@@ -1,0 +1,17 @@
+-- What a writer of a file was handed, and what its writes leave (ours).
+use Rattle.std.specs.Prelude.{ℕ, ◌≡◌, List, ◌++◌}
+use Rattle.tftp_disk.specs.DiskJournal.{DiskEvent, made_at, written, sync_failed}
+use Rattle.tftp_disk.specs.declared.disk_writer.DiskWriter.{DiskWriter}
+
+-- the calls that a file has seen
+abbrev pub calls_of : {F : Type 0} → DiskWriter F → List DiskEvent
+calls_of writer = writer.file.journal.events
+
+-- the bytes that a writer was handed: those in the file, and then those in its buffer
+abbrev pub handed : {F : Type 0} → DiskWriter F → List ℕ
+handed writer = written (calls_of writer) ++ writer.buffer.items
+
+-- calls on a file that made it nowhere else, and of which no sync failed
+pub record NoSyncs (before after : List DiskEvent) : Type 0 where
+  pub same_place : made_at after ≡ made_at before
+  pub same_syncs : sync_failed after ≡ sync_failed before

@@ -1,0 +1,42 @@
+-- The folder in which a file gets its name (ours).
+use Rattle.std.specs.Prelude.{ℕ, ◌≡◌, List, ◌∷◌, Option, Some, None, Ok, Err}
+use Rattle.std.specs.IoError.{error_kind}
+use Rattle.std.specs.declared.io.Error.{Error}
+use Rattle.std.specs.declared.io.ErrorKind.TheVariants as kinds
+use Rattle.tftp_disk.specs.Changes.{IsSynced}
+use Rattle.tftp_disk.specs.DiskJournal.{DiskEvent, Done, folder_at}
+use Rattle.tftp_disk.specs.DiskJournal.DiskEvent.{Folder_opened, Folder_synced}
+use Rattle.tftp_disk.specs.Folder.{IsFolderOf}
+use Rattle.tftp_disk.specs.declared.calls.DiskFolder.{DiskFolder}
+
+-- the folder of the path was opened, or may not be
+abbrev pub OpensFolder : {F : Type 0} → List ℕ → Option (DiskFolder F) → List DiskEvent
+    → List DiskEvent → Type 0
+OpensFolder path (Some folder) before after =
+    (at : List ℕ) × IsFolderOf path at × (folder_at folder.journal.events ≡ Some at)
+    × (after ≡ Folder_opened at (Ok tt) ∷ before)
+OpensFolder path None before after =
+    (at : List ℕ) × (refusal : Error) × IsFolderOf path at
+    × (error_kind refusal ≡ kinds.PermissionDenied)
+    × (after ≡ Folder_opened at (Err refusal) ∷ before)
+
+-- the folder was not opened
+abbrev pub OpensNoFolder : List ℕ → List DiskEvent → List DiskEvent → Type 0
+OpensNoFolder path before after =
+    (at : List ℕ) × (refusal : Error) × IsFolderOf path at
+    × (after ≡ Folder_opened at (Err refusal) ∷ before)
+
+-- the folder was synced, unless its file system syncs none or it may not be opened
+abbrev pub SyncsFolder : {F : Type 0} → Option (DiskFolder F) → List DiskEvent → List DiskEvent
+    → Type 0
+SyncsFolder (Some folder) before after =
+    (answer : Done) × IsSynced answer
+    × (after ≡ Folder_synced (folder_at folder.journal.events) answer ∷ before)
+SyncsFolder None before after = after ≡ before
+
+-- the folder could not be synced
+abbrev pub SyncsNoFolder : {F : Type 0} → Option (DiskFolder F) → List DiskEvent → Error
+    → List DiskEvent → Type 0
+SyncsNoFolder (Some folder) before error after =
+    after ≡ Folder_synced (folder_at folder.journal.events) (Err error) ∷ before
+SyncsNoFolder None before error after = ⊥

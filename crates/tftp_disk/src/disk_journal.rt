@@ -1,0 +1,38 @@
+//! What a program asked of the disk, and what it was answered. Only clauses read it: it uses no
+//! memory, and a note does nothing.
+
+ghost use Rattle.std.specs.Prelude.{◌≡◌, List, [], ◌∷◌};
+ghost use Rattle.std.specs.Borrow.{ftrue};
+ghost use Rattle.tftp_disk.specs.DiskJournal.{DiskEvent};
+
+use crate::disk_event_ref::DiskEventRef;
+use std::marker::{Model, PhantomData};
+
+/// What a program asked of the disk, the newest event first: of paths, or of one open file.
+#[derive(Drop)]
+pub struct DiskJournal {
+    marker: PhantomData<u8>,
+    pub ghost events: { List DiskEvent },
+}
+
+impl Model for DiskJournal {
+    ghost also_owns = { λ _. ftrue };
+}
+
+impl DiskJournal {
+    ghost use Rattle.tftp_disk.specs.DiskEventRef.{event_of};
+
+    /// A journal without an event.
+    pub fn new() -> DiskJournal
+        ensures { result.events ≡ [] }
+    {
+        DiskJournal {
+            marker: PhantomData,
+        }
+    }
+
+    /// Notes an event.
+    pub(crate) fn note(&mut self, _event: &DiskEventRef<'_>)
+        ensures { self.new.events ≡ event_of _event.now ∷ self.old.events }
+    {}
+}

@@ -1,0 +1,85 @@
+//! What the system says of a file.
+
+ghost use Rattle.std.specs.Prelude.{◌≡◌, ◌↔◌, ◌==◌, ◌&&◌, IsTrue};
+ghost use Rattle.tftp_disk.specs.Found.{is_same_file};
+
+use std::fs::Metadata;
+use std::os::unix::fs::MetadataExt;
+
+/// A file or a folder of the system, whatever its name.
+#[derive(Clone, Copy, Debug, PartialEq, Eq, Hash)]
+pub struct FileId {
+    /// The device of its file system.
+    pub device: u64,
+    /// Its number there.
+    pub inode: u64,
+}
+
+impl FileId {
+    /// Whether the other is the same file.
+    pub fn is(self, other: FileId) -> bool
+        ensures { result ≡ is_same_file self other }
+    {
+        self.device == other.device && self.inode == other.inode
+    }
+}
+
+/// The kind of a file.
+#[derive(Clone, Copy, Debug, PartialEq, Eq)]
+pub enum Kind {
+    /// A regular file.
+    Regular,
+    /// A folder.
+    Folder,
+    /// A symbolic link.
+    Link,
+    /// A device, a FIFO or a socket.
+    Special,
+}
+
+/// What the system says of a file.
+#[derive(Clone, Copy, Debug)]
+pub struct Found {
+    /// Its kind.
+    pub kind: Kind,
+    /// Which file it is.
+    pub id: FileId,
+    /// Its length in bytes.
+    pub bytes: u64,
+    /// Its mode: its kind and its permissions.
+    pub mode: u32,
+    /// The seconds of the time of its last change.
+    pub changed: i64,
+    /// The nanoseconds of that time.
+    pub changed_nanos: i64,
+}
+
+impl Found {
+    /// What the system says of a file, as std returns it.
+    pub(crate) fn of(metadata: &Metadata) -> Found {
+        Found {
+            kind: kind_of(metadata),
+            id: FileId {
+                device: metadata.dev(),
+                inode: metadata.ino(),
+            },
+            bytes: metadata.len(),
+            mode: metadata.mode(),
+            changed: metadata.ctime(),
+            changed_nanos: metadata.ctime_nsec(),
+        }
+    }
+}
+
+/// The kind of the file with this metadata.
+fn kind_of(metadata: &Metadata) -> Kind {
+    if metadata.is_file() {
+        Kind::Regular
+    } else if metadata.is_dir() {
+        Kind::Folder
+    } else if metadata.is_symlink() {
+        Kind::Link
+    } else {
+        Kind::Special
+    }
+}
