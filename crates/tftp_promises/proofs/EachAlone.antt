@@ -109,7 +109,8 @@ sent_in (e ∷ events) port to bytes c = elim (first_or_more e (Sent port to byt
   after (Quiet event) i = i
 
 module _ {S F D : Type 0} {stores : StoreMeaning S D} {sources : SourceMeaning F} {to : Endpoint} where
-  in_all : (servers : List (ServerProgram stores sources to)) (j : ℕ) (x : ServerProgram stores sources to) → slice_get servers j ≡ Some x → (port : ℕ) →
+  in_all : (servers : List (ServerProgram stores sources to)) (j : ℕ) (x : ServerProgram stores sources to) →
+      slice_get servers j ≡ Some x → (port : ℕ) →
       Contains (sent_from x.noted) port → Contains (all_sent_from servers) port
   in_all [] j x e port c = absurd (let f : None ≡ Some x = e in cc)
   in_all (y ∷ servers) zero x e port c =
@@ -118,7 +119,8 @@ module _ {S F D : Type 0} {stores : StoreMeaning S D} {sources : SourceMeaning F
   in_all (y ∷ servers) (suc j) x e port c =
       Contains-append_right (sent_from y.noted) (all_sent_from servers) port (in_all servers j x e port c)
 
-  in_others : (i : ℕ) (servers : List (ServerProgram stores sources to)) (j : ℕ) (x : ServerProgram stores sources to) → slice_get servers j ≡ Some x → j ≢ i →
+  in_others : (i : ℕ) (servers : List (ServerProgram stores sources to)) (j : ℕ)
+      (x : ServerProgram stores sources to) → slice_get servers j ≡ Some x → j ≢ i →
       (port : ℕ) → Contains (sent_from x.noted) port → Contains (others_sent_from i servers) port
   in_others i [] j x e n port c = absurd (let f : None ≡ Some x = e in cc)
   in_others zero (y ∷ servers) zero x e n port c = absurd (n refl)
@@ -318,7 +320,11 @@ module _ {S F D G K : Type 0} {stores : StoreMeaning S D} {sources : SourceMeani
               inl (record {
                 program = 1;
                 port = port;
-                is_at = (client.ip, refl, at.2 ∙ ap (λ (a : List ℕ). endpoint a port) (ip ∙ ap (λ (z : Client). z.ip) y_is));
+                is_at = (
+                  client.ip,
+                  refl,
+                  at.2 ∙ ap (λ (a : List ℕ). endpoint a port) (ip ∙ ap (λ (z : Client). z.ip) y_is),
+                );
                 sent = heard_client i m two_numbers earlier (Sent port to bytes)
                     (subst (λ (q : ℕ). Contains earlier (number_of several q, Sent port to bytes)) same sent);
               })
@@ -402,8 +408,10 @@ module _ {S F D G K : Type 0} {stores : StoreMeaning S D} {sources : SourceMeani
       client_ip several.ip (λ (z : Client). z.ip) several.clients several.servers e.0 k client number found in
       let noted : Contains client.noted e.1 =
       subst (λ (es : List Event). Contains es e.1) (among.is_order.clients k client found) (noted_in m e.1 all
-      (subst (λ (q : ℕ). Contains all (q, e.1)) number (within (e.0, e.1) (first_in e earlier)))) in
-      (comes e.0 1 client.ip here refl e.1 (for_client e.1 noted) earlier (λ x c. within x (later_in e earlier x c)) h, rest)
+      (subst (λ (q : ℕ). Contains all (q, e.1)) number (within (e.0, e.1) (first_in e earlier)))) in (
+        comes e.0 1 client.ip here refl e.1 (for_client e.1 noted) earlier (λ x c. within x (later_in e earlier x c)) h,
+        rest,
+      )
   honest_by false false e earlier within is at h rest = rest
 
   honest_heard : (earlier : List Noted) → ((x : Noted) → Contains earlier x → Contains all x) →

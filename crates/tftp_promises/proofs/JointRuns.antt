@@ -64,7 +64,8 @@ module _ {S F D G K : Type 0} {stores : StoreMeaning S D} {sources : SourceMeani
   data ClientFits (client : Client) (seen : List Event) : ClientStage G K → Type 0 where
     Not_yet : seen ≡ [] → ClientFits client seen Unasked
     Conversed_so : {s : State} {files : Files G K} {noted : List Event} (run : Conversed client s files) →
-        TakesOwn programs.ip programs.others run → s.events ≡ noted ++ client.before → (waits : List Event) → AllByRecursion IsQuiet waits →
+        TakesOwn programs.ip programs.others run → s.events ≡ noted ++ client.before → (waits : List Event) →
+        AllByRecursion IsQuiet waits →
         waits ++ noted ≡ seen →
         ClientFits client seen (Has_asked s files noted (moved_in run))
     Conversing : {s s' : State} {files files' : Files G K} {noted : List Event} (old_noted : List Event)
@@ -286,7 +287,8 @@ module _ {S F D G K : Type 0} {stores : StoreMeaning S D} {sources : SourceMeani
     client_goes : {s s' : State} {files files' : Files G K} (noted : List Event) (moved : Moved) →
         Joint programs (At (Has_asked s files noted moved)) →
         (does : ClientDoes inputs outputs client.port s files s' files') → DoesOwn programs.ip programs.others does →
-        (added : List Event) → s'.events ≡ added ++ s.events → CanTake programs (At (Has_asked s files noted moved)) client.ip added →
+        (added : List Event) → s'.events ≡ added ++ s.events →
+        CanTake programs (At (Has_asked s files noted moved)) client.ip added →
         Joint programs (At (Has_asked s' files' (added ++ noted) (client_moves does moved)))
     client_goes {s = s} {s' = s'} {files = files} {files' = files'} noted moved joint does so added is takes =
         subst (λ (stages : List (ClientStage G K)). Joint programs (With stages))

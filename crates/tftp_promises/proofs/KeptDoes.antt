@@ -287,8 +287,8 @@ module _ {S F D G K : Type 0} {stores : StoreMeaning S D} {sources : SourceMeani
       (Has_asked s' files' (added ++ noted) (client_moves does moved)))
   does_keeps s' files' added (Receives_one {from = from} {bytes = bytes} {time = time} may later handled) takes_own now
       events take =
-      handles from bytes time s' files' added handled takes_own (told_now programs old kept fresh k client found s files noted
-      moved is_stage s' files' (added ++ noted) (handling_moves handled moved) now) events take
+      handles from bytes time s' files' added handled takes_own (told_now programs old kept fresh k client found s files
+      noted moved is_stage s' files' (added ++ noted) (handling_moves handled moved) now) events take
   does_keeps s' files' added (Reads_clock progress {time} later) takes_own now events take =
       reads programs old kept fresh k client found s files noted moved is_stage progress time added events
   does_keeps s' files' added (Waits_until {event = event} {time = time} may which later) takes_own now events take =

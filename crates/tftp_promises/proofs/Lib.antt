@@ -51,6 +51,7 @@ pub mod KeptRuns
 pub mod ProgramsShown
 pub mod EachAlone
 pub mod PassedOver
+pub mod TakesOne
 pub mod ClosedEnds
 pub mod TurnsAtPort
 pub mod TransferFiles

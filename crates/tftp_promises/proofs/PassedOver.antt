@@ -160,7 +160,8 @@ module _ {S F D G K : Type 0} {stores : StoreMeaning S D} {sources : SourceMeani
   order_is = order_both several all i server k client at_i found over.among
 
   -- ---- the ports
-  ours_by_same : {old new : LoopState S F D} (does : Does stores sources old new) → ours_by both does ≡ ours_by less does
+  ours_by_same : {old new : LoopState S F D} (does : Does stores sources old new) →
+      ours_by both does ≡ ours_by less does
   ours_by_same (Waited h) = refl
   ours_by_same (At_port serves) = refl
   ours_by_same (Request_received h) = refl

@@ -48,7 +48,7 @@ module _ {S F D G K : Type 0} {stores : StoreMeaning S D} {sources : SourceMeani
   WasSentBefore snapshot from to bytes =
       ServerHasSent snapshot from to bytes ⊎ ClientHasSent snapshot from to bytes
 
-  -- what a program at this address receives in these events was sent there, or may come all the same
+  -- what a program at this address receives in these events was sent there, or may come anyhow
   abbrev pub CanTake : Snapshot programs → List ℕ → List Event → Type 0
   CanTake snapshot ip added =
       (port : ℕ) (from : Endpoint) (bytes : List ℕ) → Contains added (Received port from bytes)

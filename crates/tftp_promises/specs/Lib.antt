@@ -1,7 +1,7 @@
 pub mod Moved
 pub mod ClientRuns
-pub mod Others
 pub mod Programs
+pub mod Others
 pub mod ClientPrograms
 pub mod Order
 pub mod Ports

@@ -13,6 +13,7 @@ use Rattle.tftp_rules.specs.EndKept.{IsAnswer}
 use Rattle.tftp_rules.specs.Machine.{Endpoint}
 use Rattle.tftp_rules.specs.OpenEnds.{peer_of}
 use Rattle.tftp_promises.specs.ClientRuns.{ClientDoes, Receives_one, ClientRun, Starts, Goes_on}
+use Rattle.tftp_promises.specs.Programs.{ClientProgram}
 
 -- a DATA, an ACK or an OACK of another server, at one of these ports of the address
 pub record IsOtherAnswer (ip others : List ℕ) (from : Endpoint) (bytes : List ℕ) : Type 0 where
@@ -42,3 +43,10 @@ module _ {G K : Type 0} {inputs : SourceMeaning G} {outputs : SinkMeaning K}
       {files : Files G K} → ClientRun inputs outputs port first file s files → Type 0
   TakesOwn Starts = Unit {0}
   TakesOwn (Goes_on run does) = TakesOwn run × DoesOwn does
+
+-- a client takes the answers of one port only: it makes no step at those of servers at other ports
+abbrev pub ClientsTakeOne : {G K : Type 0} → SourceMeaning G → SinkMeaning K → Type 0
+ClientsTakeOne inputs outputs =
+    (to : Endpoint) (client : ClientProgram inputs outputs to)
+    → (port : ℕ) × ((others : List ℕ) → (Contains others port → ⊥)
+    → TakesOwn to.ip others client.runs)

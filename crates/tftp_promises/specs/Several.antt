@@ -90,8 +90,8 @@ module _ {S F D G K : Type 0} {stores : StoreMeaning S D} {sources : SourceMeani
         events_of (number_of k) order ≡ client.noted
 
   -- an honest network: what a program receives was sent to its endpoint before, by any of the
-  -- programs, or is a stranger's, of another program at another address than theirs, or an ERROR. So
-  -- what was sent to the request port may be received by any of the servers
+  -- programs, or is a stranger's, of another program at another address than theirs, or an ERROR.
+  -- So what was sent to the request port may be received by any of the servers
   abbrev pub AreHonest : List Noted → Type 0
   AreHonest order = IsHonestOf ips_of (IsStrangerTo several.ip [] several.clients) order
 

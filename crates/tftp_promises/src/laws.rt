@@ -14,6 +14,7 @@ ghost use Rattle.tftp_promises.specs.Journals.{AsksFirst};
 ghost use Rattle.tftp_promises.specs.Lines.{EachLineIsAClose};
 ghost use Rattle.tftp_promises.specs.Openings.{DistinctPortsAreFresh};
 ghost use Rattle.tftp_promises.specs.Order.{Programs};
+ghost use Rattle.tftp_promises.specs.Others.{ClientsTakeOne};
 ghost use Rattle.tftp_promises.specs.Programs.{ClientProgram, ServersAreRuns};
 ghost use Rattle.tftp_promises.specs.Timers.{EachHasOneTimer};
 ghost use Rattle.tftp_promises.specs.Witness.{SomeAreJoined, SomeAreServed, SomeAreShared};
@@ -91,6 +92,12 @@ pub fn a_server_is_one_run<T: Store>()
 /// of its own port, its waits, which report no other port, and the lines that it prints.
 pub fn a_client_asks_first<G: Source, K: Sink>()
     ensures { (to : Endpoint) (client : ClientProgram G.meaning K.meaning to) → AsksFirst client }
+{}
+
+/// A client takes the answers of one port only (RFC 1350, section 4): of other servers at the
+/// address, whatever other ports they have, it handles no DATA, ACK or OACK before it has a peer.
+pub fn a_client_takes_one_answer<G: Source, K: Sink>()
+    ensures { ClientsTakeOne G.meaning K.meaning }
 {}
 
 /// The premises of the laws over both ends can be met, by a real exchange: a client reads a file by

@@ -1,0 +1,400 @@
+-- A client takes the answers of one port only: at the first DATA, ACK or OACK of the server's address that it handles it
+-- has a peer, or closes.
+use Rattle.std.proofs.Common.{◌≡◌, ℕ, Bool, true, false, List, [], Option, Some, None, refl, sym, ap, ◌∙◌, subst, inl, inr}
+use Rattle.std.specs.Prelude.{◌≢◌, ◌⊎◌, ◌&&◌, ◌==◌, ◌*◌, ◌≤◌, if◌then◌else◌, not, is_none, length, nat_le, nat_lt, IsSome}
+use Rattle.std.specs.Prelude.{Result, Ok, Err}
+use Rattle.std.specs.Cmp.Lexicographic.{same_text}
+use Rattle.std.specs.List.{Contains}
+use Rattle.std.proofs.lemmas.Bool.{cases_Bool, eqb-true, true≢false}
+use Rattle.tftp_wire.specs.Reading.{first_fault, has_error_opcode}
+use Rattle.tftp_wire.specs.Spelling.{Spells}
+use Rattle.tftp_wire.specs.declared.mode.Mode.{Mode}
+use Rattle.tftp_wire.specs.declared.packet.Packet.{Packet as WirePacket}
+use Rattle.tftp_wire.specs.declared.packet.Packet.TheVariants.{Read, Write, Data, Ack, Error, Oack}
+use Rattle.tftp_wire.proofs.SpellingLemmas.{spelled_has_no_fault, spelled_is_found}
+use Rattle.tftp_negotiate.specs.declared.asked.Asked.{Asked}
+use Rattle.tftp_negotiate.specs.declared.known.Kind.TheVariants as kinds
+use Rattle.tftp_negotiate.specs.declared.known.Known.{Known}
+use Rattle.tftp_negotiate.specs.declared.refusal.Refusal.{Refusal}
+use Rattle.tftp_negotiate.specs.declared.refusal.Refusal.TheVariants.{Repeated, TooLarge, NotAsked, BadValue}
+use Rattle.tftp_negotiate.specs.Agreement.{agreement}
+use Rattle.tftp_file.specs.Sink.{SinkMeaning}
+use Rattle.tftp_file.specs.Source.{SourceMeaning}
+use Rattle.tftp_file.specs.declared.fault.StoreFault.{StoreFault}
+use Rattle.tftp_file.specs.declared.files.Files.{Files}
+use Rattle.tftp_file.specs.declared.files.Files.TheVariants.{Source, Sink}
+use Rattle.tftp_ends.specs.declared.action.Action.{Action}
+use Rattle.tftp_ends.specs.declared.action.Action.TheVariants.{Respond, Send, Store}
+use Rattle.tftp_ends.specs.declared.action.Response.{Response}
+use Rattle.tftp_ends.specs.declared.action.Response.TheVariants.{Ignore, WrongPeer, ResendReply, Retransmit, Wait, Close}
+use Rattle.tftp_ends.specs.declared.action.Response.TheVariants.{Refuse, Accept, Complete}
+use Rattle.tftp_ends.specs.declared.error_reply.ErrorReply.TheVariants as replies
+use Rattle.tftp_ends.specs.declared.outcome.Outcome.TheVariants as outcomes
+use Rattle.tftp_ends.specs.declared.phase.Phase.{Phase}
+use Rattle.tftp_ends.specs.declared.phase.Phase.TheVariants.{Waiting, Sending, Receiving, Dallying, Closed}
+use Rattle.tftp_ends.specs.declared.phase.Terms.{Terms}
+use Rattle.tftp_ends.specs.Action.{Decodes, datagram_action, garbled_response, is_wrong_peer, packet_action, same_address}
+use Rattle.tftp_ends.specs.Action.{waiting_action}
+use Rattle.tftp_ends.specs.End.{EndState, is_sender, outcome_of, terms_of}
+use Rattle.tftp_ends.specs.Receiver.{data_action, next_action}
+use Rattle.tftp_ends.specs.Sender.{illegal_action}
+use Rattle.tftp_ends.specs.Step.{Acts, DatagramStep, Done, GoesOn, Turn, after_turn, block_length}
+use Rattle.tftp_ends.specs.Step.{committed_turn, data_bytes, holding, response_turn, result_count_is, sent_turn}
+use Rattle.tftp_ends.specs.Text.{is_readable}
+use Rattle.tftp_ends.specs.Waiting.{accept_action, agreed_terms, begin_action, begin_with_action, default_terms}
+use Rattle.tftp_ends.specs.Waiting.{no_answer, reader_action, refusal_action, writer_action}
+use Rattle.tftp_client.specs.Converses.{HandlesReceived, IsOpen, MayElapse, MayWait, State, received}
+use Rattle.tftp_client.specs.Converses.HandlesReceived.{Answers, Loses}
+use Rattle.tftp_client.specs.Converses.MayElapse.{Stays, Elapses}
+use Rattle.tftp_rules.specs.EndKept.{IsAnswer}
+use Rattle.tftp_rules.specs.Machine.{Endpoint, is_same_ip}
+use Rattle.tftp_rules.specs.OpenEnds.{peer_of}
+use Rattle.tftp_rules.proofs.Endpoints.{same_ip}
+use Rattle.tftp_rules.proofs.PhaseMoves.{both_true, if_acts}
+use Rattle.tftp_promises.specs.ClientRuns.{ClientDoes, ClientRun, Starts, Goes_on, Receives_one, Reads_clock, Waits_until}
+use Rattle.tftp_promises.specs.ClientRuns.{Times_out, File_works, Prints_line}
+use Rattle.tftp_promises.specs.Others.{ClientsTakeOne, DoesOwn, IsOtherAnswer, TakesOwn}
+use Rattle.tftp_promises.proofs.ClientJournals.{asks_there}
+use Rattle.tftp_promises.proofs.WrongPeers.{datagram_stays, timeout_stays}
+
+-- ---- an end that has a peer once it is open
+abbrev Settled : EndState → Type 0
+Settled e = IsOpen e → peer_of e.position.phase ≢ None
+
+-- the actions after which an end is one
+abbrev SettlesBy : Response → Type 0
+SettlesBy Ignore = ⊥
+SettlesBy WrongPeer = ⊥
+SettlesBy ResendReply = ⊥
+SettlesBy Retransmit = ⊥
+SettlesBy Wait = ⊥
+SettlesBy (Close outcome) = Unit {0}
+SettlesBy (Refuse terms reply outcome) = Unit {0}
+SettlesBy (Accept terms) = Unit {0}
+SettlesBy Complete = ⊥
+
+abbrev Settles : Action → Type 0
+Settles (Respond response) = SettlesBy response
+Settles (Send terms number) = Unit {0}
+Settles (Store terms number) = Unit {0}
+
+-- ---- how a waiting client handles an answer
+begin_settles : (long : ℕ) (terms : Terms) → Settles (begin_action long terms)
+begin_settles long terms =
+    if_acts Settles (nat_lt long (65535 * terms.size)) (Send terms 1)
+    (Respond (Refuse None replies.FileTooLarge outcomes.TooLarge)) (λ b. tt) (λ b. tt)
+
+refusal_settles : (refusal : Refusal) → Settles (refusal_action refusal)
+refusal_settles Repeated = tt
+refusal_settles TooLarge = tt
+refusal_settles NotAsked = tt
+refusal_settles BadValue = tt
+
+accept_settles : (from : Endpoint) (result : Result (List Known) Refusal) → Settles (accept_action from result)
+accept_settles from (Ok agreed) = tt
+accept_settles from (Err refusal) = refusal_settles refusal
+
+begin_with_settles : (from : Endpoint) (long : ℕ) (result : Result (List Known) Refusal) →
+    Settles (begin_with_action from long result)
+begin_with_settles from long (Ok agreed) = begin_settles long (agreed_terms from agreed)
+begin_with_settles from long (Err refusal) = refusal_settles refusal
+
+next_settles : (mode : Mode) (held : List ℕ) (terms : Terms) (number : ℕ) (bytes : List ℕ) →
+    Settles (next_action mode held terms number bytes)
+next_settles mode held terms number bytes =
+    if_acts Settles (nat_lt terms.size (length bytes)) (illegal_action terms) _ (λ b. tt)
+    (λ f. if_acts Settles (number == 65535 && (length bytes == terms.size))
+    (Respond (Refuse (Some terms) replies.FileTooLarge outcomes.TooLarge)) _ (λ b. tt)
+    (λ g. if_acts Settles (is_readable mode held bytes (nat_lt (length bytes) terms.size)) (Store terms number)
+    (Respond (Refuse (Some terms) replies.NotNetascii outcomes.NotNetascii)) (λ b. tt) (λ b. tt)))
+
+reader_settles : (mode : Mode) (asked : Asked) (limit : ℕ) (from : Endpoint) (p : WirePacket) → IsAnswer p →
+    Settles (reader_action mode asked limit from (Some p))
+reader_settles mode asked limit from (Read request) answer = absurd answer
+reader_settles mode asked limit from (Write request) answer = absurd answer
+reader_settles mode asked limit from (Data number bytes) answer =
+    if_acts Settles (number == 1 && nat_le (length bytes) 512)
+    (data_action mode [] (default_terms from) 0 number bytes) no_answer
+    (λ b. subst (λ (n : ℕ). Settles (data_action mode [] (default_terms from) 0 n bytes))
+    (sym (eqb-true number 1 (both_true (number == 1) (nat_le (length bytes) 512) b).0))
+    (next_settles mode [] (default_terms from) 1 bytes)) (λ b. tt)
+reader_settles mode asked limit from (Ack number) answer = tt
+reader_settles mode asked limit from (Error code text) answer = absurd answer
+reader_settles mode asked limit from (Oack options) answer =
+    accept_settles from (agreement asked kinds.Read mode options limit)
+
+writer_settles : (mode : Mode) (asked : Asked) (limit long : ℕ) (from : Endpoint) (p : WirePacket) → IsAnswer p →
+    Settles (writer_action mode asked limit long from (Some p))
+writer_settles mode asked limit long from (Read request) answer = absurd answer
+writer_settles mode asked limit long from (Write request) answer = absurd answer
+writer_settles mode asked limit long from (Data number bytes) answer = tt
+writer_settles mode asked limit long from (Ack number) answer =
+    if_acts Settles (number == 0) (begin_action long (default_terms from)) no_answer
+    (λ b. begin_settles long (default_terms from)) (λ b. tt)
+writer_settles mode asked limit long from (Error code text) answer = absurd answer
+writer_settles mode asked limit long from (Oack options) answer =
+    begin_with_settles from long (agreement asked kinds.Write mode options limit)
+
+waiting_settles : (e : EndState) (from : Endpoint) (asked : Asked) (limit : ℕ) (p : WirePacket) → IsAnswer p →
+    Settles (waiting_action e from (Some p) (Waiting asked limit))
+waiting_settles e from asked limit p answer =
+    if_acts Settles (is_sender e.role.side) (writer_action e.role.mode asked limit e.role.length from (Some p))
+    (reader_action e.role.mode asked limit from (Some p))
+    (λ b. writer_settles e.role.mode asked limit e.role.length from p answer)
+    (λ b. reader_settles e.role.mode asked limit from p answer)
+
+-- the action for a datagram of the server's address, if the end has no peer and is open
+abbrev action_in : EndState → Endpoint → List ℕ → Option WirePacket → Phase → Action
+action_in e from bytes decoded phase =
+    if is_wrong_peer (terms_of phase) e.position.last_sent_to from
+    then (if has_error_opcode bytes then Respond Ignore else Respond WrongPeer)
+    else if has_error_opcode bytes && is_none decoded then Respond (garbled_response phase)
+    else packet_action e from decoded phase
+
+action_settles : (e : EndState) (from : Endpoint) (bytes : List ℕ) (p : WirePacket) → IsAnswer p →
+    from.ip ≡ e.position.last_sent_to.ip → (phase : Phase) → (IsSome (outcome_of phase) → ⊥) → peer_of phase ≡ None →
+    Settles (action_in e from bytes (Some p) phase)
+action_settles e from bytes p answer near (Waiting asked limit) still none =
+    let here : same_address e.position.last_sent_to from ≡ true =
+    ap (λ (ip : List ℕ). is_same_ip e.position.last_sent_to.ip ip) near ∙ same_ip e.position.last_sent_to.ip in
+    if_acts Settles (not (same_address e.position.last_sent_to from))
+    (if has_error_opcode bytes then Respond Ignore else Respond WrongPeer)
+    (if has_error_opcode bytes && false then Respond (garbled_response (Waiting asked limit)) else
+    waiting_action e from (Some p) (Waiting asked limit))
+    (λ b. absurd (true≢false (sym b ∙ ap not here)))
+    (λ b. if_acts Settles (has_error_opcode bytes && false) (Respond (garbled_response (Waiting asked limit)))
+    (waiting_action e from (Some p) (Waiting asked limit)) (λ c. tt) (λ c. waiting_settles e from asked limit p answer))
+action_settles e from bytes p answer near (Sending terms number) still none =
+    absurd (let f : Some terms.peer ≡ None = none in cc)
+action_settles e from bytes p answer near (Receiving terms number) still none =
+    absurd (let f : Some terms.peer ≡ None = none in cc)
+action_settles e from bytes p answer near (Dallying terms number dally) still none =
+    absurd (let f : Some terms.peer ≡ None = none in cc)
+action_settles e from bytes p answer near (Closed terms number complete outcome) still none = absurd (still refl)
+
+-- ---- the turns
+some_peer : (peer : Endpoint) → Some peer ≢ None
+some_peer peer e = cc
+
+module _ {S K : Type 0} (sources : SourceMeaning S) (sinks : SinkMeaning K) (from : Endpoint) (e : EndState) where
+  abbrev SettledBy : Turn → Type 0
+  SettledBy turn = Settled (after_turn e turn)
+
+  response_settles : (response : Response) → SettlesBy response → SettledBy (response_turn response from e)
+  response_settles Ignore k = absurd k
+  response_settles WrongPeer k = absurd k
+  response_settles ResendReply k = absurd k
+  response_settles Retransmit k = absurd k
+  response_settles Wait k = absurd k
+  response_settles (Close outcome) k = λ still none. still refl
+  response_settles (Refuse terms reply outcome) k = λ still none. still refl
+  response_settles (Accept terms) k = λ still none. some_peer terms.peer none
+  response_settles Complete k = absurd k
+
+  committed_settles : (terms : Terms) (number : ℕ) (after : List ℕ) (answer : Result Done StoreFault) →
+      SettledBy (committed_turn terms number from (holding after e) answer)
+  committed_settles terms number after (Ok done) = λ still none. some_peer terms.peer none
+  committed_settles terms number after (Err fault) = λ still none. still refl
+
+  goes_settle : (terms : Terms) (number : ℕ) (last : Bool) (after : List ℕ) (sink : K) (answer : Result Done StoreFault)
+      (turn : Turn) (sink' : K) → GoesOn sinks terms number from e last after sink answer turn sink' → SettledBy turn
+  goes_settle terms number last after sink (Err fault) turn sink' h =
+      subst SettledBy (sym h.0) (response_settles (Refuse (Some terms) replies.DiskFull outcomes.StoreFault) tt)
+  goes_settle terms number true after sink (Ok done) turn sink' h =
+      subst SettledBy (sym h.answers) (committed_settles terms number after h.answer)
+  goes_settle terms number false after sink (Ok done) turn sink' h =
+      subst SettledBy (sym h.0) (λ still none. some_peer terms.peer none)
+
+  acts_settle : (action : Action) (bytes : List ℕ) (files : Files S K) (turn : Turn) (files' : Files S K) →
+      Acts sources sinks action from bytes e files turn files' → Settles action → SettledBy turn
+  acts_settle (Respond response) bytes files turn files' acts k =
+      subst SettledBy (sym acts.0) (response_settles response k)
+  acts_settle (Send terms number) bytes (Source source) turn (Source source') acts k =
+      subst SettledBy (sym acts.answers)
+      (if_acts SettledBy (result_count_is (block_length e.role.length terms.size number) acts.answer)
+      (sent_turn (Sending terms number) from (data_bytes number acts.piece) e) _
+      (λ b. λ still none. some_peer terms.peer none)
+      (λ b. response_settles (Refuse (Some terms) replies.FileChanged outcomes.SourceFault) tt))
+  acts_settle (Send terms number) bytes (Source source) turn (Sink sink') acts k = absurd acts
+  acts_settle (Send terms number) bytes (Sink sink) turn files' acts k = absurd acts
+  acts_settle (Store terms number) bytes (Sink sink) turn (Sink sink') acts k =
+      goes_settle terms number (nat_lt (length acts.0) terms.size) acts.2.after acts.2.mid acts.2.answer turn sink'
+      acts.2.rest
+  acts_settle (Store terms number) bytes (Sink sink) turn (Source source') acts k = absurd acts.2
+  acts_settle (Store terms number) bytes (Source source) turn files' acts k = absurd acts.2
+
+  -- the end has settled, or its last datagram went where it went before
+  abbrev Lands : Turn → Type 0
+  Lands turn = SettledBy turn ⊎ (turn.position.last_sent_to ≡ e.position.last_sent_to)
+
+  response_lands : (response : Response) → Lands (response_turn response from e)
+  response_lands Ignore = inr refl
+  response_lands WrongPeer = inr refl
+  response_lands ResendReply = inr refl
+  response_lands Retransmit = inr refl
+  response_lands Wait = inr refl
+  response_lands (Close outcome) = inr refl
+  response_lands (Refuse terms reply outcome) = inr refl
+  response_lands (Accept terms) = inl (response_settles (Accept terms) tt)
+  response_lands Complete = inr refl
+
+  acts_land : (action : Action) (bytes : List ℕ) (files : Files S K) (turn : Turn) (files' : Files S K) →
+      Acts sources sinks action from bytes e files turn files' → Lands turn
+  acts_land (Respond response) bytes files turn files' acts = subst Lands (sym acts.0) (response_lands response)
+  acts_land (Send terms number) bytes files turn files' acts =
+      inl (acts_settle (Send terms number) bytes files turn files' acts tt)
+  acts_land (Store terms number) bytes files turn files' acts =
+      inl (acts_settle (Store terms number) bytes files turn files' acts tt)
+
+-- ---- an end whose last datagram went to the server while it has no peer
+abbrev Asks : Endpoint → EndState → Type 0
+Asks to e = IsOpen e → peer_of e.position.phase ≡ None → e.position.last_sent_to ≡ to
+
+answers_or_not : (p : WirePacket) → IsAnswer p ⊎ (IsAnswer p → ⊥)
+answers_or_not (Read request) = inr (λ a. a)
+answers_or_not (Write request) = inr (λ a. a)
+answers_or_not (Data number bytes) = inl tt
+answers_or_not (Ack number) = inl tt
+answers_or_not (Error code text) = inr (λ a. a)
+answers_or_not (Oack options) = inl tt
+
+module _ {G K : Type 0} {inputs : SourceMeaning G} {outputs : SinkMeaning K} (to : Endpoint) where
+  module _ (from : Endpoint) (bytes : List ℕ) (e : EndState) (files : Files G K) (turn : Turn) (files' : Files G K)
+      (still : IsOpen e) (step : DatagramStep inputs outputs from bytes e files turn files') where
+    -- the peer stays
+    peer_stays : (peer : Endpoint) → peer_of e.position.phase ≡ Some peer → peer_of turn.position.phase ≡ Some peer
+    peer_stays peer is =
+        (datagram_stays inputs outputs from e bytes step.decoded files turn files' step.acts peer is).peer_is ∙ is
+
+    settled_by : (o : Option Endpoint) → peer_of e.position.phase ≡ o → Settled e → Settled (after_turn e turn)
+    settled_by None is settled = absurd (settled still is)
+    settled_by (Some peer) is settled =
+        λ opened none. some_peer peer (sym (peer_stays peer is) ∙ none)
+
+    asks_by : (o : Option Endpoint) → peer_of e.position.phase ≡ o → Asks to e → Asks to (after_turn e turn)
+    asks_by (Some peer) is asks = λ opened none. absurd (some_peer peer (sym (peer_stays peer is) ∙ none))
+    asks_by None is asks = λ opened none.
+        elim (acts_land inputs outputs from e (datagram_action e from bytes step.decoded) bytes files turn files'
+        step.acts) [
+          | inl settled ↦ absurd (settled opened none)
+          | inr same ↦ same ∙ asks still is
+        ]
+
+    -- it is no answer of another server, or one of this port, and then the end has settled
+    abbrev No : List ℕ → Type 0
+    No others = peer_of e.position.phase ≡ None → IsOtherAnswer to.ip others from bytes → ⊥
+
+    abbrev Decided : Type 0
+    Decided =
+        ((others : List ℕ) → No others)
+        ⊎ (((others : List ℕ) → (Contains others from.port → ⊥) → No others) × Settled (after_turn e turn))
+
+    by_packet : (none : peer_of e.position.phase ≡ None) (near : from.ip ≡ to.ip) → Asks to e →
+        (decoded : Option WirePacket) → Decodes bytes decoded →
+        Acts inputs outputs (datagram_action e from bytes decoded) from bytes e files turn files' → Decided
+    by_packet none near asks None says acts =
+        inl (λ others no_peer h. no_fault h.packet h.spells (spelled_has_no_fault h.packet bytes h.spells)) where
+          no_fault : (p : WirePacket) → Spells p bytes → first_fault bytes ≡ None → ⊥
+          no_fault p spells is = let f : None ≡ Some says.0 = sym is ∙ says.1 in cc
+    by_packet none near asks (Some p) says acts = elim (answers_or_not p) [
+      | inr not_one ↦
+          inl (λ others no_peer h. not_one (subst IsAnswer
+          (sym (spelled_is_found h.packet bytes h.spells) ∙ spelled_is_found p bytes says) h.answer))
+      | inl answer ↦
+          let same : from.ip ≡ e.position.last_sent_to.ip =
+          near ∙ ap (λ (a : Endpoint). a.ip) (sym (asks still none)) in
+          inr (
+            λ others own no_peer h. own h.other,
+            acts_settle inputs outputs from e (datagram_action e from bytes (Some p)) bytes files turn files' acts
+                (action_settles e from bytes p answer same e.position.phase still none),
+          )
+    ]
+
+    decides : Asks to e → (o : Option Endpoint) → peer_of e.position.phase ≡ o → Decided
+    decides asks (Some peer) is = inl (λ others no_peer h. some_peer peer (sym is ∙ no_peer))
+    decides asks None is = elim (cases_Bool (is_same_ip from.ip to.ip)) [
+      | inl same ↦ by_packet is (same_text from.ip to.ip (sym same)) asks step.decoded step.says step.acts
+      | inr far ↦
+          inl (λ others no_peer h. true≢false (sym (ap (λ (ip : List ℕ). is_same_ip ip to.ip) h.near
+          ∙ same_ip to.ip) ∙ far))
+    ]
+
+  -- ---- a run
+  pub record Takes {port : ℕ} {first : State} {file : Files G K} {s : State} {files : Files G K}
+      (run : ClientRun inputs outputs port first file s files) : Type 0 where
+    pub asks : Asks to s.end
+    pub taken : ((others : List ℕ) → TakesOwn to.ip others run)
+        ⊎ ((q : ℕ) × ((others : List ℕ) → (Contains others q → ⊥) → TakesOwn to.ip others run) × Settled s.end)
+
+  -- a step that changes no end
+  rests : {port : ℕ} {first : State} {file : Files G K} {s s' : State} {files files' : Files G K}
+      (run : ClientRun inputs outputs port first file s files)
+      (does : ClientDoes inputs outputs port s files s' files') → s'.end ≡ s.end → ((others : List ℕ) → DoesOwn to.ip others does) → Takes run → Takes (Goes_on run does)
+  rests run does same own h = record {
+    asks = subst (Asks to) (sym same) h.asks;
+    taken = elim h.taken [
+      | inl all ↦ inl (λ others. (all others, own others))
+      | inr one ↦ inr (one.0, λ others n. (one.1 others n, own others), subst Settled (sym same) one.2)
+    ];
+  }
+
+  answered : {port : ℕ} {first : State} {file : Files G K} {s : State} {files : Files G K}
+      (run : ClientRun inputs outputs port first file s files) {next : State} {files' : Files G K} {from : Endpoint}
+      {bytes : List ℕ} {time : ℕ} (may : MayWait s) (later : s.now ≤ time)
+      (handles : HandlesReceived inputs outputs port from bytes (received port from bytes time s) files next files') →
+      Takes run → Takes (Goes_on run (Receives_one may later handles))
+  answered run may later (Loses lost keeps) h =
+      rests run (Receives_one may later (Loses lost keeps)) refl (λ others. tt) h
+  answered {s = s} {files = files} run {files' = files'} {from = from} {bytes = bytes} may later
+      (Answers {turn = turn} still step) h = record {
+        asks = asks_by from bytes s.end files turn files' still step (peer_of s.end.position.phase) refl h.asks;
+        taken = elim h.taken [
+          | inl all ↦ elim (decides from bytes s.end files turn files' still step h.asks (peer_of s.end.position.phase)
+              refl) [
+                | inl none ↦ inl (λ others. (all others, none others))
+                | inr one ↦ inr (from.port, λ others n. (all others, one.0 others n), one.1)
+              ]
+          | inr one ↦ inr (
+            one.0,
+            λ others n. (one.1 others n, λ no_peer other. one.2 still no_peer),
+            settled_by from bytes s.end files turn files' still step (peer_of s.end.position.phase) refl one.2,
+          )
+        ];
+      }
+
+  elapsed_so : {port : ℕ} {first : State} {file : Files G K} {s : State} {files : Files G K}
+      (run : ClientRun inputs outputs port first file s files) {next : State} (elapses : MayElapse port s next) →
+      Takes run → Takes (Goes_on run (Times_out elapses))
+  elapsed_so run (Stays why) h = rests run (Times_out (Stays why)) refl (λ others. tt) h
+  elapsed_so {s = s} run (Elapses due still) h =
+      let stays = timeout_stays s.end in
+      record {
+        asks = λ opened none. elim stays.last_is [
+          | inl same ↦ same ∙ h.asks still (sym stays.peer_is ∙ none)
+          | inr same ↦ same ∙ h.asks still (sym stays.peer_is ∙ none)
+        ];
+        taken = elim h.taken [
+          | inl all ↦ inl (λ others. (all others, tt))
+          | inr one ↦
+              inr (one.0, λ others n. (one.1 others n, tt), λ opened none. one.2 still (sym stays.peer_is ∙ none))
+        ];
+      }
+
+  takes : {port : ℕ} {first : State} {file : Files G K} {s : State} {files : Files G K}
+      (run : ClientRun inputs outputs port first file s files) → Asks to first.end → Takes run
+  takes Starts asks = record { asks = asks; taken = inl (λ others. tt) }
+  takes (Goes_on run (Receives_one may later handles)) asks = answered run may later handles (takes run asks)
+  takes (Goes_on run (Reads_clock progress later)) asks =
+      rests run (Reads_clock progress later) refl (λ others. tt) (takes run asks)
+  takes (Goes_on run (Waits_until may which later)) asks =
+      rests run (Waits_until may which later) refl (λ others. tt) (takes run asks)
+  takes (Goes_on run (Times_out elapses)) asks = elapsed_so run elapses (takes run asks)
+  takes (Goes_on run (File_works works)) asks = rests run (File_works works) refl (λ others. tt) (takes run asks)
+  takes (Goes_on run (Prints_line line)) asks = rests run (Prints_line line) refl (λ others. tt) (takes run asks)
+
+pub takes_one : {G K : Type 0} (inputs : SourceMeaning G) (outputs : SinkMeaning K) → ClientsTakeOne inputs outputs
+takes_one inputs outputs to client =
+    elim (takes to client.runs (λ opened none. asks_there client.opens)).taken [
+      | inl all ↦ (0, λ others n. all others)
+      | inr one ↦ (one.0, one.1)
+    ]
