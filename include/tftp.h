@@ -20,7 +20,9 @@
  *   returns a length returns 0. An end has a block of 128 bytes, one for the datagram that it sent
  *   last, which a timeout sends again, and, if it sends a file or receives netascii, one for the block
  *   at hand. They are as long as what was agreed needs: a get allocates in tftp_get, in netascii also
- *   at its first block, a sender until its first, and none at a later block.
+ *   at its first block, a sender until its first, and none at a later block. A server has a block, a table
+ *   that grows with its transfers, and for each of these its path, its request and the blocks of an end
+ *   but the first.
  * - No call is made from a signal handler: malloc may not be.
  */
 #ifndef TFTP_H
@@ -51,7 +53,10 @@ enum {
     TFTP_WRONG_SIDE = 5,       /* tftp_receive at an end that sends, or the other way round */
     TFTP_TOO_LARGE_FILE = 6,   /* the file has more than 65,535 blocks */
     TFTP_REFUSED_OPTIONS = 7,  /* the options of the request are refused: answer ERROR 8 (RFC 2347) */
-    TFTP_NO_SOURCE = 8         /* `next` had fewer bytes than the first block */
+    TFTP_NO_SOURCE = 8,        /* `next` had fewer bytes than the first block */
+    TFTP_NO_TRANSFER = 9,      /* the server has no open transfer of this number that receives, or that
+                                  sends; or the request opens none */
+    TFTP_IN_USE = 10           /* the server has a transfer of this number */
 };
 
 /* tftp_event.outcome: 0 while the transfer goes on. */
@@ -159,6 +164,76 @@ uint8_t tftp_timeout(struct tftp_end *end, uint8_t *reply, size_t reply_len,
 /* Closes an end and frees its memory. */
 void tftp_close(struct tftp_end *end);
 
+/* A server: its request port, and a table of transfers over the caller's files. All bytes zero: closed.
+ * What is owed for a struct tftp_end is owed for it, too, and tftp_server_close ends each use. */
+struct tftp_server {
+    bool is_open;
+    void *opaque;
+};
+
+/* tftp_question.wants: what the caller is asked to do with a file. */
+enum {
+    TFTP_WANTS_OPEN = 1,       /* find it, to be read: answer by tftp_server_get */
+    TFTP_WANTS_BEGIN = 2       /* begin it, to be written: answer by tftp_server_put */
+};
+
+/* What a server asks for a datagram at its request port. */
+struct tftp_question {
+    size_t send_len;           /* the length of the ERROR to send to the datagram's sender, or 0 */
+    size_t name_len;           /* the length of the file's path, also if it is more than the buffer's */
+    uint8_t wants;             /* or 0: nothing */
+};
+
+/* Opens a server, after closing what `server` held. It has at most `transfers` at once, 1 to 64, closed
+ * ones among them. The options of its requests are answered up to options->blksize (0: any) and
+ * options->max_file; options->retries, at most 10, counts, and no other of its fields. After a fault,
+ * which is TFTP_BAD_REQUEST or TFTP_MEMORY, `server` is closed. */
+uint8_t tftp_server_open(struct tftp_server *server, const struct tftp_options *options,
+                         uint8_t transfers);
+
+/* Reads a datagram that came to the request port. It asks for a file, whose path is written to `name`,
+ * of 255 bytes or more; or writes the ERROR that answers it to `reply`, of TFTP_MAX_REQUEST bytes or
+ * more: for a packet that is no request, a name that is no path, refused options of a write, or as many
+ * transfers as there may be; or neither: for an ERROR, or a request whose transfer is open. A path has 1
+ * to 8 parts of letters, digits, '.', '_' and '-', none of which begins with '.', with '/' between them.
+ * The server is unchanged. The caller answers by one of the next two calls, or by an ERROR that
+ * tftp_error writes. After a fault the question is unchanged. */
+uint8_t tftp_server_request(struct tftp_server *server, const struct tftp_endpoint *from,
+                            const uint8_t *datagram, size_t datagram_len, uint8_t *name,
+                            size_t name_len, uint8_t *reply, size_t reply_len,
+                            struct tftp_question *question);
+
+/* Opens the transfer of a read request, as tftp_serve_get. `tid` is the caller's number for it, as the
+ * port that it sends from. After a fault the server is unchanged. */
+uint8_t tftp_server_get(struct tftp_server *server, uint16_t tid, const struct tftp_endpoint *from,
+                        const uint8_t *request, size_t request_len, uint64_t length,
+                        const uint8_t *next, size_t next_len, uint8_t *reply, size_t reply_len,
+                        struct tftp_event *event);
+
+/* Opens the transfer of a write request, as tftp_serve_put. */
+uint8_t tftp_server_put(struct tftp_server *server, uint16_t tid, const struct tftp_endpoint *from,
+                        const uint8_t *request, size_t request_len, uint8_t *reply,
+                        size_t reply_len, struct tftp_event *event);
+
+/* The steps of the transfer of this number, as tftp_receive, tftp_send and tftp_timeout. After a fault
+ * the server and the event are unchanged. */
+uint8_t tftp_server_receive(struct tftp_server *server, uint16_t tid,
+                            const struct tftp_endpoint *from, const uint8_t *datagram,
+                            size_t datagram_len, uint8_t *file, size_t file_len, uint8_t *reply,
+                            size_t reply_len, struct tftp_event *event);
+uint8_t tftp_server_send(struct tftp_server *server, uint16_t tid, const struct tftp_endpoint *from,
+                         const uint8_t *datagram, size_t datagram_len, const uint8_t *next,
+                         size_t next_len, uint8_t *reply, size_t reply_len,
+                         struct tftp_event *event);
+uint8_t tftp_server_timeout(struct tftp_server *server, uint16_t tid, uint8_t *reply,
+                            size_t reply_len, struct tftp_event *event);
+
+/* Removes the transfer of this number, open or closed, and returns whether there was one. */
+bool tftp_server_give_up(struct tftp_server *server, uint16_t tid);
+
+/* Closes a server and its transfers, and frees their memory. */
+void tftp_server_close(struct tftp_server *server);
+
 /* What a datagram spells. Offsets are in the datagram. */
 struct tftp_packet {
     size_t fault_at;           /* of the first fault */
@@ -211,10 +286,11 @@ size_t tftp_error(uint16_t code, const uint8_t *text, size_t text_len, uint8_t *
 
 /* For a test of this header alone: the size of each struct, and a different number in each field. */
 struct tftp_sizes {
-    uint8_t endpoint, options, event, packet, end;
+    uint8_t endpoint, options, event, packet, end, question, server;
 };
 void tftp_samples(struct tftp_endpoint *endpoint, struct tftp_options *options,
-                  struct tftp_event *event, struct tftp_packet *packet, struct tftp_sizes *sizes);
+                  struct tftp_event *event, struct tftp_packet *packet,
+                  struct tftp_question *question, struct tftp_sizes *sizes);
 
 #ifdef __cplusplus
 }

@@ -1,7 +1,8 @@
 /* Holds tftp.h to the types of the library: each field of each struct has the value that the library gives the field of
- * that name, each struct its size, and each number its value. Builds packets and reads their options. Counts the
- * requests for memory of transfers. Then refuses each of a get in turn: the call reports it, changes nothing, and does
- * its work when it is made again. It is linked with --wrap for malloc and realloc. */
+ * that name, each struct its size, and each number its value. Builds packets and reads their options. Tries the request
+ * port of a server and its table. Counts the requests for memory of transfers. Then refuses each of a get, and of a
+ * served write, in turn: the call reports it, changes nothing, and does its work when it is made again. It is linked
+ * with --wrap for malloc and realloc. */
 #include "tftp.h"
 #include <stdio.h>
 #include <stdlib.h>
@@ -173,6 +174,139 @@ static void without_memory(void) {
     refused = 0;
 }
 
+/* One step of a server: a datagram at its request port, and the fault. */
+static uint8_t ask(struct tftp_server *server, uint16_t port, const uint8_t *datagram, size_t len, char *name,
+                   uint8_t *reply, struct tftp_question *question) {
+    struct tftp_endpoint from = {{10, 0, 0, 1}, port};
+    struct tftp_question before;
+    uint8_t path[255];
+    memset(&before, 0, sizeof before);
+    before.wants = 77;
+    memcpy(question, &before, sizeof before);
+    uint8_t fault = tftp_server_request(server, &from, datagram, len, path, sizeof path, reply, TFTP_MAX_REQUEST,
+                                        question);
+    if (fault) {
+        expect("the fault of a question", fault, TFTP_MEMORY);
+        expect("the question after it", memcmp(question, &before, sizeof before), 0);
+    } else {
+        memcpy(name, path, question->name_len);
+        name[question->name_len] = 0;
+    }
+    return fault;
+}
+
+#define EXPECT_ASKED(what, wanted, path, error)                                                              \
+    do {                                                                                                     \
+        expect("the wants of " what, question.wants, (wanted));                                              \
+        expect("the path of " what, strcmp(name, (path)), 0);                                                \
+        expect("the ERROR of " what, question.send_len ? reply[3] + 1u : 0, (error));                        \
+    } while (0)
+
+/* What the request port of a server asks and answers. */
+static void request_port(void) {
+    struct tftp_options options = {.max_file = 1000, .retries = 5};
+    struct tftp_server server = {0};
+    struct tftp_question question;
+    struct tftp_endpoint from = {{10, 0, 0, 1}, 1};
+    struct tftp_event event = {0};
+    uint8_t reply[TFTP_MAX_REQUEST], out[TFTP_MAX_REQUEST];
+    char name[256];
+    expect("a server with no transfers", tftp_server_open(&server, &options, 0), TFTP_BAD_REQUEST);
+    expect("one with too many", tftp_server_open(&server, &options, 65), TFTP_BAD_REQUEST);
+    expect("a closed server", tftp_server_timeout(&server, 1, out, sizeof out, &event), TFTP_NOT_OPEN);
+    expect("whether it gives up", tftp_server_give_up(&server, 1), 0);
+    expect("a server", tftp_server_open(&server, &options, 2), TFTP_OK);
+
+    ask(&server, 1, TEXT("\0\1/a/b\0octet\0"), name, reply, &question);
+    EXPECT_ASKED("a read", TFTP_WANTS_OPEN, "a/b", 0);
+    ask(&server, 1, TEXT("\0\2a\0OCTET\0"), name, reply, &question);
+    EXPECT_ASKED("a write", TFTP_WANTS_BEGIN, "a", 0);
+    ask(&server, 1, TEXT("\0\2a\0octet\0tsize\0001001\0"), name, reply, &question);
+    EXPECT_ASKED("a write that is too long", 0, "", 3 + 1);
+    ask(&server, 1, TEXT("\0\1../a\0octet\0"), name, reply, &question);
+    EXPECT_ASKED("a name that is no path", 0, "", 2 + 1);
+    ask(&server, 1, TEXT("\0\4\0\1"), name, reply, &question);
+    EXPECT_ASKED("an ACK", 0, "", 4 + 1);
+    ask(&server, 1, TEXT("\0\5\0\1\0"), name, reply, &question);
+    EXPECT_ASKED("an ERROR", 0, "", 0);
+
+    static const char read[] = "\0\1a\0octet";
+    const uint8_t *bytes = (const uint8_t *)read;
+    uint8_t fault = tftp_server_get(&server, 7, &from, bytes, sizeof read, 3, TEXT("abc"), out, sizeof out, &event);
+    expect("a transfer", fault, TFTP_OK);
+    expect_bytes("its DATA", out, event.send_len, "\0\3\0\1abc", 7);
+    ask(&server, 1, bytes, sizeof read, name, reply, &question);
+    EXPECT_ASKED("a request that comes again", 0, "", 0);
+    fault = tftp_server_get(&server, 8, &from, bytes, sizeof read, 3, TEXT("abc"), out, sizeof out, &event);
+    expect("a transfer of it", fault, TFTP_NO_TRANSFER);
+    from.port = 2;
+    fault = tftp_server_get(&server, 7, &from, bytes, sizeof read, 3, TEXT("abc"), out, sizeof out, &event);
+    expect("a number in use", fault, TFTP_IN_USE);
+    fault = tftp_server_put(&server, 8, &from, bytes, sizeof read, out, sizeof out, &event);
+    expect("a write of a read", fault, TFTP_BAD_REQUEST);
+    fault = tftp_server_get(&server, 8, &from, bytes, sizeof read, 3, TEXT("abc"), out, sizeof out, &event);
+    expect("a second transfer", fault, TFTP_OK);
+    ask(&server, 3, bytes, sizeof read, name, reply, &question);
+    EXPECT_ASKED("a third one", 0, "", 0 + 1);
+
+    uint8_t ack[] = {0, 4, 0, 1}, block[512];
+    fault = tftp_server_receive(&server, 8, &from, ack, sizeof ack, block, sizeof block, out, sizeof out, &event);
+    expect("the other side", fault, TFTP_NO_TRANSFER);
+    fault = tftp_server_send(&server, 8, &from, ack, sizeof ack, block, 0, out, sizeof out, &event);
+    expect("the last ACK", fault, TFTP_OK);
+    expect("whether all is acknowledged", event.complete, 1);
+    expect("a timeout after it", tftp_server_timeout(&server, 8, out, sizeof out, &event), TFTP_NO_TRANSFER);
+    expect("a timeout of the other", tftp_server_timeout(&server, 7, out, sizeof out, &event), TFTP_OK);
+    expect_bytes("what it sends again", out, event.send_len, "\0\3\0\1abc", 7);
+    expect("whether it is given up", tftp_server_give_up(&server, 8), 1);
+    expect("whether it was held still", tftp_server_give_up(&server, 8), 0);
+    tftp_server_close(&server);
+    tftp_server_close(&server);
+}
+
+/* A server that receives two blocks while the request for memory of this number is refused: the call that it refused
+ * is made again. Whether it was. */
+static int lacking_server(int number) {
+    struct tftp_options options = {.max_file = 1000, .retries = 5};
+    struct tftp_server server = {0};
+    struct tftp_question question;
+    struct tftp_endpoint from = {{10, 0, 0, 1}, 1};
+    struct tftp_event event = {0};
+    uint8_t reply[TFTP_MAX_REQUEST], block[8], file[16], data[] = "\0\3\0\1one\r\0two";
+    char name[256];
+    static const char write[] = "\0\2a\0netascii\0blksize\0008";
+    const uint8_t *bytes = (const uint8_t *)write;
+    size_t have = 0;
+    asked = 0;
+    refused = number;
+    uint8_t fault = tftp_server_open(&server, &options, 1);
+    if (fault == TFTP_MEMORY) expect("a server without memory", server.is_open, 0);
+    if (fault == TFTP_MEMORY) fault = tftp_server_open(&server, &options, 1);
+    expect("a server", fault, TFTP_OK);
+    if (ask(&server, 1, bytes, sizeof write, name, reply, &question))
+        expect("a question", ask(&server, 1, bytes, sizeof write, name, reply, &question), TFTP_OK);
+    EXPECT_ASKED("a write", TFTP_WANTS_BEGIN, "a", 0);
+    fault = tftp_server_put(&server, 1, &from, bytes, sizeof write, reply, sizeof reply, &event);
+    if (fault == TFTP_MEMORY)
+        fault = tftp_server_put(&server, 1, &from, bytes, sizeof write, reply, sizeof reply, &event);
+    expect("a transfer", fault, TFTP_OK);
+    expect_bytes("its OACK", reply, event.send_len, "\0\6blksize\0008", 12);
+    for (int i = 0; i < 2; i++) {
+        size_t len = i ? 5 : 12;
+        data[3] = (uint8_t)(i + 1);
+        fault = tftp_server_receive(&server, 1, &from, data, len, block, sizeof block, reply, sizeof reply, &event);
+        if (fault == TFTP_MEMORY)
+            fault = tftp_server_receive(&server, 1, &from, data, len, block, sizeof block, reply, sizeof reply, &event);
+        expect("a DATA", fault, TFTP_OK);
+        memcpy(file + have, block, event.file_len);
+        have += event.file_len;
+    }
+    expect_bytes("the file", file, have, "one\rtwoo", 8);
+    expect("whether it is whole", event.complete, 1);
+    tftp_server_close(&server);
+    return asked >= number;
+}
+
 int main(void) {
     struct { struct tftp_endpoint it, behind; } endpoint;
     struct { struct tftp_options it, behind; } options;
@@ -182,8 +316,10 @@ int main(void) {
     memset(&options, 0, sizeof options);
     memset(&event, 0, sizeof event);
     memset(&packet, 0, sizeof packet);
+    struct { struct tftp_question it, behind; } question;
+    memset(&question, 0, sizeof question);
     struct tftp_sizes sizes = {0};
-    tftp_samples(&endpoint.it, &options.it, &event.it, &packet.it, &sizes);
+    tftp_samples(&endpoint.it, &options.it, &event.it, &packet.it, &question.it, &sizes);
 
     for (int i = 0; i < 4; i++) expect("ip", endpoint.it.ip[i], (unsigned)i + 1);
     FIELD(endpoint.it, port, 5);
@@ -211,12 +347,17 @@ int main(void) {
     FIELD(packet.it, number, 22);
     FIELD(packet.it, mode, 23);
     FIELD(packet.it, fault, 24);
+    FIELD(question.it, send_len, 25);
+    FIELD(question.it, name_len, 26);
+    FIELD(question.it, wants, 27);
 
     expect("sizeof endpoint", sizeof(struct tftp_endpoint), sizes.endpoint);
     expect("sizeof options", sizeof(struct tftp_options), sizes.options);
     expect("sizeof event", sizeof(struct tftp_event), sizes.event);
     expect("sizeof packet", sizeof(struct tftp_packet), sizes.packet);
     expect("sizeof end", sizeof(struct tftp_end), sizes.end);
+    expect("sizeof question", sizeof(struct tftp_question), sizes.question);
+    expect("sizeof server", sizeof(struct tftp_server), sizes.server);
 
     /* what is behind each struct is as it was */
     static const unsigned char zeros[64];
@@ -224,6 +365,7 @@ int main(void) {
     expect("behind options", memcmp(&options.behind, zeros, sizeof options.behind), 0);
     expect("behind event", memcmp(&event.behind, zeros, sizeof event.behind), 0);
     expect("behind packet", memcmp(&packet.behind, zeros, sizeof packet.behind), 0);
+    expect("behind question", memcmp(&question.behind, zeros, sizeof question.behind), 0);
 
     /* the numbers of faults: of a closed handle, of a request that is none, of the longest request and one more */
     struct tftp_end end = {0};
@@ -252,8 +394,13 @@ int main(void) {
     without_memory();
     for (int kind = 0; kind < 4; kind++) blocks(kind & 1, kind & 2);
 
+    request_port();
+
     int number = 1;
     while (lacking(number)) number++;
     expect("whether there were requests for memory", number > 3, 1);
+    number = 1;
+    while (lacking_server(number)) number++;
+    expect("whether a server had some", number > 3, 1);
     return wrong;
 }

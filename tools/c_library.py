@@ -217,11 +217,32 @@ def by_rust(scene, room) -> None:
         expect((scene.folder / "got").read_bytes(), content(4_000), "what the example in Rust stored")
 
 
-def by_curl(scene, built) -> None:
-    """Another client gets from the server of files in memory."""
+def clients() -> dict[str, Any]:
+    """Other projects' clients that are installed: how each gets a file of the server, and how it puts one."""
+    known = {
+        "curl": lambda host, port, name: (["curl", "-s", "-o", "got", f"tftp://{host}:{port}/{name}"],
+                                          ["curl", "-s", "-T", "disk", f"tftp://{host}:{port}/curl"]),
+        "atftp": lambda host, port, name: (["atftp", "-g", "-r", name, "-l", "got", host, port],
+                                           ["atftp", "-p", "-r", "atftp", "-l", "disk", host, port]),
+        "busybox": lambda host, port, name: (["busybox", "tftp", "-g", "-r", name, "-l", "got", host, port],
+                                             ["busybox", "tftp", "-p", "-r", "busybox", "-l", "disk", host, port]),
+        "tftp": lambda host, port, name: (["tftp", "-m", "binary", host, port, "-c", "get", name, "got"],
+                                          ["tftp", "-m", "binary", host, port, "-c", "put", "disk", "tftp"]),
+    }
+    return {program: words for program, words in known.items() if shutil.which(program)}
+
+
+def by_others(scene, built, lossy) -> None:
+    """Other projects' clients get from the server of files in memory, put to it, and get what they have put."""
     server, process = serves(scene, built)
-    run("curl", "-s", "-o", "got", f"tftp://{server.word}/memory", cwd=scene.folder)
-    expect((scene.folder / "got").read_bytes(), content(3_000), "what curl stored")
+    for seed, (program, words) in enumerate(clients().items()):
+        way = scene.proxy(server, seed + 20).word.split(":") if lossy else server.word.split(":")
+        for name in ["memory", program]:
+            get, put = words(*way, name)
+            run(*get, cwd=scene.folder)
+            expect((scene.folder / "got").read_bytes(), content(3_000), f"what {program} stored of {name}")
+            if name == "memory":
+                run(*put, cwd=scene.folder)
     ended(process)
 
 
@@ -258,10 +279,11 @@ def tests(room, skipped) -> Iterator[Any]:
                 yield f"{server}, {network}, {built.name}", partial(test, built=built, lossy=lossy)
     if not peer():
         skipped.append("in.tftpd or dnsmasq, as root")
-    if found and shutil.which("curl"):
-        yield "serve, curl", partial(by_curl, built=found[0])
-    else:
-        skipped.append("curl")
+    for lossy, network in [(False, "a good network"), (True, "a bad network")]:
+        if found and clients():
+            yield f"serve, {', '.join(clients())}, {network}", partial(by_others, built=found[0], lossy=lossy)
+    if not clients():
+        skipped.append("other projects' clients")
     if (room / "libtftp.so.0").is_file():
         yield "Python", partial(by_python, library=room / "libtftp.so.0")
     else:

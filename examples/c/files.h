@@ -9,7 +9,8 @@
 
 enum { FILES = 32 };
 
-struct file { char name[128]; uint8_t *bytes; size_t len, room; };
+/* a path has at most 255 bytes */
+struct file { char name[256]; uint8_t *bytes; size_t len, room; };
 
 static struct file files[FILES];
 

@@ -9,25 +9,28 @@
 enum { AT_ONCE = 16 };
 
 struct transfer {
-    struct tftp_end end;
+    bool is_open;
     int fd;                     /* a port of its own: the transfer identifier (RFC 1350, section 4) */
-    struct tftp_endpoint client;
     struct file file;           /* of a read the served one, of a write the one that grows */
     size_t at;
     bool writes, owns;          /* whether the bytes are the transfer's own: of a new file, or a text as it is sent */
     double due;
 };
 
-static struct transfer transfers[AT_ONCE];
+static struct tftp_server server;
+static struct transfer transfers[AT_ONCE]; /* its place here is a transfer's number in the server */
 static uint8_t datagram[TFTP_HEADER + TFTP_MAX_BLOCK + 1], reply[TFTP_HEADER + TFTP_MAX_BLOCK];
 static struct tftp_endpoint own; /* a port of 0 for the transfers */
 static int requests;
 static volatile sig_atomic_t ended;
 
+static uint16_t number(const struct transfer *it) { return (uint16_t)(it - transfers); }
+
 static void shut(struct transfer *it) {
-    tftp_close(&it->end);
+    tftp_server_give_up(&server, number(it));
     close(it->fd);
     if (it->owns) free(it->file.bytes);
+    it->is_open = false;
 }
 
 static void answer(struct transfer *it, const struct tftp_event *event, bool timed_out) {
@@ -36,50 +39,52 @@ static void answer(struct transfer *it, const struct tftp_event *event, bool tim
     if (event) udp_send(it->fd, &event->to, reply, event->send_len);
     if (event && (timed_out || event->progress)) it->due = now() + event->interval;
     if (event && !event->outcome) return;
-    const char *what = it->writes ? "write" : "read";
-    printf("%s %s: %zu bytes, outcome %d\n", what, it->file.name, it->at, event ? event->outcome : -1);
+    printf("%s %s: %zu bytes, outcome %d\n", it->writes ? "write" : "read", it->file.name, it->at,
+           event ? event->outcome : -1);
     fflush(stdout);
     shut(it);
 }
 
 /* Opens the transfer of a request, or says why not: with the code of an ERROR and its text. */
-static const char *open_for(struct transfer *it, const struct tftp_packet *asked, size_t len, struct tftp_event *event,
-                            uint16_t *code) {
-    struct tftp_options options = {.max_file = 1 << 30, .retries = 5};
-    *code = 0;
-    if (asked->name_len >= sizeof it->file.name) return "name too long";
-    memcpy(it->file.name, datagram + 2, asked->name_len); /* the rest is zeros */
+static const char *open_for(struct transfer *it, const struct tftp_endpoint *from, size_t len,
+                            struct tftp_event *event, uint16_t *code) {
     struct file *file = find(it->file.name);
+    struct tftp_packet asked = {0};
     *code = it->writes ? 6 : 1;
     if (it->writes == (file != NULL)) return it->writes ? "file exists" : "file not found";
     if (file) it->file = *file;
-    if (file && asked->mode == 2 && !(it->owns = wire_copy(file, &it->file))) return "out of memory";
+    *code = 0;
+    tftp_decode(datagram, len, &asked);
+    if (file && asked.mode == 2 && !(it->owns = wire_copy(file, &it->file))) return "out of memory";
     uint8_t fault = it->writes
-        ? tftp_serve_put(&it->end, &it->client, datagram, len, &options, reply, sizeof reply, event)
-        : tftp_serve_get(&it->end, &it->client, datagram, len, it->file.len, it->file.bytes, it->file.len, &options,
-                         reply, sizeof reply, event);
+        ? tftp_server_put(&server, number(it), from, datagram, len, reply, sizeof reply, event)
+        : tftp_server_get(&server, number(it), from, datagram, len, it->file.len, it->file.bytes, it->file.len, reply,
+                          sizeof reply, event);
     *code = fault == TFTP_REFUSED_OPTIONS ? 8 : 0;
     return fault == 0 ? NULL : *code ? "options refused" : "cannot be served";
 }
 
-/* A datagram at the request port: the library reads it, this table finds the file. */
+/* A datagram at the request port: the server reads it, and asks for the file. */
 static void request(size_t len, const struct tftp_endpoint *from) {
-    struct tftp_packet packet = {0};
+    struct tftp_question question = {0};
     struct tftp_event event = {0};
-    struct transfer *it = NULL;
-    uint16_t code = 0;
-    if (tftp_decode(datagram, len, &packet) || packet.opcode > 2) return;
-    for (int i = 0; i < AT_ONCE; i++) {
-        if (!transfers[i].end.is_open) it = &transfers[i];
-        else if (!memcmp(&transfers[i].client, from, sizeof *from)) return; /* a request that comes again */
-    }
-    if (it) *it = (struct transfer){.client = *from, .writes = packet.opcode == 2, .owns = packet.opcode == 2};
-    const char *why = it ? open_for(it, &packet, len, &event, &code) : "too many transfers";
+    struct transfer *it = transfers, new = {0};
+    uint16_t code;
+    if (tftp_server_request(&server, from, datagram, len, (uint8_t *)new.file.name, sizeof new.file.name - 1, reply,
+                            sizeof reply, &question))
+        return; /* out of memory: the client sends again */
+    udp_send(requests, from, reply, question.send_len);
+    if (!question.wants) return;
+    while (it->is_open) it++; /* one is free: the server asks for no file if it has as many as there may be */
+    new.writes = new.owns = question.wants == TFTP_WANTS_BEGIN;
+    *it = new;
+    const char *why = open_for(it, from, len, &event, &code);
     if (why) {
-        if (it && it->owns) free(it->file.bytes);
+        if (it->owns) free(it->file.bytes);
         udp_send(requests, from, reply, tftp_error(code, (const uint8_t *)why, strlen(why), reply, sizeof reply));
         return;
     }
+    it->is_open = true;
     it->fd = udp_socket(own);
     it->at = event.file_len;
     answer(it, &event, true);
@@ -89,26 +94,24 @@ static void step(struct transfer *it, ssize_t len, const struct tftp_endpoint *f
     struct tftp_event event = {0};
     uint8_t fault;
     if (len < 0)
-        fault = tftp_timeout(&it->end, reply, sizeof reply, &event);
+        fault = tftp_server_timeout(&server, number(it), reply, sizeof reply, &event);
     else if (it->writes)
-        fault = !grow(&it->file, TFTP_MAX_BLOCK) ? TFTP_MEMORY : tftp_receive(&it->end, from, datagram, (size_t)len,
-            it->file.bytes + it->at, it->file.room - it->at, reply, sizeof reply, &event);
+        fault = !grow(&it->file, TFTP_MAX_BLOCK) ? TFTP_MEMORY : tftp_server_receive(&server, number(it), from,
+            datagram, (size_t)len, it->file.bytes + it->at, it->file.room - it->at, reply, sizeof reply, &event);
     else
-        fault = tftp_send(&it->end, from, datagram, (size_t)len, it->file.bytes + it->at, it->file.len - it->at, reply,
-                          sizeof reply, &event);
+        fault = tftp_server_send(&server, number(it), from, datagram, (size_t)len, it->file.bytes + it->at,
+                                 it->file.len - it->at, reply, sizeof reply, &event);
     if (fault) return; /* nothing has changed: the client sends again */
     it->at += event.file_len;
     if (it->writes) it->file.len = it->at;
     answer(it, &event, len < 0);
 }
 
-static void end(int signal) {
-    (void)signal;
-    ended = 1;
-}
+static void end(int signal) { (void)signal, ended = 1; }
 
 int main(int argc, char **argv) {
-    if (argc < 3) return 2;
+    struct tftp_options options = {.max_file = 1 << 30, .retries = 5};
+    if (argc < 3 || tftp_server_open(&server, &options, AT_ONCE)) return 2;
     signal(SIGTERM, end);
     own = udp_endpoint(argv[1], argv[2]);
     requests = udp_socket(own);
@@ -125,22 +128,22 @@ int main(int argc, char **argv) {
     while (!ended) {
         struct pollfd ready[AT_ONCE + 1] = {{.fd = requests, .events = POLLIN}};
         for (int i = 0; i < AT_ONCE; i++)
-            ready[i + 1] = (struct pollfd){.fd = transfers[i].end.is_open ? transfers[i].fd : -1, .events = POLLIN};
+            ready[i + 1] = (struct pollfd){.fd = transfers[i].is_open ? transfers[i].fd : -1, .events = POLLIN};
         poll(ready, AT_ONCE + 1, 50);
         struct tftp_endpoint from = {0};
         ssize_t len = ready[0].revents ? udp_receive(requests, 0, &from, datagram, sizeof datagram) : -1;
         if (len >= 0) request((size_t)len, &from);
         for (int i = 0; i < AT_ONCE; i++) {
             struct transfer *it = &transfers[i];
-            if (!it->end.is_open || ready[i + 1].fd < 0) continue;
+            if (!it->is_open || ready[i + 1].fd < 0) continue;
             len = ready[i + 1].revents ? udp_receive(it->fd, 0, &from, datagram, sizeof datagram) : -1;
             if (len >= 0) step(it, len, &from);
             else if (now() >= it->due) step(it, -1, &from);
         }
     }
     for (int i = 0; i < AT_ONCE; i++)
-        if (transfers[i].end.is_open) shut(&transfers[i]);
+        if (transfers[i].is_open) shut(&transfers[i]);
     for (int i = 0; i < FILES; i++) free(files[i].bytes);
+    tftp_server_close(&server);
     close(requests);
-    return 0;
 }

@@ -1,6 +1,9 @@
+pub mod HoldingLemmas
 pub mod ListedLemmas
 pub mod LooseValues
 pub mod ReplyLemmas
+pub mod ServerSlotValues
 pub mod SinkLemmas
 pub mod SlotValues
 pub mod StoredLemmas
+pub mod TransferLemmas

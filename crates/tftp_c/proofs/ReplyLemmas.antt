@@ -1,13 +1,13 @@
--- A step of a timeout, as an event reports it.
+-- A step, as an event reports it.
 use Rattle.std.specs.Prelude.{ℕ, ◌≡◌, List, Option, Some, None, option_map}
 use Rattle.std.proofs.Common.{ap, sym, subst, ◌∙◌}
 use Rattle.tftp_ends.specs.declared.endpoint.Endpoint.{Endpoint}
 use Rattle.tftp_ends.specs.declared.outgoing.Outgoing.{Outgoing}
 use Rattle.tftp_ends.specs.declared.record.Step.{Step}
 use Rattle.tftp_ends.specs.End.{EndState, is_progress}
-use Rattle.tftp_ends.specs.Step.{Lends, Reply, lent, reply_bytes, reported, timeout_turn}
+use Rattle.tftp_ends.specs.Step.{Lends, Reply, Turn, lent, reply_bytes, reported, timeout_turn}
 use Rattle.tftp_c.specs.declared.event.TftpEvent.{TftpEvent}
-use Rattle.tftp_c.specs.Handled.{TimedOut}
+use Rattle.tftp_c.specs.Handled.{Steps, TimedOut}
 use Rattle.tftp_c.specs.Reports.{Reports, Sends, SendsReply}
 
 sends_reply : (reply : Option Reply) (to : Option Endpoint) (bytes buffer : List ℕ)
@@ -22,6 +22,29 @@ sends_reply (Some reply) to bytes buffer event goes is h =
     subst (λ (b : List ℕ). Sends (Some reply.to) b buffer event) is
     (subst (λ (t : Option Endpoint). Sends t bytes buffer event) goes h)
 
+-- the step that was made, from what was lent and reported
+pub steps_of : (before : EndState) (turn : Turn) (e : EndState) (step : Step) (outgoing : Outgoing)
+    (buffer : List ℕ) (event : TftpEvent) →
+    Lends before turn e step.to outgoing →
+    step ≡ reported before turn →
+    Sends step.to (lent outgoing e) buffer event →
+    event.progress ≡ step.progress →
+    Reports e event →
+    Steps before turn e buffer event
+steps_of before turn e step outgoing buffer event lends is sends progress reports =
+    record {
+      state = lends.state;
+      sends =
+          sends_reply turn.reply step.to (lent outgoing e) buffer event lends.goes lends.bytes
+          sends;
+      progress =
+          subst
+          (λ (s : EndState). event.progress ≡ is_progress before.position.phase s.position.phase)
+          (sym lends.state)
+          (progress ∙ ap (λ (s : Step). s.progress) is);
+      reports = reports;
+    }
+
 pub timed_out : (before e : EndState) (step : Step) (outgoing : Outgoing) (buffer : List ℕ)
     (event : TftpEvent) →
     Lends before (timeout_turn before) e step.to outgoing →
@@ -35,19 +58,6 @@ timed_out before e step outgoing buffer event lends is sends file progress repor
     record {
       file = file;
       steps =
-          record {
-            state = lends.state;
-            sends =
-                sends_reply (timeout_turn before).reply step.to (lent outgoing e) buffer event
-                lends.goes
-                lends.bytes
-                sends;
-            progress =
-                subst
-                (λ (s : EndState).
-                event.progress ≡ is_progress before.position.phase s.position.phase)
-                (sym lends.state)
-                (progress ∙ ap (λ (s : Step). s.progress) is);
-            reports = reports;
-          };
+          steps_of before (timeout_turn before) e step outgoing buffer event lends is sends
+          progress reports;
     }

@@ -14,7 +14,7 @@ use Rattle.tftp_c.specs.Handled.{Stored}
 use Rattle.tftp_c.specs.Slices.{stored}
 use Rattle.tftp_c.proofs.SinkLemmas.{seen_step}
 
-abbrev seen : SliceSink → MemSinkState
+abbrev pub seen : SliceSink → MemSinkState
 seen s = stored s.room.now s.used s.is_committed
 
 pub stored_made : (from : Endpoint) (datagram : List ℕ) (before e : EndState) (k k' : SliceSink)

@@ -1,10 +1,12 @@
 pub mod Built
+pub mod Elsewhere
 pub mod Handled
 pub mod Listed
 pub mod Modes
 pub mod Opens
 pub mod Owned
 pub mod Reports
+pub mod Served
 pub mod Serves
 pub mod Shown
 pub mod Slices

@@ -3,8 +3,8 @@ use Rattle.std.specs.Prelude.{ℕ, ◌≡◌, ◌≤◌, List, length, take, Opt
 use Rattle.tftp_ends.specs.declared.endpoint.Endpoint.{Endpoint}
 use Rattle.tftp_ends.specs.declared.outcome.Outcome.{Outcome}
 use Rattle.tftp_ends.specs.declared.outcome.Outcome.TheVariants.{PeerError}
-use Rattle.tftp_ends.specs.End.{EndState, is_complete, outcome_of, interval_of, terms_of, number_of}
-use Rattle.tftp_ends.specs.End.{size_of}
+use Rattle.tftp_ends.specs.declared.record.Record.{Record}
+use Rattle.tftp_ends.specs.End.{EndState, record_of, seconds_of}
 use Rattle.tftp_ends.specs.Outcome as outcomes
 use Rattle.tftp_ends.specs.Step.{Reply}
 use Rattle.tftp_c.specs.declared.event.TftpEndpoint.{TftpEndpoint}
@@ -41,10 +41,13 @@ peer_code None = 0
 peer_code (Some outcome) = error_code outcome
 
 -- the state of an end, as an event reports it
-pub record Reports (e : EndState) (event : TftpEvent) : Type 0 where
-  pub complete : event.complete ≡ is_complete e.position.phase
-  pub outcome : event.outcome ≡ outcome_number (outcome_of e.position.phase)
-  pub code : event.peer_code ≡ peer_code (outcome_of e.position.phase)
-  pub interval : event.interval ≡ interval_of (terms_of e.position.phase)
-  pub number : event.number ≡ number_of e.position.phase
-  pub size : event.block_size ≡ size_of (terms_of e.position.phase)
+pub record ReportsRecord (r : Record) (event : TftpEvent) : Type 0 where
+  pub complete : event.complete ≡ r.complete
+  pub outcome : event.outcome ≡ outcome_number r.outcome
+  pub code : event.peer_code ≡ peer_code r.outcome
+  pub interval : event.interval ≡ seconds_of r.timeout
+  pub number : event.number ≡ r.number
+  pub size : event.block_size ≡ r.size
+
+abbrev pub Reports : EndState → TftpEvent → Type 0
+Reports e event = ReportsRecord (record_of e) event

@@ -17,6 +17,15 @@ pub(crate) const REFUSED_OPTIONS: u8 = 7;
 
 pub(crate) const NO_SOURCE: u8 = 8;
 
+pub(crate) const NO_TRANSFER: u8 = 9;
+
+pub(crate) const IN_USE: u8 = 10;
+
+/// What a server asks its caller for: to open a file that is read, or to begin one that is written.
+pub(crate) const WANTS_OPEN: u8 = 1;
+
+pub(crate) const WANTS_BEGIN: u8 = 2;
+
 /// An IPv4 address, in network order, and a UDP port.
 #[repr(C)]
 #[derive(Clone, Copy)]
@@ -64,4 +73,16 @@ pub struct TftpEvent {
     pub progress: bool,
     /// Whether the whole file was stored, or acknowledged.
     pub complete: bool,
+}
+
+/// What a server asks its caller for a datagram at its request port.
+#[repr(C)]
+#[derive(Drop)]
+pub struct TftpQuestion {
+    /// The length of the ERROR that answers the datagram, or 0.
+    pub send_len: usize,
+    /// The length of the path of the file.
+    pub name_len: usize,
+    /// 1 to open the file, 2 to begin it, or 0.
+    pub wants: u8,
 }

@@ -5,22 +5,30 @@
 //! file. `include/tftp.h` declares the calls, with what a caller in C owes.
 #![tactic(auto)]
 
+mod asking;
 mod building;
 mod client;
+mod elsewhere;
 mod error;
 mod event;
 mod handle;
+mod holding;
 mod loose;
 mod opening;
 mod options;
 mod packet;
 mod report;
 mod samples;
+mod served;
+mod server;
+mod server_handle;
+mod server_slot;
 mod serving;
 mod slice_sink;
 mod slice_source;
 mod slot;
 mod stepping;
+mod transfers;
 mod wire_text;
 
 ghost use Rattle.std.specs.Prelude.{◌≡◌, ◌++◌, ◌^◌, ◌-◌, Some, None, length, min, take};
@@ -40,7 +48,7 @@ ghost use Rattle.tftp_c.specs.Serves.{HoldsSuch, ServesGet, ServesPut};
 ghost use Rattle.tftp_c.specs.Shown.{Shows};
 
 use crate::error::write_error;
-use crate::event::{TftpEndpoint, TftpEvent, TftpOptions};
+use crate::event::{TftpEndpoint, TftpEvent, TftpOptions, TftpQuestion};
 use crate::handle::TftpEnd;
 use crate::packet::{TftpPacket, decode};
 use crate::samples::TftpSizes;
@@ -357,11 +365,13 @@ pub extern "C" fn tftp_samples(
     options: &mut TftpOptions,
     event: &mut TftpEvent,
     packet: &mut TftpPacket,
+    question: &mut TftpQuestion,
     sizes: &mut TftpSizes,
 ) {
     *endpoint = samples::endpoint();
     *options = samples::options();
     *event = samples::event(samples::endpoint());
     *packet = samples::packet();
+    *question = samples::question();
     *sizes = samples::sizes();
 }

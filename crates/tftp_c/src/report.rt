@@ -1,12 +1,12 @@
 //! What the calls report to C.
 
 ghost use Rattle.std.specs.Prelude.{◌≡◌, ◌≤◌, length, take, option_map};
-ghost use Rattle.tftp_ends.specs.End.{outcome_of};
 ghost use Rattle.tftp_ends.specs.Step.{lent};
-ghost use Rattle.tftp_c.specs.Reports.{endpoint_of, outcome_number, peer_code, Reports, Sends};
+ghost use Rattle.tftp_c.specs.Reports.{endpoint_of, outcome_number, peer_code, Reports};
+ghost use Rattle.tftp_c.specs.Reports.{ReportsRecord, Sends};
 
 use crate::event::{TftpEndpoint, TftpEvent};
-use tftp_ends::{End, Endpoint, Outcome, Outgoing, Step};
+use tftp_ends::{End, Endpoint, Outcome, Outgoing, Record, Step};
 
 pub(crate) fn endpoint(at: &TftpEndpoint) -> Endpoint
     ensures { result ≡ endpoint_of at.now }
@@ -55,6 +55,36 @@ fn peer_code(outcome: Option<Outcome>) -> u16
     }
 }
 
+/// Reports a step of an end by its record, and copies the datagram to send.
+pub(crate) fn report_record(
+    state: &Record,
+    step: Step,
+    datagram: &[u8],
+    reply: &mut [u8],
+    file_len: usize,
+    event: &mut TftpEvent,
+)
+    ensures sends { Sends step.to datagram.now reply.new event.new }
+    ensures file { event.new.file_len ≡ file_len }
+    ensures progress { event.new.progress ≡ step.progress }
+    ensures reports { ReportsRecord state.now event.new }
+{
+    event.send_len = 0;
+    if let Some(to) = step.to {
+        let at = address(to);
+        event.to = at;
+        event.send_len = copy(datagram, reply);
+    }
+    event.file_len = file_len;
+    event.progress = step.progress;
+    event.interval = state.interval();
+    event.complete = state.complete;
+    event.number = state.number;
+    event.block_size = state.size;
+    event.outcome = outcome_number(state.outcome);
+    event.peer_code = peer_code(state.outcome);
+}
+
 /// Reports a step of an end, and copies the datagram to send.
 pub(crate) fn report(
     end: &End,
@@ -69,19 +99,12 @@ pub(crate) fn report(
     ensures progress { event.new.progress ≡ step.progress }
     ensures reports { Reports end.now event.new }
 {
-    event.send_len = 0;
-    if let Some(to) = step.to {
-        let at = address(to);
-        event.to = at;
-        event.send_len = copy(end.bytes_of(outgoing), reply);
-    }
-    let record = end.record();
-    event.file_len = file_len;
-    event.progress = step.progress;
-    event.interval = end.interval();
-    event.complete = record.complete;
-    event.number = record.number;
-    event.block_size = record.size;
-    event.outcome = outcome_number(record.outcome);
-    event.peer_code = peer_code(record.outcome);
+    report_record(
+        &end.record(),
+        step,
+        end.bytes_of(outgoing),
+        reply,
+        file_len,
+        event,
+    );
 }

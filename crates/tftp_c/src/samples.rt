@@ -3,9 +3,10 @@
 
 ghost use Rattle.std.specs.Prelude.{◌≡◌, [], ◌∷◌, true, false};
 
-use crate::event::{TftpEndpoint, TftpEvent, TftpOptions};
+use crate::event::{TftpEndpoint, TftpEvent, TftpOptions, TftpQuestion};
 use crate::handle::TftpEnd;
 use crate::packet::TftpPacket;
+use crate::server_handle::TftpServer;
 
 /// The size of each struct in bytes.
 #[repr(C)]
@@ -16,6 +17,8 @@ pub struct TftpSizes {
     pub event: u8,
     pub packet: u8,
     pub end: u8,
+    pub question: u8,
+    pub server: u8,
 }
 
 const _: () = prove!(size_of::<TftpEndpoint>() == 6);
@@ -27,6 +30,10 @@ const _: () = prove!(size_of::<TftpEvent>() == 32);
 const _: () = prove!(size_of::<TftpPacket>() == 40);
 
 const _: () = prove!(size_of::<TftpEnd>() == 16);
+
+const _: () = prove!(size_of::<TftpQuestion>() == 24);
+
+const _: () = prove!(size_of::<TftpServer>() == 16);
 
 pub(crate) fn endpoint() -> TftpEndpoint
     ensures ip { result.ip ≡ 1 ∷ 2 ∷ 3 ∷ 4 ∷ [] }
@@ -110,6 +117,16 @@ pub(crate) fn packet() -> TftpPacket
     }
 }
 
+pub(crate) fn question() -> TftpQuestion
+    ensures { result ≡ record { send_len = 25; name_len = 26; wants = 27 } }
+{
+    TftpQuestion {
+        send_len: 25,
+        name_len: 26,
+        wants: 27,
+    }
+}
+
 pub(crate) fn sizes() -> TftpSizes
     ensures { result ≡ record {
       endpoint = 6;
@@ -117,6 +134,8 @@ pub(crate) fn sizes() -> TftpSizes
       event = 32;
       packet = 40;
       end = 16;
+      question = 24;
+      server = 16;
     } }
 {
     TftpSizes {
@@ -125,5 +144,7 @@ pub(crate) fn sizes() -> TftpSizes
         event: 32,
         packet: 40,
         end: 16,
+        question: 24,
+        server: 16,
     }
 }

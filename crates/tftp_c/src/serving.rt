@@ -18,7 +18,7 @@ use tftp_negotiate::{Agreed, Kind, Limits, accept_ref, is_block_size};
 use tftp_wire::{MAX_BLOCK, PacketRef, decode_ref};
 
 /// The limits of a server: the largest block size, if it is one, and the longest file.
-fn limits(options: &TftpOptions) -> Limits
+pub(crate) fn limits(options: &TftpOptions) -> Limits
     ensures limits { result ≡ limits_of options.now }
     ensures block { IsBlockSize result.max_block }
 {

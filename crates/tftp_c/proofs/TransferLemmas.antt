@@ -1,0 +1,182 @@
+-- A step of a transfer that a server holds, as an event reports it.
+use Rattle.std.specs.Prelude.{ℕ, ◌≡◌, ◌-◌, Bool, true, false, List, [], ◌∷◌, length, take, Option, Some, None}
+use Rattle.std.specs.Prelude.{IsSome, option_map, ◌↔◌, IsErrOf, Result, Err}
+use mathlib.Core.Bool.{cond}
+use Rattle.std.specs.Map.{lookup, set_value}
+use Rattle.std.specs.BTreeMap.{is_at}
+use Rattle.std.specs.Ordering.{nat_cmp}
+use Rattle.std.proofs.Common.{refl, ap, sym, subst, ◌∙◌}
+use Rattle.tftp_ends.specs.declared.endpoint.Endpoint.{Endpoint}
+use Rattle.tftp_ends.specs.declared.outgoing.Outgoing.{Outgoing}
+use Rattle.tftp_ends.specs.declared.record.Record.{Record}
+use Rattle.tftp_ends.specs.declared.record.Step.{Step}
+use Rattle.tftp_ends.specs.End.{EndState, record_of}
+use Rattle.tftp_ends.specs.OneFile.{ReceiverStep, SenderStep}
+use Rattle.tftp_ends.specs.Step.{Lends, lent, reported, timeout_turn}
+use Rattle.tftp_file.specs.Memory.{memory_sink, memory_source, new_mem_sink}
+use Rattle.tftp_file.specs.Sink.{sink_through}
+use Rattle.tftp_server.specs.CallersFiles.{SendsLent, StoresLent}
+use Rattle.tftp_server.specs.State.{at, with_next}
+use Rattle.tftp_server.specs.Steps.{TimesOutLent, with_end}
+use Rattle.tftp_c.specs.declared.event.TftpEndpoint.{TftpEndpoint}
+use Rattle.tftp_c.specs.declared.event.TftpEvent.{TftpEvent}
+use Rattle.tftp_c.specs.declared.slice_sink.SliceSink.{SliceSink}
+use Rattle.tftp_c.specs.Handled.{Received, Sent, Stored, Taken, TimedOut}
+use Rattle.tftp_c.specs.Reports.{Reports, Sends, endpoint_of}
+use Rattle.tftp_c.specs.Served.{StepsAt, Table, Transfer}
+use Rattle.tftp_c.proofs.ReplyLemmas.{steps_of, timed_out}
+use Rattle.tftp_c.proofs.StoredLemmas.{seen, stored_made}
+
+-- the value that is set is found
+set_step : {T : Type 0} (test : ℕ → Bool) (e : ℕ × T) (es : List (ℕ × T)) (was now : T) (b : Bool) →
+    test e.0 ≡ b → (lookup test es ≡ Some was → lookup test (set_value test es now) ≡ Some now) →
+    cond b (Some e.1) (lookup test es) ≡ Some was →
+    lookup test (cond b ((e.0, now) ∷ es) (e ∷ set_value test es now)) ≡ Some now
+set_step {T = T} test e es was now true is more found =
+    ap (λ (b : Bool). cond b (Some now) (lookup test es)) is
+set_step {T = T} test e es was now false is more found =
+    ap (λ (b : Bool). cond b (Some e.1) (lookup test (set_value test es now))) is ∙ more found
+
+set_there : {T : Type 0} (test : ℕ → Bool) (es : List (ℕ × T)) (was now : T) →
+    lookup test es ≡ Some was → lookup test (set_value test es now) ≡ Some now
+set_there test [] was now h = absurd (cc)
+set_there test (e ∷ es) was now h = set_step test e es was now (test e.0) refl (set_there test es was now) h
+
+pub next_there : {T : Type 0} (tid : ℕ) (held : List (ℕ × T)) (was now : T) →
+    at tid held ≡ Some was → at tid (with_next tid now held) ≡ Some now
+next_there tid held was now h = set_there (is_at (nat_cmp tid)) held was now h
+
+some_of : {T : Type 0} (o : Option T) (x : T) → o ≡ Some x → IsSome o
+some_of {T = T} o x is = subst (λ (p : Option T). IsSome p) (sym is) refl
+
+module _ (tid : ℕ) {does : EndState → EndState → Type 0} (old new : Table) (h : StepsAt tid does old new) where
+  -- the transfer after its step
+  abbrev stepped : Transfer
+  stepped = with_end h.end h.transfer
+
+  stepped_there : at tid new.held ≡ Some stepped
+  stepped_there =
+      subst (λ (t : Table). at tid t.held ≡ Some stepped) (sym h.held)
+      (next_there tid old.held h.transfer stepped h.found)
+
+  pub still_held : IsSome (at tid new.held)
+  still_held = some_of (at tid new.held) stepped stepped_there
+
+  -- what is known of the end after it
+  pub steps_as : (makes : EndState → EndState → Type 0) (after : EndState → Type 0) →
+      ((it : Transfer) → at tid new.held ≡ Some it → after it.end) →
+      ((before e : EndState) → does before e → after e → makes before e) →
+      StepsAt tid makes old new
+  steps_as makes after known then =
+      record {
+        transfer = h.transfer;
+        found = h.found;
+        end = h.end;
+        steps = then h.transfer.end h.end h.steps (known stepped stepped_there);
+        held = h.held;
+      }
+
+-- what an event tells of an end: the datagram to send, and its state
+abbrev Told : Step → Outgoing → List ℕ → TftpEvent → EndState → Type 0
+Told step outgoing reply event e = Sends step.to (lent outgoing e) reply event × Reports e event
+
+module _ (tid : ℕ) (old new : Table) (step : Step) (outgoing : Outgoing) (count : ℕ) (reply : List ℕ)
+    (event : TftpEvent)
+    (sends : (it : Transfer) → at tid new.held ≡ Some it → Sends step.to (lent outgoing it.end) reply event)
+    (reports : (it : Transfer) → at tid new.held ≡ Some it → Reports it.end event)
+    (file : event.file_len ≡ count) (progress : event.progress ≡ step.progress) where
+  told : (it : Transfer) → at tid new.held ≡ Some it → Told step outgoing reply event it.end
+  told it there = (sends it there, reports it there)
+
+  pub received_at : (from : TftpEndpoint) (at : Endpoint) (datagram room bytes : List ℕ) → at ≡ endpoint_of from →
+      StepsAt tid (λ before e. Stored at datagram before e room bytes step outgoing count) old new →
+      StepsAt tid (λ before e. Received from datagram before e room bytes reply event) old new
+  received_at from at datagram room bytes is h =
+      steps_as tid old new h (λ before e. Received from datagram before e room bytes reply event)
+      (Told step outgoing reply event) told
+      (λ before e s t. record {
+        turn = s.turn;
+        sink = s.sink;
+        makes = subst (λ (a : Endpoint). ReceiverStep memory_sink a datagram before (new_mem_sink (length room) false)
+            s.turn s.sink) is s.makes;
+        stored = subst (λ (n : ℕ). take n bytes ≡ s.sink.holding.bytes) (sym file) s.stored;
+        steps = steps_of before s.turn e step outgoing reply event s.lends s.reports t.0 progress t.1;
+      })
+
+  pub sent_at : (from : TftpEndpoint) (at : Endpoint) (datagram next : List ℕ) → at ≡ endpoint_of from →
+      StepsAt tid (λ before e. Taken at datagram before e next step outgoing count) old new →
+      StepsAt tid (λ before e. Sent from datagram before e next reply event) old new
+  sent_at from at datagram next is h =
+      steps_as tid old new h (λ before e. Sent from datagram before e next reply event)
+      (Told step outgoing reply event) told
+      (λ before e s t. record {
+        turn = s.turn;
+        rest = s.rest;
+        makes = subst (λ (a : Endpoint). SenderStep memory_source a datagram before next s.turn s.rest) is s.makes;
+        taken = file ∙ s.taken;
+        steps = steps_of before s.turn e step outgoing reply event s.lends s.reports t.0 progress t.1;
+      })
+
+  pub timed_out_at :
+      StepsAt tid (λ before e. Lends before (timeout_turn before) e step.to outgoing
+      × (step ≡ reported before (timeout_turn before))) old new →
+      count ≡ 0 →
+      StepsAt tid (λ before e. TimedOut before e reply event) old new
+  timed_out_at h none =
+      steps_as tid old new h (λ before e. TimedOut before e reply event)
+      (Told step outgoing reply event) told
+      (λ before e s t. timed_out before e step outgoing reply event s.0 s.1 t.0 (file ∙ none) progress t.1)
+
+-- ---- what the server's calls make, as steps of a transfer
+module _ (tid : ℕ) (old new : Table) (step : Step) (outgoing : Outgoing) (rest : new ≡ record old { held = new.held }) where
+  -- the table has the transfer after its step
+  with_step : (it : Transfer) → new.held ≡ with_next tid it old.held → new ≡ record old { held = with_next tid it old.held }
+  with_step it held = rest ∙ ap (λ (h : List (ℕ × Transfer)). record old { held = h }) held
+
+  pub lent_at : TimesOutLent tid old.held new.held step outgoing →
+      StepsAt tid (λ before e. Lends before (timeout_turn before) e step.to outgoing
+      × (step ≡ reported before (timeout_turn before))) old new
+  lent_at h =
+      record {
+        transfer = h.transfer;
+        found = h.found;
+        end = h.end;
+        steps = (h.carries, h.reports);
+        held = with_step (with_end h.end h.transfer) h.held;
+      }
+
+  pub stored_at : (from : Endpoint) (datagram : List ℕ) (k k' : SliceSink) (room file : List ℕ) →
+      seen k ≡ new_mem_sink (length room) false →
+      file ≡ k'.room.now →
+      StoresLent (sink_through memory_sink seen) k k' from datagram tid old.held new.held step outgoing →
+      StepsAt tid (λ before e. Stored from datagram before e room file step outgoing k'.used) old new
+  stored_at from datagram k k' room file empty same h =
+      record {
+        transfer = h.transfer;
+        found = h.found;
+        end = h.end;
+        steps = stored_made from datagram h.transfer.end h.end k k' room file step outgoing empty same
+            (h.turn, h.steps, h.lends, h.reports);
+        held = with_step (with_end h.end h.transfer) h.held;
+      }
+
+  pub taken_at : (from : Endpoint) (datagram next source left : List ℕ) (count : ℕ) →
+      source ≡ next →
+      count ≡ length next - length left →
+      SendsLent memory_source source left from datagram tid old.held new.held step outgoing →
+      StepsAt tid (λ before e. Taken from datagram before e next step outgoing count) old new
+  taken_at from datagram next source left count same taken h =
+      record {
+        transfer = h.transfer;
+        found = h.found;
+        end = h.end;
+        steps = record {
+          turn = h.turn;
+          rest = left;
+          makes = subst (λ (n : List ℕ). SenderStep memory_source from datagram h.transfer.end n h.turn left) same h.steps;
+          lends = h.lends;
+          reports = h.reports;
+          taken = taken;
+        };
+        held = with_step (with_end h.end h.transfer) h.held;
+      }

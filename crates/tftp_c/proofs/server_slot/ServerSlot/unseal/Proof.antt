@@ -1,0 +1,59 @@
+-- `unseal` gives the pointer its type back.
+use Rattle.std.proofs.Common.{◌≡◌, List, [], ◌∷◌, ◌++◌, refl, sym, subst}
+use mir.Syntax.{impl, tnil, dnil}
+use mir.Raw.{raw as bare}
+use mir.Val.{Val, vptr}
+use base.Logic.{SProp, ent, emp, never, fst∗, id⊢}
+use base.Fml.{ftrue}
+use prog.Wp.{WpFn}
+use types.Logic.{sem}
+use types.Kit.{‵, raw, ◌⊛◌, ◌$◌, ◌∵◌, !, qed, by, move, keep, split, fsplit, fjoin, suffices, use0, rewrite}
+use types.Run.{stop, fld, of_opd, no_more, and_then, returns, enter}
+use types.ByLocal.{alloc_all, pass_all, free_all, look_at, get, get_in, sets}
+use types.Part.{agg, sub, whole}
+use contract.Monad.{fact, fact_i}
+use contract.Running.{tables}
+use denote.Exit.{yes}
+use denote.Memory.{lone as alone}
+use denote.RattleType.{RattleType, owns}
+use denote.RawPtr.{Ptr, block_ptr, null_ptr, in_a_block}
+use denote.Signature.{types_at, plain}
+use denote.Steps.{nothing, heard}
+use denote.Triple.Walked.{Stays, stay_dropped, walk_of}
+use Rattle.core.proofs.alloc.Calls.{Al, Goes-blank, handle_tells}
+use Rattle.std.specs.Prelude.{Some, Option, IsSome}
+use Rattle.std.proofs.raw_atomic.Walks.{proved_at, leaves}
+use Rattle.std_alloc.specs.Box.Ownership.{box_owns}
+use Rattle.std_heap.specs.contracts.Global as heap
+use Rattle.std_heap.proofs.Global.TheLaws.{the_row_laws}
+use Rattle.std_heap.specs.contracts.GlobalAllocator.TheImpl.{ghosts}
+use Rattle.tftp_c.proofs.LooseValues.{parts, typed, together}
+use Rattle.tftp_c.proofs.ServerSlotValues.{lone, slot_out, some_is}
+use Rattle.tftp_c.specs.Owned.{owned_at}
+use Rattle.tftp_c.specs.contracts.server_slot.ServerSlot.unseal.{ended, clauses}
+use Rattle.tftp_c.specs.contracts.server_slot.ServerSlot.unseal.Key.{name as #self}
+use Rattle.tftp_c.proofs.server_slot.ServerSlot.unseal.Statement.{statement}
+use Rattle.tftp_c.proofs.server_slot.ServerSlot.unseal.Code as code
+use Rattle.tftp_c.specs.contracts.served.Served as served
+use Rattle.tftp_c.specs.contracts.server_slot.ServerSlot as slot
+
+pub unseal_spec : {M : Type 1} → statement M
+unseal_spec 𝓤 𝓛 𝓜 𝓡 wired =
+    let H = 𝓛.H in let 𝓣 = tables 𝓤 H 𝓜 𝓡 𝓡.env in let c = clauses 𝓛 𝓜.mem 𝓡.returns in let R = served.the_row in let Z = heap.the_row in
+    let S : RattleType = slot.the_row in let hs : Stays ended.signature.params ended.kept = (stay_dropped (plain (λ _. S)) yes, (stay_dropped (plain (λ _. Z)) yes, tt)) in
+    let al : Al = record { row = Z; laws = the_row_laws; g = ghosts; d = impl [] tnil dnil; drops = impl [] tnil dnil } in
+    proved_at 𝓛 ended hs c 𝓜 𝓡 (Goes-blank 𝓛 0 (plain (λ _. S)) yes (λ κs x f. tt), (Goes-blank 𝓛 0 (plain (λ _. Z)) yes (λ κs x f. tt), tt)) #self code.function (code.unfolded 𝓤 H 𝓜 𝓡 wired) (λ z are.
+    let v = z.0.3.0 in let a = z.0.3.1.0 in let Post : Val → SProp 𝓤 = (walk_of 𝓛 ended hs c).post z in let Run : List Val → SProp 𝓤 = λ us. WpFn 𝓤 H 𝓣.C 𝓣.Λ code.function us Post in
+    qed 𝓛 ((‵ ftrue ⊛ ‵ (owns (types_at ended.signature.params z.0.0) z.0.3 z.0.4)) ∷ raw (fact 𝓤 (IsSome v.value)) ∷ []) ∵ split ! $ move ! (1 ∷ []) $ fsplit ! $ slot_out ! v z.0.4.0 (λ ws.
+    move ! (1 ∷ []) $ fsplit ! $ handle_tells al ! a z.0.4.1.0 (λ h ea fits. move ! (4 ∷ []) $ heard ! (IsSome v.value) (λ some. let x = (some_is v.value some).0 in let is = (some_is v.value some).1 in
+    move ! (2 ∷ []) $ rewrite ! 0 (λ (o : Option R.Denot). ‵ (owned_at R v.at o)) is refl $
+    in_a_block ! v.at (λ p. box_owns (ghosts.dealloc_token a) R p x) (fst∗ 𝓤 (never 𝓤) (sem 𝓛 (ghosts.dealloc_token a (bare (alone R.mir)) null_ptr))) (λ b o e.
+    -- [the block; the handle; no more; no token]
+    let us = subst (λ (p : Ptr). z.0.4.0 ≡ lone p ∷ []) e ws in let w : Val = lone (block_ptr b o) in let typed = typed R Z the_row_laws ghosts b o h fits in
+    suffices ! (Run (w ∷ h ∷ [])) (subst (λ (us : List Val). ent 𝓤 (Run (w ∷ h ∷ [])) (Run us)) (sym (λ i. us i ++ (ea i ++ []))) (id⊢ 𝓤 (Run (w ∷ h ∷ [])))) $
+    enter ! 𝓣.C 𝓣.Λ code.function (w ∷ h ∷ []) Post $ alloc_all ! (λ l. pass_all ! refl ((tt, (tt, tt)), (fits, tt)) $
+    sets ! (of_opd ! (get_in ! (fld ! refl (stop !)) (sub ! 0 refl (whole !)))) refl (tt, tt) $
+    sets ! (of_opd ! (get ! refl)) refl (tt, tt) $
+    sets ! (agg ! (and_then ! (get ! refl) (and_then ! (get ! refl) (no_more !)))) refl typed $
+    together R Z the_row_laws ghosts ! b o h a x $ use0 𝓛 (raw (fact 𝓤 (Some x ≡ v.value))) (fact_i 𝓤 (Some x ≡ v.value) (emp 𝓤) (sym is)) $ nothing ! $ nothing ! $ fjoin ! $ nothing ! $ fjoin ! $
+    returns ! (look_at ! 0 refl) $ free_all ! refl $ keep ! (4 ∷ 0 ∷ 2 ∷ 1 ∷ []) $ by ! (leaves 𝓛 ended hs c z (parts (vptr b o) h) (record { at = block_ptr b o; alloc = a; value = x }) (tt, (tt, tt)) (tt, (tt, tt)))))))))

@@ -1,0 +1,28 @@
+-- The store of a server whose files are its caller's: it has no file, and refuses every call.
+use Rattle.std.specs.Prelude.{◌≡◌, None, ⊤}
+use Rattle.tftp_file.specs.Source.{SourceMeaning}
+use Rattle.tftp_file.specs.declared.fault.StoreFault.TheVariants.{Io}
+use Rattle.tftp_store.specs.Store.{StoreMeaning}
+
+-- a source that always fails
+abbrev pub no_source : {F : Type 0} → SourceMeaning F
+no_source =
+    record { left = λ source. None; may_fail = λ source want. ⊤; fails = λ source want. ⊤ }
+
+-- a store that refuses every call
+abbrev pub no_store : {S D : Type 0} → StoreMeaning S D
+no_store =
+    record {
+      stored = λ s. None;
+      drafted = λ draft. None;
+      may_refuse_open = λ s path fault. fault ≡ Io;
+      may_refuse_begin = λ s path replace fault. fault ≡ Io;
+      must_refuse_open = λ s path fault. fault ≡ Io;
+      must_fail = λ s path want. ⊥;
+      begun = λ path before after fault. ⊤;
+      after_append = λ before after fault. ⊤;
+      after_commit = λ before after fault. ⊤;
+      after_write_behind = λ before after. ⊤;
+      may_refuse_append = λ s draft bytes fault. fault ≡ Io;
+      may_refuse_commit = λ s path draft replace fault. fault ≡ Io;
+    }

@@ -1,0 +1,265 @@
+//! The calls of a server: its request port, and its transfers over the files of its caller.
+
+ghost use Rattle.std.specs.Prelude.{◌≡◌, ◌↔◌, false, is_some, None};
+ghost use Rattle.tftp_server.specs.CallersFiles.{is_open_receiver, is_open_sender};
+ghost use Rattle.tftp_server.specs.State.{at, is_open, without};
+ghost use Rattle.tftp_c.specs.Served.{AsksFor, HoldsServer, OnServer, OpensGet, OpensPut};
+ghost use Rattle.tftp_c.specs.Served.{ReceivedAt, SentAt, Starts, TimedOutAt};
+
+use crate::event::{self, TftpEndpoint, TftpEvent, TftpOptions, TftpQuestion};
+use crate::server_handle::TftpServer;
+use crate::{asking, holding, transfers};
+use std::alloc::Global;
+
+/// Opens a server that holds at most so many transfers at once, after closing what `server` held.
+/// After a fault `server` is closed.
+#[unsafe(no_mangle)]
+pub extern "C" fn tftp_server_open(
+    alloc: Global,
+    server: &mut TftpServer,
+    options: &TftpOptions,
+    transfers: u8,
+) -> u8
+    ensures ok { result ≡ 0
+        → HoldsServer server.new.slot.value (λ s. Starts options.now transfers s) }
+    ensures err { (result ≡ 0 → ⊥) → server.new.slot.value ≡ None }
+{
+    server.close(alloc);
+    match holding::start(alloc, options, transfers) {
+        Ok(opened) => match Box::new(alloc, opened) {
+            Ok(opened) => {
+                server.put(opened);
+                0
+            }
+            Err(_) => event::MEMORY,
+        },
+        Err(fault) => fault,
+    }
+}
+
+/// Reads a datagram at the request port: the path of the file that it asks for is written to
+/// `name`, or the ERROR that answers it to `reply`.
+#[unsafe(no_mangle)]
+pub extern "C" fn tftp_server_request(
+    alloc: Global,
+    server: &mut TftpServer,
+    from: &TftpEndpoint,
+    datagram: &[u8],
+    name: &mut [u8],
+    reply: &mut [u8],
+    question: &mut TftpQuestion,
+) -> u8
+    ensures ok { OnServer server.old.slot.value server.new.slot.value (λ s _. result ≡ 0
+        → AsksFor s.server from.now datagram.now name.new reply.new question.new) }
+    ensures same { server.new.slot.value ≡ server.old.slot.value }
+    ensures unmoved { (result ≡ 0 → ⊥) → question.new ≡ question.old }
+    ensures none { server.old.slot.value ≡ None → result ≡ 1 }
+{
+    match server.take(alloc) {
+        Some(held) => {
+            let answer = asking::request(
+                alloc,
+                &held.server,
+                from,
+                datagram,
+                name,
+                reply,
+                question,
+            );
+            server.put(held);
+            answer
+        }
+        None => event::NOT_OPEN,
+    }
+}
+
+/// Opens a transfer for a read request: the file has `length` bytes, of which `next` are the first.
+#[unsafe(no_mangle)]
+pub extern "C" fn tftp_server_get(
+    alloc: Global,
+    server: &mut TftpServer,
+    tid: u16,
+    from: &TftpEndpoint,
+    request: &[u8],
+    length: u64,
+    next: &[u8],
+    reply: &mut [u8],
+    event: &mut TftpEvent,
+) -> u8
+    ensures ok { OnServer server.old.slot.value server.new.slot.value (λ s t. result ≡ 0
+        → OpensGet tid from.now request.now length next.now s.options reply.new event.new s.server
+        t.server) }
+    ensures options { OnServer server.old.slot.value server.new.slot.value (λ s t.
+        t.options ≡ s.options) }
+    ensures err { (result ≡ 0 → ⊥) → server.new.slot.value ≡ server.old.slot.value }
+    ensures none { server.old.slot.value ≡ None → result ≡ 1 }
+{
+    match server.take(alloc) {
+        Some(mut held) => {
+            let answer = holding::get(
+                alloc, &mut held, tid, from, request, length, next, reply, event,
+            );
+            server.put(held);
+            answer
+        }
+        None => event::NOT_OPEN,
+    }
+}
+
+/// Opens a transfer for a write request.
+#[unsafe(no_mangle)]
+pub extern "C" fn tftp_server_put(
+    alloc: Global,
+    server: &mut TftpServer,
+    tid: u16,
+    from: &TftpEndpoint,
+    request: &[u8],
+    reply: &mut [u8],
+    event: &mut TftpEvent,
+) -> u8
+    ensures ok { OnServer server.old.slot.value server.new.slot.value (λ s t. result ≡ 0
+        → OpensPut tid from.now request.now s.options reply.new event.new s.server t.server) }
+    ensures options { OnServer server.old.slot.value server.new.slot.value (λ s t.
+        t.options ≡ s.options) }
+    ensures err { (result ≡ 0 → ⊥) → server.new.slot.value ≡ server.old.slot.value }
+    ensures none { server.old.slot.value ≡ None → result ≡ 1 }
+{
+    match server.take(alloc) {
+        Some(mut held) => {
+            let answer = holding::put(alloc, &mut held, tid, from, request, reply, event);
+            server.put(held);
+            answer
+        }
+        None => event::NOT_OPEN,
+    }
+}
+
+/// Handles a datagram at the transfer with the identifier, as `tftp_receive`.
+#[unsafe(no_mangle)]
+pub extern "C" fn tftp_server_receive(
+    alloc: Global,
+    server: &mut TftpServer,
+    tid: u16,
+    from: &TftpEndpoint,
+    datagram: &[u8],
+    file: &mut [u8],
+    reply: &mut [u8],
+    event: &mut TftpEvent,
+) -> u8
+    ensures ok { OnServer server.old.slot.value server.new.slot.value (λ s t. result ≡ 0
+        → ReceivedAt tid from.now datagram.now file.old file.new reply.new event.new s.server
+        t.server) }
+    ensures options { OnServer server.old.slot.value server.new.slot.value (λ s t.
+        t.options ≡ s.options) }
+    ensures no_transfer { OnServer server.old.slot.value server.new.slot.value (λ s _.
+        (result ≡ 9) ↔ (is_open_receiver (at tid s.server.held) ≡ false)) }
+    ensures err { (result ≡ 0 → ⊥) → server.new.slot.value ≡ server.old.slot.value }
+    ensures unmoved { (result ≡ 0 → ⊥) → event.new ≡ event.old }
+    ensures none { server.old.slot.value ≡ None → result ≡ 1 }
+{
+    match server.take(alloc) {
+        Some(mut held) => {
+            let answer = transfers::receive(
+                &mut held.server,
+                tid,
+                from,
+                datagram,
+                file,
+                reply,
+                event,
+            );
+            server.put(held);
+            answer
+        }
+        None => event::NOT_OPEN,
+    }
+}
+
+/// Handles a datagram at the transfer with the identifier, as `tftp_send`.
+#[unsafe(no_mangle)]
+pub extern "C" fn tftp_server_send(
+    alloc: Global,
+    server: &mut TftpServer,
+    tid: u16,
+    from: &TftpEndpoint,
+    datagram: &[u8],
+    next: &[u8],
+    reply: &mut [u8],
+    event: &mut TftpEvent,
+) -> u8
+    ensures ok { OnServer server.old.slot.value server.new.slot.value (λ s t. result ≡ 0
+        → SentAt tid from.now datagram.now next.now reply.new event.new s.server t.server) }
+    ensures options { OnServer server.old.slot.value server.new.slot.value (λ s t.
+        t.options ≡ s.options) }
+    ensures no_transfer { OnServer server.old.slot.value server.new.slot.value (λ s _.
+        (result ≡ 9) ↔ (is_open_sender (at tid s.server.held) ≡ false)) }
+    ensures err { (result ≡ 0 → ⊥) → server.new.slot.value ≡ server.old.slot.value }
+    ensures unmoved { (result ≡ 0 → ⊥) → event.new ≡ event.old }
+    ensures none { server.old.slot.value ≡ None → result ≡ 1 }
+{
+    match server.take(alloc) {
+        Some(mut held) => {
+            let answer = transfers::send(&mut held.server, tid, from, datagram, next, reply, event);
+            server.put(held);
+            answer
+        }
+        None => event::NOT_OPEN,
+    }
+}
+
+/// Delivers a timeout to the transfer with the identifier, as `tftp_timeout`.
+#[unsafe(no_mangle)]
+pub extern "C" fn tftp_server_timeout(
+    alloc: Global,
+    server: &mut TftpServer,
+    tid: u16,
+    reply: &mut [u8],
+    event: &mut TftpEvent,
+) -> u8
+    ensures ok { OnServer server.old.slot.value server.new.slot.value (λ s t. result ≡ 0
+        → TimedOutAt tid reply.new event.new s.server t.server) }
+    ensures options { OnServer server.old.slot.value server.new.slot.value (λ s t.
+        t.options ≡ s.options) }
+    ensures no_transfer { OnServer server.old.slot.value server.new.slot.value (λ s _.
+        (result ≡ 9) ↔ (is_open (at tid s.server.held) ≡ false)) }
+    ensures err { (result ≡ 0 → ⊥) → server.new.slot.value ≡ server.old.slot.value }
+    ensures unmoved { (result ≡ 0 → ⊥) → event.new ≡ event.old }
+    ensures none { server.old.slot.value ≡ None → result ≡ 1 }
+{
+    match server.take(alloc) {
+        Some(mut held) => {
+            let answer = transfers::time_out(&mut held.server, tid, reply, event);
+            server.put(held);
+            answer
+        }
+        None => event::NOT_OPEN,
+    }
+}
+
+/// Removes the transfer with the identifier, open or closed, and returns whether there was one.
+#[unsafe(no_mangle)]
+pub extern "C" fn tftp_server_give_up(alloc: Global, server: &mut TftpServer, tid: u16) -> bool
+    ensures removed { OnServer server.old.slot.value server.new.slot.value (λ s t. t ≡ record s {
+      server = record s.server { held = without tid s.server.held };
+    }) }
+    ensures held { OnServer server.old.slot.value server.new.slot.value (λ s _.
+        result ≡ is_some (at tid s.server.held)) }
+    ensures none { server.old.slot.value ≡ None → result ≡ false }
+{
+    match server.take(alloc) {
+        Some(mut held) => {
+            let was_held = held.server.give_up(tid).is_some();
+            server.put(held);
+            was_held
+        }
+        None => false,
+    }
+}
+
+/// Closes the server and its transfers, and frees their memory, if there is one.
+#[unsafe(no_mangle)]
+pub extern "C" fn tftp_server_close(alloc: Global, server: &mut TftpServer)
+    ensures { server.new.slot.value ≡ None }
+{
+    server.close(alloc);
+}

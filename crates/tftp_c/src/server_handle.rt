@@ -1,0 +1,66 @@
+//! The handle of C: a server, or none.
+
+ghost use Rattle.std.specs.Prelude.{◌≡◌, Some, None, is_some, option_map};
+ghost use Rattle.std.specs.declared.option.Option.{Option};
+
+use crate::served::Served;
+use crate::server_slot::ServerSlot;
+use std::alloc::Global;
+use std::mem;
+
+/// A server, or none. All bits zero is none.
+#[repr(C)]
+#[derive(Drop)]
+pub struct TftpServer {
+    is_open: bool,
+    pub slot: ServerSlot,
+    ghost agrees: { is_open ≡ is_some slot.value },
+}
+
+impl TftpServer {
+    fn closed() -> TftpServer
+        ensures { result.slot.value ≡ None }
+    {
+        TftpServer {
+            is_open: false,
+            slot: ServerSlot::empty(),
+        }
+    }
+
+    fn of(server: Box<Served>) -> TftpServer
+        ensures { result.slot.value ≡ Some server.value }
+    {
+        TftpServer {
+            is_open: true,
+            slot: ServerSlot::of(server),
+        }
+    }
+
+    /// Takes the server, and leaves none.
+    pub(crate) fn take(&mut self, alloc: Global) -> Option<Box<Served>>
+        ensures taken { option_map (λ b. b.value) result ≡ self.old.slot.value }
+        ensures left { self.new.slot.value ≡ None }
+    {
+        let held = mem::replace(self, TftpServer::closed());
+        if held.is_open {
+            Some(held.slot.into_box(alloc))
+        } else {
+            None
+        }
+    }
+
+    /// Puts a server where there is none.
+    pub(crate) fn put(&mut self, server: Box<Served>)
+        requires { self.old.slot.value ≡ None }
+        ensures { self.new.slot.value ≡ Some server.value }
+    {
+        mem::replace(self, TftpServer::of(server));
+    }
+
+    pub(crate) fn close(&mut self, alloc: Global)
+        ensures { self.new.slot.value ≡ None }
+    {
+        let held = self.take(alloc);
+        drop(held);
+    }
+}

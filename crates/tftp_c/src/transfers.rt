@@ -1,0 +1,164 @@
+//! The steps of the transfers of a server for C, over the bytes of its caller.
+
+ghost use Rattle.std.specs.Prelude.{◌≡◌, ◌↔◌, false, IfOk, IsErrOf, IsSome, OnErr, Some};
+ghost use Rattle.tftp_ends.specs.Step.{lent};
+ghost use Rattle.tftp_server.specs.CallersFiles.{is_open_receiver, is_open_sender};
+ghost use Rattle.tftp_server.specs.State.{at, is_open};
+ghost use Rattle.tftp_c.specs.Handled.{Stored, Taken};
+ghost use Rattle.tftp_c.specs.Reports.{Reports, Sends};
+ghost use Rattle.tftp_c.specs.Served.{ReceivedAt, SentAt, StepsAt, TimedOutAt, Transfer};
+
+use crate::elsewhere::Elsewhere;
+use crate::event::{TftpEndpoint, TftpEvent};
+use crate::holding::number;
+use crate::report::{endpoint, report_record};
+use crate::slice_sink::SliceSink;
+use crate::slice_source::SliceSource;
+use tftp_ends::{Endpoint, Outgoing, Step};
+use tftp_server::{Server, ServerFault};
+
+/// Reports a step of the transfer that has the identifier, and copies the datagram to send.
+fn report_at(
+    server: &Server<Elsewhere>,
+    tid: u16,
+    step: Step,
+    outgoing: Outgoing,
+    reply: &mut [u8],
+    file_len: usize,
+    event: &mut TftpEvent,
+)
+    requires { IsSome (at tid server.now.held) }
+    ensures sends { (it : Transfer) → at tid server.now.held ≡ Some it
+        → Sends step.to (lent outgoing it.end) reply.new event.new }
+    ensures reports { (it : Transfer) → at tid server.now.held ≡ Some it
+        → Reports it.end event.new }
+    ensures file { event.new.file_len ≡ file_len }
+    ensures progress { event.new.progress ≡ step.progress }
+{
+    let Some(record) = server.record(tid) else {
+        unreachable!()
+    };
+    let Some(datagram) = server.bytes_of(tid, outgoing) else {
+        unreachable!()
+    };
+    report_record(&record, step, datagram, reply, file_len, event);
+}
+
+/// A receiver's step over a buffer, with the number of bytes that it stored.
+fn store(
+    server: &mut Server<Elsewhere>,
+    tid: u16,
+    from: Endpoint,
+    datagram: &[u8],
+    file: &mut [u8],
+) -> Result<(Step, Outgoing, usize), ServerFault>
+    ensures ok { IfOk result (λ made. StepsAt tid (λ before e. Stored from datagram.now before e
+        file.old file.new made.0 made.1 made.2) server.old server.new) }
+    ensures no_such_tid { IsErrOf result ServerFault.NoSuchTid
+        ↔ (is_open_receiver (at tid server.old.held) ≡ false) }
+    ensures err { OnErr result (server.new ≡ server.old) }
+{
+    let mut sink = SliceSink {
+        room: file,
+        used: 0,
+        is_committed: false,
+    };
+    match server.lend_sink(tid, &mut sink, from, datagram) {
+        Ok((step, outgoing)) => Ok((step, outgoing, sink.used)),
+        Err(fault) => Err(fault),
+    }
+}
+
+/// A sender's step over the next bytes of its file, with the number of bytes that it took.
+fn take(
+    server: &mut Server<Elsewhere>,
+    tid: u16,
+    from: Endpoint,
+    datagram: &[u8],
+    next: &[u8],
+) -> Result<(Step, Outgoing, usize), ServerFault>
+    ensures ok { IfOk result (λ made. StepsAt tid (λ before e. Taken from datagram.now before e
+        next.now made.0 made.1 made.2) server.old server.new) }
+    ensures no_such_tid { IsErrOf result ServerFault.NoSuchTid
+        ↔ (is_open_sender (at tid server.old.held) ≡ false) }
+    ensures err { OnErr result (server.new ≡ server.old) }
+{
+    let mut source = SliceSource::of(next);
+    match server.lend_source(tid, &mut source, from, datagram) {
+        Ok((step, outgoing)) => {
+            let count = next.len().saturating_sub(source.rest().len());
+            Ok((step, outgoing, count))
+        }
+        Err(fault) => Err(fault),
+    }
+}
+
+/// Handles a datagram at a transfer that receives.
+pub(crate) fn receive(
+    server: &mut Server<Elsewhere>,
+    tid: u16,
+    from: &TftpEndpoint,
+    datagram: &[u8],
+    file: &mut [u8],
+    reply: &mut [u8],
+    event: &mut TftpEvent,
+) -> u8
+    ensures ok { result ≡ 0 → ReceivedAt tid from.now datagram.now file.old file.new reply.new
+        event.new server.old server.new }
+    ensures no_transfer { (result ≡ 9)
+        ↔ (is_open_receiver (at tid server.old.held) ≡ false) }
+    ensures err { (result ≡ 0 → ⊥) → (server.new ≡ server.old) × (event.new ≡ event.old) }
+{
+    match store(server, tid, endpoint(from), datagram, file) {
+        Ok((step, outgoing, count)) => {
+            report_at(server, tid, step, outgoing, reply, count, event);
+            0
+        }
+        Err(fault) => number(fault),
+    }
+}
+
+/// Handles a datagram at a transfer that sends.
+pub(crate) fn send(
+    server: &mut Server<Elsewhere>,
+    tid: u16,
+    from: &TftpEndpoint,
+    datagram: &[u8],
+    next: &[u8],
+    reply: &mut [u8],
+    event: &mut TftpEvent,
+) -> u8
+    ensures ok { result ≡ 0 → SentAt tid from.now datagram.now next.now reply.new event.new
+        server.old server.new }
+    ensures no_transfer { (result ≡ 9)
+        ↔ (is_open_sender (at tid server.old.held) ≡ false) }
+    ensures err { (result ≡ 0 → ⊥) → (server.new ≡ server.old) × (event.new ≡ event.old) }
+{
+    match take(server, tid, endpoint(from), datagram, next) {
+        Ok((step, outgoing, count)) => {
+            report_at(server, tid, step, outgoing, reply, count, event);
+            0
+        }
+        Err(fault) => number(fault),
+    }
+}
+
+/// Delivers a timeout to a transfer.
+pub(crate) fn time_out(
+    server: &mut Server<Elsewhere>,
+    tid: u16,
+    reply: &mut [u8],
+    event: &mut TftpEvent,
+) -> u8
+    ensures ok { result ≡ 0 → TimedOutAt tid reply.new event.new server.old server.new }
+    ensures no_transfer { (result ≡ 9) ↔ (is_open (at tid server.old.held) ≡ false) }
+    ensures err { (result ≡ 0 → ⊥) → (server.new ≡ server.old) × (event.new ≡ event.old) }
+{
+    match server.handle_timeout(tid) {
+        Ok((step, outgoing)) => {
+            report_at(server, tid, step, outgoing, reply, 0, event);
+            0
+        }
+        Err(fault) => number(fault),
+    }
+}
