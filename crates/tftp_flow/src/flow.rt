@@ -214,7 +214,7 @@ impl Flow {
         let now = self.newest;
         self.looked = now.second();
         self.recent.forget_all();
-        self.index.remove_silent(self.transfers.as_slice(), now);
+        self.index.remove_silent(self.transfers.as_mut_slice(), now);
         self.transfers.retain(|transfer| !transfer.is_silent(now));
     }
 
@@ -359,11 +359,28 @@ impl Flow {
         let mut transfer = Transfer::new(self.alloc, number, seen, what)?;
         self.recent.open()?;
         self.recent.forget(seen.from);
-        transfer.before = self.index.of_client(seen.from);
+        let before = self.index.of_client(seen.from);
+        transfer.before = before;
         self.index.add_client(seen.from, number)?;
         self.transfers.push(transfer)?;
+        self.link(before, number);
         self.begun = number;
         Ok(Placed::Begun)
+    }
+
+    /// Notes which transfer comes after one from its client's endpoint.
+    fn link(&mut self, before: Option<u64>, after: u64)
+        ensures { IsSameLines self.old self.new }
+    {
+        let Some(before) = before else {
+            return;
+        };
+        let Some(index) = index_of(self.transfers.as_slice(), before) else {
+            return;
+        };
+        if let Some(transfer) = self.transfers.get_mut(index) {
+            transfer.after = Some(after);
+        }
     }
 
     fn add_stray(&mut self, seen: &Seen<'_>) -> Result<Placed, AllocError>

@@ -1,6 +1,7 @@
 //! Which transfers an endpoint has, by their numbers.
 
 use crate::flow::moment::Moment;
+use crate::flow::recent::index_of;
 use crate::flow::transfer::Transfer;
 use std::alloc::{AllocError, Global};
 use std::collections::BTreeMap;
@@ -44,21 +45,22 @@ impl Index {
     }
 
     /// Forgets the transfers that are over.
-    pub(crate) fn remove_silent(&mut self, transfers: &[Transfer], now: Moment) {
-        for transfer in transfers {
-            if transfer.is_silent(now) {
-                self.remove(transfer);
+    pub(crate) fn remove_silent(&mut self, transfers: &mut [Transfer], now: Moment) {
+        for index in 0..transfers.len() {
+            if let Some(entry) = Entry::of_silent(transfers, index, now) {
+                self.remove(entry);
+                entry.unlink(transfers);
             }
         }
     }
 
     /// Forgets a transfer. The newest before it from its client's endpoint takes its place there.
-    fn remove(&mut self, transfer: &Transfer) {
-        if self.of_client(transfer.client) == Some(transfer.number) {
-            self.replace_client(transfer.client, transfer.before);
+    fn remove(&mut self, entry: Entry) {
+        if self.of_client(entry.client) == Some(entry.number) {
+            self.replace_client(entry.client, entry.before);
         }
-        if let Some(server) = transfer.server {
-            if self.of_server(server) == Some(transfer.number) {
+        if let Some(server) = entry.server {
+            if self.of_server(server) == Some(entry.number) {
                 self.servers.remove(&server);
             }
         }
@@ -73,4 +75,48 @@ impl Index {
             *newest = before;
         }
     }
+}
+
+/// What is known of a transfer by its endpoints.
+#[derive(Clone, Copy)]
+struct Entry {
+    number: u64,
+    client: SocketAddrV4,
+    server: Option<SocketAddrV4>,
+    /// The transfers before and after it from its client's endpoint.
+    before: Option<u64>,
+    after: Option<u64>,
+}
+
+impl Entry {
+    /// The entry of the transfer at an index, if it is over.
+    fn of_silent(transfers: &[Transfer], index: usize, now: Moment) -> Option<Entry> {
+        let transfer = transfers.get(index)?;
+        if !transfer.is_silent(now) {
+            return None;
+        }
+        Some(Entry {
+            number: transfer.number,
+            client: transfer.client,
+            server: transfer.server,
+            before: transfer.before,
+            after: transfer.after,
+        })
+    }
+
+    /// Links the transfers before and after it with each other.
+    fn unlink(self, transfers: &mut [Transfer]) {
+        if let Some(before) = found(transfers, self.before) {
+            before.after = self.after;
+        }
+        if let Some(after) = found(transfers, self.after) {
+            after.before = self.before;
+        }
+    }
+}
+
+/// The transfer of a number.
+fn found(transfers: &mut [Transfer], number: Option<u64>) -> Option<&mut Transfer> {
+    let index = index_of(transfers, number?)?;
+    transfers.get_mut(index)
 }

@@ -93,6 +93,8 @@ pub struct Transfer {
     pub number: u64,
     /// The number of the last transfer before it from the client's endpoint.
     pub(crate) before: Option<u64>,
+    /// The number of the first transfer after it from there.
+    pub(crate) after: Option<u64>,
     /// The client's transfer identifier.
     pub client: SocketAddrV4,
     /// Where the request was sent.
@@ -152,6 +154,7 @@ impl Transfer {
             alloc,
             number,
             before: None,
+            after: None,
             client: seen.from,
             asked_at: seen.to,
             server: None,
