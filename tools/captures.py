@@ -338,6 +338,20 @@ def try_selection(check) -> None:
         check.fails(f"--json of a quote: {output!r}")
 
 
+def try_port_again(check) -> None:
+    """A client asks three times from one port, of a server that answers from its own: when the second transfer is over, the
+    first is known all the same."""
+    client, other, server = (f.CLIENT, 2070), ("192.0.2.3", 2070), (f.SERVER, 69)
+    told = [(0, client, server, rrq("a")), (1, server, client, data(1, bytes(512))), (2, client, server, rrq("b")),
+            (3, client, server, rrq("c")), (4, other, server, rrq("d")), (5, server, other, data(1, bytes(512)))]
+    for second in range(10, 60, 10):
+        told += [(second * 1_000_000 + after, client, server, sent) for after, sent in enumerate((ack(1), rrq("c")))]
+    status, output, _ = check.run(["--json"], f.classic(f.frames(told, f.RAW), f.RAW))
+    counts = {it["request"]: (it["datagrams"], it["beside"]) for it in map(json.loads, output.splitlines())}
+    if status != 0 or counts != {f"RRQ {name} octet": (count, 0) for name, count in zip("abcd", (7, 1, 6, 2))}:
+        check.fails(f"a port again: {status}, {counts}")
+
+
 def try_lines(check) -> None:
     """Lines of digits: their ends, the longest and a longer one."""
     check.ends("line ends", [], b"00040001\r\n00040002\n00040003\r", 0, "ACK 1\nACK 2\nACK 3\n")
@@ -589,8 +603,8 @@ def main() -> int:
         check = Check(show, Path(folder))
         name = Path(show).name
         check.ends("help", ["--help"], b"", 0, HELP.replace("Usage: tftp-show", f"Usage: {name}"))
-        for tries in (try_formats, try_fragments, try_cuts, try_selection, try_lines, try_live, try_many,
-                      try_examples, try_tshark, try_tcpdump, try_transfers, try_mutations):
+        for tries in (try_formats, try_fragments, try_cuts, try_selection, try_port_again, try_lines, try_live,
+                      try_many, try_examples, try_tshark, try_tcpdump, try_transfers, try_mutations):
             tries(check)
     for wrong in check.wrong[:20]:
         print(f"captures: {wrong}")
