@@ -1,20 +1,26 @@
 //! Begins the draft of a new file.
 
-ghost use Rattle.std.specs.Prelude.{IfErr};
+ghost use Rattle.std.specs.Prelude.{◌≡◌, ◌⊎◌, [], Ok, IfOk, IfErr, OnErr};
+ghost use Rattle.std.specs.String.{string_bytes};
+ghost use Rattle.tftp_disk.specs.Changes.{changes};
 ghost use Rattle.tftp_disk.specs.DiskFault.{MayNotName, is_replaced};
+ghost use Rattle.tftp_folder.specs.Begin.{draft_name, MakesDraft, BeginsNone};
+ghost use Rattle.tftp_folder.specs.Draft.{bytes_of};
+ghost use Rattle.tftp_folder.specs.Uploads.{path_below};
 
 use crate::folder_draft::FolderDraft;
 use crate::served_folder::ServedFolder;
-use std::alloc::{AllocError, Global};
+use std::alloc::Global;
 use std::rt::Files;
 use tftp_disk::{DiskJournal, DiskWriter, Existing, write_buffer};
 use tftp_file::{Path, StoreFault};
+use tftp_lines::Reason;
 
 /// The memory of a draft, which it has before the disk is asked.
 #[derive(Drop)]
 pub(crate) struct DraftMemory {
-    /// The path of the root, with space for a path below it.
-    root: String,
+    /// The path of the file after the commit.
+    target: String,
     /// The path of the draft.
     draft: String,
     buffer: Vec<u8>,
@@ -27,9 +33,21 @@ impl DraftMemory {
         alloc: Global,
         path: &Path,
         port: u16,
-    ) -> Result<DraftMemory, AllocError> {
+    ) -> Result<DraftMemory, StoreFault>
+        ensures draft { IfOk result (λ memory. string_bytes memory.draft
+            ≡ draft_name (string_bytes served.now.drafts) port) }
+        ensures target { IfOk result (λ memory. string_bytes memory.target
+            ≡ path_below (string_bytes served.now.root) path.now) }
+        ensures fault { IfErr result (λ fault. (fault ≡ StoreFault.Io)
+            ⊎ (fault ≡ StoreFault.Memory)) }
+    {
+        let target = match served.path_of(alloc, path) {
+            Ok(target) => target,
+            Err(StoreFault::Memory) => return Err(StoreFault::Memory),
+            Err(_) => return Err(served.refused(Reason::NoFolder)),
+        };
         Ok(DraftMemory {
-            root: served.root_for(alloc, path)?,
+            target,
             draft: served.draft_path(alloc, port)?,
             buffer: write_buffer(alloc)?,
         })
@@ -46,14 +64,20 @@ pub(crate) fn begin_draft<R: Files + Drop>(
     memory: DraftMemory,
     existing: Existing,
 ) -> Result<FolderDraft<R::File>, StoreFault>
-    ensures { IfErr result (MayNotName (is_replaced existing)) }
+    ensures fault { IfErr result (MayNotName (is_replaced existing)) }
+    ensures ok { IfOk result (λ draft. (draft.draft ≡ memory.draft)
+        × (draft.target ≡ memory.target) × (bytes_of draft ≡ [])
+        × MakesDraft (string_bytes memory.draft) (changes journal.old.events) (Ok tt)
+        (changes journal.new.events)) }
+    ensures err { OnErr result (BeginsNone (string_bytes memory.draft)
+        (changes journal.old.events) (changes journal.new.events)) }
 {
     let DraftMemory {
-        root,
+        target,
         draft,
         buffer,
     } = memory;
-    let place = served.place_to_write(journal, path, root, existing)?;
+    let place = served.place_to_write(journal, path, target, existing)?;
     let file = served.make_draft(journal, draft.as_str())?;
     let replaced = place.replaced;
     let mut draft = FolderDraft::new(DiskWriter::new(file, buffer), port, draft, place);

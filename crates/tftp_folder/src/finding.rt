@@ -1,13 +1,19 @@
 //! Finds the files of a folder on the system.
 
-ghost use Rattle.std.specs.Prelude.{◌≡◌, IfErr, IfOk};
+ghost use Rattle.std.specs.Prelude.{◌≡◌, ◌⊎◌, ◌∷◌, [], Ok, Err, IfErr, IfOk, OnErr};
+ghost use Rattle.std.specs.String.{string_bytes};
+ghost use Rattle.tftp_disk.specs.Changes.{changes};
+ghost use Rattle.tftp_disk.specs.DiskJournal.{Done};
+ghost use Rattle.tftp_disk.specs.DiskJournal.DiskEvent.{Made};
+ghost use Rattle.tftp_folder.specs.Begin.{draft_name, MakesDraft};
+ghost use Rattle.tftp_folder.specs.Uploads.{path_below};
 ghost use Rattle.tftp_disk.specs.DiskFault.{MayNotOpen, MayNotStore, MayNotName, is_replaced};
 
 use crate::naming::{NameFault, has_no_link};
 use crate::replacing::check_replaced;
 use crate::served_folder::ServedFolder;
 use std::alloc::{AllocError, Global};
-use std::io::ErrorKind;
+use std::io::{self, ErrorKind};
 use std::rt::Files;
 use tftp_disk::{DiskFile, DiskJournal, Existing, FileId, Found, Kind, folder_of, folder_or_root};
 use tftp_file::{Path, StoreFault};
@@ -42,60 +48,72 @@ pub(crate) struct Place {
 }
 
 impl<R: Files + Drop> ServedFolder<R> {
-    /// The path of the root, with space for a path of the store below it.
-    pub(crate) fn root_for(&self, alloc: Global, path: &Path) -> Result<String, AllocError> {
-        let root = self.root.as_str();
-        let space = root
-            .len()
-            .saturating_add(1)
-            .saturating_add(path.as_bytes().len());
-        let mut at = String::with_capacity(alloc, space)?;
-        at.push_str(root)?;
-        Ok(at)
-    }
-
-    /// Resolves a path from the root, component by component. `Missing` if a parent folder is. The
-    /// first path is that of the root.
-    fn walk(
-        &self,
-        journal: &mut DiskJournal,
-        path: &Path,
-        root: String,
-    ) -> Result<Location, StoreFault>
-        ensures { IfErr result MayNotOpen }
+    /// The path on the system of a path of the store. `Missing` never comes: the path is text.
+    pub(crate) fn path_of(&self, alloc: Global, path: &Path) -> Result<String, StoreFault>
+        ensures below { IfOk result (λ target. string_bytes target
+            ≡ path_below (string_bytes self.now.root) path.now) }
+        ensures fault { IfErr result (λ fault. (fault ≡ StoreFault.Missing)
+            ⊎ (fault ≡ StoreFault.Memory)) }
     {
         let Ok(name) = str::from_utf8(path.as_bytes()) else {
             return Err(StoreFault::Missing);
         };
-        let mut location = Location {
-            path: root,
-            has_link: false,
-            folder: None,
-            found: None,
+        let root = self.root.as_str();
+        match format!(in alloc; "{root}/{name}") {
+            Ok(target) => Ok(target),
+            Err(_) => Err(StoreFault::Memory),
+        }
+    }
+
+    /// Looks at a path of the store, after each folder above it, from the root down. `Missing` if a
+    /// folder is. `target` is the path on the system.
+    fn walk(
+        &self,
+        journal: &mut DiskJournal,
+        path: &Path,
+        target: String,
+    ) -> Result<Location, StoreFault>
+        ensures fault { IfErr result MayNotOpen }
+        ensures path { IfOk result (λ location. location.path ≡ target) }
+        ensures looks { changes journal.new.events ≡ changes journal.old.events }
+    {
+        let Ok(name) = str::from_utf8(path.as_bytes()) else {
+            return Err(StoreFault::Missing);
         };
+        let mut has_link = false;
+        let mut folder = None;
+        let mut found: Option<Found> = None;
         let mut is_missing = false;
+        let mut end = self.root.len();
         for segment in name.split('/') {
             if is_missing {
                 return Err(StoreFault::Missing);
             }
-            if let Some(folder) = location.found {
-                location.folder = Some(folder.id);
+            if let Some(above) = found {
+                folder = Some(above.id);
             }
-            location.path.push('/')?;
-            location.path.push_str(segment)?;
-            match tftp_disk::look(&self.files, journal, location.path.as_str()) {
-                Ok(found) => {
-                    location.has_link |= found.kind == Kind::Link;
-                    location.found = Some(found);
+            end = end.saturating_add(1).saturating_add(segment.len());
+            let Some(at) = target.as_str().get(..end) else {
+                return Err(StoreFault::Missing);
+            };
+            match tftp_disk::look(&self.files, journal, at) {
+                Ok(seen) => {
+                    has_link |= seen.kind == Kind::Link;
+                    found = Some(seen);
                 }
                 Err(error) if error.kind() == ErrorKind::NotFound => {
                     is_missing = true;
-                    location.found = None;
+                    found = None;
                 }
                 Err(error) => return Err(self.open_refused(&error)),
             }
         }
-        Ok(location)
+        Ok(Location {
+            path: target,
+            has_link,
+            folder,
+            found,
+        })
     }
 
     /// The target of a path with links. `Io` if it is outside the folder.
@@ -158,8 +176,8 @@ impl<R: Files + Drop> ServedFolder<R> {
     ) -> Result<Option<(DiskFile<R::File>, Found)>, StoreFault>
         ensures { IfErr result MayNotOpen }
     {
-        let root = self.root_for(alloc, path)?;
-        let mut location = self.walk(journal, path, root)?;
+        let target = self.path_of(alloc, path)?;
+        let mut location = self.walk(journal, path, target)?;
         if location.has_link {
             location = self.follow(journal, alloc, location.path.as_str())?;
         }
@@ -214,19 +232,21 @@ impl<R: Files + Drop> ServedFolder<R> {
 
     /// The place to write a file at. Its path has no link and is on the device of the drafts. A
     /// regular file may be there only if it is to be replaced, and then the server's user may write
-    /// it. The path of the root has space for the path below it.
+    /// it. `target` is the path on the system.
     pub(crate) fn place_to_write(
         &self,
         journal: &mut DiskJournal,
         path: &Path,
-        root: String,
+        target: String,
         existing: Existing,
     ) -> Result<Place, StoreFault>
-        ensures { IfErr result (MayNotName (is_replaced existing)) }
+        ensures fault { IfErr result (MayNotName (is_replaced existing)) }
+        ensures place { IfOk result (λ place. place.path ≡ target) }
+        ensures looks { changes journal.new.events ≡ changes journal.old.events }
     {
-        let location = match self.walk(journal, path, root) {
+        let location = match self.walk(journal, path, target) {
             Ok(location) => location,
-            // The path has space: this is the system's memory.
+            // The path is there: this is the system's memory.
             Err(StoreFault::Memory) => return Err(StoreFault::Full),
             // A missing folder is not created.
             Err(StoreFault::Missing) => return Err(self.refused(Reason::NoFolder)),
@@ -256,7 +276,8 @@ impl<R: Files + Drop> ServedFolder<R> {
         path: &str,
         found: &Found,
     ) -> Result<(), StoreFault>
-        ensures { IfErr result MayNotStore }
+        ensures fault { IfErr result MayNotStore }
+        ensures looks { changes journal.new.events ≡ changes journal.old.events }
     {
         match check_replaced(&self.files, journal, path, found) {
             Ok(()) => Ok(()),
@@ -272,7 +293,8 @@ impl<R: Files + Drop> ServedFolder<R> {
         journal: &mut DiskJournal,
         found: Option<FileId>,
     ) -> Result<FileId, StoreFault>
-        ensures { IfErr result MayNotStore }
+        ensures fault { IfErr result MayNotStore }
+        ensures looks { changes journal.new.events ≡ changes journal.old.events }
     {
         let folder = match found {
             Some(folder) => folder,
@@ -288,7 +310,8 @@ impl<R: Files + Drop> ServedFolder<R> {
 
     /// The folder at a path.
     fn id_of(&self, journal: &mut DiskJournal, folder: &str) -> Result<FileId, StoreFault>
-        ensures { IfErr result MayNotStore }
+        ensures fault { IfErr result MayNotStore }
+        ensures looks { changes journal.new.events ≡ changes journal.old.events }
     {
         match tftp_disk::look(&self.files, journal, folder) {
             Ok(found) => Ok(found.id),
@@ -297,7 +320,10 @@ impl<R: Files + Drop> ServedFolder<R> {
     }
 
     /// The path of the draft of the transfer at the port.
-    pub(crate) fn draft_path(&self, alloc: Global, port: u16) -> Result<String, AllocError> {
+    pub(crate) fn draft_path(&self, alloc: Global, port: u16) -> Result<String, AllocError>
+        ensures { IfOk result (λ path. string_bytes path
+            ≡ draft_name (string_bytes self.now.drafts) port) }
+    {
         let folder = self.drafts.as_str();
         format!(in alloc; "{folder}/.tftp-{port}")
     }
@@ -308,12 +334,35 @@ impl<R: Files + Drop> ServedFolder<R> {
         journal: &mut DiskJournal,
         draft: &str,
     ) -> Result<DiskFile<R::File>, StoreFault>
-        ensures { IfErr result MayNotStore }
+        ensures fault { IfErr result MayNotStore }
+        ensures ok { IfOk result (λ file. (file.journal.events ≡ Made draft.now (Ok tt) ∷ [])
+            × MakesDraft draft.now (changes journal.old.events) (Ok tt)
+            (changes journal.new.events)) }
+        ensures err { OnErr result ((answer : Done) × MakesDraft draft.now
+            (changes journal.old.events) answer (changes journal.new.events)) }
     {
-        let _ = tftp_disk::remove(&self.files, journal, draft);
-        match tftp_disk::make(&self.files, journal, draft) {
+        match make_again(&self.files, journal, draft) {
             Ok(file) => Ok(file),
             Err(error) => Err(self.write_refused(&error)),
         }
+    }
+}
+
+/// Creates a draft file, after removing an old one of that name.
+fn make_again<R: Files>(
+    files: &R,
+    journal: &mut DiskJournal,
+    draft: &str,
+) -> io::Result<DiskFile<R::File>>
+    ensures ok { IfOk result (λ file. (file.journal.events ≡ Made draft.now (Ok tt) ∷ [])
+        × MakesDraft draft.now (changes journal.old.events) (Ok tt)
+        (changes journal.new.events)) }
+    ensures err { IfErr result (λ error. MakesDraft draft.now (changes journal.old.events)
+        (Err error) (changes journal.new.events)) }
+{
+    let _ = tftp_disk::remove(files, journal, draft);
+    match tftp_disk::make(files, journal, draft) {
+        Ok(file) => Ok(file),
+        Err(error) => Err(error),
     }
 }

@@ -1,5 +1,11 @@
 //! A file that is being written to a folder.
 
+ghost use Rattle.std.specs.Prelude.{◌≡◌, ◌++◌, [], Some, None, true, false, OnOk, OnErr};
+ghost use Rattle.std.specs.String.{string_bytes};
+ghost use Rattle.tftp_disk.specs.Changes.{changes};
+ghost use Rattle.tftp_disk.specs.DiskJournal.{made_at, is_synced, sync_failed, state_of};
+ghost use Rattle.tftp_disk.specs.DiskWriter.{calls_of, handed};
+
 use crate::finding::Place;
 use crate::replacing::permissions_of;
 use std::fs::OpenFile;
@@ -35,16 +41,26 @@ pub struct FolderDraft<F> {
     unsynced: u64,
     /// The first failure, which each later call returns.
     failure: Option<io::Error>,
+    ghost placed: { made_at writer.file.journal.events ≡ Some (string_bytes draft) },
+    ghost sound: { failure ≡ None → sync_failed writer.file.journal.events ≡ false },
 }
 
 impl<F: Write> FolderDraft<F> {
+    ghost use Rattle.tftp_folder.specs.Draft.{SameNames};
+
     /// A draft with nothing written.
     pub(crate) fn new(
         writer: DiskWriter<F>,
         port: u16,
         draft: String,
         place: Place,
-    ) -> FolderDraft<F> {
+    ) -> FolderDraft<F>
+        requires placed { made_at (calls_of writer) ≡ Some (string_bytes draft) }
+        requires sound { sync_failed (calls_of writer) ≡ false }
+        ensures writer { result.writer ≡ writer }
+        ensures draft { result.draft ≡ draft }
+        ensures target { result.target ≡ place.path }
+    {
         FolderDraft {
             writer,
             port,
@@ -57,7 +73,11 @@ impl<F: Write> FolderDraft<F> {
     }
 
     /// Buffers bytes to be written.
-    pub(crate) fn append(&mut self, bytes: &[u8]) -> io::Result<()> {
+    pub(crate) fn append(&mut self, bytes: &[u8]) -> io::Result<()>
+        ensures ok { OnOk result (handed self.new.writer ≡ handed self.old.writer ++ bytes.now) }
+        ensures err { OnErr result (handed self.new.writer ≡ handed self.old.writer) }
+        ensures names { SameNames self.old self.new }
+    {
         if let Some(error) = self.failure {
             return Err(error);
         }
@@ -69,13 +89,21 @@ impl<F: Write> FolderDraft<F> {
     }
 
     /// Keeps the failure.
-    fn fail(&mut self, error: io::Error) -> io::Error {
+    fn fail(&mut self, error: io::Error) -> io::Error
+        ensures writer { self.new.writer ≡ self.old.writer }
+        ensures names { SameNames self.old self.new }
+    {
         self.failure = Some(error);
         error
     }
 
     /// Writes the buffered bytes.
-    fn flush(&mut self) -> io::Result<()> {
+    fn flush(&mut self) -> io::Result<()>
+        ensures handed { handed self.new.writer ≡ handed self.old.writer }
+        ensures empty { OnOk result (self.new.writer.buffer.items ≡ []) }
+        ensures failure { OnOk result (self.new.failure ≡ None) }
+        ensures names { SameNames self.old self.new }
+    {
         if let Some(error) = self.failure {
             return Err(error);
         }
@@ -86,14 +114,21 @@ impl<F: Write> FolderDraft<F> {
     }
 
     /// The open file.
-    pub(crate) fn file(&self) -> &DiskFile<F> {
+    pub(crate) fn file(&self) -> &DiskFile<F>
+        ensures { result.now ≡ self.now.writer.file }
+    {
         self.writer.file()
     }
 }
 
 impl<F: Write + OpenFile> FolderDraft<F> {
+    ghost use Rattle.tftp_folder.specs.Draft.{SameNames, IsDone, StaysDone, file_bytes};
+
     /// Writes the buffered bytes once they are due. It syncs them only if too many are unsynced.
-    pub(crate) fn write_behind(&mut self) {
+    pub(crate) fn write_behind(&mut self)
+        ensures handed { handed self.new.writer ≡ handed self.old.writer }
+        ensures names { SameNames self.old self.new }
+    {
         if self.writer.is_due() && self.flush().is_ok() && self.unsynced >= MOST_UNSYNCED {
             self.sync();
         }
@@ -105,7 +140,10 @@ impl<F: Write + OpenFile> FolderDraft<F> {
     }
 
     /// Writes and syncs the appended bytes, unless an earlier call failed.
-    pub(crate) fn sync(&mut self) {
+    pub(crate) fn sync(&mut self)
+        ensures handed { handed self.new.writer ≡ handed self.old.writer }
+        ensures names { SameNames self.old self.new }
+    {
         self.unsynced = 0;
         if self.flush().is_err() {
             return;
@@ -116,7 +154,12 @@ impl<F: Write + OpenFile> FolderDraft<F> {
     }
 
     /// Writes and syncs all appended bytes.
-    pub(crate) fn finish(&mut self) -> io::Result<()> {
+    pub(crate) fn finish(&mut self) -> io::Result<()>
+        ensures handed { handed self.new.writer ≡ handed self.old.writer }
+        ensures written { OnOk result (file_bytes self.new ≡ handed self.old.writer) }
+        ensures done { OnOk result (IsDone self.new) }
+        ensures names { SameNames self.old self.new }
+    {
         match self.flush() {
             Ok(()) => self.sync_all(),
             Err(error) => Err(error),
@@ -124,30 +167,56 @@ impl<F: Write + OpenFile> FolderDraft<F> {
     }
 
     /// Syncs the file.
-    pub(crate) fn sync_all(&mut self) -> io::Result<()> {
+    pub(crate) fn sync_all(&mut self) -> io::Result<()>
+        ensures written { file_bytes self.new ≡ file_bytes self.old }
+        ensures buffer { self.new.writer.buffer ≡ self.old.writer.buffer }
+        ensures ok { OnOk result (is_synced (calls_of self.new.writer) ≡ true) }
+        ensures sound { OnOk result (sync_failed (calls_of self.new.writer)
+            ≡ sync_failed (calls_of self.old.writer)) }
+        ensures names { SameNames self.old self.new }
+    {
         match self.writer.sync_all() {
             Ok(()) => Ok(()),
-            Err(error) => Err(self.fail(error)),
+            Err(error) => {
+                self.failure = Some(error);
+                Err(error)
+            }
         }
     }
 
     /// Gives the file the permissions of another. Returns whether it had others.
-    pub(crate) fn take_permissions(&mut self, replaced: &Found) -> io::Result<bool> {
+    pub(crate) fn take_permissions(&mut self, replaced: &Found) -> io::Result<bool>
+        ensures stays { StaysDone self.old self.new }
+        ensures buffer { self.new.writer.buffer ≡ self.old.writer.buffer }
+    {
         let wanted = permissions_of(replaced);
-        if permissions_of(&self.writer.examine()?) == wanted {
-            return Ok(false);
+        match self.writer.examine() {
+            Ok(found) => {
+                if permissions_of(&found) == wanted {
+                    return Ok(false);
+                }
+            }
+            Err(error) => return Err(error),
         }
-        self.writer.set_mode(wanted)?;
-        Ok(true)
+        match self.writer.set_mode(wanted) {
+            Ok(()) => Ok(true),
+            Err(error) => Err(error),
+        }
     }
 
     /// Whether the path of the draft is that of the open file.
-    pub(crate) fn is_at_draft<R: Files>(&mut self, files: &R, journal: &mut DiskJournal) -> bool {
+    pub(crate) fn is_at_draft<R: Files>(&mut self, files: &R, journal: &mut DiskJournal) -> bool
+        ensures stays { StaysDone self.old self.new }
+        ensures looks { changes journal.new.events ≡ changes journal.old.events }
+    {
         is_at(&mut self.writer, files, journal, self.draft.as_str())
     }
 
     /// Whether the path of the file after the commit is that of the open file.
-    pub(crate) fn is_at_target<R: Files>(&mut self, files: &R, journal: &mut DiskJournal) -> bool {
+    pub(crate) fn is_at_target<R: Files>(&mut self, files: &R, journal: &mut DiskJournal) -> bool
+        ensures stays { StaysDone self.old self.new }
+        ensures looks { changes journal.new.events ≡ changes journal.old.events }
+    {
         is_at(&mut self.writer, files, journal, self.target.as_str())
     }
 }
@@ -158,8 +227,14 @@ fn is_at<R: Files, F: OpenFile>(
     files: &R,
     journal: &mut DiskJournal,
     path: &str,
-) -> bool {
-    match (writer.examine(), tftp_disk::look(files, journal, path)) {
+) -> bool
+    ensures state { state_of (calls_of writer.new) ≡ state_of (calls_of writer.old) }
+    ensures buffer { writer.new.buffer ≡ writer.old.buffer }
+    ensures looks { changes journal.new.events ≡ changes journal.old.events }
+{
+    let opened = writer.examine();
+    let found = tftp_disk::look(files, journal, path);
+    match (opened, found) {
         (Ok(opened), Ok(found)) => opened.id.is(found.id),
         _ => false,
     }

@@ -231,11 +231,16 @@ impl<R: Files + Drop> ServedStore<Reason> for FolderStore<R> {
 }
 
 impl<R: Files + Drop> Store for FolderStore<R> {
-    ghost use Rattle.std.specs.Prelude.{◌≡◌, refl, None, true, Err, IfOk, IfErr, IfSome, IsErrOf};
+    ghost use Rattle.std.specs.Prelude.{◌≡◌, ◌≢◌, ◌++◌, refl, None, true, Err, IfOk, IfErr, IfSome};
+    ghost use Rattle.std.specs.Prelude.{IsErrOf, OnOk, OnErr};
+    ghost use Rattle.std.specs.String.{string_bytes};
+    ghost use Rattle.tftp_disk.specs.Changes.{changes};
+    ghost use Rattle.tftp_folder.specs.Begin.{draft_name, BeginsNone};
+    ghost use Rattle.tftp_folder.specs.Draft.{bytes_of, BeginsAt, GivesName, IsWhole, SameNames};
     ghost use Rattle.tftp_disk.specs.DiskFault.{MayNotOpen, MayNotStore, MayNotBegin, MayNotName};
     ghost use Rattle.std.specs.Result.{result_err};
     ghost use Rattle.tftp_folder.specs.Settings.{HasBegun, SameSettings};
-    ghost use Rattle.tftp_folder.specs.Uploads.{IsBelow};
+    ghost use Rattle.tftp_folder.specs.Uploads.{IsBelow, path_below};
 
     type Source = FolderSource<R::File>;
 
@@ -291,6 +296,14 @@ impl<R: Files + Drop> Store for FolderStore<R> {
         ensures read_only { self.old.is_read_only ≡ true → result ≡ Err StoreFault.Io }
         ensures uploads { IfOk result (λ _. IfSome self.old.uploads (λ folder.
             IsBelow folder path.now)) }
+        ensures made { IfOk result (λ draft. BeginsAt (draft_name
+            (string_bytes self.old.folder.drafts) self.old.port)
+            (path_below (string_bytes self.old.folder.root) path.now) draft
+            (changes self.old.journal.events) (changes self.new.journal.events)) }
+        ensures not_made { OnErr result (BeginsNone (draft_name
+            (string_bytes self.old.folder.drafts) self.old.port)
+            (changes self.old.journal.events) (changes self.new.journal.events)) }
+        ensures untouched { self.old.is_read_only ≡ true → self.new ≡ self.old }
     {
         self.folder.reason.clear();
         self.check_admitted(path)?;
@@ -307,7 +320,16 @@ impl<R: Files + Drop> Store for FolderStore<R> {
         )
     }
 
-    fn append(&mut self, draft: &mut FolderDraft<R::File>, bytes: &[u8]) -> Result<(), StoreFault> {
+    fn append(&mut self, draft: &mut FolderDraft<R::File>, bytes: &[u8]) -> Result<(), StoreFault>
+        ensures refused { IfErr result MayNotStore }
+        ensures after { SameSettings self.old self.new }
+        ensures memory { IsErrOf result StoreFault.Memory → (self.new ≡ self.old)
+            × (draft.new ≡ draft.old) }
+        ensures untouched { self.new ≡ self.old }
+        ensures handed { OnOk result (bytes_of draft.new ≡ bytes_of draft.old ++ bytes.now) }
+        ensures kept { OnErr result (bytes_of draft.new ≡ bytes_of draft.old) }
+        ensures names { SameNames draft.old draft.new }
+    {
         match draft.append(bytes) {
             Ok(()) => Ok(()),
             Err(error) => Err(self.folder.write_refused(&error)),
@@ -326,7 +348,15 @@ impl<R: Files + Drop> Store for FolderStore<R> {
         _path: &Path,
         draft: &mut FolderDraft<R::File>,
         replace: bool,
-    ) -> Result<(), StoreFault> {
+    ) -> Result<(), StoreFault>
+        ensures refused { IfErr result (MayNotName replace) }
+        ensures after { SameSettings self.old self.new }
+        ensures not_memory { result ≢ Err StoreFault.Memory }
+        ensures named { OnOk result (GivesName draft.new (changes self.old.journal.events) replace
+            (changes self.new.journal.events)) }
+        ensures whole { OnOk result (IsWhole draft.new (bytes_of draft.old)) }
+        ensures names { OnOk result (SameNames draft.old draft.new) }
+    {
         if let Err(error) = draft.finish() {
             return Err(self.folder.write_refused(&error));
         }

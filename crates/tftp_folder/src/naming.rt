@@ -1,5 +1,11 @@
 //! Gives a draft its name on the disk, in the folder that its request named.
 
+ghost use Rattle.std.specs.Prelude.{◌≡◌, false, Ok, OnOk};
+ghost use Rattle.tftp_disk.specs.Changes.{changes};
+ghost use Rattle.tftp_disk.specs.DiskFault.{is_replaced};
+ghost use Rattle.tftp_folder.specs.Draft.{IsDone, StaysDone, KeepsDone, NamesDraft, RenamesDraft};
+ghost use Rattle.tftp_folder.specs.Draft.{NamesIn, GivesName};
+
 use crate::folder_draft::FolderDraft;
 use crate::replacing::rename_over;
 use std::io::{self, ErrorKind};
@@ -37,7 +43,12 @@ pub(crate) fn give_name<R: Files>(
     root: &str,
     draft: &mut FolderDraft<R::File>,
     existing: Existing,
-) -> Result<(), NameFault> {
+) -> Result<(), NameFault>
+    requires { IsDone draft.old }
+    ensures stays { OnOk result (KeepsDone draft.old draft.new) }
+    ensures ok { OnOk result (GivesName draft.new (changes journal.old.events)
+        (is_replaced existing) (changes journal.new.events)) }
+{
     if !draft.is_at_draft(files, journal) {
         return Err(NameFault::Rule(Reason::DraftReplaced));
     }
@@ -47,7 +58,10 @@ pub(crate) fn give_name<R: Files>(
     }
     // The folder is opened first: if that fails, no name is given.
     let folder = NamedFolder::of(files, journal, draft.target.as_str())?;
-    name_in(files, journal, &folder, root, draft, existing)
+    match name_in(files, journal, &folder, root, draft, existing) {
+        Ok(()) => Ok(()),
+        Err(fault) => Err(fault),
+    }
 }
 
 /// Gives a draft its name, looks at the name again, and syncs the open folder.
@@ -58,7 +72,12 @@ fn name_in<R: Files>(
     root: &str,
     draft: &mut FolderDraft<R::File>,
     existing: Existing,
-) -> Result<(), NameFault> {
+) -> Result<(), NameFault>
+    requires { IsDone draft.old }
+    ensures stays { OnOk result (KeepsDone draft.old draft.new) }
+    ensures ok { OnOk result (NamesIn draft.new folder.now.folder (changes journal.old.events)
+        (is_replaced existing) (changes journal.new.events)) }
+{
     put_name(files, journal, draft, existing)?;
     if let Err(reason) = look_again(files, journal, root, draft, existing) {
         return Err(NameFault::Rule(reason));
@@ -80,7 +99,12 @@ fn put_name<R: Files>(
     journal: &mut DiskJournal,
     draft: &mut FolderDraft<R::File>,
     existing: Existing,
-) -> Result<(), NameFault> {
+) -> Result<(), NameFault>
+    requires { IsDone draft.old }
+    ensures stays { OnOk result (KeepsDone draft.old draft.new) }
+    ensures ok { OnOk result (NamesDraft draft.new (changes journal.old.events)
+        (is_replaced existing) (changes journal.new.events)) }
+{
     match existing {
         Existing::Refused => match name_new(files, journal, draft) {
             Ok(()) => Ok(()),
@@ -98,7 +122,10 @@ fn look_again<R: Files>(
     root: &str,
     draft: &mut FolderDraft<R::File>,
     existing: Existing,
-) -> Result<(), Reason> {
+) -> Result<(), Reason>
+    ensures stays { StaysDone draft.old draft.new }
+    ensures ok { OnOk result (changes journal.new.events ≡ changes journal.old.events) }
+{
     let folder = folder_of(draft.target.as_str());
     let is_in_place = leads_to(files, journal, root, folder, draft.folder);
     let is_of_draft = draft.is_at_target(files, journal);
@@ -122,7 +149,9 @@ fn leads_to<R: Files>(
     root: &str,
     folder: &str,
     id: FileId,
-) -> bool {
+) -> bool
+    ensures { changes journal.new.events ≡ changes journal.old.events }
+{
     match tftp_disk::look(files, journal, folder) {
         Ok(found) => {
             found.kind == Kind::Folder
@@ -139,7 +168,9 @@ pub(crate) fn has_no_link<R: Files>(
     journal: &mut DiskJournal,
     root: &str,
     folder: &str,
-) -> bool {
+) -> bool
+    ensures { changes journal.new.events ≡ changes journal.old.events }
+{
     let mut folder = folder;
     for _ in 0..MOST_FOLDERS {
         if folder.len() <= root.len().max(1) {
@@ -154,7 +185,9 @@ pub(crate) fn has_no_link<R: Files>(
 }
 
 /// Whether the path is that of a folder, and no link.
-fn is_folder<R: Files>(files: &R, journal: &mut DiskJournal, path: &str) -> bool {
+fn is_folder<R: Files>(files: &R, journal: &mut DiskJournal, path: &str) -> bool
+    ensures { changes journal.new.events ≡ changes journal.old.events }
+{
     match tftp_disk::look(files, journal, path) {
         Ok(found) => found.kind == Kind::Folder,
         Err(_) => false,
@@ -167,7 +200,10 @@ fn name_new<R: Files>(
     files: &R,
     journal: &mut DiskJournal,
     draft: &FolderDraft<R::File>,
-) -> io::Result<()> {
+) -> io::Result<()>
+    ensures { OnOk result (NamesDraft draft.now (changes journal.old.events) false
+        (changes journal.new.events)) }
+{
     let (path, target) = (draft.draft.as_str(), draft.target.as_str());
     match tftp_disk::link(files, journal, draft.file(), path, target) {
         Ok(()) => {
@@ -184,7 +220,10 @@ fn rename_new<R: Files>(
     files: &R,
     journal: &mut DiskJournal,
     draft: &FolderDraft<R::File>,
-) -> io::Result<()> {
+) -> io::Result<()>
+    ensures { OnOk result (RenamesDraft draft.now (changes journal.old.events) (Ok tt)
+        (changes journal.new.events)) }
+{
     let (path, target) = (draft.draft.as_str(), draft.target.as_str());
     match tftp_disk::look(files, journal, target) {
         Ok(_) => Err(io::Error::from(ErrorKind::AlreadyExists)),

@@ -1,5 +1,9 @@
 //! Which files a draft may replace, and what it has of them.
 
+ghost use Rattle.std.specs.Prelude.{◌≡◌, true, OnOk};
+ghost use Rattle.tftp_disk.specs.Changes.{changes};
+ghost use Rattle.tftp_folder.specs.Draft.{IsDone, KeepsDone, NamesDraft};
+
 use crate::folder_draft::FolderDraft;
 use crate::naming::NameFault;
 use std::io::ErrorKind;
@@ -22,7 +26,9 @@ pub(crate) fn check_replaced<R: Files>(
     journal: &mut DiskJournal,
     path: &str,
     found: &Found,
-) -> Result<(), NameFault> {
+) -> Result<(), NameFault>
+    ensures { changes journal.new.events ≡ changes journal.old.events }
+{
     match found.kind {
         Kind::Regular => match tftp_disk::try_to_write(files, journal, path) {
             Ok(()) => Ok(()),
@@ -40,7 +46,12 @@ pub(crate) fn rename_over<R: Files>(
     files: &R,
     journal: &mut DiskJournal,
     draft: &mut FolderDraft<R::File>,
-) -> Result<(), NameFault> {
+) -> Result<(), NameFault>
+    requires { IsDone draft.old }
+    ensures stays { OnOk result (KeepsDone draft.old draft.new) }
+    ensures ok { OnOk result (NamesDraft draft.new (changes journal.old.events) true
+        (changes journal.new.events)) }
+{
     match tftp_disk::look(files, journal, draft.target.as_str()) {
         Ok(found) => {
             check_replaced(files, journal, draft.target.as_str(), &found)?;

@@ -1,0 +1,84 @@
+-- A draft of a store over a folder, by the calls on its file (ours).
+use Rattle.std.specs.Prelude.{ℕ, ◌≡◌, Bool, true, false, List, [], ◌∷◌, Option, Some, Ok}
+use Rattle.std.specs.String.{string_bytes}
+use Rattle.tftp_disk.specs.DiskJournal.{DiskEvent, Done, made_at, is_synced, sync_failed, state_of, written}
+use Rattle.tftp_disk.specs.DiskWriter.{calls_of, handed}
+use Rattle.tftp_disk.specs.NamedFolder.{OpensFolder, SyncsFolder}
+use Rattle.tftp_disk.specs.declared.calls.DiskFolder.{DiskFolder}
+use Rattle.tftp_disk.specs.DiskJournal.DiskEvent.{Renamed}
+use Rattle.tftp_folder.specs.Begin.{MakesDraft}
+use Rattle.tftp_folder.specs.Commit.{Names}
+use Rattle.tftp_folder.specs.declared.folder_draft.FolderDraft.{FolderDraft}
+
+module _ {F : Type 0} where
+  -- the bytes that a draft was handed
+  abbrev pub bytes_of : FolderDraft F → List ℕ
+  bytes_of draft = handed draft.writer
+
+  -- the bytes in its file
+  abbrev pub file_bytes : FolderDraft F → List ℕ
+  file_bytes draft = written (calls_of draft.writer)
+
+  -- a draft has its names
+  pub record SameNames (before after : FolderDraft F) : Type 0 where
+    pub draft : after.draft ≡ before.draft
+    pub target : after.target ≡ before.target
+    pub folder : after.folder ≡ before.folder
+    pub port : after.port ≡ before.port
+
+  -- all that is in its file is synced, and no sync of it failed
+  pub record IsDone (draft : FolderDraft F) : Type 0 where
+    pub synced : is_synced (calls_of draft.writer) ≡ true
+    pub sound : sync_failed (calls_of draft.writer) ≡ false
+
+  -- a draft has its names, and its file is as it was
+  pub record StaysDone (before after : FolderDraft F) : Type 0 where
+    pub names : SameNames before after
+    pub state : state_of (calls_of after.writer) ≡ state_of (calls_of before.writer)
+
+  -- a draft that was done is, with the same names, and the same bytes in its file
+  pub record KeepsDone (before after : FolderDraft F) : Type 0 where
+    pub names : SameNames before after
+    pub bytes : file_bytes after ≡ file_bytes before
+    pub done : IsDone after
+
+  -- the draft got its name
+  abbrev pub NamesDraft : FolderDraft F → List DiskEvent → Bool → List DiskEvent → Type 0
+  NamesDraft draft before replaces after =
+      Names (state_of (calls_of draft.writer)) (string_bytes draft.draft)
+      (string_bytes draft.target) before replaces after
+
+  -- a link or a rename to its name was answered so
+  abbrev pub RenamesDraft : FolderDraft F → List DiskEvent → Done → List DiskEvent → Type 0
+  RenamesDraft draft before answer after =
+      after ≡ Renamed (state_of (calls_of draft.writer)) (string_bytes draft.draft)
+      (string_bytes draft.target) answer ∷ before
+
+  -- the draft got its name, and then the folder was synced
+  abbrev pub NamesIn : FolderDraft F → Option (DiskFolder F) → List DiskEvent → Bool
+      → List DiskEvent → Type 0
+  NamesIn draft folder before replaces after =
+      (named : List DiskEvent) × NamesDraft draft before replaces named
+      × SyncsFolder folder named after
+
+  -- the folder of its name was opened, the draft got the name, and then the folder was synced
+  abbrev pub GivesName : FolderDraft F → List DiskEvent → Bool → List DiskEvent → Type 0
+  GivesName draft before replaces after =
+      (folder : Option (DiskFolder F)) × (opened : List DiskEvent)
+      × OpensFolder (string_bytes draft.target) folder before opened
+      × NamesIn draft folder opened replaces after
+
+  -- its file was made at its path, it has these bytes, all that is in it is synced, and no sync of
+  -- it failed
+  pub record IsWhole (draft : FolderDraft F) (bytes : List ℕ) : Type 0 where
+    pub place : made_at (calls_of draft.writer) ≡ Some (string_bytes draft.draft)
+    pub whole : file_bytes draft ≡ bytes
+    pub done : IsDone draft
+
+  -- a draft at this path was made for a file at that one, with nothing in it
+  pub record BeginsAt (path target : List ℕ) (draft : FolderDraft F)
+      (before after : List DiskEvent) : Type 0 where
+    pub place : string_bytes draft.draft ≡ path
+    pub aim : string_bytes draft.target ≡ target
+    pub empty : bytes_of draft ≡ []
+    pub made : MakesDraft path before (Ok tt) after
