@@ -1,6 +1,6 @@
 -- A step of a transfer that a server holds, as an event reports it.
-use Rattle.std.specs.Prelude.{ℕ, ◌≡◌, ◌-◌, Bool, true, false, List, [], ◌∷◌, length, take, Option, Some, None}
-use Rattle.std.specs.Prelude.{IsSome, option_map, ◌↔◌, IsErrOf, Result, Err}
+use Rattle.std.specs.Prelude.{ℕ, ◌≡◌, ◌-◌, Bool, true, false, List, [], ◌∷◌, length, take, Option, Some}
+use Rattle.std.specs.Prelude.{IsSome}
 use mathlib.Core.Bool.{cond}
 use Rattle.std.specs.Map.{lookup, set_value}
 use Rattle.std.specs.BTreeMap.{is_at}
@@ -8,9 +8,8 @@ use Rattle.std.specs.Ordering.{nat_cmp}
 use Rattle.std.proofs.Common.{refl, ap, sym, subst, ◌∙◌}
 use Rattle.tftp_ends.specs.declared.endpoint.Endpoint.{Endpoint}
 use Rattle.tftp_ends.specs.declared.outgoing.Outgoing.{Outgoing}
-use Rattle.tftp_ends.specs.declared.record.Record.{Record}
 use Rattle.tftp_ends.specs.declared.record.Step.{Step}
-use Rattle.tftp_ends.specs.End.{EndState, record_of}
+use Rattle.tftp_ends.specs.End.{EndState}
 use Rattle.tftp_ends.specs.OneFile.{ReceiverStep, SenderStep}
 use Rattle.tftp_ends.specs.Step.{Lends, lent, reported, timeout_turn}
 use Rattle.tftp_file.specs.Memory.{memory_sink, memory_source, new_mem_sink}

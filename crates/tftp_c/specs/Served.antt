@@ -1,14 +1,12 @@
 -- What the calls of a server do, for C: a table of transfers, whose files are the caller's.
-use Rattle.std.specs.Prelude.{ℕ, ◌≡◌, ◌≤◌, false, List, [], length, take, Option, Some, None}
-use Rattle.std.specs.Prelude.{IsSome}
-use Rattle.tftp_wire.specs.declared.mode.Mode.{Mode}
+use Rattle.std.specs.Prelude.{ℕ, ◌≡◌, ◌≤◌, List, [], length, take, Option, Some, None}
+use Rattle.std.specs.Prelude.{IsSome, false}
 use Rattle.tftp_ends.specs.End.{EndState}
 use Rattle.tftp_ends.specs.Step.{error_bytes}
 use Rattle.tftp_server.specs.CallersFiles.{asked_path}
-use Rattle.tftp_server.specs.Fault.{fault_number}
 use Rattle.tftp_server.specs.Port.{Ask, Ignores, Refuses, Reads, Writes}
 use Rattle.tftp_server.specs.Request.{Admits}
-use Rattle.tftp_server.specs.State.{TransferState, ServerState, at, with_new, with_next, without}
+use Rattle.tftp_server.specs.State.{TransferState, ServerState, at, with_new, with_next}
 use Rattle.tftp_server.specs.Steps.{with_end}
 use Rattle.tftp_server.specs.declared.config.Config.{Config}
 use Rattle.tftp_server.specs.declared.fault.ServerFault.{ServerFault}
