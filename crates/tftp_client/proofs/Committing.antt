@@ -1,6 +1,6 @@
 -- A received file is committed once its end is complete.
 use Rattle.std.proofs.Common.{◌≡◌, ℕ, Bool, true, false, List, [], length, Option, Some, None}
-use Rattle.std.proofs.Common.{Result, Ok, Err, inl, inr, refl, sym, ◌∙◌, subst}
+use Rattle.std.proofs.Common.{Result, Ok, Err, refl, sym, ◌∙◌, subst}
 use Rattle.std.specs.Prelude.{◌==◌, ◌&&◌, ◌+◌, ◌*◌, nat_lt, nat_le, is_none, if◌then◌else◌}
 use Rattle.std.proofs.lemmas.Bool.{true≢false}
 use Rattle.tftp_wire.specs.declared.mode.Mode.{Mode}
@@ -52,11 +52,11 @@ use Rattle.tftp_client.specs.Converses.{Converses, HandlesReceived, MayElapse, S
 use Rattle.tftp_client.specs.Converses.Converses.{Begins, Receives, Waits, Times, Rests}
 use Rattle.tftp_client.specs.Converses.HandlesReceived.{Answers, Loses}
 use Rattle.tftp_client.specs.Converses.MayElapse.{Stays, Elapses}
-use Rattle.tftp_client.specs.Runs.{IsCommitted, RunsAs, Transfers, opens}
+use Rattle.tftp_client.specs.Runs.{RunsAs, opens}
 
 -- ---- the action of an end that has sent no block completes no transfer
 -- both cases of a test
-if_either : {A : Type 0} (P : A → Type 0) (b : Bool) (r s : A) → P r → P s → P (if b then r else s)
+pub if_either : {A : Type 0} (P : A → Type 0) (b : Bool) (r s : A) → P r → P s → P (if b then r else s)
 if_either P true r s p q = p
 if_either P false r s p q = q
 
@@ -188,7 +188,7 @@ garbled_continues (Dallying terms number dally) = tt
 garbled_continues (Closed terms number complete outcome) = tt
 
 -- a property of the action for a datagram
-by_tests : (P : Action → Type 0) (e : EndState) (from : Endpoint) (bytes : List ℕ) (decoded : Option Packet)
+pub by_tests : (P : Action → Type 0) (e : EndState) (from : Endpoint) (bytes : List ℕ) (decoded : Option Packet)
     → P (Respond Ignore) → P (Respond WrongPeer)
     → P (Respond (garbled_response e.position.phase)) → P (packet_action e from decoded e.position.phase)
     → P (datagram_action e from bytes decoded)
@@ -221,7 +221,7 @@ timeout_continues retries (Closed terms number complete outcome) =
     if_either Continues (retries == 0) (Close outcomes.TimedOut) Retransmit tt tt
 
 -- ---- a complete end stores no block
-abbrev StoresNone : Action → Type 0
+abbrev pub StoresNone : Action → Type 0
 StoresNone (Respond response) = Unit {0}
 StoresNone (Send terms number) = Unit {0}
 StoresNone (Store terms number) = ⊥
@@ -234,7 +234,7 @@ packet_stores_none e from decoded (Receiving terms number) done = absurd (true�
 packet_stores_none e from decoded (Dallying terms number dally) done = tt
 packet_stores_none e from decoded (Closed terms number complete outcome) done = tt
 
-datagram_stores_none : (e : EndState) (from : Endpoint) (bytes : List ℕ) (decoded : Option Packet)
+pub datagram_stores_none : (e : EndState) (from : Endpoint) (bytes : List ℕ) (decoded : Option Packet)
     → is_complete e.position.phase ≡ true → StoresNone (datagram_action e from bytes decoded)
 datagram_stores_none e from bytes decoded done =
     by_tests StoresNone e from bytes decoded tt tt tt (packet_stores_none e from decoded e.position.phase done)
@@ -246,7 +246,7 @@ waits_none (Receiving terms number) none = tt
 waits_none (Dallying terms number dally) none = tt
 waits_none (Closed terms number complete outcome) none = tt
 
-waits_complete : (phase : Phase) → is_complete (waited phase) ≡ is_complete phase
+pub waits_complete : (phase : Phase) → is_complete (waited phase) ≡ is_complete phase
 waits_complete (Waiting asked limit) = refl
 waits_complete (Sending terms number) = refl
 waits_complete (Receiving terms number) = refl
@@ -255,8 +255,9 @@ waits_complete (Closed terms number complete outcome) = refl
 
 module _ {S K : Type 0} (sources : SourceMeaning S) (sinks : SinkMeaning K)
     (known : (sink : K) → (held : Holding) × (sinks.held sink ≡ Some held)) where
-  abbrev Kept : Files S K → Type 0
-  Kept files = IsCommitted sources sinks files
+  abbrev pub Kept : Files S K → Type 0
+  Kept (Source source) = Unit {0}
+  Kept (Sink sink) = (held : Holding) × (sinks.held sink ≡ Some held) × (held.committed ≡ true)
 
   -- the end has sent no block, if its file is a sink; and if it is complete, its file is committed
   abbrev Committing : EndState → Files S K → Type 0
@@ -418,13 +419,9 @@ module _ {S K : Type 0} (sources : SourceMeaning S) (sinks : SinkMeaning K)
   ends e (Source source) h done = tt
   ends e (Sink sink) h done = h.1 done
 
-  runs_as : {port : ℕ} {kind : Kind} {job : Job} {before : List Event} {s : State} {files : Files S K} {count : ℕ}
-      → RunsAs sources sinks port kind job before s files count → is_complete s.end.position.phase ≡ true → Kept files
-  runs_as {kind = kind} {job = job} {s = s} {files = files} r done =
+  -- the file of an end that is complete
+  pub is_committed : {port : ℕ} {kind : Kind} {job : Job} {before : List Event} {s : State} {files : Files S K}
+      {count : ℕ} → RunsAs sources sinks port kind job before s files count → is_complete s.end.position.phase ≡ true
+      → Kept files
+  is_committed {kind = kind} {job = job} {s = s} {files = files} r done =
       ends s.end files (converses r.runs.converses (begins kind job r.length r.runs.file)) done
-
-  -- a job's file
-  pub is_committed : {most port : ℕ} {job : Job} {before : List Event} {s : State} {files : Files S K} {count : ℕ}
-      → Transfers sources sinks most port job before s files count → is_complete s.end.position.phase ≡ true → Kept files
-  is_committed (inl r) done = runs_as r done
-  is_committed (inr r) done = runs_as r.2 done

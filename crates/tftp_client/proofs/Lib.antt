@@ -2,5 +2,8 @@ pub mod Commands
 pub mod Committing
 pub mod Conversing
 pub mod Counting
+pub mod HeldBytes
 pub mod Running
+pub mod SameKind
 pub mod Silent
+pub mod StaysComplete

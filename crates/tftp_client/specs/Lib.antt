@@ -5,6 +5,7 @@ pub mod Conversation
 pub mod Converses
 pub mod Fallback
 pub mod LocalError
+pub mod Moved
 pub mod Ordered
 pub mod Runs
 pub mod Silence

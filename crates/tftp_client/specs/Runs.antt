@@ -2,6 +2,7 @@
 -- options were refused.
 use Rattle.std.specs.Prelude.{ℕ, ◌≡◌, ◌≤◌, ◌⊎◌, true, List, ◌∷◌, length as list_length, Some}
 use Rattle.std.specs.Prelude.{None, option_map}
+use Rattle.std.proofs.Common.{inl, inr}
 use Rattle.tftp_wire.specs.declared.mode.Mode.{Mode}
 use Rattle.tftp_wire.specs.declared.mode.Mode.TheVariants.{Octet, Netascii}
 use Rattle.tftp_negotiate.specs.declared.asked.Asked.{Asked}
@@ -25,6 +26,7 @@ use Rattle.tftp_sockets.specs.Journal.Event.{Printed, Sent}
 use Rattle.tftp_sockets.specs.Quiet.{waits}
 use Rattle.tftp_client.specs.declared.transfer.Job.{Job}
 use Rattle.tftp_client.specs.Converses.{Converses, EndsBy, State, deadline_at, most_waits}
+use Rattle.tftp_client.specs.Moved.{Moved, nothing_moved, run_moves}
 use Rattle.tftp_client.specs.Taken.{nothing}
 
 -- a client whose end opened, once its request was sent from the port (RFC 1350, section 4)
@@ -152,11 +154,12 @@ module _ {S K : Type 0} (sources : SourceMeaning S) (sinks : SinkMeaning K) wher
   abbrev pub RunsJob : ℕ → Job → List Event → State → Files S K → ℕ → Type 0
   RunsJob port job before s files count = RunsAs port job.kind job before s files count
 
-  -- a received file holds bytes that are committed
-  abbrev pub IsCommitted : Files S K → Type 0
-  IsCommitted (Source source) = Unit {0}
-  IsCommitted (Sink sink) =
+  -- a received file holds these bytes, all of them committed, and N counts them
+  abbrev pub IsWhole : Files S K → ℕ → List ℕ → Type 0
+  IsWhole (Source source) count bytes = Unit {0}
+  IsWhole (Sink sink) count bytes =
       (holding : Holding) × (sinks.held sink ≡ Some holding) × (holding.committed ≡ true)
+      × (holding.bytes ≡ bytes) × (count ≡ list_length bytes)
 
   -- a job failed by the run of its end, since its options were refused by ERROR 8, and may be tried
   -- without (RFC 2347)
@@ -171,6 +174,12 @@ module _ {S K : Type 0} (sources : SourceMeaning S) (sinks : SinkMeaning K) wher
       RunsJob port job before s files count
       ⊎ ((middle : List Event) × Refused most job before middle
       × RunsJob port (plain job) middle s files count)
+
+  -- what moved in the run that reached that state
+  abbrev pub moved_by : {most port : ℕ} {job : Job} {before : List Event} {s : State}
+      {files : Files S K} {count : ℕ} → Transfers most port job before s files count → Moved
+  moved_by (inl run) = run_moves run.runs.converses nothing_moved
+  moved_by (inr again) = run_moves again.2.runs.converses nothing_moved
 
   -- a job failed, at once or without its options, once these were refused: both runs make so many
   -- waits at most
@@ -188,8 +197,8 @@ module _ {S K : Type 0} (sources : SourceMeaning S) (sinks : SinkMeaning K) wher
     pub converses : Converses sources sinks port first file last files
     pub events : last.events ≡ after
 
-  -- a job is complete: its end is, and a received file is committed; then its line was printed,
-  -- with N of the file, and from then on its end stayed (RFC 1350, section 6)
+  -- a job is complete: its end is, and a received file holds the bytes that moved in the run; then
+  -- its line was printed, with N of the file, and from then on its end stayed (RFC 1350, section 6)
   pub record Completes (job : Job) (before after : List Event) : Type 0 where
     pub port : ℕ
     pub last : State
@@ -197,7 +206,11 @@ module _ {S K : Type 0} (sources : SourceMeaning S) (sinks : SinkMeaning K) wher
     pub count : ℕ
     pub transfers : Transfers (most_waits before) port job before last files count
     pub complete : is_complete last.end.position.phase ≡ true
-    pub committed : IsCommitted files
+    pub side : IsFileOf job.kind files
+    pub whole : IsWhole files count (moved_by transfers).bytes
     pub stays : StaysOn port (printed count last) files after
+    -- it stays complete, and nothing moves
+    pub stayed : is_complete stays.last.end.position.phase ≡ true
+    pub still : (moved : Moved) → run_moves stays.converses moved ≡ moved
     -- all its runs and what it did after them make so many waits at most
     pub within : waits after ≤ most_waits before

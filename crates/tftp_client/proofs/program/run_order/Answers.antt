@@ -1,7 +1,9 @@
 -- A transfer that is complete, or failed.
 use Rattle.std.proofs.Common.{arith, inl, inr, refl}
 use Rattle.tftp_client.specs.Conversation.{state_of}
-use Rattle.tftp_client.proofs.Committing.{is_committed}
+use Rattle.tftp_client.proofs.HeldBytes.{is_whole}
+use Rattle.tftp_client.proofs.SameKind.{is_file_of}
+use Rattle.tftp_client.proofs.StaysComplete.{moves_nothing, stays_complete}
 use Rattle.tftp_client.proofs.program.run_order.Goals as goal
 
 pub returns-in-Ok-clause-runs : goal.returns-in-Ok-clause-runs
@@ -15,9 +17,11 @@ returns-in-Ok-clause-runs g c =
         count = c.in-Ok.completed.count;
         transfers = c.in-Ok.ensures.ok;
         complete = c.in-Ok.completed.complete;
-        committed = is_committed _ _ (λ local. (local.taken.holding, refl)) c.in-Ok.ensures.ok
-            c.in-Ok.completed.complete;
+        side = is_file_of _ _ c.in-Ok.ensures.ok;
+        whole = is_whole _ _ (λ local. (local.taken.holding, refl)) c.in-Ok.ensures.ok c.in-Ok.completed.complete;
         stays = c.conclude.ensures.goes;
+        stayed = stays_complete _ _ c.conclude.ensures.goes c.in-Ok.completed.complete;
+        still = moves_nothing _ _ c.conclude.ensures.goes c.in-Ok.completed.complete;
         within = omega (arith, c.conclude.ensures.waits, c.in-Ok.ensures.counted);
       },
     )

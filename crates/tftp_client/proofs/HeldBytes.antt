@@ -1,0 +1,234 @@
+-- What a received file holds is what moved in the run, unless the end has failed.
+use Rattle.std.proofs.Common.{◌≡◌, ℕ, Bool, true, false, List, [], ◌∷◌, ◌++◌, append-nil, length, Option, Some}
+use Rattle.std.proofs.Common.{Result, Ok, Err, inl, inr, refl, sym, ap, ◌∙◌, subst}
+use Rattle.std.specs.Prelude.{not, nat_lt, IsSome}
+use Rattle.std.proofs.lemmas.Bool.{true≢false}
+use Rattle.std.proofs.lemmas.Option.{same_Some}
+use Rattle.tftp_wire.specs.declared.mode.Mode.{Mode}
+use Rattle.tftp_negotiate.specs.declared.known.Kind.{Kind}
+use Rattle.tftp_file.specs.Sink.{Holding, SinkMeaning, Appends, AppendsFreely, Commits, CommitsFreely, UnlessArmed}
+use Rattle.tftp_file.specs.Sink.{as_committed, disarmed, with_piece}
+use Rattle.tftp_file.specs.Source.{SourceMeaning, StaysKnown}
+use Rattle.tftp_file.specs.declared.fault.StoreFault.{StoreFault}
+use Rattle.tftp_file.specs.declared.fault.StoreFault.TheVariants.{Full}
+use Rattle.tftp_file.specs.declared.files.Files.{Files}
+use Rattle.tftp_file.specs.declared.files.Files.TheVariants.{Source, Sink}
+use Rattle.tftp_ends.specs.declared.action.Action.{Action}
+use Rattle.tftp_ends.specs.declared.action.Action.TheVariants.{Respond, Send, Store}
+use Rattle.tftp_ends.specs.declared.endpoint.Endpoint.{Endpoint}
+use Rattle.tftp_ends.specs.declared.phase.Phase.{Phase}
+use Rattle.tftp_ends.specs.declared.phase.Phase.TheVariants.{Waiting, Sending, Receiving, Dallying, Closed}
+use Rattle.tftp_ends.specs.declared.phase.Terms.{Terms}
+use Rattle.tftp_ends.specs.Action.{datagram_action}
+use Rattle.tftp_ends.specs.End.{EndState, is_complete, outcome_of}
+use Rattle.tftp_ends.specs.Files.{KeepsFiles, KeepsHolding}
+use Rattle.tftp_ends.specs.Step.{Acts, Appended, DatagramStep, Done, GoesOn, Turn, after_turn}
+use Rattle.tftp_sockets.specs.Journal.{Event}
+use Rattle.tftp_client.specs.declared.transfer.Job.{Job}
+use Rattle.tftp_client.specs.Converses.{Converses, HandlesReceived, MayElapse, State, WorksOnFile}
+use Rattle.tftp_client.specs.Converses.Converses.{Begins, Receives, Waits, Times, Rests}
+use Rattle.tftp_client.specs.Converses.HandlesReceived.{Answers, Loses}
+use Rattle.tftp_client.specs.Converses.MayElapse.{Stays, Elapses}
+use Rattle.tftp_client.specs.Moved.{Moved, acts_move, handling_moves, nothing_moved, run_moves, step_moves}
+use Rattle.tftp_client.specs.Runs.{IsCountOf, IsNew, IsWhole, RunsAs, Transfers, moved_by}
+use Rattle.tftp_client.specs.Taken.{nothing}
+use Rattle.tftp_client.proofs.Committing.{Kept, StoresNone, datagram_stores_none, is_committed}
+
+-- it closed before it was complete
+abbrev failed : Phase → Bool
+failed (Waiting asked limit) = false
+failed (Sending terms number) = false
+failed (Receiving terms number) = false
+failed (Dallying terms number dally) = false
+failed (Closed terms number complete outcome) = not complete
+
+open_goes_on : (phase : Phase) → (IsSome (outcome_of phase) → ⊥) → failed phase ≡ false
+open_goes_on (Waiting asked limit) is_open = refl
+open_goes_on (Sending terms number) is_open = refl
+open_goes_on (Receiving terms number) is_open = refl
+open_goes_on (Dallying terms number dally) is_open = refl
+open_goes_on (Closed terms number complete outcome) is_open = absurd (is_open refl)
+
+complete_goes_on : (phase : Phase) → is_complete phase ≡ true → failed phase ≡ false
+complete_goes_on (Waiting asked limit) done = refl
+complete_goes_on (Sending terms number) done = refl
+complete_goes_on (Receiving terms number) done = refl
+complete_goes_on (Dallying terms number dally) done = refl
+complete_goes_on (Closed terms number complete outcome) done = ap not done
+
+undone : (b : Bool) → (b ≡ true → ⊥) → b ≡ false
+undone true never = absurd (never refl)
+undone false never = refl
+
+-- an append that succeeded
+appended : (armed : Bool) (before : Holding) (after : Option Holding) (piece : List ℕ) (done : Done)
+    → UnlessArmed armed before after (Ok done) (AppendsFreely before after piece (Ok done))
+    → after ≡ Some (with_piece before piece)
+appended true before after piece done h = absurd (let e : ◌≡◌ {A = Result Done StoreFault} (Ok done) (Err Full) =
+    h.answer in cc)
+appended false before after piece done h = h
+
+-- a commit leaves the bytes
+committed : (armed : Bool) (before : Holding) (after : Option Holding) (answer : Result Done StoreFault)
+    → UnlessArmed armed before after answer (CommitsFreely before after answer)
+    → (holding : Holding) × (after ≡ Some holding) × (holding.bytes ≡ before.bytes)
+committed true before after answer h = (disarmed before, h.leaves, refl)
+committed false before after (Ok done) h = (as_committed before, h, refl)
+committed false before after (Err fault) h = (before, h, refl)
+
+module _ {S K : Type 0} (sources : SourceMeaning S) (sinks : SinkMeaning K) where
+  abbrev Holds : K → List ℕ → Type 0
+  Holds sink bytes = (holding : Holding) × (sinks.held sink ≡ Some holding) × (holding.bytes ≡ bytes)
+
+  -- a received file
+  abbrev AllHeld : Files S K → List ℕ → Type 0
+  AllHeld (Source source) bytes = Unit {0}
+  AllHeld (Sink sink) bytes = Holds sink bytes
+
+  abbrev Unless_failed : EndState → Files S K → Moved → Type 0
+  Unless_failed e files moved = failed e.position.phase ≡ false → AllHeld files moved.bytes
+
+  appends : (bytes : List ℕ) (sink mid : K) (done : Done) (old : List ℕ) → Appended sinks bytes sink mid (Ok done)
+      → Holds sink old → Holds mid (old ++ bytes)
+  appends [] sink mid done old a h =
+      subst (λ (k : K). Holds k (old ++ [])) (sym a.1)
+      (subst (λ (bytes : List ℕ). Holds sink bytes) (sym (append-nil old)) h)
+  appends (b ∷ bytes) sink mid done old a h =
+      let Of : Option Holding → Type 0 = λ held. Appends {A = Done} held (sinks.held mid) (b ∷ bytes) (Ok done) in
+      let after = appended h.0.refuses h.0 (sinks.held mid) (b ∷ bytes) done (subst Of h.1 a.0) in
+      (with_piece h.0 (b ∷ bytes), after, ap (λ (t : List ℕ). t ++ (b ∷ bytes)) h.2)
+
+  -- the end went on after it
+  goes : (terms : Terms) (number : ℕ) (from : Endpoint) (e : EndState) (last : Bool) (after : List ℕ) (mid : K)
+      (done : Done) (turn : Turn) (sink' : K) (bytes : List ℕ)
+      → GoesOn sinks terms number from e last after mid (Ok done) turn sink' → Holds mid bytes → Holds sink' bytes
+  goes terms number from e true after mid done turn sink' bytes g h =
+      let Of : Option Holding → Type 0 = λ held. Commits held (sinks.held sink') g.answer in
+      let c = committed h.0.refuses h.0 (sinks.held sink') g.answer (subst Of h.1 g.commits) in
+      (c.0, c.1, c.2 ∙ h.2)
+  goes terms number from e false after mid done turn sink' bytes g h =
+      subst (λ (k : K). Holds k bytes) (sym g.1) h
+
+  -- it failed, if the append was refused
+  stored : (terms : Terms) (number : ℕ) (from : Endpoint) (e : EndState) (last : Bool) (after : List ℕ) (sink mid : K)
+      (answer : Result Done StoreFault) (turn : Turn) (sink' : K) (old bytes : List ℕ)
+      → is_complete e.position.phase ≡ false → failed turn.position.phase ≡ false
+      → Appended sinks bytes sink mid answer → GoesOn sinks terms number from e last after mid answer turn sink'
+      → Holds sink old → Holds sink' (old ++ bytes)
+  stored terms number from e last after sink mid (Ok done) turn sink' old bytes before still a g h =
+      goes terms number from e last after mid done turn sink' (old ++ bytes) g (appends bytes sink mid done old a h)
+  stored terms number from e true after sink mid (Err fault) turn sink' old bytes before still a g h =
+      let over : failed turn.position.phase ≡ true = ap (λ (t : Turn). failed t.position.phase) g.0 ∙ ap not before in
+      absurd (true≢false (sym over ∙ still))
+  stored terms number from e false after sink mid (Err fault) turn sink' old bytes before still a g h =
+      let over : failed turn.position.phase ≡ true = ap (λ (t : Turn). failed t.position.phase) g.0 ∙ ap not before in
+      absurd (true≢false (sym over ∙ still))
+
+  acts : (action : Action) (from : Endpoint) (bytes : List ℕ) (e : EndState) (files : Files S K) (turn : Turn)
+      (files' : Files S K) (moved : Moved) → (is_complete e.position.phase ≡ true → StoresNone action)
+      → AllHeld files moved.bytes → (a : Acts sources sinks action from bytes e files turn files')
+      → Unless_failed (after_turn e turn) files' (acts_move sources sinks action from bytes e files turn files' a moved)
+  acts action from bytes e files turn (Source source') moved once h a still = tt
+  acts (Respond response) from bytes e (Source source) turn (Sink sink') moved once h a still =
+      absurd (let e : ◌≡◌ {A = Files S K} (Sink sink') (Source source) = a.1 in cc)
+  acts (Respond response) from bytes e (Sink sink) turn (Sink sink') moved once h a still =
+      subst (λ (f : Files S K). AllHeld f moved.bytes) (sym a.1) h
+  acts (Send terms number) from bytes e (Source source) turn (Sink sink') moved once h a still = absurd a
+  acts (Send terms number) from bytes e (Sink sink) turn (Sink sink') moved once h a still = absurd a
+  acts (Store terms number) from bytes e (Source source) turn (Sink sink') moved once h a still = absurd a.2
+  acts (Store terms number) from bytes e (Sink sink) turn (Sink sink') moved once h a still =
+      stored terms number from e (nat_lt (length a.0) terms.size) a.2.after sink a.2.mid a.2.answer turn sink'
+      moved.bytes a.2.bytes (undone (is_complete e.position.phase) once) still a.2.appended a.2.rest h
+
+  steps : (from : Endpoint) (bytes : List ℕ) (e : EndState) (files : Files S K) (turn : Turn) (files' : Files S K)
+      (moved : Moved) → AllHeld files moved.bytes → (step : DatagramStep sources sinks from bytes e files turn files')
+      → Unless_failed (after_turn e turn) files'
+      (step_moves sources sinks from bytes e files turn files' step moved)
+  steps from bytes e files turn files' moved h step =
+      acts (datagram_action e from bytes step.decoded) from bytes e files turn files' moved
+      (datagram_stores_none e from bytes step.decoded) h step.acts
+
+  -- what is known of a sink stays
+  stays : (before after : K) (bytes : List ℕ)
+      → ((held : Holding) → sinks.held before ≡ Some held → sinks.held after ≡ Some held)
+      → Holds before bytes → Holds after bytes
+  stays before after bytes same h = (h.0, same h.0 h.1, h.2)
+
+  loses : (files files' : Files S K) (bytes : List ℕ) → KeepsFiles sources sinks files files' → AllHeld files bytes
+      → AllHeld files' bytes
+  loses files (Source source') bytes keeps h = tt
+  loses (Source source) (Sink sink') bytes keeps h = absurd keeps
+  loses (Sink sink) (Sink sink') bytes keeps h =
+      let Of : Option Holding → Type 0 = λ held. KeepsHolding held (sinks.held sink') in
+      stays sink sink' bytes (λ held is. subst Of is keeps.holding) h
+
+  works : (files files' : Files S K) (bytes : List ℕ) → WorksOnFile sources sinks files files' → AllHeld files bytes
+      → AllHeld files' bytes
+  works files (Source source') bytes work h = tt
+  works (Source source) (Sink sink') bytes work h = absurd work
+  works (Sink sink) (Sink sink') bytes work h =
+      let Of : Option Holding → Type 0 = λ held. StaysKnown held (sinks.held sink') in
+      stays sink sink' bytes (λ held is. subst Of is work.0.held) h
+
+  handles : {port : ℕ} {from : Endpoint} {bytes : List ℕ} {s : State} {files : Files S K} {next : State}
+      {files' : Files S K} (moved : Moved) (h : HandlesReceived sources sinks port from bytes s files next files')
+      → Unless_failed s.end files moved → Unless_failed next.end files' (handling_moves h moved)
+  handles {from = from} {bytes = bytes} {s = s} {files = files} moved (Answers {turn} {files'} is_open step) h =
+      steps from bytes s.end files turn files' moved (h (open_goes_on s.end.position.phase is_open)) step
+  handles {s = s} {files = files} moved (Loses {files'} lost keeps) h =
+      λ still. loses files files' moved.bytes keeps (h still)
+
+  elapses : {port : ℕ} {s next : State} (files : Files S K) (moved : Moved) → MayElapse port s next
+      → Unless_failed s.end files moved → Unless_failed next.end files moved
+  elapses files moved (Stays why) h = h
+  elapses {s = s} files moved (Elapses due is_open) h = λ still. h (open_goes_on s.end.position.phase is_open)
+
+  converses : {port : ℕ} {first : State} {file : Files S K} {s : State} {files : Files S K} (moved : Moved)
+      (run : Converses sources sinks port first file s files)
+      → Unless_failed first.end file moved → Unless_failed s.end files (run_moves run moved)
+  converses moved Begins h = h
+  converses moved (Receives {files' = files'} run may time answers) h =
+      let now = run_moves run moved in
+      let Ends : State → Type 0 = λ s. Unless_failed s.end files' (handling_moves answers.handles now) in
+      subst Ends (sym answers.is) (handles now answers.handles (converses moved run h))
+  converses moved (Waits run may is time) h = converses moved run h
+  converses moved (Times {s} {next} {files} run elapsed) h =
+      elapses files (run_moves run moved) elapsed (converses moved run h)
+  converses moved (Rests {s} {files} {files'} run work) h =
+      λ still. works files files' (run_moves run moved).bytes work (converses moved run h still)
+
+  begins : (file : Files S K) → IsNew sources sinks file → AllHeld file []
+  begins (Source source) new = tt
+  begins (Sink sink) new = (nothing, new, refl)
+
+  module _ (known : (sink : K) → (held : Holding) × (sinks.held sink ≡ Some held)) where
+    -- the file holds all that moved, and N counts it
+    all_counted : (files : Files S K) (mode : Mode) (sent count : ℕ) (bytes : List ℕ) → AllHeld files bytes
+        → Kept sources sinks known files → IsCountOf sources sinks files mode sent count → IsWhole sources sinks files count bytes
+    all_counted (Source source) mode sent count bytes h kept counts = tt
+    all_counted (Sink sink) mode sent count bytes h kept counts =
+        let same : h.0 ≡ kept.0 = same_Some h.0 kept.0 (sym h.1 ∙ kept.1) in
+        let counted : h.0 ≡ counts.0 = same_Some h.0 counts.0 (sym h.1 ∙ counts.1) in (
+          h.0,
+          h.1,
+          ap (λ (held : Holding). held.committed) same ∙ kept.2,
+          h.2,
+          counts.2 ∙ (ap (λ (held : Holding). length held.bytes) (sym counted) ∙ ap length h.2),
+        )
+
+    run_whole : {port : ℕ} {kind : Kind} {job : Job} {before : List Event} {s : State} {files : Files S K} {count : ℕ}
+        (run : RunsAs sources sinks port kind job before s files count) → is_complete s.end.position.phase ≡ true
+        → IsWhole sources sinks files count (run_moves run.runs.converses nothing_moved).bytes
+    run_whole {job = job} {s = s} {files = files} {count = count} run done =
+        all_counted files job.mode run.length count (run_moves run.runs.converses nothing_moved).bytes
+        (converses nothing_moved run.runs.converses (λ _. begins run.runs.file run.runs.new)
+        (complete_goes_on s.end.position.phase done))
+        (is_committed sources sinks known run done) run.counts
+
+    -- of a job that is complete
+    pub is_whole : {most port : ℕ} {job : Job} {before : List Event} {s : State} {files : Files S K} {count : ℕ}
+        (transfers : Transfers sources sinks most port job before s files count)
+        → is_complete s.end.position.phase ≡ true
+        → IsWhole sources sinks files count (moved_by sources sinks transfers).bytes
+    is_whole (inl run) done = run_whole run done
+    is_whole (inr again) done = run_whole again.2 done
