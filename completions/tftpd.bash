@@ -6,7 +6,11 @@ _tftpd() {
     options='--listen --ports --max-block --max-file --retries --cap --longest --overwrite --read-only
         --uploads --transfers --rounds --forever --log --help -h --version -V'
     case $3 in
-    --listen | --ports | --max-block | --max-file | --retries | --cap | --longest | --uploads | --transfers | --rounds)
+    --listen)
+        mapfile -t COMPREPLY < <(compgen -W stdin -- "$2")
+        return
+        ;;
+    --ports | --max-block | --max-file | --retries | --cap | --longest | --uploads | --transfers | --rounds)
         return
         ;;
     esac

@@ -2,7 +2,7 @@
 # zsh completion of tftpd
 
 _arguments \
-  '--listen=[address and port of the requests]:ADDR\:PORT:' \
+  '--listen=[address and port of the requests, or stdin]:ADDR\:PORT or stdin:(stdin)' \
   '--ports=[ports of transfers, each once before any again]:A\:B:' \
   '--max-block=[largest block size that is agreed]:bytes, 8 to 65464:' \
   '--max-file=[longest file that is taken]:bytes:' \

@@ -27,7 +27,7 @@ PATIENCE = 600
 # what is installed with these words, but the programs and what is named for each
 DOCUMENTS = ["LICENSE", "OPERATING.md", "README.md", "SECURITY.md", "tftpd.nft"]
 MANUALS = ["man1/x-tftp.1", "man1/x-tftp-play.1", "man1/x-tftp-show.1", "man5/x-tftp-play.5", "man8/x-tftpd.8"]
-UNITS = ["x-tftpd.service", "x-tftpd@.service"]
+UNITS = ["x-tftpd.service", "x-tftpd@.service", "x-tftpd.socket", "x-tftpd-socket.service"]
 
 
 def wanted(library) -> set[str]:
@@ -112,11 +112,14 @@ class Trial:
             self.expect(place.stat().st_mode & 0o777, 0o755, f"the mode of {name}")
         for name in UNITS:
             text = (root / "usr/units" / name).read_text()
+            named = set(re.findall(r"[\w./-]*tftpd\b(?!\.nft)", text))
+            if name.endswith(".socket"):
+                self.expect(named, {"x-tftpd"}, f"what {name} names")
+                continue
             started = re.findall(r"(?m)^#?ExecStart=(\S+)", text)
             self.expect(set(started), {'"/usr/bin/x-tftpd"'}, f"what {name} starts")
             # standard error goes where standard output goes, unless the unit says otherwise
             self.expect("\nStandardError=journal\n" in text, True, f"whether the log of {name} is in the journal")
-            named = set(re.findall(r"[\w./-]*tftpd\b(?!\.nft)", text))
             self.expect(named, {"/usr/bin/x-tftpd", "x-tftpd"}, f"what {name} calls the program")
         self.check_links(root / "usr/share/doc/fanjuvery")
         (root / "usr/bin/other").touch()

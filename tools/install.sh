@@ -65,7 +65,7 @@ named() {
     # as a word in double quotes of a unit, and then as the replacement of sed
     path=$(printf '%s' "$PREFIX/bin/$PROGRAM_PREFIX" | sed 's/[\\"]/\\&/g; s/%/%%/g' | sed 's/[&\\|]/\\&/g')
     case $1 in
-    packaging/*.service)
+    packaging/*.service | packaging/*.socket)
         sed "s|/usr/local/bin/tftpd|@path@|g; s|tftpd\.nft|@nft@|g
             s|tftpd|${PROGRAM_PREFIX}tftpd|g
             s|@path@|${path}tftpd|g; s|@nft@|tftpd.nft|g" "$1"
@@ -108,7 +108,7 @@ files() {
     for manual in man/*.[124-8]; do
         echo "644 $MANDIR/man${manual##*.}/$PROGRAM_PREFIX${manual#man/} $manual"
     done
-    for unit in tftpd.service tftpd@.service; do
+    for unit in tftpd.service tftpd@.service tftpd.socket tftpd-socket.service; do
         echo "644 $UNITDIR/$PROGRAM_PREFIX$unit $(named "packaging/$unit")"
     done
     echo "644 $DOCDIR/tftpd.nft packaging/tftpd.nft"

@@ -20,7 +20,8 @@ from pathlib import Path
 from lib.programs import TOP, program
 
 OPERATING = "docs/OPERATING.md"
-UNITS = ["packaging/tftpd.service", "packaging/tftpd@.service"]
+UNITS = ["packaging/tftpd.service", "packaging/tftpd@.service", "packaging/tftpd-socket.service"]
+SOCKETS = ["packaging/tftpd.socket"]
 # the longest command that a manual shows in 80 columns
 COLUMNS = 68
 # the first systemd that knows each setting of the units
@@ -210,7 +211,7 @@ class Comparison:
         if reason:
             self.skipped.append(f"the units ({reason})")
             return
-        for place in UNITS:
+        for place in [*UNITS, *SOCKETS]:
             self.differences += [f"{place}: {line}" for line in found_in_unit(TOP / place)]
 
     def check_form(self) -> None:
@@ -251,9 +252,12 @@ def verified(unit) -> "subprocess.CompletedProcess[str]":
 def found_in_unit(place) -> list[str]:
     """What systemd finds in a unit."""
     with tempfile.TemporaryDirectory() as room:
+        # beside those that it names
+        for other in [place, *map(TOP.joinpath, [*UNITS, *SOCKETS])]:
+            unit = Path(room) / other.name.replace("@", "@6901")
+            # tftpd need not be installed
+            unit.write_text(re.sub(r'(?m)^(ExecStart=)("[^"]*"|\S+)', r"\1/bin/sh", other.read_text()))
         unit = Path(room) / place.name.replace("@", "@6901")
-        # tftpd need not be installed
-        unit.write_text(re.sub(r'(?m)^(ExecStart=)("[^"]*"|\S+)', r"\1/bin/sh", place.read_text()))
         done = verified(unit)
     # some of what it finds leaves the status at 0
     found = [line for line in done.stderr.splitlines() if unit.name in line]

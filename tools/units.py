@@ -2,10 +2,10 @@
 """Tries the units of packaging/ under a systemd of their own: units.py [FOLDER]
 
 Debian's systemd is PID 1 of a container with a network of its own, in which what `make install` installs is at
-/usr/local. Its units are started, asked over a link by another host, killed, given a folder to write to, and spread
-over eight ports; Debian's package is installed, upgraded and removed. It takes the four programs of bin/. FOLDER (out/debian) is where the container's files are made, once,
-from Debian's archive; a run leaves no change in it. It needs root, and debootstrap, systemd-nspawn, ip, nft and
-unshare. It is run by hand, and not by the gate. The last line is a count; the status is 1 if a trial failed.
+/usr/local. Its units are started, asked over a link by another host, killed, handed their port, given a folder to write
+to, and spread over eight ports; Debian's package is installed, upgraded and removed. It takes the four programs of bin/.
+FOLDER (out/debian) is where the container's files are made, once, from Debian's archive; a run leaves no change in it. It
+needs root, and debootstrap, systemd-nspawn, ip, nft and unshare. It is run by hand, and not by the gate. The last line is a count; the status is 1 if a trial failed.
 """
 import os
 import re
@@ -203,7 +203,7 @@ class Container:
 
 def try_no_folder(it) -> None:
     """Without its folder a start fails, and says so."""
-    for unit in ["tftpd", "tftpd@6901"]:
+    for unit in ["tftpd", "tftpd@6901", "tftpd.socket"]:
         told = it.told(f"systemctl enable --now {unit} 2>&1 || echo status $?")
         expect("Assertion failed" in told and told.endswith("status 1\n"), True, f"whether a start fails: {told}")
         found = [it.property(unit, name) for name in ["AssertResult", "ActiveState", "MemoryMax"]]
@@ -244,6 +244,28 @@ def try_late_address(it) -> None:
     expect(reason in it.log("tftpd.service"), True, "whether the journal has the reason")
     it.server.run(f"ip address delete {LATE}/24 dev wire")
     it.revert("tftpd")
+
+
+def try_socket(it) -> None:
+    """systemd holds the port of tftpd.socket, and a request starts its server, which has no capability. One that comes
+    while the server is away is answered, too."""
+    it.run("systemctl disable --now tftpd; systemctl enable --now tftpd.socket")
+    expect(it.property("tftpd-socket", "ActiveState"), "inactive", "the server before a request")
+    expect(it.is_served(), True, "whether the first request is answered")
+    expect(it.put("new"), "tftp: PeerError(2)\ntftp: the server says: access violation\n", "the answer to a write")
+    it.may("tftpd-socket", None, NOTHING)
+    it.sees("tftpd-socket", False)
+    lines = [line.split()[0] for line in it.log("tftpd-socket.service") if re.search("192|198|0[.]0[.]0[.]0", line)]
+    expect(lines, ["listening", "opened", "closed", "refused"], "the lines of the journal")
+    before = it.property("tftpd-socket", "MainPID")
+    it.run(f"kill -KILL {before}")
+    expect(it.is_served(), True, "whether a request is answered that comes after a kill")
+    expect(it.property("tftpd-socket", "MainPID") in ("0", before), False, "whether another process serves")
+    for verb in ["stop", "restart"]:
+        it.told(f"systemctl {verb} tftpd-socket")
+        expect(it.is_served(), True, f"whether a request is answered that comes after a {verb}")
+    it.run("systemctl disable --now tftpd.socket; systemctl stop tftpd-socket; systemctl enable --now tftpd")
+    until("port 69 is served", it.is_served)
 
 
 def takes_writes(it, unit, template, port, capabilities) -> None:
@@ -319,7 +341,7 @@ def try_package(it) -> None:
     expect(left, "", "the files that a purge leaves")
 
 
-TRIALS = [try_no_folder, try_reading, try_kill, try_late_address, try_writing, try_instances, try_grade, try_package]
+TRIALS = [try_no_folder, try_reading, try_kill, try_socket, try_late_address, try_writing, try_instances, try_grade, try_package]
 
 
 def run(folder) -> int:

@@ -27,7 +27,7 @@ FAULTS = [
      "'--forever' cannot be used with '--transfers <1..4294967295>'"),
     (("tftpd", ".", "--rounds", "2", "--forever"), "'--forever' cannot be used with '--rounds <1..4294967295>'"),
     (("tftpd", ".", "--read-only", "--uploads", "in"), "'--read-only' cannot be used with '--uploads <FOLDER>'"),
-    (("tftpd", ".", "--listen", "localhost:69"), "invalid value 'localhost:69' for '--listen <ADDR:PORT>'"),
+    (("tftpd", ".", "--listen", "localhost:69"), "invalid value 'localhost:69' for '--listen <ADDR:PORT|stdin>'"),
     (("tftpd", ".", "--ports", "9:8"), "invalid value '9:8' for '--ports <A:B>'"),
     (("tftp", "get", "a:69", "a", "b"), "invalid value 'a:69' for '<ADDR:PORT>'"),
     (("tftp", "get", "127.0.0.1:0", "a", "b"), "invalid value '127.0.0.1:0' for '<ADDR:PORT>'"),

@@ -51,6 +51,11 @@ def patiently(words) -> list[Any]:
     return [*words, *([] if "--retries" in words else RETRIES)]
 
 
+def ending(words) -> list[Any]:
+    """The words of a server, which ends by itself, whatever happens to the test."""
+    return [*words, *([] if {"--rounds", "--forever"} & set(words) else ["--rounds", "2000"])]
+
+
 class Client:
     """A tftp that was started."""
 
@@ -174,8 +179,8 @@ class Scene:
             command = ["sh", "-c", LIMITED, "sh", limit, *command]
         if closed is not None:
             command = ["sh", "-c", f'exec "$@" {closed}>&-', "sh", *command]
-        how = {"stdout": subprocess.PIPE, "stderr": subprocess.PIPE, **how}
-        process = subprocess.Popen(command, cwd=self.folder, bufsize=0, stdin=subprocess.DEVNULL, **how)
+        how = {"stdin": subprocess.DEVNULL, "stdout": subprocess.PIPE, "stderr": subprocess.PIPE, **how}
+        process = subprocess.Popen(command, cwd=self.folder, bufsize=0, **how)
         self.ending.callback(end, process)
         return process
 
@@ -187,11 +192,13 @@ class Scene:
         """Starts a server of a folder with these words, under a limit such as `-f 8`: 8 times 512 bytes in a file."""
         return Server(self.start("tftpd", self.server_words(root, listen or self.address, words), limit))
 
+    def serve_at(self, bound, *words) -> Server:
+        """Starts a server of the folder with these words, whose request port is this port of the test."""
+        words = ["--listen", "stdin", *ending(words)]
+        return Server(self.start("tftpd", [".", *patiently(words)], stdin=bound.socket))
+
     def server_words(self, root, address, words) -> list[Any]:
-        if not {"--rounds", "--forever"} & set(words):
-            # it ends by itself, whatever happens to the test
-            words = [*words, "--rounds", "2000"]
-        return [root, "--listen", f"{address}:0", *patiently(words)]
+        return [root, "--listen", f"{address}:0", *patiently(ending(words))]
 
     def watch(self, *words, unsent=0) -> Server:
         """Starts a server of the folder with these words, whose calls are counted; the datagram of that number, counted
@@ -207,9 +214,9 @@ class Scene:
         env = {**os.environ, "LD_PRELOAD": str(library), "DELAY": str(millis)}
         return Server(self.start("tftpd", self.server_words(".", self.address, words), env=env))
 
-    def port(self, number=0) -> Port:
-        """The UDP port of this number, which the system chooses for 0."""
-        port = Port(self.address, number)
+    def port(self, number=0, address=None) -> Port:
+        """The UDP port of this number, which the system chooses for 0, at the address of the test or another."""
+        port = Port(address or self.address, number)
         self.ending.callback(port.close)
         return port
 

@@ -1,10 +1,13 @@
 -- What a status says, and what was done for words.
 use Rattle.std.proofs.Common.{◌≡◌, ◌∙◌, ℕ, List, arith, inl, inr, sym, subst}
 use Rattle.std.specs.Prelude.{Result, Ok, Err, IfOk, IfErr}
+use Rattle.tftp_ends.specs.declared.endpoint.Endpoint.{Endpoint}
 use Rattle.tftp_file.specs.Source.{SourceMeaning}
+use Rattle.tftp_server.specs.State.{ServerState}
+use Rattle.tftp_loop.specs.declared.serving.LoopConfig.{LoopConfig}
 use Rattle.tftp_store.specs.Store.{StoreMeaning}
 use Rattle.tftp_sockets.specs.Journal.{Event}
-use Rattle.tftp_daemon.specs.Configured.{MayServe, ServesWords}
+use Rattle.tftp_daemon.specs.Configured.{IsServerOf, ListensAt, MayServe, RunsService, ServesWords, service_at}
 use Rattle.tftp_arguments.specs.Fault.{AskForText}
 use Rattle.tftp_daemon.specs.Words.{WordsConfigure, tftpd_app}
 use Rattle.tftp_daemon.specs.declared.daemon.DaemonConfig.{DaemonConfig}
@@ -17,6 +20,21 @@ module _ {R G H F D : Type 0} {meaning : StoreMeaning (FolderStore R G H) D} {so
       → MayServe meaning sources config status before after
       → MayServe meaning sources config other before after
   with_status {config} same serves = subst (λ (n : ℕ). MayServe meaning sources config n before after) same serves
+
+  -- a server ran with the configuration of the loop that has its request port there
+  pub serves_at : {config : DaemonConfig} {at : Endpoint} {service : LoopConfig}
+      {server : ServerState (FolderStore R G H) F D} {status : ℕ} → service ≡ service_at config at
+      → ListensAt config.listen at → IsServerOf config server
+      → RunsService meaning sources service server status before after
+      → MayServe meaning sources config status before after
+  serves_at {config} {at} {service} {server} {status} same listens is runs =
+      inr (record {
+        at = at;
+        listens = listens;
+        server = server;
+        is_server = is;
+        runs = subst (λ (s : LoopConfig). RunsService meaning sources s server status before after) same runs;
+      })
 
   -- a server ran with the configuration that the words name, or without one nothing was done, with
   -- a status of 0 only if they ask for a text

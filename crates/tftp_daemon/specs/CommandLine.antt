@@ -7,6 +7,8 @@ use Rattle.tftp_sockets.specs.Address.{Names}
 use Rattle.tftp_loop.specs.declared.port_order.PortRange.{PortRange}
 use Rattle.tftp_loop.specs.declared.serving.Ending.{Ending}
 use Rattle.tftp_daemon.specs.declared.daemon.DaemonConfig.{DaemonConfig}
+use Rattle.tftp_daemon.specs.declared.listen.Listen.{Listen}
+use Rattle.tftp_daemon.specs.declared.listen.Listen.TheVariants.{At, Handed}
 
 -- the limits of transfers, as they were read
 pub record ConfiguresAs (read : Reads) (config : Config) : Type 0 where
@@ -42,16 +44,21 @@ PortsAs None ports = ports ≡ None
 PortsAs (Some word) None = ⊥
 PortsAs (Some word) (Some range) = NamesPorts word range
 
+-- where requests arrive, as a word names it: at standard input, or at an address and a port
+abbrev pub NamesListen : List ℕ → Listen → Type 0
+NamesListen word (At endpoint) = Names word (Some endpoint)
+NamesListen word Handed = word ≡ codes "stdin"
+
 -- the configuration has the folder, the address, the ports, the limits, the age and the flags that
 -- were read
 pub record NamesServer (read : Reads) (config : DaemonConfig) : Type 0 where
   pub root : read.word (codes "ROOT") ≡ Some config.root.now
   pub listen : (word : List ℕ) × (read.word (codes "listen") ≡ Some word)
-      × Names word (Some config.service.listen)
-  pub ports : PortsAs (read.word (codes "ports")) config.service.ports
+      × NamesListen word config.listen
+  pub ports : PortsAs (read.word (codes "ports")) config.ports
   pub limits : ConfiguresAs read config.config
   pub read_only : IsFlag (read.text (codes "read-only")) config.read_only
   pub uploads : read.word (codes "uploads") ≡ option_map (λ folder. folder.now) config.uploads
-  pub longest : IsNumber 32 (read.text (codes "longest")) config.service.longest
-  pub ending : EndsAs read config.service.ending
-  pub logs : IsFlag (read.text (codes "log")) config.service.logs
+  pub longest : IsNumber 32 (read.text (codes "longest")) config.longest
+  pub ending : EndsAs read config.ending
+  pub logs : IsFlag (read.text (codes "log")) config.logs

@@ -1,6 +1,7 @@
 -- What the program did for the words of a command line (own).
-use Rattle.std.specs.Prelude.{ℕ, ◌≡◌, ◌⊎◌, List, [], Option, Some, None, Result, Ok, Err}
+use Rattle.std.specs.Prelude.{ℕ, ◌≡◌, ◌≢◌, ◌⊎◌, List, [], Option, Some, None, Result, Ok, Err}
 use Rattle.std.specs.Prelude.{option_map}
+use Rattle.tftp_ends.specs.declared.endpoint.Endpoint.{Endpoint}
 use Rattle.tftp_file.specs.Path.{path_of_name}
 use Rattle.tftp_file.specs.Source.{SourceMeaning}
 use Rattle.tftp_store.specs.Store.{StoreMeaning}
@@ -13,12 +14,31 @@ use Rattle.tftp_loop.specs.declared.serving.LoopFault.{LoopFault}
 use Rattle.tftp_arguments.specs.Fault.{AskForText}
 use Rattle.tftp_daemon.specs.Words.{WordsConfigure, tftpd_app}
 use Rattle.tftp_daemon.specs.declared.daemon.DaemonConfig.{DaemonConfig}
+use Rattle.tftp_daemon.specs.declared.listen.Listen.{Listen}
+use Rattle.tftp_daemon.specs.declared.listen.Listen.TheVariants.{At, Handed}
 use Rattle.tftp_folder.specs.declared.folder_store.FolderStore.{FolderStore}
 
 -- the status of the program: 0, or 2 for a fault
 abbrev pub status_of : {A E : Type 0} → Result A E → ℕ
 status_of (Ok done) = 0
 status_of (Err fault) = 2
+
+-- the request port is where the words say: at their address and port, or at the socket that was
+-- handed over, which has a port
+abbrev pub ListensAt : Listen → Endpoint → Type 0
+ListensAt (At endpoint) at = at ≡ endpoint
+ListensAt Handed at = at.port ≢ 0
+
+-- the configuration of the loop, with the request port there
+abbrev pub service_at : DaemonConfig → Endpoint → LoopConfig
+service_at config at = record {
+  listen = at;
+  ports = config.ports;
+  ending = config.ending;
+  longest = config.longest;
+  logs = config.logs;
+  has_priority = config.has_priority;
+}
 
 -- the folder that takes all writes is the one that is named, if one is
 abbrev pub IsUploads : Option (List ℕ) → Option (List ℕ) → Type 0
@@ -48,9 +68,11 @@ module _ {R G H F D : Type 0} where
     -- a server of the configuration ran
     pub record ServesConfig (config : DaemonConfig) (status : ℕ) (before after : List Event)
         : Type 0 where
+      pub at : Endpoint
+      pub listens : ListensAt config.listen at
       pub server : ServerState (FolderStore R G H) F D
       pub is_server : IsServerOf config server
-      pub runs : RunsService config.service server status before after
+      pub runs : RunsService (service_at config at) server status before after
 
     -- nothing was done over UDP, as without the folder, with a status of 2; or a server of the
     -- configuration ran

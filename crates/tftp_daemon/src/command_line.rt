@@ -19,6 +19,7 @@ ghost use Rattle.tftp_daemon.specs.Words.{with_places, with_writes};
 
 use crate::daemon::DaemonConfig;
 use crate::error_output::ErrorOutput;
+use crate::listen::Listen;
 use crate::shown::Shown;
 use anyhow::Result;
 use clap::error::ErrorKind;
@@ -27,10 +28,9 @@ use clap::{Arg, ArgMatches, Command, value_parser};
 use std::alloc::{AllocError, Global};
 use std::convert::AsStr;
 use tftp_arguments::{VERSION, flag, is_set, number, print_usage, word};
-use tftp_loop::{Ending, LoopConfig, PortRange};
+use tftp_loop::{Ending, PortRange};
 use tftp_negotiate::{Limits, MAX_BLOCK, MIN_BLOCK};
 use tftp_server::Config;
-use tftp_sockets::endpoint_in;
 
 const EXAMPLES: &str = "\
 Examples:
@@ -51,7 +51,8 @@ const READ_ONLY_UPLOADS: &str =
     "the argument '--read-only' cannot be used with '--uploads <FOLDER>'";
 
 /// Why an option's word is no value of it.
-const NO_ADDRESS: &str = "for '--listen <ADDR:PORT>': not an IPv4 address and a port";
+const NO_ADDRESS: &str =
+    "for '--listen <ADDR:PORT|stdin>': neither an IPv4 address and a port nor 'stdin'";
 
 const NO_PORTS: &str = "for '--ports <A:B>': not two ports from 1 to 65535, the lower first";
 
@@ -251,22 +252,20 @@ fn service<'a>(
     ensures names { IfSome result (NamesServer (read_of matches.now)) }
 {
     let root = matches.get_str("ROOT")?;
-    let listen = endpoint_in(matches.get_str(LISTEN)?)?;
+    let listen = Listen::named(matches.get_str(LISTEN)?)?;
     let config = config(matches)?;
-    let service = LoopConfig {
-        listen,
-        ports,
-        ending: ending(matches)?,
-        longest: matches.get_one::<u32>(LONGEST),
-        logs: is_set(matches, "log"),
-        has_priority: errors.has_priority(),
-    };
+    let ending = ending(matches)?;
     Some(DaemonConfig {
         root,
         config,
         read_only: is_set(matches, READ_ONLY),
         uploads: matches.get_str(UPLOADS),
-        service,
+        listen,
+        ports,
+        ending,
+        longest: matches.get_one::<u32>(LONGEST),
+        logs: is_set(matches, "log"),
+        has_priority: errors.has_priority(),
     })
 }
 
@@ -400,8 +399,8 @@ fn listen<'a>(alloc: Global) -> Arg<'a>
     let listen = option(
         alloc,
         LISTEN,
-        "ADDR:PORT",
-        "IPv4 address and UDP port of the requests; port 0 lets the system choose",
+        "ADDR:PORT|stdin",
+        "IPv4 address and UDP port of the requests, 0 for any; or the socket that is standard input",
     );
     listen.default_value("127.0.0.1:6969")
 }

@@ -2,17 +2,20 @@
 
 ghost use Rattle.std.specs.Prelude.{◌≡◌, ◌≤◌, IfOk, option_map};
 ghost use Rattle.tftp_server.specs.Config.{IsConfig};
-ghost use Rattle.tftp_daemon.specs.Configured.{IsServerOf, IsUploads, MayServe, RunsService};
-ghost use Rattle.tftp_daemon.specs.Configured.{status_of};
+ghost use Rattle.tftp_daemon.specs.Configured.{IsServerOf, IsUploads, ListensAt, MayServe};
+ghost use Rattle.tftp_daemon.specs.Configured.{RunsService, service_at, status_of};
 
+use crate::listen::Listen;
 use std::alloc::Global;
 use std::io::{self, ErrorKind};
 use std::rt::Files;
 use std::time::Clock;
+use tftp_ends::Endpoint;
 use tftp_file::Source;
 use tftp_folder::{FolderSource, FolderStore};
+use tftp_handed::{HandedFault, HandedSocket, HandedUdp, Input};
 use tftp_lines::{Reason, reason_of};
-use tftp_loop::{LoopConfig, LoopFault, ServerUdp};
+use tftp_loop::{Ending, LoopConfig, LoopFault, PortRange, ServerUdp};
 use tftp_server::{Config, Server, Store};
 use tftp_sockets::Journal;
 
@@ -27,8 +30,35 @@ pub(crate) struct DaemonConfig<'a> {
     pub(crate) read_only: bool,
     /// The folder below the root that takes all writes, if not every folder does.
     pub(crate) uploads: Option<&'a str>,
-    /// The address, the end and the log.
-    pub(crate) service: LoopConfig,
+    /// Where requests arrive.
+    pub(crate) listen: Listen,
+    /// The ports that transfers use; `None` if the system chooses.
+    pub(crate) ports: Option<PortRange>,
+    /// When the server ends.
+    pub(crate) ending: Ending,
+    /// The age of a transfer, in seconds, behind which its datagrams are dropped; `None` for no
+    /// limit.
+    pub(crate) longest: Option<u32>,
+    /// Whether there is a log.
+    pub(crate) logs: bool,
+    /// Whether a warning of the log begins with its priority.
+    pub(crate) has_priority: bool,
+}
+
+impl DaemonConfig<'_> {
+    /// The configuration of the loop, with the request port at this endpoint.
+    fn service_at(&self, listen: Endpoint) -> LoopConfig
+        ensures { result ≡ service_at self.now listen }
+    {
+        LoopConfig {
+            listen,
+            ports: self.ports,
+            ending: self.ending,
+            longest: self.longest,
+            logs: self.logs,
+            has_priority: self.has_priority,
+        }
+    }
 }
 
 /// Why `tftpd` did not serve, or stopped.
@@ -38,17 +68,21 @@ pub(crate) enum DaemonFault {
     Root(Reason),
     /// The folder of uploads cannot take writes, for this reason.
     Uploads(Reason),
+    /// Standard input is no request port, for this reason.
+    Handed(HandedFault),
     /// Out of memory.
     Memory,
     /// Serving failed.
     Loop(LoopFault),
 }
 
-/// Serves until the configured number of transfers has closed, or of waits is over.
+/// Serves until the configured number of transfers has closed, or of waits is over. Standard input
+/// is closed again, unless requests arrive there.
 pub(crate) fn serve<R: Files + Clone + Drop + ServerUdp + Clock + Print + Eprint>(
     rt: &R,
     alloc: Global,
     config: &DaemonConfig<'_>,
+    input: Input,
     journal: Journal,
 ) -> (Result<(), DaemonFault>, Journal)
     requires { IsConfig config.now.config }
@@ -57,8 +91,57 @@ pub(crate) fn serve<R: Files + Clone + Drop + ServerUdp + Clock + Print + Eprint
         ⟦<FolderSource<R::File> as Source>⟧.meaning config.now (status_of result.0) journal.events
         result.1.events }
 {
-    match open_server(rt, alloc, config) {
-        Ok(server) => serve_loop(rt, alloc, server, &config.service, journal),
+    match config.listen {
+        Listen::At(at) => {
+            drop(input);
+            serve_at(rt, rt, alloc, config, at, journal)
+        }
+        Listen::Handed => serve_handed(rt, alloc, config, input, journal),
+    }
+}
+
+/// Serves at the socket that is standard input.
+fn serve_handed<R: Files + Clone + Drop + ServerUdp + Clock + Print + Eprint>(
+    rt: &R,
+    alloc: Global,
+    config: &DaemonConfig<'_>,
+    input: Input,
+    journal: Journal,
+) -> (Result<(), DaemonFault>, Journal)
+    requires valid { IsConfig config.now.config }
+    requires handed { config.now.listen ≡ Listen.Handed }
+    ensures status { status_of result.0 ≤ 2 }
+    ensures runs { MayServe ⟦<FolderStore<R> as Store>⟧.meaning
+        ⟦<FolderSource<R::File> as Source>⟧.meaning config.now (status_of result.0) journal.events
+        result.1.events }
+{
+    match HandedSocket::new(input) {
+        Ok(socket) => {
+            let at = socket.endpoint();
+            serve_at(&HandedUdp::new(rt, socket), rt, alloc, config, at, journal)
+        }
+        Err(fault) => (Err(DaemonFault::Handed(fault)), journal),
+    }
+}
+
+/// Serves with the request port at this endpoint.
+fn serve_at<N: ServerUdp + Clock + Print + Eprint, R: Files + Clone + Drop>(
+    net: &N,
+    files: &R,
+    alloc: Global,
+    config: &DaemonConfig<'_>,
+    at: Endpoint,
+    journal: Journal,
+) -> (Result<(), DaemonFault>, Journal)
+    requires valid { IsConfig config.now.config }
+    requires listens { ListensAt config.now.listen at }
+    ensures status { status_of result.0 ≤ 2 }
+    ensures runs { MayServe ⟦<FolderStore<R> as Store>⟧.meaning
+        ⟦<FolderSource<R::File> as Source>⟧.meaning config.now (status_of result.0) journal.events
+        result.1.events }
+{
+    match open_server(files, alloc, config) {
+        Ok(server) => serve_loop(net, alloc, server, &config.service_at(at), journal),
         Err(fault) => (Err(fault), journal),
     }
 }

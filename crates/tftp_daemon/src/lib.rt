@@ -7,6 +7,7 @@ mod command_line;
 mod daemon;
 mod error_output;
 pub mod laws;
+mod listen;
 mod program;
 mod shown;
 

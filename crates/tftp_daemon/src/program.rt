@@ -18,19 +18,20 @@ use std::time::Clock;
 use tftp_arguments::{own_words, print_no_memory, print_words_fault};
 use tftp_file::Source;
 use tftp_folder::{FolderSource, FolderStore};
+use tftp_handed::Input;
 use tftp_lines::Reason;
 use tftp_loop::{LoopFault, ServerUdp};
 use tftp_server::Store;
 use tftp_sockets::Journal;
 
-/// Runs `tftpd` with the program's own command line, and returns its status.
+/// Runs `tftpd` with the program's own command line, and this standard input, and returns its status.
 ///
 /// See [`tftpd_words`].
-pub fn tftpd_command<R: Runtime + AllocGlobal + Net + RandomSource>(rt: &R) -> u8
+pub fn tftpd_command<R: Runtime + AllocGlobal + Net + RandomSource>(rt: &R, input: Input) -> u8
     ensures { result ≤ 2 }
 {
     match own_words(rt) {
-        Ok(words) => tftpd_words(rt, words.as_slice()),
+        Ok(words) => tftpd_words(rt, words.as_slice(), input),
         Err(fault) => print_words_fault(rt, "tftpd", fault),
     }
 }
@@ -38,16 +39,18 @@ pub fn tftpd_command<R: Runtime + AllocGlobal + Net + RandomSource>(rt: &R) -> u
 /// Runs `tftpd` by a command line, and returns its status. The first word is the program's name.
 ///
 /// `--help` and `--version` print and return 0. The status is 2 for a command line that is not
-/// understood, a root or an `--uploads` that is no folder, a port that cannot be bound and output
-/// that cannot be written, each reported on standard error, and when out of memory. A second line
-/// names the folder or the address that was refused, and why.
+/// understood, a root or an `--uploads` that is no folder, a port that cannot be bound, a standard
+/// input that is no request port where it is to be one, and output that cannot be written, each
+/// reported on standard error, and when out of memory. A second line names the folder or the address
+/// that was refused, and why.
 pub fn tftpd_words<R: Runtime + AllocGlobal + Net + RandomSource, S: AsStr>(
     rt: &R,
     words: &[S],
+    input: Input,
 ) -> u8
     ensures { result ≤ 2 }
 {
-    let (status, _journal) = tftpd_with_journal(rt, words, Journal::new());
+    let (status, _journal) = tftpd_with_journal(rt, words, input, Journal::new());
     status
 }
 
@@ -57,6 +60,7 @@ pub fn tftpd_words<R: Runtime + AllocGlobal + Net + RandomSource, S: AsStr>(
 pub fn tftpd_with_journal<R: Runtime + AllocGlobal + Net + RandomSource, S: AsStr>(
     rt: &R,
     words: &[S],
+    input: Input,
     journal: Journal,
 ) -> (u8, Journal)
     ensures status { result.0 ≤ 2 }
@@ -65,7 +69,10 @@ pub fn tftpd_with_journal<R: Runtime + AllocGlobal + Net + RandomSource, S: AsSt
         journal.events result.1.events }
 {
     match Texts::new(rt.alloc()) {
-        Ok(texts) => serve_texts(rt, rt.alloc(), &texts, words, ErrorOutput::of(rt), journal),
+        Ok(texts) => {
+            let errors = ErrorOutput::of(rt);
+            serve_texts(rt, rt.alloc(), &texts, words, errors, input, journal)
+        }
         Err(_) => (print_no_memory(rt, "tftpd"), journal),
     }
 }
@@ -77,6 +84,7 @@ fn serve_texts<'a, R: Files + Clone + Drop + ServerUdp + Clock + Print + Eprint,
     texts: &'a Texts,
     words: &'a [S],
     errors: ErrorOutput,
+    input: Input,
     journal: Journal,
 ) -> (u8, Journal)
     ensures status { result.0 ≤ 2 }
@@ -85,7 +93,7 @@ fn serve_texts<'a, R: Files + Clone + Drop + ServerUdp + Clock + Print + Eprint,
         journal.events result.1.events }
 {
     match read_words(rt, alloc, texts, words, errors) {
-        Ok(asked) => serve_asked(rt, alloc, &asked, journal),
+        Ok(asked) => serve_asked(rt, alloc, &asked, input, journal),
         Err(_) => (print_no_memory(rt, "tftpd"), journal),
     }
 }
@@ -95,6 +103,7 @@ fn serve_asked<R: Files + Clone + Drop + ServerUdp + Clock + Print + Eprint>(
     rt: &R,
     alloc: Global,
     asked: &Asked<'_>,
+    input: Input,
     journal: Journal,
 ) -> (u8, Journal)
     requires config { IfOk asked.now (λ config. IsConfig config.config) }
@@ -107,7 +116,7 @@ fn serve_asked<R: Files + Clone + Drop + ServerUdp + Clock + Print + Eprint>(
     ensures none { IfErr asked.now (λ _. result.1.events ≡ journal.events) }
 {
     match asked {
-        Ok(config) => serve_config(rt, alloc, config, journal),
+        Ok(config) => serve_config(rt, alloc, config, input, journal),
         Err(status) => (*status, journal),
     }
 }
@@ -117,6 +126,7 @@ fn serve_config<R: Files + Clone + Drop + ServerUdp + Clock + Print + Eprint>(
     rt: &R,
     alloc: Global,
     config: &DaemonConfig<'_>,
+    input: Input,
     journal: Journal,
 ) -> (u8, Journal)
     requires { IsConfig config.now.config }
@@ -125,7 +135,7 @@ fn serve_config<R: Files + Clone + Drop + ServerUdp + Clock + Print + Eprint>(
         ⟦<FolderSource<R::File> as Source>⟧.meaning config.now result.0 journal.events
         result.1.events }
 {
-    let (served, journal) = serve(rt, alloc, config, journal);
+    let (served, journal) = serve(rt, alloc, config, input, journal);
     (report(rt, config, served), journal)
 }
 
@@ -153,8 +163,9 @@ fn print_fault<R: Eprint>(rt: &R, config: &DaemonConfig<'_>, fault: DaemonFault)
         DaemonFault::Root(reason) => eprintln!(rt; "tftpd: {}: {reason}", Shown(config.root)),
         DaemonFault::Uploads(reason) => print_uploads(rt, config.uploads.unwrap_or(""), reason),
         DaemonFault::Loop(LoopFault::Socket(reason)) => {
-            eprintln!(rt; "tftpd: {}: {reason}", config.service.listen)
+            eprintln!(rt; "tftpd: {}: {reason}", config.listen)
         }
+        DaemonFault::Handed(fault) => eprintln!(rt; "tftpd: {}: {fault}", config.listen),
         DaemonFault::Loop(LoopFault::Output) => {
             rt.eprintln("tftpd: standard output: cannot be written")
         }
@@ -166,7 +177,7 @@ fn print_fault<R: Eprint>(rt: &R, config: &DaemonConfig<'_>, fault: DaemonFault)
 fn first_line(fault: DaemonFault) -> &'static str {
     match fault {
         DaemonFault::Root(_) | DaemonFault::Uploads(_) => "tftpd: file fault",
-        DaemonFault::Loop(LoopFault::Socket(_)) => "tftpd: socket fault",
+        DaemonFault::Handed(_) | DaemonFault::Loop(LoopFault::Socket(_)) => "tftpd: socket fault",
         DaemonFault::Loop(LoopFault::Output) => "tftpd: output fault",
         DaemonFault::Memory | DaemonFault::Loop(LoopFault::Memory) => "tftpd: out of memory",
     }

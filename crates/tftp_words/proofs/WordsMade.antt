@@ -8,11 +8,12 @@ use Rattle.tftp_ends.specs.declared.endpoint.Endpoint.{Endpoint}
 use Rattle.tftp_store.specs.Store.{StoreMeaning}
 use Rattle.tftp_server.specs.State.{ServerState}
 use Rattle.tftp_server.specs.declared.config.Config.{Config}
+use Rattle.tftp_sockets.specs.Bound.{IsBoundTo}
 use Rattle.tftp_loop.specs.Serves.{LoopState, at_start}
 use Rattle.tftp_loop.specs.WholeRun.{Serves, ServesFrom, Unbound, Bound, listening}
 use Rattle.tftp_loop.specs.declared.serving.LoopFault.{LoopFault}
 use Rattle.tftp_folder.specs.declared.folder_store.FolderStore.{FolderStore}
-use Rattle.tftp_daemon.specs.Configured.{IsServerOf, ServesWords}
+use Rattle.tftp_daemon.specs.Configured.{IsServerOf, ListensAt, ServesWords, service_at}
 use Rattle.tftp_daemon.specs.Words.{WordsConfigure}
 use Rattle.tftp_promises.specs.ClientPrograms.{ClientsArePrograms}
 use Rattle.tftp_promises.specs.Joined.{ProgramsKeepAnyFiles, ServersAloneAreJoined}
@@ -43,14 +44,14 @@ module _ {R G H F D : Type 0} {stores : StoreMeaning (FolderStore R G H) D} {sou
   abbrev Made : Type 0
   Made = (server : ServerProgram stores sources (endpoint ip port)) × IsServerRan ran port server
 
-  module _ (config : DaemonConfig) (named : WordsConfigure ran.words config)
-      (server : ServerState (FolderStore R G H) F D) (of : IsServerOf config server) where
-    from_port : {A : Type 0} {result : Result A LoopFault} (bound : ℕ) → bound ≡ port →
-        ServesFrom stores sources config.service bound server result
-        (listening config.service.listen.ip bound ran.before) ran.after → Made
-    from_port bound same serves =
-        let before = listening config.service.listen.ip bound ran.before in
-        let start : LoopState (FolderStore R G H) F D = at_start config.service bound server before in
+  module _ (config : DaemonConfig) (named : WordsConfigure ran.words config) (at : Endpoint)
+      (listens : ListensAt config.listen at) (server : ServerState (FolderStore R G H) F D) (of : IsServerOf config server) where
+    from_port : {A : Type 0} {result : Result A LoopFault} (bound : ℕ) → bound ≡ port → IsBoundTo at at.ip bound →
+        ServesFrom stores sources (service_at config at) bound server result (listening at.ip bound ran.before)
+        ran.after → Made
+    from_port bound same is_bound serves =
+        let before = listening at.ip bound ran.before in
+        let start : LoopState (FolderStore R G H) F D = at_start (service_at config at) bound server before in
         let limits : IsBlockSize server.config.limits.max_block =
         subst (λ (c : Config). IsBlockSize c.limits.max_block) (sym of.limits) of.valid.max_block in
         let r = are_runs (endpoint ip port) start serves.last serves.run same of.empty refl limits in (
@@ -61,9 +62,12 @@ module _ {R G H F D : Type 0} {stores : StoreMeaning (FolderStore R G H) D} {sou
             config = config;
             named = named;
             limits = ap (λ (s : LoopState (FolderStore R G H) F D). s.server.config) r.starts ∙ of.limits;
+            at = at;
+            listens = listens;
+            bound = subst (λ (p : ℕ). IsBoundTo at at.ip p) same is_bound;
             begins =
                 ap (λ (s : LoopState (FolderStore R G H) F D). s.events) r.starts
-                ∙ ap (λ (p : ℕ). listening config.service.listen.ip p ran.before) same;
+                ∙ ap (λ (p : ℕ). listening at.ip p ran.before) same;
             noted =
                 serves.noted
                 ∙ (ap (λ (s : LoopState (FolderStore R G H) F D). s.events) (sym r.arrives) ∙ r.server.is_noted);
@@ -71,15 +75,16 @@ module _ {R G H F D : Type 0} {stores : StoreMeaning (FolderStore R G H) D} {sou
         )
 
     by_serving : {A : Type 0} {result : Result A LoopFault} →
-        (serves : Serves stores sources config.service server result ran.before ran.after) →
+        (serves : Serves stores sources (service_at config at) server result ran.before ran.after) →
         bound_by serves ≡ Some port → Made
     by_serving (Unbound ends) is = absurd (let f : None ≡ Some port = is in cc)
-    by_serving (Bound bound listens serves) is = from_port bound (same_Some bound port is) serves
+    by_serving (Bound bound is_bound serves) is = from_port bound (same_Some bound port is) is_bound serves
 
   by_words : (did : ServesWords stores sources ran.words ran.status ran.before ran.after) →
       bound_in ran.words ran.status ran.before ran.after did ≡ Some port → Made
   by_words (inl none) is = absurd (let f : None ≡ Some port = is in cc)
-  by_words (inr did) is = by_serving did.0 did.1 did.2.server did.2.is_server did.2.runs.serves is
+  by_words (inr did) is =
+      by_serving did.0 did.1 did.2.at did.2.listens did.2.server did.2.is_server did.2.runs.serves is
 
   pub server_made : port_of ran ≡ Some port → Made
   server_made is = by_words ran.ran is

@@ -11,6 +11,7 @@ use Rattle.tftp_ends.specs.declared.side.Side.{Side}
 use Rattle.tftp_ends.specs.declared.side.Side.TheVariants.{ClientRead, ClientWrite}
 use Rattle.tftp_store.specs.Store.{StoreMeaning}
 use Rattle.tftp_server.specs.State.{ServerState}
+use Rattle.tftp_sockets.specs.Bound.{IsBoundTo}
 use Rattle.tftp_sockets.specs.Journal.{Event}
 use Rattle.tftp_loop.specs.WholeRun.{Serves, Unbound, Bound, listening}
 use Rattle.tftp_loop.specs.declared.serving.LoopConfig.{LoopConfig}
@@ -18,7 +19,7 @@ use Rattle.tftp_loop.specs.declared.serving.LoopFault.{LoopFault}
 use Rattle.tftp_client.specs.Ordered.{RunsWords}
 use Rattle.tftp_client.specs.Words.{WordsName}
 use Rattle.tftp_folder.specs.declared.folder_store.FolderStore.{FolderStore}
-use Rattle.tftp_daemon.specs.Configured.{ServesWords}
+use Rattle.tftp_daemon.specs.Configured.{ListensAt, ServesWords}
 use Rattle.tftp_daemon.specs.Words.{WordsConfigure}
 use Rattle.tftp_promises.specs.Order.{Programs}
 use Rattle.tftp_promises.specs.Programs.{ClientProgram, ServerProgram, name_of}
@@ -121,7 +122,7 @@ module _ {G K : Type 0} {inputs : SourceMeaning G} {outputs : SinkMeaning K} whe
 
 module _ {R G H F D : Type 0} {stores : StoreMeaning (FolderStore R G H) D}
     {sources : SourceMeaning F} where
-  -- this program is what `tftpd` ran from its request port on
+  -- this program is what `tftpd` ran from its request port on, which is where the words say
   pub record IsServerRan (ran : ServerRan stores sources) (port : ℕ) {to : Endpoint}
       (server : ServerProgram stores sources to) : Type 0 where
     pub address : to.ip ≡ ran.ip
@@ -129,7 +130,10 @@ module _ {R G H F D : Type 0} {stores : StoreMeaning (FolderStore R G H) D}
     pub config : DaemonConfig
     pub named : WordsConfigure ran.words config
     pub limits : server.start.server.config ≡ config.config
-    pub begins : server.start.events ≡ listening config.service.listen.ip port ran.before
+    pub at : Endpoint
+    pub listens : ListensAt config.listen at
+    pub bound : IsBoundTo at at.ip port
+    pub begins : server.start.events ≡ listening at.ip port ran.before
     pub noted : ran.after ≡ server.noted ++ server.start.events
 
   -- and these what each of several ran

@@ -1,0 +1,123 @@
+"""A request port that another program bound, and hands over as standard input: the test itself, as systemd and inetd do."""
+import re
+import socket
+import subprocess
+
+from datagrams import PATIENCE, PATIENT, ack, data, error, expect, free_ports, oack, rrq
+from options import UNITS
+
+FAULT = "tftpd: socket fault\ntftpd: standard input: "
+
+
+def refuses(scene, stdin, reason, **how) -> None:
+    """Standard input is no request port for this reason."""
+    process = scene.start("tftpd", [".", "--listen", "stdin"], stdin=stdin, **how)
+    printed, errors = (text.decode() for text in process.communicate(timeout=PATIENCE))
+    expect((process.returncode, printed, errors), (2, "", f"{FAULT}{reason}\n"), f"what is said of {stdin}")
+
+
+def test_standard_input_is_no_request_port(scene) -> None:
+    """Each reason has words of its own."""
+    refuses(scene, subprocess.DEVNULL, "closed", closed=0)
+    refuses(scene, subprocess.DEVNULL, "not a socket")
+    refuses(scene, subprocess.PIPE, "not a socket")
+    for family, kind, address, peer, reason in [
+        (socket.AF_UNIX, socket.SOCK_DGRAM, str(scene.folder / "s"), None, "not a socket of the internet"),
+        (socket.AF_INET6, socket.SOCK_DGRAM, ("::1", 0), None, "a socket over IPv6"),
+        (socket.AF_INET, socket.SOCK_STREAM, (scene.address, 0), None, "a socket for streams"),
+        (socket.AF_INET, socket.SOCK_DGRAM, (scene.address, 0), (scene.address, 9), "a connected socket"),
+        (socket.AF_INET, socket.SOCK_DGRAM, None, None, "a socket without a port"),
+    ]:
+        try:
+            bound = socket.socket(family, kind)
+        except OSError:
+            # a host without IPv6
+            continue
+        with bound:
+            if address:
+                try:
+                    bound.bind(address)
+                except OSError:
+                    continue
+            if peer:
+                bound.connect(peer)
+            refuses(scene, bound, reason)
+
+
+def test_a_socket_is_handed_over(scene) -> None:
+    """A get and a put at a socket that is bound to an address, and at one of every address. The source of an answer is
+    the address of the socket, or the one of the system's route."""
+    scene.make("a", b"ABC")
+    for address, expected in [(scene.address, scene.address), ("0.0.0.0", "127.0.0.1")]:
+        bound = scene.port(address=address)
+        server = scene.serve_at(bound, "--transfers", "3")
+        expect(server.address, bound.address, "the address that is printed")
+        number = server.address[1]
+        port = scene.port(address=expected)
+        port.send(rrq("a", **PATIENT), (expected, number))
+        answer, transfer = port.receive()
+        expect((answer, transfer[0]), (oack(**PATIENT), expected), "the answer and its address")
+        expect(transfer[1] != number, True, "whether the transfer has a port of its own")
+        port.send(error(0, "stop"), transfer)
+        scene.tftp("get", f"{expected}:{number}", "a", "got", "--no-dally").completes(3)
+        scene.tftp("put", f"{expected}:{number}", "got", "new").completes(3)
+        server.has_closed("PeerError(0)", "Complete", "Complete")
+        scene.has(a=b"ABC", got=b"ABC", new=b"ABC")
+        for name in ["got", "new"]:
+            (scene.folder / name).unlink()
+
+
+def test_a_transfer_never_has_the_port_that_is_handed_over(scene) -> None:
+    """A range that has the request port has one port less."""
+    scene.make("a", b"ABC")
+    first = free_ports(2)
+    server = scene.serve_at(scene.port(first), "--ports", f"{first}:{first + 1}", "--transfers", "3")
+    for _ in range(3):
+        port = scene.port()
+        port.send(rrq("a"), server.address)
+        block, transfer = port.receive()
+        expect((block, transfer[1]), (data(1, b"ABC"), first + 1), "the block and its port")
+        port.send(ack(1), transfer)
+    server.has_closed(*["Complete"] * 3)
+
+
+def test_a_restart_loses_no_request(scene) -> None:
+    """64 ask before a server starts, and 64 after it was killed, and again: each asks once, and the next one answers."""
+    scene.make("a", b"ABC")
+    bound = scene.port()
+    clients = [[scene.port() for _ in range(64)] for _ in range(3)]
+    for ports in clients:
+        for port in ports:
+            port.send(rrq("a"), bound.address)
+        server = scene.serve_at(bound, "--cap", "64", "--forever")
+        for port in ports:
+            block, transfer = port.receive()
+            expect(block, data(1, b"ABC"), "the block")
+            port.send(ack(1), transfer)
+        server.kill()
+
+
+def test_a_client_asks_while_no_server_runs(scene) -> None:
+    """Its one request waits in the socket: the client sends nothing again."""
+    scene.make("a", b"ABC")
+    bound = scene.port()
+    server = scene.serve_at(bound)
+    scene.tftp("get", server.word, "a", "first", "--no-dally").completes(3)
+    server.has_closed("Complete")
+    client = scene.tftp("get", server.word, "a", "second", "--no-dally", "--timeout", "60")
+    expect(bound.socket.recv(512, socket.MSG_PEEK)[:4], b"\0\1a\0", "the request that waits")
+    server = scene.serve_at(bound, "--log")
+    client.completes(3)
+    log = server.has_closed("Complete")
+    expect(re.search(r", (\d+) sent again", log[-1])[1], "0", "how many datagrams were sent again")
+
+
+def test_the_unit_of_a_socket(scene) -> None:
+    """The command line of the unit serves a folder to read, and refuses writes."""
+    scene.make("a", b"ABC")
+    text = (UNITS / "tftpd-socket.service").read_text()
+    line = re.search(r'(?m)^ExecStart="[^"]+" /srv/tftp --listen stdin (.*)$', text)
+    bound = scene.port()
+    server = scene.serve_at(bound, *line[1].split())
+    scene.tftp("get", server.word, "a", "got", "--no-dally").completes(3)
+    scene.tftp("put", server.word, "a", "n").fails("PeerError(2)")
