@@ -90,9 +90,38 @@ closed 1025 TimedOut
 end 1024 client-read peer=1025 size=512 number=1 complete=yes open
 end 1025 server-read peer=1024 size=512 number=1 complete=no TimedOut
 """, 0),
+    # a server at its limit is busy
+    ("set cap 1\nfile a 414243\nget a octet\nget a octet\ndeliver 0\ndeliver 1\ndeliver 3\n", """\
+#0 10.0.0.2:1024 > 10.0.0.1:69 RRQ a octet
+#1 10.0.0.2:1025 > 10.0.0.1:69 RRQ a octet
+#2 10.0.0.1:1026 > 10.0.0.2:1024 DATA 1 3
+#3 10.0.0.1:69 > 10.0.0.2:1025 ERROR 0 (server busy)
+closed 1025 PeerError(0)
+end 1024 client-read peer=none size=512 number=0 complete=no open
+end 1025 client-read peer=none size=512 number=0 complete=no PeerError(0)
+end 1026 server-read peer=1024 size=512 number=1 complete=no open
+""", 1),
+    # a file that is missing opens no end
+    ("file a 414243\nget b octet\nsettle 0\n", """\
+#0 10.0.0.2:1024 > 10.0.0.1:69 RRQ b octet
+#1 10.0.0.1:69 > 10.0.0.2:1024 ERROR 1 (file not found)
+closed 1024 PeerError(1)
+end 1024 client-read peer=none size=512 number=0 complete=no PeerError(1)
+""", 1),
+    # the reader's store refuses the block
+    ("file a 414243\nget a octet\nrefuse 1024\ndeliver 0\ndeliver 1\n", """\
+#0 10.0.0.2:1024 > 10.0.0.1:69 RRQ a octet
+-
+#1 10.0.0.1:1025 > 10.0.0.2:1024 DATA 1 3
+#2 10.0.0.2:1024 > 10.0.0.1:1025 ERROR 3 (disk full)
+closed 1024 StoreFault
+end 1024 client-read peer=1025 size=512 number=0 complete=no StoreFault
+end 1025 server-read peer=1024 size=512 number=1 complete=no open
+""", 1),
 ]
 
-# A request that arrives twice opens one transfer, and another after its close (RFC 1350, section 4)
+# A request that arrives twice opens one transfer, and another after its close (RFC 1350, section 4); at a closed end nothing
+# happens
 REPEATS = [
     ("""\
 file a 414243
@@ -104,6 +133,8 @@ deliver 2
 deliver 0
 deliver 3
 deliver 4
+deliver 4
+timeout 1026
 """, """\
 #0 10.0.0.2:1024 > 10.0.0.1:69 RRQ a octet
 #1 10.0.0.1:1025 > 10.0.0.2:1024 DATA 1 3
@@ -113,6 +144,8 @@ closed 1025 Complete
 #3 10.0.0.1:1026 > 10.0.0.2:1024 DATA 1 3
 #4 10.0.0.2:1024 > 10.0.0.1:1026 ERROR 5 (unknown transfer id)
 closed 1026 PeerError(5)
+-
+-
 end 1024 client-read peer=1025 size=512 number=1 complete=yes open
 end 1025 server-read peer=1024 size=512 number=1 complete=yes Complete
 end 1026 server-read peer=1024 size=512 number=1 complete=no PeerError(5)
@@ -124,6 +157,7 @@ QUIET = [
     ("", "", 0),
     ("# nothing\n\nset retries 0\nfile a 41\n", "", 0),
     ("deliver 0\ntimeout 1024\n", "refused NoSuchDatagram\nrefused NoSuchEnd\n", 0),
+    ("refuse 1024\n", "refused NoSuchEnd\n", 0),
     ("settle 0\nsettle 18446744073709551615\n", "", 0),
     ("get \0 octet\n", "refused BadRequest\n", 0),
     ("set retries 0\nget a octet\ntimeout 1024\ntimeout 1024\n", """\
@@ -240,12 +274,11 @@ closed 1024 Complete
 end 1024 client-write peer=1025 size=8 number=3 complete=yes Complete
 end 1025 server-write peer=1024 size=8 number=3 complete=yes open
 """, 0),
-    # two writes of one name: the first commit has it, and the other is refused (RFC 1350, appendix
-    # I)
+    # two writes of one name: the first commit has it, as a read shows, and the other is refused (RFC 1350, appendix I)
     ("""\
 put n octet 41
 deliver 0
-put n octet 42
+put n octet 4242
 deliver 2
 deliver 1
 deliver 3
@@ -253,22 +286,28 @@ deliver 4
 deliver 5
 deliver 7
 deliver 6
+get n octet
+deliver 8
 """, """\
 #0 10.0.0.2:1024 > 10.0.0.1:69 WRQ n octet
 #1 10.0.0.1:1025 > 10.0.0.2:1024 ACK 0
 #2 10.0.0.2:1026 > 10.0.0.1:69 WRQ n octet
 #3 10.0.0.1:1027 > 10.0.0.2:1026 ACK 0
 #4 10.0.0.2:1024 > 10.0.0.1:1025 DATA 1 1
-#5 10.0.0.2:1026 > 10.0.0.1:1027 DATA 1 1
+#5 10.0.0.2:1026 > 10.0.0.1:1027 DATA 1 2
 #6 10.0.0.1:1025 > 10.0.0.2:1024 ACK 1
 #7 10.0.0.1:1027 > 10.0.0.2:1026 ERROR 6 (file exists)
 closed 1027 StoreFault
 closed 1026 PeerError(6)
 closed 1024 Complete
+#8 10.0.0.2:1028 > 10.0.0.1:69 RRQ n octet
+#9 10.0.0.1:1029 > 10.0.0.2:1028 DATA 1 1
 end 1024 client-write peer=1025 size=512 number=1 complete=yes Complete
 end 1025 server-write peer=1024 size=512 number=1 complete=yes open
 end 1026 client-write peer=1027 size=512 number=1 complete=no PeerError(6)
 end 1027 server-write peer=1026 size=512 number=0 complete=no StoreFault
+end 1028 client-read peer=none size=512 number=0 complete=no open
+end 1029 server-read peer=1028 size=512 number=1 complete=no open
 """, 1),
 ]
 
@@ -322,6 +361,8 @@ deliver 4
 deliver 1
 deliver 6
 deliver 7
+get a octet
+deliver 9
 """, """\
 #0 10.0.0.2:1024 > 10.0.0.1:69 RRQ a octet
 #1 10.0.0.1:1025 > 10.0.0.2:1024 DATA 1 512
@@ -332,10 +373,14 @@ deliver 7
 #6 10.0.0.2:1024 > 10.0.0.1:1025 ACK 1
 #7 10.0.0.1:1025 > 10.0.0.2:1024 DATA 2 88
 #8 10.0.0.2:1024 > 10.0.0.1:1025 ACK 2
+#9 10.0.0.2:1028 > 10.0.0.1:69 RRQ a octet
+#10 10.0.0.1:1029 > 10.0.0.2:1028 DATA 1 1
 end 1024 client-read peer=1025 size=512 number=2 complete=yes open
 end 1025 server-read peer=1024 size=512 number=2 complete=no open
 end 1026 client-write peer=1027 size=512 number=1 complete=no open
 end 1027 server-write peer=1026 size=512 number=1 complete=yes open
+end 1028 client-read peer=none size=512 number=0 complete=no open
+end 1029 server-read peer=1028 size=512 number=1 complete=no open
 """, 1),
 ]
 
@@ -465,7 +510,7 @@ end 1026 client-write peer=none size=512 number=0 complete=no PeerError(0)
 """, 1),
 ]
 
-# Datagrams of neither host. A stranger to a transfer gets ERROR 5 and changes nothing (RFC 1350, section 4); an ERROR is
+# Datagrams of neither host, the server's 10.0.0.1 and the clients' 10.0.0.2. A stranger to a transfer gets ERROR 5 and changes nothing (RFC 1350, section 4); an ERROR is
 # not answered (RFC 1350, section 7)
 STRAYS = [
     # it is no answer to the client, whose transfer then completes
@@ -484,6 +529,7 @@ closed 1025 Complete
 end 1024 client-read peer=1025 size=512 number=1 complete=yes open
 end 1025 server-read peer=1024 size=512 number=1 complete=yes Complete
 """, 0),
+    ("stray 10.0.0.3:69 10.0.0.1:69 0005\nstray 127.0.0.1:69 10.0.0.1:69 0005\n", "-\n-\n", 0),
     # a malformed ERROR is not answered
     ("""\
 file a 414243

@@ -1,6 +1,7 @@
 """Rows of `tftp-show` and `tftp-play`: what they print for an input, and their status, over the programs of bin/, or else
 those of `rt ci`; skipped without them. The rows are in tools/rows."""
 import os
+import re
 import subprocess
 import sys
 import tempfile
@@ -12,7 +13,7 @@ TOOLS = Path(__file__).resolve().parent.parent
 sys.path[:0] = [str(TOOLS)]
 
 from lib import programs
-from rows import captures, lines, transfers
+from rows import captures, lines, requests, transfers
 
 PATIENCE = 300
 PACKET = "00040000\n"
@@ -123,6 +124,37 @@ class Play(Rows):
         for script, expected, status in transfers.STRAYS:
             self.is_printed(script, expected, status)
 
+    def answers(self, rows: list[tuple[str, bytes, str]], senders: Sequence[int]) -> None:
+        """Each datagram to the request port has the answer of its row, and opens an end or none."""
+        script, expected, ends = requests.FILES, "", []
+        for (what, datagram, answer), sender in zip(rows, senders):
+            script += f"# {what}\nstray 10.0.0.9:{sender} 10.0.0.1:69 {datagram.hex()}\n"
+            opens = answer and not answer.startswith("ERROR")
+            port = 1024 + len(ends) if opens else 69
+            expected += f"#{expected.count('#')} 10.0.0.1:{port} > 10.0.0.9:{sender} {answer}\n" if answer else "-\n"
+            if opens:
+                side = "server-read" if datagram[1] == 1 else "server-write"
+                size = (re.findall(r"blksize=(\d+)", answer) or [512])[0]
+                number = int(answer.startswith("DATA"))
+                ends.append(f"end {port} {side} peer={sender} size={size} number={number} complete=no open\n")
+        # the ends are the server's, so every client is complete
+        self.is_printed(script, expected + "".join(ends), 0)
+
+    def test_port_rows(self) -> None:
+        for rows in [requests.PORT, requests.READS, requests.WRITES]:
+            self.answers(rows, range(2000, 2000 + len(rows)))
+
+    def test_repeat_rows(self) -> None:
+        self.answers(requests.REPEATS, [2000] * len(requests.REPEATS))
+
+    def test_drawn_events_happen(self) -> None:
+        """Nothing is drawn in a world without ends, and no drawn event is refused: each prints a line at least."""
+        status, printed, errors = self.ran("random 7 5\nput n octet 414243\nrandom 7 100\n")
+        shown = [line for line in printed.splitlines() if not line.startswith("end ")]
+        self.assertEqual((status in (0, 1), shown[0], errors), (True, "#0 10.0.0.2:1024 > 10.0.0.1:69 WRQ n octet", ""))
+        self.assertGreater(len(shown), 100)
+        self.assertNotIn("refused", printed)
+
     def test_drawn_events(self) -> None:
         """Each event prints a line at least, and the script has no fault."""
         status, printed, errors = self.ran(transfers.REPLACED)
@@ -160,6 +192,15 @@ class Pictures(Rows):
         not visible ASCII are digits already."""
         svg = self.drawn("get <&\">'\x01\xff octet\n")
         self.has_parts(svg, [(">#0 RRQ &lt;&amp;&quot;&gt;'%01%ff octet<", 1), ("RRQ <", 0)])
+
+    def test_comments(self) -> None:
+        """A comment is between the events around it. It is escaped, and cut after 96 letters; an empty one is not drawn."""
+        svg = self.drawn("# a <&>\nfile a 41\nget a octet\n#\n# \n#b\x01\xff\nsettle 0\n# " + 97 * "c" + "\n")
+        texts = ["a &lt;&amp;&gt;", "#0 RRQ a octet", "b??", "#1 DATA 1 1", "#2 ACK 1", "closed Complete", 96 * "c" + ".."]
+        heights = [re.findall(rf' y="(\d+)"[^>]*>{re.escape(text)}<', svg) for text in texts]
+        self.assertEqual([len(found) for found in heights], [1] * len(texts))
+        self.assertEqual(heights, sorted(heights, key=lambda found: int(found[0])))
+        self.has_parts(svg, [('class="code quiet"', 3)])
 
     def test_a_long_run(self) -> None:
         """200 rows are drawn: the request, and of 250 deliveries 199."""

@@ -6,6 +6,10 @@ use Rattle.std.specs.List.{flat_map}
 abbrev pub is_visible : ℕ → Bool
 is_visible b = nat_lt 31 b && nat_lt b 127
 
+-- a byte as a letter: a question mark for what is not visible
+abbrev pub ascii_byte : ℕ → ℕ
+ascii_byte b = if is_visible b then b else 63
+
 -- a byte of text: `&lt;` for `<`, and so on; a question mark for what is not visible
 abbrev pub escaped_byte : ℕ → List ℕ
 escaped_byte b =

@@ -1,4 +1,4 @@
-//! What a picture shows: lanes, datagrams, marks and the times of the rows.
+//! What a picture shows: lanes, datagrams, marks, comments and the times of the rows.
 
 ghost use Rattle.std.specs.Prelude.{◌≡◌, ◌<◌, ◌≤◌, ◌↔◌, ◌⊎◌, false, IfOk, IsTrue, vec_len};
 ghost use Rattle.std.specs.String.{string_len};
@@ -28,6 +28,8 @@ pub struct Diagram {
     pub flights: Vec<Flight>,
     /// What happened at the lanes, in order.
     pub marks: Vec<Mark>,
+    /// What is said between the events, in order.
+    pub comments: Vec<Comment>,
     /// The time of each row in seconds, which is written at the left; empty if the picture has no
     /// times.
     pub times: Vec<String>,
@@ -109,6 +111,15 @@ pub struct Mark {
     pub text: String,
     /// The destination of the datagram that was sent then: the text is on the other side.
     pub reply_to: Option<usize>,
+}
+
+/// A comment on what follows, across the picture: a row in which nothing happens.
+#[derive(Drop)]
+pub struct Comment {
+    /// Its row.
+    pub row: Row,
+    /// Its text.
+    pub text: String,
 }
 
 /// What happened at a lane.

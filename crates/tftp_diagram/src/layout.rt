@@ -5,6 +5,7 @@ ghost use Rattle.std.specs.Prelude.{◌≡◌, ◌+◌, ◌*◌};
 mod area;
 mod arrows;
 mod columns;
+mod comments;
 mod heading;
 mod lanes;
 mod legend;
@@ -166,6 +167,7 @@ impl Layout {
         layout.add_times(alloc, diagram)?;
         layout.add_arrows(diagram, &columns)?;
         layout.add_signs(diagram, &columns)?;
+        layout.add_comments(diagram, &columns)?;
         layout.add_labels(diagram, &columns)?;
         layout.add_notes(diagram, &columns)?;
         layout.add_aside(alloc)?;

@@ -12,5 +12,8 @@ mod layout;
 mod svg;
 
 pub use count::Count;
-pub use diagram::{Course, Diagram, Flight, Host, Lane, MAX_ROWS, Mark, MarkKind, Row, shortened};
+pub use diagram::{
+    Comment, Course, Diagram, Flight, Host, Lane, MAX_ROWS, Mark, MarkKind, Row, shortened,
+};
+pub use escape::ascii_text;
 pub use svg::svg_text;

@@ -1,1 +1,2 @@
 pub mod Play
+pub mod Status

@@ -8,4 +8,4 @@ mod play;
 mod recording;
 
 pub use arguments::{play_command, play_words};
-pub use play::{play_drawn, play_run};
+pub use play::{play_drawn, play_run, status_of};

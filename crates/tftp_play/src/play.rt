@@ -8,14 +8,18 @@ mod datagram_line;
 mod event_name;
 mod fault;
 mod script_run;
+mod status;
 
 use crate::recording::Recording;
 pub(crate) use event_name::EventNames;
 pub(crate) use fault::{PlayFault, Playing};
-use script_run::ScriptRun;
+use script_run::{Played, ScriptRun};
+use status::status_after;
+pub use status::status_of;
 use std::alloc::Global;
 use std::io::{self, Read, Write};
 use tftp_diagram::{Diagram, svg_text};
+use tftp_player::World;
 use tftp_script::Script;
 
 /// A run over readers and writers, which have no names, as the specification has it.
@@ -56,11 +60,11 @@ pub(crate) fn play_as<R: Read + Drop, W: Write + Drop, E: Write>(
         Ok(text) => text,
         Err(fault) => return fault.report(how, &[], errors),
     };
-    match play(alloc, text.as_slice(), output, None, how.events) {
-        Ok((true, _)) => 0,
-        Ok((false, _)) => 1,
-        Err(fault) => fault.report(how, text.as_slice(), errors),
-    }
+    let outcome = match play(alloc, text.as_slice(), output, None, how.events) {
+        Ok(played) => Ok(played.world),
+        Err(fault) => Err(fault),
+    };
+    status_after(outcome, how, text.as_slice(), errors)
 }
 
 /// As [`play_run`], and draws the run: a sequence diagram as SVG, on the writer that `picture`
@@ -109,34 +113,26 @@ where
         Ok(text) => text,
         Err(fault) => return fault.report(how, &[], errors),
     };
-    match draw(alloc, text.as_slice(), output, picture, how.events) {
-        Ok(true) => 0,
-        Ok(false) => 1,
-        Err(fault) => fault.report(how, text.as_slice(), errors),
-    }
+    let outcome = draw(alloc, text.as_slice(), output, picture, how.events);
+    status_after(outcome, how, text.as_slice(), errors)
 }
 
-/// Plays a script and draws the run, and returns whether every client is complete.
+/// Plays a script and draws the run, and returns what it came to.
 fn draw<W, P, F>(
     alloc: Global,
     script: &[u8],
     output: W,
     picture: F,
     events: EventNames,
-) -> Result<bool, PlayFault>
+) -> Result<World, PlayFault>
 where
     W: Write + Drop,
     P: Write + Drop,
     F: FnOnce() -> io::Result<P> + Drop,
     requires { F.IsAlwaysCallable picture }
 {
-    let (is_complete, recording) = play(
-        alloc,
-        script,
-        output,
-        Some(Recording::new(alloc)),
-        events,
-    )?;
+    let recording = Some(Recording::new(alloc));
+    let Played { world, recording } = play(alloc, script, output, recording, events)?;
     if let Some(recording) = recording {
         let svg = picture_of(alloc, recording)?;
         match picture() {
@@ -144,7 +140,7 @@ where
             Err(error) => return Err(PlayFault::of_drawing(&error)),
         }
     }
-    Ok(is_complete)
+    Ok(world)
 }
 
 /// The text of a picture.
@@ -185,14 +181,14 @@ fn write_picture<P: Write + Drop>(mut file: P, svg: &str) -> Result<(), PlayFaul
     }
 }
 
-/// Plays a script, and returns whether every client is complete, and the recording.
+/// Plays a script, and returns what it came to, and the recording.
 fn play<W: Write + Drop>(
     alloc: Global,
     script: &[u8],
     output: W,
     recording: Option<Recording>,
     events: EventNames,
-) -> Result<(bool, Option<Recording>), PlayFault> {
+) -> Result<Played, PlayFault> {
     let Script {
         config,
         files,

@@ -2,7 +2,8 @@
 
 use std::alloc::{AllocError, Global};
 use tftp_diagram::{
-    Count, Course, Diagram, Flight, Host, Lane, MAX_ROWS, Mark, MarkKind, Row, shortened,
+    Comment, Count, Course, Diagram, Flight, Host, Lane, MAX_ROWS, Mark, MarkKind, Row, ascii_text,
+    shortened,
 };
 use tftp_ends::{Endpoint, Outcome, Record, Side};
 use tftp_player::{Event, Report, World};
@@ -60,6 +61,7 @@ impl Recording {
                 lanes: Vec::new(alloc),
                 flights: Vec::new(alloc),
                 marks: Vec::new(alloc),
+                comments: Vec::new(alloc),
                 times: Vec::new(alloc),
                 rows: 0,
                 left_out: 0,
@@ -86,6 +88,13 @@ impl Recording {
     /// Records the report of an event.
     pub(crate) fn add(&mut self, cause: Cause, report: &Report, world: &World) {
         if self.try_add(cause, report, world).is_err() {
+            self.is_broken = true;
+        }
+    }
+
+    /// Records a comment, in a row of its own unless it is empty or no row is left.
+    pub(crate) fn comment(&mut self, text: &[u8]) {
+        if self.try_comment(text).is_err() {
             self.is_broken = true;
         }
     }
@@ -129,6 +138,21 @@ impl Recording {
             let closed = end_at(world.records(), port);
             let text = format!(in self.alloc; "closed {outcome}")?;
             self.mark(closed, row, close_of(outcome), text, reply_to)?;
+        }
+        Ok(())
+    }
+
+    fn try_comment(&mut self, text: &[u8]) -> Result<(), AllocError> {
+        let text = match text {
+            [b' ', rest @ ..] => rest,
+            _ => text,
+        };
+        if text.is_empty() {
+            return Ok(());
+        }
+        if let Some(row) = self.next_row() {
+            let text = shortened(self.alloc, ascii_text(self.alloc, text)?)?;
+            self.diagram.comments.push(Comment { row, text })?;
         }
         Ok(())
     }

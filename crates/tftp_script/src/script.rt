@@ -29,7 +29,7 @@ pub struct Script {
     pub config: Config,
     /// The server's files, each with its bytes.
     pub files: Vec<(Path, Vec<u8>)>,
-    /// The statements, in order.
+    /// The statements and the comments, in order.
     pub statements: Vec<Statement>,
     ghost valid: { IsConfig config },
     ghost distinct: { has_distinct_paths (contents files.items) ≡ true },
@@ -46,7 +46,7 @@ pub enum ScriptFault {
 
 impl Script {
     /// Parses a whole script: lines that end in LF, each of words that are separated by one space.
-    /// Empty lines and lines that begin with `#` are ignored.
+    /// Empty lines are ignored, and lines that begin with `#` are comments.
     ///
     /// `Line` names the first line that is not one of the language, or that no LF ends; what is wrong in
     /// it; and in which word.

@@ -12,7 +12,7 @@ use std::mem;
 /// From a lane to the text beside it.
 const BESIDE: u32 = 12;
 /// Half of the height of a text.
-const HALF: u32 = 7;
+pub(crate) const HALF: u32 = 7;
 /// How much lower or higher the next place is tried.
 const STEP: u32 = 12;
 /// The least distance of two texts at the right.
@@ -168,7 +168,7 @@ impl Layout {
     }
 
     /// Adds a text with the middle of its line here, and a rectangle that hides what is behind it.
-    fn add_text(
+    pub(crate) fn add_text(
         &mut self,
         at: Point,
         anchor: Anchor,

@@ -139,6 +139,7 @@ impl Picture {
                 lanes: Vec::new(alloc),
                 flights: Vec::new(alloc),
                 marks: Vec::new(alloc),
+                comments: Vec::new(alloc),
                 times: Vec::new(alloc),
                 rows: 0,
                 left_out: 0,

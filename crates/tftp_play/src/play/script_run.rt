@@ -1,6 +1,6 @@
 //! The run of a script: its statements are events of a world, and their effects are printed.
 
-ghost use Rattle.std.specs.Prelude.{◌≡◌, true};
+ghost use Rattle.std.specs.Prelude.{◌≡◌, true, IfOk};
 ghost use Rattle.tftp_player.specs.Arriving.{IsPlayable};
 ghost use Rattle.tftp_server.specs.Config.{IsConfig};
 ghost use Rattle.tftp_store.specs.Memory.{contents, has_distinct_paths};
@@ -21,6 +21,15 @@ use tftp_server::Config;
 
 /// The most deliveries of one `settle`.
 const MAX_SETTLED: usize = 1_000_000;
+
+/// A run that is over.
+#[derive(Drop)]
+pub(crate) struct Played {
+    /// What it came to.
+    pub(crate) world: World,
+    /// The recording, if there is to be a picture.
+    pub(crate) recording: Option<Recording>,
+}
 
 /// A script that runs: its world, and the output for its events.
 #[derive(Drop)]
@@ -79,6 +88,17 @@ impl<W: Write + Drop> ScriptRun<W> {
             }
             Statement::Settle(index) => self.settle(index),
             Statement::Random { seed, count } => self.play_drawn(seed, count),
+            Statement::Comment(text) => {
+                self.comment(text.as_slice());
+                Ok(())
+            }
+        }
+    }
+
+    /// Records a comment if there is to be a picture.
+    fn comment(&mut self, text: &[u8]) {
+        if let Some(recording) = &mut self.recording {
+            recording.comment(text);
         }
     }
 
@@ -117,32 +137,30 @@ impl<W: Write + Drop> ScriptRun<W> {
         Ok(())
     }
 
-    /// Writes the record of each end, and returns whether every client is complete, and the
-    /// recording.
-    pub(crate) fn finish(mut self) -> Result<(bool, Option<Recording>), PlayFault> {
+    /// Writes the record of each end.
+    pub(crate) fn finish(mut self) -> Result<Played, PlayFault>
+        ensures { IfOk result (λ played. played.world ≡ self.world) }
+    {
         self.write_ends()?;
-        let is_complete = self.is_complete();
         let mut recording = self.recording;
         if let Some(recording) = &mut recording {
             recording.name_sides(self.world.records());
         }
-        Ok((is_complete, recording))
+        Ok(Played {
+            world: self.world,
+            recording,
+        })
     }
 
     /// Writes the record of each end.
-    fn write_ends(&mut self) -> Result<(), PlayFault> {
+    fn write_ends(&mut self) -> Result<(), PlayFault>
+        ensures { self.new.world ≡ self.old.world }
+    {
         for (port, record) in self.world.records() {
             write_end(&mut self.output, *port, record)?;
         }
         self.output.flush()?;
         Ok(())
-    }
-
-    fn is_complete(&self) -> bool {
-        self.world
-            .records()
-            .iter()
-            .all(|(_, record)| record.complete || !record.side.is_client())
     }
 
     /// Delivers the datagrams from this index on, until none is left or one is refused.

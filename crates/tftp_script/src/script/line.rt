@@ -15,6 +15,7 @@ use crate::script::word::{content, number, path};
 use std::alloc::{AllocError, AllocFailed, Global};
 use std::str::FromStr;
 use tftp_file::Path;
+use tftp_wire::Bytes;
 
 /// Why a line is refused.
 #[derive(Clone, Copy)]
@@ -33,7 +34,8 @@ impl Parser {
     /// Parses one line with its line feed, and adds its statement or setting.
     pub(crate) fn parse_line(&mut self, line: &[u8]) -> Result<(), LineFault> {
         match line {
-            [b'\n'] | [b'#', .., b'\n'] => Ok(()),
+            [b'\n'] => Ok(()),
+            [b'#', text @ .., b'\n'] => self.push_comment(text),
             [line @ .., b'\n'] => {
                 let words: Vec<Word<'_>> = line
                     .split(|byte| *byte == b' ')
@@ -55,9 +57,7 @@ impl Parser {
             return Err(LineFault::Faulty(Flaw::EmptyWord, None));
         }
         match Keyword::of_word(first)? {
-            Keyword::Set | Keyword::File if !self.statements.is_empty() => {
-                Err(first.fault(Flaw::Late))
-            }
+            Keyword::Set | Keyword::File if self.has_begun => Err(first.fault(Flaw::Late)),
             Keyword::Set => self.parse_setting(arguments),
             Keyword::File => self.parse_file(arguments),
             Keyword::Get => self.push(get(self.alloc, arguments)?),
@@ -114,8 +114,22 @@ impl Parser {
         }
     }
 
-    fn push(&mut self, statement: Statement) -> Result<(), LineFault> {
+    fn push(&mut self, statement: Statement) -> Result<(), LineFault>
+        ensures { OnOk result (self.new.has_begun ≡ true) }
+    {
         self.statements.push(statement)?;
+        self.has_begun = true;
+        Ok(())
+    }
+
+    /// Adds a comment, after which `set` and `file` are allowed as before.
+    fn push_comment(&mut self, text: &[u8]) -> Result<(), LineFault>
+        ensures begun { self.new.has_begun ≡ self.old.has_begun }
+        ensures config { self.new.config ≡ self.old.config }
+        ensures memory { IfErr result (λ fault. fault ≡ Memory) }
+    {
+        let comment = Statement::Comment(Bytes::from_slice(self.alloc, text)?);
+        self.statements.push(comment)?;
         Ok(())
     }
 }

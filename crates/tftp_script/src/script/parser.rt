@@ -17,6 +17,8 @@ pub(crate) struct Parser {
     pub(crate) config: Config,
     pub(crate) files: Files,
     pub(crate) statements: Vec<Statement>,
+    /// Whether one of the statements is no comment.
+    pub(crate) has_begun: bool,
     /// How many bytes of content may follow.
     pub(crate) left: usize,
     ghost valid: { IsConfig config },
@@ -30,6 +32,7 @@ impl Parser {
             config: Config::default(),
             files: Files::new(alloc),
             statements: Vec::new(alloc),
+            has_begun: false,
             left: MAX_TOTAL,
         }
     }

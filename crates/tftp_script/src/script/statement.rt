@@ -14,8 +14,8 @@ use tftp_rules::is_foreign;
 use tftp_wire::{Bytes, Mode};
 
 /// A line on which something happens: an `Event` of `tftp_player`, or one of two statements for a
-/// sequence of events, [`Statement::Settle`] and [`Statement::Random`]. This crate does not use
-/// `tftp_player`, so that both are proved in parallel.
+/// sequence of events, [`Statement::Settle`] and [`Statement::Random`]; or a comment, at which nothing
+/// happens. This crate does not use `tftp_player`, so that both are proved in parallel.
 #[derive(Drop)]
 pub enum Statement {
     /// A client reads the server's file of this name.
@@ -53,6 +53,8 @@ pub enum Statement {
         seed: u64,
         count: u64,
     },
+    /// A line that begins with `#`: what is after it.
+    Comment(Bytes),
 }
 
 /// A datagram whose sender is at neither host.
