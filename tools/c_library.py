@@ -232,13 +232,13 @@ def clients() -> dict[str, Any]:
     return {program: words for program, words in known.items() if shutil.which(program)}
 
 
-def by_others(scene, built, lossy) -> None:
-    """Other projects' clients get from the server of files in memory, put to it, and get what they have put."""
+def by_others(scene, built) -> None:
+    """Other projects' clients get from the server of files in memory, put to it, and get what they have put. Not through a
+    bad network: curl sends a last block for an hour, if each ACK of it was lost."""
     server, process = serves(scene, built)
-    for seed, (program, words) in enumerate(clients().items()):
-        way = scene.proxy(server, seed + 20).word.split(":") if lossy else server.word.split(":")
+    for program, words in clients().items():
         for name in ["memory", program]:
-            get, put = words(*way, name)
+            get, put = words(*server.word.split(":"), name)
             run(*get, cwd=scene.folder)
             expect((scene.folder / "got").read_bytes(), content(3_000), f"what {program} stored of {name}")
             if name == "memory":
@@ -279,10 +279,9 @@ def tests(room, skipped) -> Iterator[Any]:
                 yield f"{server}, {network}, {built.name}", partial(test, built=built, lossy=lossy)
     if not peer():
         skipped.append("in.tftpd or dnsmasq, as root")
-    for lossy, network in [(False, "a good network"), (True, "a bad network")]:
-        if found and clients():
-            yield f"serve, {', '.join(clients())}, {network}", partial(by_others, built=found[0], lossy=lossy)
-    if not clients():
+    if found and clients():
+        yield f"serve, {', '.join(clients())}", partial(by_others, built=found[0])
+    else:
         skipped.append("other projects' clients")
     if (room / "libtftp.so.0").is_file():
         yield "Python", partial(by_python, library=room / "libtftp.so.0")
