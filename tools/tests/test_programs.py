@@ -94,6 +94,8 @@ class Play(Program):
         most = self.ran("file a 61*524279\nget a octet blksize=8\nsettle 0\n")[1].splitlines()
         self.assertEqual(sum(line.startswith("#") for line in most), 131_073)
         self.assertIn("#131071 10.0.0.1:1025 > 10.0.0.2:1024 DATA 65535 7", most)
+        self.assertEqual(most[-2:], ["end 1024 client-read peer=1025 size=8 number=65535 complete=yes open",
+                                     "end 1025 server-read peer=1024 size=8 number=65535 complete=yes Complete"])
         more = self.answered("file a 61*524280\nget a octet blksize=8\nsettle 0\n")
         self.assertEqual(more[1:], ["#1 10.0.0.1:69 > 10.0.0.2:1024 ERROR 0 (file too large)", "closed 1024 PeerError(0)"])
 

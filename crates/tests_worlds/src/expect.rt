@@ -24,10 +24,3 @@ pub(crate) fn expect_equal<T: PartialEq + Debug>(
 {
     assert_eq!(rt; *value, *expected, "{what}");
 }
-
-/// Ends the test unless the bytes are the expected ones; `what` says what they are.
-pub(crate) fn expect_bytes(rt: &impl Abort, bytes: &[u8], expected: &[u8], what: &str)
-    ensures { bytes.now ≡ expected.now }
-{
-    assert_eq!(rt; bytes, expected, "{what}");
-}

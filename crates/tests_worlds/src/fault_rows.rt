@@ -10,7 +10,7 @@ use std::alloc::Global;
 use std::process::Abort;
 use tftp_ends::{Endpoint, Outcome};
 use tftp_file::StoreFault;
-use tftp_server::{Config, FaultStore, MemStore, Opened, Store};
+use tftp_server::{Config, FaultStore, MemDraft, MemStore, Opened, Store};
 
 const CLIENT: Endpoint = Endpoint {
     ip: [10, 0, 0, 2],
@@ -34,6 +34,7 @@ fn is_refused(rt: &impl Abort, alloc: Global, store: FaultStore<MemStore>, error
     let read = b"\x00\x01a\x00octet\x00";
     let opened = served.answers_request(rt, CLIENT, 1025, read, error);
     expect_equal(rt, &opened, &REFUSED, "no transfer, and an answer");
+    served.finish();
 }
 
 /// Any fault except a missing file is an access violation.
@@ -73,6 +74,7 @@ fn a_read_passes_through(rt: HostRuntime) {
     expect_equal(&rt, &opened.tid, &Some(1025), "a transfer opens");
     let closed = served.answers(&rt, CLIENT, 1025, b"\x00\x04\x00\x01", b"");
     expect_equal(&rt, &closed, &Some(Outcome::Complete), "it completes");
+    served.finish();
 }
 
 /// The file `n` of the bytes `XY` is written, with this outcome.
@@ -99,6 +101,7 @@ fn fails_once(rt: &impl Abort, alloc: Global, at: u64, call: &str, fault: StoreF
     lacks_file(rt, alloc, store.get_ref(), b"n");
     writes(rt, alloc, &mut store, "the write after it", Ok(()));
     has_file(rt, alloc, store.get_ref(), b"n", b"XY");
+    drop(store);
 }
 
 #[test]
@@ -120,6 +123,7 @@ fn the_calls_before_it_are_passed_on(rt: HostRuntime) {
     writes(&rt, rt.alloc(), &mut store, "the fourth", io);
     let exists = Err(StoreFault::Exists);
     writes(&rt, rt.alloc(), &mut store, "the fifth", exists);
+    drop(store);
 }
 
 /// A call that the inner store is set to refuse is refused.
@@ -131,6 +135,25 @@ fn the_inner_store_refuses_as_armed(rt: HostRuntime) {
     let full = Err(StoreFault::Full);
     writes(&rt, rt.alloc(), &mut store, "the append", full);
     expect(&rt, !store.get_ref().refuses(), "it is disarmed");
+    drop(store);
+}
+
+/// A draft of the file `n`.
+fn begun(rt: &impl Abort, alloc: Global, store: &mut FaultStore<MemStore>) -> MemDraft {
+    let draft = store.begin(alloc, &path(rt, alloc, b"n"), false);
+    draft.expect(rt, "a draft")
+}
+
+/// The draft is committed, with this outcome.
+fn commits(
+    rt: &impl Abort,
+    alloc: Global,
+    store: &mut FaultStore<MemStore>,
+    draft: &mut MemDraft,
+    expected: Result<(), StoreFault>,
+) {
+    let found = store.commit(&path(rt, alloc, b"n"), draft, false);
+    expect_equal(rt, &found, &expected, "the commit");
 }
 
 /// A commit that the inner store is set to refuse is refused, and stores nothing; the next one
@@ -140,13 +163,12 @@ fn the_inner_store_refuses_a_commit_as_armed(rt: HostRuntime) {
     let mut inner = files(&rt, rt.alloc());
     inner.refuse_next(true);
     let mut store = FaultStore::new(inner, 9, StoreFault::Io, false, false);
-    let path = path(&rt, rt.alloc(), b"n");
-    let begun = store.begin(rt.alloc(), &path, false);
-    let mut draft = begun.expect(&rt, "a draft");
-    let refused = store.commit(&path, &mut draft, false);
-    expect_equal(&rt, &refused, &Err(StoreFault::Full), "as it was told");
+    let mut draft = begun(&rt, rt.alloc(), &mut store);
+    let full = Err(StoreFault::Full);
+    commits(&rt, rt.alloc(), &mut store, &mut draft, full);
     lacks_file(&rt, rt.alloc(), store.get_ref(), b"n");
-    let next = store.commit(&path, &mut draft, false);
-    expect_equal(&rt, &next, &Ok(()), "it is disarmed");
+    commits(&rt, rt.alloc(), &mut store, &mut draft, Ok(()));
     has_file(&rt, rt.alloc(), store.get_ref(), b"n", b"");
+    drop(draft);
+    drop(store);
 }

@@ -2,8 +2,6 @@
 #![tactic(auto)]
 
 #[cfg(test)]
-mod drawn_rows;
-#[cfg(test)]
 mod expect;
 #[cfg(test)]
 mod fault_rows;
@@ -21,5 +19,3 @@ mod server_write_rows;
 mod store_rows;
 #[cfg(test)]
 mod stores;
-#[cfg(test)]
-mod worlds;

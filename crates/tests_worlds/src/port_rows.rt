@@ -1,12 +1,12 @@
-//! Requests to a server, and its table of transfers (RFC 1350, section 4). The answers are those of
-//! RFC 1350, section 5 and appendix I.
+//! A server's table of transfers (RFC 1350, section 4), and its calls on requests. The answers to
+//! requests are shown by `tftp-play`, over the rows of tools/rows.
 
-use crate::expect::{expect, expect_bytes, expect_equal};
+use crate::expect::{expect, expect_equal};
 use crate::served::Served;
-use crate::stores::{path, store_of};
+use crate::stores::store_of;
 use std::alloc::Global;
 use std::process::Abort;
-use tftp_ends::{Endpoint, Outcome, Outgoing};
+use tftp_ends::{Endpoint, Outcome, Outgoing, Record};
 use tftp_server::{Config, MemStore, Opened, ServerFault};
 
 /// A client, at another port for each request.
@@ -27,226 +27,6 @@ fn server(rt: &impl Abort, alloc: Global, cap: u8) -> Served<MemStore> {
 /// The request for the file, in octet.
 const REQUEST: &[u8] = b"\x00\x01a\x00octet\x00";
 
-/// A datagram to the request port, the answer to it, and whether a transfer opens.
-type Row = (&'static str, &'static [u8], &'static [u8], bool);
-
-const ROWS: [Row; 15] = [
-    ("begins as an ERROR", b"\x00\x05", b"", false),
-    ("an ERROR", b"\x00\x05\x00\x01no\x00", b"", false),
-    (
-        "no packet",
-        b"\x00\x07",
-        b"\x00\x05\x00\x04illegal operation\x00",
-        false,
-    ),
-    (
-        "an ACK",
-        b"\x00\x04\x00\x00",
-        b"\x00\x05\x00\x04illegal operation\x00",
-        false,
-    ),
-    (
-        "an empty name",
-        b"\x00\x01\x00octet\x00",
-        b"\x00\x05\x00\x04illegal operation\x00",
-        false,
-    ),
-    (
-        "a file above the root",
-        b"\x00\x01../x\x00octet\x00",
-        b"\x00\x05\x00\x02access violation\x00",
-        false,
-    ),
-    (
-        "an empty segment",
-        b"\x00\x01a//b\x00octet\x00",
-        b"\x00\x05\x00\x02access violation\x00",
-        false,
-    ),
-    (
-        "a hidden file",
-        b"\x00\x01.x\x00octet\x00",
-        b"\x00\x05\x00\x02access violation\x00",
-        false,
-    ),
-    (
-        "only a slash",
-        b"\x00\x01/\x00octet\x00",
-        b"\x00\x05\x00\x02access violation\x00",
-        false,
-    ),
-    (
-        "no such file",
-        b"\x00\x01b\x00octet\x00",
-        b"\x00\x05\x00\x01file not found\x00",
-        false,
-    ),
-    (
-        "a write of a file that is there",
-        b"\x00\x02/a\x00octet\x00",
-        b"\x00\x05\x00\x06file exists\x00",
-        false,
-    ),
-    (
-        "a write, with an option twice",
-        b"\x00\x02a\x00netascii\x00tsize\x008\x00TSIZE\x00x\x00",
-        b"\x00\x05\x00\x08option refused\x00",
-        false,
-    ),
-    (
-        "a write of more than the server takes",
-        b"\x00\x02a\x00octet\x00tsize\x004290183240\x00",
-        b"\x00\x05\x00\x03disk full\x00",
-        false,
-    ),
-    (
-        "a read, with an option twice",
-        b"\x00\x01a\x00octet\x00blksize\x008\x00BLKSIZE\x009\x00",
-        b"\x00\x05\x00\x08option refused\x00",
-        false,
-    ),
-    (
-        "a read, with an option",
-        b"\x00\x01/a\x00OCTET\x00blksize\x008\x00",
-        b"\x00\x06blksize\x008\x00",
-        true,
-    ),
-];
-
-/// A datagram to the request port has the answer of its row, and opens a transfer or none.
-fn answers_row(rt: &impl Abort, served: &mut Served<MemStore>, row: &Row) {
-    let (what, request, answer, opens) = *row;
-    let opened = served.answers_request(rt, client(2000), 1025, request, answer);
-    let found = (opened.to.is_some(), opened.tid.is_some());
-    expect_equal(rt, &found, &(!answer.is_empty(), opens), what);
-}
-
-#[test]
-fn port_rows(rt: HostRuntime) {
-    let mut served = server(&rt, rt.alloc(), 16);
-    for row in &ROWS {
-        answers_row(&rt, &mut served, row);
-    }
-}
-
-/// The request to a server with this store opens a transfer or none, and has this answer.
-fn opens(
-    rt: &impl Abort,
-    alloc: Global,
-    store: MemStore,
-    request: &[u8],
-    answer: &[u8],
-    tid: Option<u16>,
-) {
-    let mut served = Served::new(rt, alloc, Config::default(), store);
-    let opened = served.answers_request(rt, client(2000), 1025, request, answer);
-    expect_equal(rt, &(request, opened.tid), &(request, tid), "a transfer");
-}
-
-/// A name of two segments, after a slash that does not count.
-#[test]
-fn a_file_in_a_folder_is_read(rt: HostRuntime) {
-    let path = path(&rt, rt.alloc(), b"/a/b");
-    expect_bytes(&rt, path.as_bytes(), b"a/b".as_slice(), "the path");
-    let request = b"\x00\x01/a/b\x00octet\x00";
-    let data = b"\x00\x03\x00\x01XY";
-    let store = store_of(&rt, rt.alloc(), b"a/b", b"XY");
-    opens(&rt, rt.alloc(), store, request, data, Some(1025));
-}
-
-/// Reads of `boot.img`, and the answers: the options in the order of the request, their names in
-/// lower case (RFC 2347, "Negotiation Protocol"); blocks of at most `max_block`; and for a size
-/// below 8 bytes, or with a zero before its digits, no option (RFC 2348).
-const OPTIONS: [(&[u8], &[u8]); 5] = [
-    (
-        b"\x00\x01boot.img\x00octet\x00BLKSIZE\x001428\x00timeout\x003\x00",
-        b"\x00\x06blksize\x001428\x00timeout\x003\x00",
-    ),
-    (
-        b"\x00\x01boot.img\x00octet\x00timeout\x003\x00BLKSIZE\x001428\x00",
-        b"\x00\x06timeout\x003\x00blksize\x001428\x00",
-    ),
-    (
-        b"\x00\x01boot.img\x00octet\x00blksize\x0065464\x00",
-        b"\x00\x06blksize\x001428\x00",
-    ),
-    (
-        b"\x00\x01boot.img\x00octet\x00blksize\x007\x00",
-        b"\x00\x03\x00\x01ABC",
-    ),
-    (
-        b"\x00\x01boot.img\x00octet\x00blksize\x0008\x00",
-        b"\x00\x03\x00\x01ABC",
-    ),
-];
-
-/// One option twice, in other letters, is refused by an ERROR (RFC 2347: "an option may only be
-/// specified once").
-#[test]
-fn option_rows(rt: HostRuntime) {
-    for &(request, answer) in &OPTIONS {
-        let store = store_of(&rt, rt.alloc(), b"boot.img", b"ABC");
-        opens(&rt, rt.alloc(), store, request, answer, Some(1025));
-    }
-    let twice = b"\x00\x01boot.img\x00octet\x00blksize\x00512\x00BLKSIZE\x00512\x00";
-    let refused = b"\x00\x05\x00\x08option refused\x00";
-    let store = store_of(&rt, rt.alloc(), b"boot.img", b"ABC");
-    opens(&rt, rt.alloc(), store, twice, refused, None);
-}
-
-/// 65,535 blocks of 8 bytes are the most, and the last of them is short (RFC 1350, section 6): a
-/// file of one byte more is refused by an ERROR.
-#[test]
-fn a_file_is_too_large_for_its_blocks(rt: HostRuntime) {
-    let bytes = vec![in rt.alloc(); b'x'; 524_280].expect(&rt, "memory");
-    let request = b"\x00\x01a\x00octet\x00blksize\x008\x00";
-    let too_large = b"\x00\x05\x00\x00file too large\x00";
-    let store = store_of(&rt, rt.alloc(), b"a", &bytes);
-    opens(&rt, rt.alloc(), store, request, too_large, None);
-}
-
-/// Reads of the file, and the answer that opens each: an OACK of the options that the server
-/// accepts, in their order, or DATA 1 without any (RFC 2347, RFC 2348, RFC 2349).
-const READS: [(&[u8], &[u8]); 8] = [
-    (b"\x00\x01a\x00netascii\x00", b"\x00\x03\x00\x01ABC"),
-    (
-        b"\x00\x01a\x00octet\x00tsize\x000\x00",
-        b"\x00\x06tsize\x003\x00",
-    ),
-    (
-        b"\x00\x01a\x00netascii\x00tsize\x000\x00",
-        b"\x00\x03\x00\x01ABC",
-    ),
-    (
-        b"\x00\x01a\x00octet\x00tsize\x000\x00blksize\x008\x00",
-        b"\x00\x06tsize\x003\x00blksize\x008\x00",
-    ),
-    (
-        b"\x00\x01a\x00octet\x00blksize\x001429\x00",
-        b"\x00\x06blksize\x001428\x00",
-    ),
-    (
-        b"\x00\x01a\x00octet\x00timeout\x00255\x00",
-        b"\x00\x06timeout\x00255\x00",
-    ),
-    (
-        b"\x00\x01a\x00octet\x00timeout\x00256\x00",
-        b"\x00\x03\x00\x01ABC",
-    ),
-    (
-        b"\x00\x01a\x00octet\x00windowsize\x004\x00",
-        b"\x00\x03\x00\x01ABC",
-    ),
-];
-
-#[test]
-fn reads_are_answered_with_their_options(rt: HostRuntime) {
-    for &(request, answer) in &READS {
-        let store = store_of(&rt, rt.alloc(), b"a", b"ABC");
-        opens(&rt, rt.alloc(), store, request, answer, Some(1025));
-    }
-}
-
 /// The first block of the file.
 const DATA_1: &[u8] = b"\x00\x03\x00\x01ABC";
 
@@ -266,60 +46,24 @@ fn acknowledge(rt: &impl Abort, served: &mut Served<MemStore>, tid: u16) {
     expect_equal(rt, &closed, &Some(Outcome::Complete), "it closes");
 }
 
-/// A datagram from the endpoint whose transfer is open, and the answer: a read of another file is
-/// no repeat, and the case of the mode's letters makes no difference (RFC 1350, section 5).
-const REPEATS: [(&[u8], &[u8]); 4] = [
-    (b"\x00\x01a\x00octet\x00", b""),
-    (b"\x00\x01a\x00OcTeT\x00", b""),
-    (
-        b"\x00\x01b\x00octet\x00",
-        b"\x00\x05\x00\x01file not found\x00",
-    ),
-    (
-        b"\x00\x01a\x00octet\x00blksize\x008\x00",
-        b"\x00\x06blksize\x008\x00",
-    ),
-];
-
-/// The repeat has this answer.
-fn answers_repeat(rt: &impl Abort, alloc: Global, request: &[u8], answer: &[u8]) {
-    let mut served = server(rt, alloc, 16);
-    open(rt, &mut served, 1025);
-    served.answers_request(rt, client(1025), 1040, request, answer);
-}
-
-#[test]
-fn a_repeated_request_opens_nothing(rt: HostRuntime) {
-    for &(request, answer) in &REPEATS {
-        answers_repeat(&rt, rt.alloc(), request, answer);
-    }
-}
-
-/// Whether a datagram from a client at this port could open a transfer, by the tests that need no
+/// A datagram from a client at this port could open a transfer or not, by the tests that need no
 /// store.
-fn may_open(served: &Served<MemStore>, port: u16, bytes: &[u8]) -> Result<bool, ServerFault> {
-    served.server.may_open(client(port), bytes)
+fn may_open(rt: &impl Abort, served: &Served<MemStore>, port: u16, bytes: &[u8], expected: bool) {
+    let found = (bytes, served.server.may_open(client(port), bytes));
+    let expected = (bytes, Ok(expected));
+    expect_equal(rt, &found, &expected, "whether it may open one");
 }
 
+/// A repeat opens nothing while its transfer is open; the request of another client does.
 #[test]
-fn a_request_reopens_after_the_close(rt: HostRuntime) {
+fn a_request_may_reopen_after_the_close(rt: HostRuntime) {
     let mut served = server(&rt, rt.alloc(), 16);
     open(&rt, &mut served, 1025);
-    let repeated = may_open(&served, 1025, REQUEST);
-    let found = (repeated, may_open(&served, 1026, REQUEST));
-    expect_equal(
-        &rt,
-        &found,
-        &(Ok(false), Ok(true)),
-        "which of two may open one",
-    );
+    may_open(&rt, &served, 1025, REQUEST, false);
+    may_open(&rt, &served, 1026, REQUEST, true);
     acknowledge(&rt, &mut served, 1025);
-    let opened = served.answers_request(&rt, client(1025), 1026, REQUEST, DATA_1);
-    expect_equal(&rt, &opened.tid, &Some(1026), "the transfer was over");
-    // the client has completed, and has no such transfer
-    let unknown = b"\x00\x05\x00\x05unknown transfer id\x00";
-    let closed = served.answers(&rt, client(1025), 1026, unknown, b"");
-    expect_equal(&rt, &closed, &Some(Outcome::PeerError(5)), "it closes");
+    may_open(&rt, &served, 1025, REQUEST, true);
+    served.finish();
 }
 
 /// The server is at its limit for the request of a second client.
@@ -333,13 +77,6 @@ fn is_busy(rt: &impl Abort, served: &mut Served<MemStore>) {
     expect_equal(rt, &opened, &expected, "no second transfer, but an answer");
 }
 
-#[test]
-fn a_full_server_is_busy(rt: HostRuntime) {
-    let mut served = server(&rt, rt.alloc(), 1);
-    open(&rt, &mut served, 1025);
-    is_busy(&rt, &mut served);
-}
-
 /// A closed transfer has its slot until it is taken.
 #[test]
 fn a_closed_transfer_counts_until_it_is_taken(rt: HostRuntime) {
@@ -347,14 +84,20 @@ fn a_closed_transfer_counts_until_it_is_taken(rt: HostRuntime) {
     open(&rt, &mut served, 1025);
     acknowledge(&rt, &mut served, 1025);
     is_busy(&rt, &mut served);
-    take(&rt, &mut served, 1025);
+    takes(&rt, &mut served, 1025, true);
     open(&rt, &mut served, 1026);
+    served.finish();
 }
 
-/// A closed transfer is taken.
-fn take(rt: &impl Abort, served: &mut Served<MemStore>, tid: u16) {
-    let taken = served.server.take_closed(tid);
-    expect(rt, taken.is_some(), "a closed one is taken");
+/// A closed transfer is taken, and no other.
+fn takes(rt: &impl Abort, served: &mut Served<MemStore>, tid: u16, expected: bool) {
+    let is_taken = served.server.take_closed(tid).is_some();
+    expect_equal(
+        rt,
+        &(tid, is_taken),
+        &(tid, expected),
+        "whether it is taken",
+    );
 }
 
 /// In the order of their opening.
@@ -391,27 +134,33 @@ fn holds(rt: &impl Abort, alloc: Global, served: &Served<MemStore>, expected: &[
 fn table_rows(rt: HostRuntime) {
     let mut served = busy_server(&rt, rt.alloc());
     acknowledge(&rt, &mut served, 1025);
-    take(&rt, &mut served, 1025);
+    takes(&rt, &mut served, 1025, true);
     open(&rt, &mut served, 1040);
     holds(&rt, rt.alloc(), &served, &[1027, 1030, 1040]);
     is_in_use(&rt, rt.alloc(), &mut served, 2000);
+    served.finish();
 }
 
 #[test]
 fn an_open_transfer_stays(rt: HostRuntime) {
     let mut served = busy_server(&rt, rt.alloc());
-    let taken = served.server.take_closed(1025);
-    expect(&rt, taken.is_none(), "it is not taken");
+    takes(&rt, &mut served, 1025, false);
     let is_there = served.server.record(1025).is_some();
     expect(&rt, is_there, "it is there");
     is_in_use(&rt, rt.alloc(), &mut served, 1027);
+    served.finish();
+}
+
+/// The transfer is with its client.
+fn is_with_its_client(rt: &impl Abort, tid: u16, record: &Record) {
+    expect_equal(rt, &record.peer, &Some(client(tid)), "its client");
 }
 
 /// The server's open transfers have these identifiers, in this order, and each its client.
 fn lists(rt: &impl Abort, alloc: Global, served: &Served<MemStore>, expected: &[u16]) {
     let mut open = Vec::new(alloc);
     for (tid, record) in served.server.open_transfers() {
-        expect_equal(rt, &record.peer, &Some(client(tid)), "its client");
+        is_with_its_client(rt, tid, &record);
         open.push(tid).expect(rt, "memory");
     }
     expect_equal(rt, &open.as_slice(), &expected, "in rising order");
@@ -423,6 +172,7 @@ fn open_transfers_are_listed(rt: HostRuntime) {
     let mut served = busy_server(&rt, rt.alloc());
     acknowledge(&rt, &mut served, 1025);
     lists(&rt, rt.alloc(), &served, &[1027, 1030]);
+    served.finish();
 }
 
 /// A datagram to the request port, and whether it could open a transfer, by the tests that need no
@@ -442,14 +192,9 @@ const MAY_OPEN: [(&[u8], bool); 8] = [
 fn what_could_open_a_transfer(rt: HostRuntime) {
     let served = server(&rt, rt.alloc(), 16);
     for &(bytes, expected) in &MAY_OPEN {
-        let found = (bytes, may_open(&served, 1040, bytes));
-        expect_equal(
-            &rt,
-            &found,
-            &(bytes, Ok(expected)),
-            "whether it may open one",
-        );
+        may_open(&rt, &served, 1040, bytes, expected);
     }
+    served.finish();
 }
 
 /// A request, and the block size of the transfer that it may open: 512 bytes without the option
@@ -463,26 +208,26 @@ const BLOCK_SIZES: [(&[u8], Option<u16>); 6] = [
     (b"\x00\x04\x00\x00", None),
 ];
 
+/// The transfer that the request may open has this block size.
+fn has_block_size(rt: &impl Abort, served: &Served<MemStore>, bytes: &[u8], expected: Option<u16>) {
+    let admission = served.server.admit(client(1040), bytes);
+    let size = served.server.block_size(&admission.expect(rt, "memory"));
+    expect_equal(rt, &(bytes, size), &(bytes, expected), "the block size");
+}
+
 #[test]
 fn block_sizes_of_admissions(rt: HostRuntime) {
     let served = server(&rt, rt.alloc(), 16);
     for &(bytes, expected) in &BLOCK_SIZES {
-        let admission = served.server.admit(client(1040), bytes);
-        let admission = admission.expect(&rt, "memory");
-        let found = (bytes, served.server.block_size(&admission));
-        expect_equal(&rt, &found, &(bytes, expected), "the block size");
+        has_block_size(&rt, &served, bytes, expected);
     }
+    served.finish();
 }
 
 /// The transfer lends these bytes, and an identifier without a transfer lends none.
 fn lends(rt: &impl Abort, served: &Served<MemStore>, outgoing: Outgoing, expected: &[u8]) {
     let lent = served.server.bytes_of(1025, outgoing);
-    expect_bytes(
-        rt,
-        lent.expect(rt, "a transfer"),
-        expected,
-        "the datagram to send",
-    );
+    expect_equal(rt, &lent, &Some(expected), "the datagram to send");
     let other = served.server.bytes_of(1040, outgoing);
     expect(rt, other.is_none(), "no such transfer");
 }
@@ -495,6 +240,7 @@ fn a_transfer_lends_its_datagram(rt: HostRuntime) {
     let (step, outgoing) = timeout.expect(&rt, "the server takes it");
     expect_equal(&rt, &step.to, &Some(client(1025)), "to its client");
     lends(&rt, &served, outgoing, DATA_1);
+    served.finish();
 }
 
 #[test]
@@ -506,4 +252,5 @@ fn a_transfer_completes_without_a_buffer(rt: HostRuntime) {
     let found = (step.closed, outgoing);
     let complete = (Some(Outcome::Complete), Outgoing::Nothing);
     expect_equal(&rt, &found, &complete, "the last ACK, in silence");
+    served.finish();
 }

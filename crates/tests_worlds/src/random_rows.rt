@@ -227,7 +227,7 @@ fn steps_safely(rt: &impl Abort, alloc: Global, files: &Files, world: &mut World
 }
 
 /// Counts over all runs, which show that the tests of safety are not vacuous.
-#[derive(Clone, Copy, Debug, Default)]
+#[derive(Clone, Copy, Default)]
 struct Counts {
     /// Clients that have their whole file.
     reads: u64,
@@ -265,11 +265,19 @@ impl Counts {
 
     /// Each happened in half of the runs at least.
     fn are_many(&self, rt: &impl Abort) {
-        expect(rt, self.reads >= RUNS / 2, "whole files of clients");
-        expect(rt, self.texts >= RUNS / 2, "whole files by netascii");
-        expect(rt, self.senders >= RUNS / 2, "complete senders");
-        expect(rt, self.writes >= RUNS / 2, "files that were committed");
-        expect(rt, self.sizes >= RUNS / 2, "block sizes that were agreed");
+        let counts = [
+            self.reads,
+            self.texts,
+            self.senders,
+            self.writes,
+            self.sizes,
+        ];
+        let are_many = counts.iter().all(|count| *count >= RUNS / 2);
+        expect(
+            rt,
+            are_many,
+            "whole files, texts, senders, commits and block sizes",
+        );
     }
 }
 
@@ -287,6 +295,7 @@ fn runs_safely(rt: &impl Abort, alloc: Global, files: &Files, seed: u64, counts:
     for (port, record) in world.records() {
         counts.count(*port, record);
     }
+    drop(world);
 }
 
 #[test]

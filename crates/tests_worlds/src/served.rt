@@ -76,3 +76,8 @@ impl<S: Store> Served<S> {
         expect_equal(rt, &found, &(bytes, answer), "the answer");
     }
 }
+
+impl<S: Store + Drop> Served<S> {
+    /// Drops the server: that of a parameter is proved once, that of a variable in each test.
+    pub(crate) fn finish(self) {}
+}

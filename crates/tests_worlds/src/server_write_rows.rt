@@ -1,11 +1,11 @@
-//! Writes at a server (RFC 1350, sections 2, 4 and 6): the requests, the files in the store, and
-//! stores that fail in a transfer. The answers are those of RFC 1350, section 5 and appendix I.
+//! Writes at a server (RFC 1350, sections 2, 4 and 6): the files in the store, and stores that fail in
+//! a transfer. The answers are those of RFC 1350, section 5 and appendix I.
 
 ghost use Rattle.tftp_store.specs.FaultStore.{IsInjected};
 
-use crate::expect::{expect, expect_bytes, expect_equal};
+use crate::expect::{expect, expect_equal};
 use crate::served::Served;
-use crate::stores::{OldFile, has_file, lacks_file, path, store_of, write};
+use crate::stores::{has_file, lacks_file, store_of};
 use std::alloc::Global;
 use std::process::Abort;
 use tftp_ends::{Endpoint, Outcome};
@@ -34,63 +34,15 @@ fn server(rt: &impl Abort, alloc: Global) -> Served<MemStore> {
     Served::new(rt, alloc, Config::default(), files(rt, alloc))
 }
 
-/// A server over that store, which may replace files.
-fn replacing_server(rt: &impl Abort, alloc: Global) -> Served<MemStore> {
-    let mut config = Config::default();
-    config.overwrite = true;
-    Served::new(rt, alloc, config, files(rt, alloc))
-}
-
-/// Write requests, and the answer that opens each: an OACK of the options that the server accepts,
-/// or ACK 0 without any (RFC 2347, "Negotiation Protocol"; RFC 2348; RFC 2349).
-const OPENED: [(&[u8], &[u8]); 6] = [
-    (WRITE, b"\x00\x04\x00\x00"),
-    (b"\x00\x02n\x00NetASCII\x00", b"\x00\x04\x00\x00"),
-    (
-        b"\x00\x02n\x00octet\x00blksize\x008\x00tsize\x003\x00",
-        b"\x00\x06blksize\x008\x00tsize\x003\x00",
-    ),
-    (
-        b"\x00\x02n\x00octet\x00tsize\x004290183239\x00",
-        b"\x00\x06tsize\x004290183239\x00",
-    ),
-    (
-        b"\x00\x02n\x00netascii\x00tsize\x003\x00",
-        b"\x00\x04\x00\x00",
-    ),
-    (
-        b"\x00\x02n\x00octet\x00blksize\x0065464\x00windowsize\x004\x00",
-        b"\x00\x06blksize\x001428\x00",
-    ),
-];
-
-/// The request opens a transfer with a draft, and has this answer.
-fn opens(rt: &impl Abort, alloc: Global, request: &[u8], answer: &[u8]) {
-    let mut served = server(rt, alloc);
-    let opened = served.answers_request(rt, CLIENT, 1025, request, answer);
-    let found = (request, opened.tid, served.server.draft(1025).is_some());
-    let expected = (request, Some(1025), true);
-    expect_equal(rt, &found, &expected, "a transfer with a draft");
-}
-
-#[test]
-fn writes_are_answered_with_their_options(rt: HostRuntime) {
-    for &(request, answer) in &OPENED {
-        opens(&rt, rt.alloc(), request, answer);
-    }
-}
-
 const ACK_0: &[u8] = b"\x00\x04\x00\x00";
 
 /// A write request opens a transfer.
-fn open<S: Store>(rt: &impl Abort, served: &mut Served<S>, from: Endpoint, tid: u16) {
-    let opened = served.answers_request(rt, from, tid, WRITE, ACK_0);
-    expect_equal(rt, &opened.tid, &Some(tid), "a transfer opens");
+fn open<S: Store>(rt: &impl Abort, served: &mut Served<S>) {
+    let opened = served.answers_request(rt, CLIENT, 1025, WRITE, ACK_0);
+    expect_equal(rt, &opened.tid, &Some(1025), "a transfer opens");
 }
 
 const DATA_A: &[u8] = b"\x00\x03\x00\x01A";
-
-const DATA_B: &[u8] = b"\x00\x03\x00\x01B";
 
 const ACK_1: &[u8] = b"\x00\x04\x00\x01";
 
@@ -100,18 +52,6 @@ fn is_committed(rt: &impl Abort, served: &Served<MemStore>, tid: u16) {
     expect(rt, draft.is_committed(), "its draft is committed");
 }
 
-/// The file exists once it is committed, and only then the last block is acknowledged.
-#[test]
-fn a_write_makes_a_file(rt: HostRuntime) {
-    let mut served = server(&rt, rt.alloc());
-    open(&rt, &mut served, CLIENT, 1025);
-    lacks_file(&rt, rt.alloc(), served.server.store(), b"n");
-    let closed = served.answers(&rt, CLIENT, 1025, DATA_A, ACK_1);
-    expect_equal(&rt, &closed, &None, "the receiver dallies");
-    has_file(&rt, rt.alloc(), served.server.store(), b"n", b"A");
-    is_committed(&rt, &served, 1025);
-}
-
 /// The transfer has closed, and is returned with a draft of these bytes.
 fn hands_out(rt: &impl Abort, served: &mut Served<MemStore>, tid: u16, bytes: &[u8]) {
     let taken = served.server.take_closed(tid);
@@ -119,54 +59,31 @@ fn hands_out(rt: &impl Abort, served: &mut Served<MemStore>, tid: u16, bytes: &[
     let complete = Some(Outcome::Complete);
     expect_equal(rt, &record.outcome, &complete, "how it ended");
     let draft = draft.expect(rt, "a draft");
-    expect_bytes(rt, draft.as_bytes(), bytes, "what it holds");
+    expect_equal(rt, &draft.as_bytes(), &bytes, "what it holds");
 }
 
-/// It is closed by its second timeout (RFC 1350, section 6), and returned with its draft.
+/// The transfer is open, and is not returned.
+fn keeps(rt: &impl Abort, served: &mut Served<MemStore>, tid: u16) {
+    let is_taken = served.server.take_closed(tid).is_some();
+    expect(rt, !is_taken, "it is open");
+}
+
+/// The file exists once it is committed, and only then the last block is acknowledged. The transfer
+/// is closed by its second timeout (RFC 1350, section 6), and returned with its draft.
 #[test]
-fn a_draft_is_handed_out(rt: HostRuntime) {
+fn a_write_makes_a_file(rt: HostRuntime) {
     let mut served = server(&rt, rt.alloc());
-    open(&rt, &mut served, CLIENT, 1025);
-    served.answers(&rt, CLIENT, 1025, DATA_A, ACK_1);
+    open(&rt, &mut served);
+    lacks_file(&rt, rt.alloc(), served.server.store(), b"n");
+    let closed = served.answers(&rt, CLIENT, 1025, DATA_A, ACK_1);
+    expect_equal(&rt, &closed, &None, "the receiver dallies");
+    has_file(&rt, rt.alloc(), served.server.store(), b"n", b"A");
+    is_committed(&rt, &served, 1025);
     served.waits(&rt, 1025);
-    let taken = served.server.take_closed(1025);
-    expect(&rt, taken.is_none(), "it is open");
+    keeps(&rt, &mut served, 1025);
     served.waits(&rt, 1025);
     hands_out(&rt, &mut served, 1025, b"A");
-}
-
-const FILE_EXISTS: &[u8] = b"\x00\x05\x00\x06file exists\x00";
-
-/// Two writes of one name are open, and the block of the first arrives.
-fn open_two(rt: &impl Abort, served: &mut Served<MemStore>) {
-    open(rt, served, CLIENT, 1025);
-    open(rt, served, OTHER, 1026);
-    served.answers(rt, CLIENT, 1025, DATA_A, ACK_1);
-}
-
-/// The first that is committed has the name.
-#[test]
-fn the_first_commit_has_the_name(rt: HostRuntime) {
-    let mut served = server(&rt, rt.alloc());
-    open_two(&rt, &mut served);
-    let closed = served.answers(&rt, OTHER, 1026, DATA_B, FILE_EXISTS);
-    expect_equal(&rt, &closed, &Some(Outcome::StoreFault), "the other closes");
-    has_file(&rt, rt.alloc(), served.server.store(), b"n", b"A");
-}
-
-/// If files may be replaced, the last commit counts.
-#[test]
-fn the_last_commit_stands(rt: HostRuntime) {
-    let mut served = replacing_server(&rt, rt.alloc());
-    open_two(&rt, &mut served);
-    served.answers(&rt, OTHER, 1026, DATA_B, ACK_1);
-    has_file(&rt, rt.alloc(), served.server.store(), b"n", b"B");
-}
-
-/// Sets the file `a` to 600 letters.
-fn lengthen(rt: &impl Abort, alloc: Global, store: &mut MemStore) {
-    let path = path(rt, alloc, b"a");
-    write(store, alloc, &path, &[b'a'; 600], OldFile::IsReplaced).expect(rt, "it is written");
+    served.finish();
 }
 
 /// DATA of this number: this byte, that many times.
@@ -177,40 +94,27 @@ fn data(rt: &impl Abort, alloc: Global, number: u8, byte: u8, count: usize) -> V
     bytes
 }
 
+/// A server of 600 letters in the file `a`, which may replace it.
+fn replacing_server(rt: &impl Abort, alloc: Global) -> Served<MemStore> {
+    let mut config = Config::default();
+    config.overwrite = true;
+    Served::new(rt, alloc, config, store_of(rt, alloc, b"a", &[b'a'; 600]))
+}
+
 /// A read of a file that a write replaces continues with the file that it opened.
 #[test]
-fn a_read_goes_on_with_its_file(rt: HostRuntime) {
+fn overwrite_rows(rt: HostRuntime) {
     let mut served = replacing_server(&rt, rt.alloc());
-    lengthen(&rt, rt.alloc(), served.server.store_mut());
     let read = b"\x00\x01a\x00octet\x00";
     let first = data(&rt, rt.alloc(), 1, b'a', 512);
     served.answers_request(&rt, CLIENT, 1025, read, &first);
     let replace = b"\x00\x02a\x00octet\x00";
     served.answers_request(&rt, OTHER, 1026, replace, ACK_0);
-    served.answers(&rt, OTHER, 1026, DATA_B, ACK_1);
+    served.answers(&rt, OTHER, 1026, b"\x00\x03\x00\x01B", ACK_1);
     has_file(&rt, rt.alloc(), served.server.store(), b"a", b"B");
     let rest = data(&rt, rt.alloc(), 2, b'a', 88);
     served.answers(&rt, CLIENT, 1025, ACK_1, &rest);
-}
-
-/// The request arrives again: it has this answer, and opens no transfer.
-fn opens_nothing<S: Store>(rt: &impl Abort, served: &mut Served<S>, tid: u16, answer: &[u8]) {
-    let opened = served.answers_request(rt, CLIENT, tid, WRITE, answer);
-    expect_equal(rt, &opened.tid, &None, "no transfer");
-}
-
-/// A repeated request opens nothing while its transfer is open, nor in the dally; after the close
-/// its file exists.
-#[test]
-fn a_repeated_write_opens_nothing(rt: HostRuntime) {
-    let mut served = server(&rt, rt.alloc());
-    open(&rt, &mut served, CLIENT, 1025);
-    opens_nothing(&rt, &mut served, 1030, b"");
-    served.answers(&rt, CLIENT, 1025, DATA_A, ACK_1);
-    opens_nothing(&rt, &mut served, 1030, b"");
-    served.waits(&rt, 1025);
-    served.waits(&rt, 1025);
-    opens_nothing(&rt, &mut served, 1030, FILE_EXISTS);
+    served.finish();
 }
 
 const DISK_FULL: &[u8] = b"\x00\x05\x00\x03disk full\x00";
@@ -235,7 +139,9 @@ fn cannot_begin(rt: &impl Abort, alloc: Global, fault: StoreFault, answer: &[u8]
     requires { IsInjected fault }
 {
     let mut served = failing(rt, alloc, 0, fault);
-    opens_nothing(rt, &mut served, 1025, answer);
+    let opened = served.answers_request(rt, CLIENT, 1025, WRITE, answer);
+    expect_equal(rt, &opened.tid, &None, "no transfer");
+    served.finish();
 }
 
 #[test]
@@ -271,13 +177,14 @@ fn fails_there(rt: &impl Abort, alloc: Global, at: u64, fault: StoreFault, block
     requires { IsInjected fault }
 {
     let mut served = failing(rt, alloc, at, fault);
-    open(rt, &mut served, CLIENT, 1025);
+    open(rt, &mut served);
     for number in 1..=blocks {
         acknowledges(rt, alloc, &mut served, number);
     }
     if blocks < 5 {
         refuses(rt, alloc, &mut served, blocks + 1);
     }
+    served.finish();
 }
 
 /// The call that is refused, and the blocks before it; the seventh is after them all.
@@ -305,8 +212,9 @@ fn keeps_one_block(rt: &impl Abort, alloc: Global, served: &Served<FaultStore<Me
 #[test]
 fn a_refused_append_keeps_what_was_stored(rt: HostRuntime) {
     let mut served = failing(&rt, rt.alloc(), 2, StoreFault::Full);
-    open(&rt, &mut served, CLIENT, 1025);
+    open(&rt, &mut served);
     acknowledges(&rt, rt.alloc(), &mut served, 1);
     refuses(&rt, rt.alloc(), &mut served, 2);
     keeps_one_block(&rt, rt.alloc(), &served);
+    served.finish();
 }

@@ -48,6 +48,7 @@ fn a_file_is_there_after_its_commit(rt: HostRuntime) {
     expect_equal(&rt, &length, &missing, "before it is written");
     let store = written(&rt, rt.alloc());
     has_file(&rt, rt.alloc(), &store, b"/a/b", b"AB\n");
+    drop(store);
 }
 
 /// A line feed travels as CR LF in netascii (RFC 764).
@@ -57,6 +58,7 @@ fn a_file_has_its_length_on_the_wire(rt: HostRuntime) {
     let octet = length(&rt, rt.alloc(), &store, Mode::Octet);
     let netascii = length(&rt, rt.alloc(), &store, Mode::Netascii);
     expect_equal(&rt, &(octet, netascii), &(Ok(3), Ok(4)), "in each mode");
+    drop(store);
 }
 
 #[test]
@@ -64,6 +66,7 @@ fn a_name_is_given_once(rt: HostRuntime) {
     let mut store = written(&rt, rt.alloc());
     let exists = Err(StoreFault::Exists);
     writes(&rt, rt.alloc(), &mut store, b"C", OldFile::Stays, exists);
+    drop(store);
 }
 
 /// A store that is set to replace accepts a second file of the name, and holds the newer.
@@ -79,6 +82,7 @@ fn a_file_is_replaced(rt: HostRuntime) {
         Ok(()),
     );
     has_file(&rt, rt.alloc(), &store, b"/a/b", b"C");
+    drop(store);
 }
 
 #[test]
@@ -90,6 +94,7 @@ fn a_call_of_a_store_is_refused_once_as_armed(rt: HostRuntime) {
     writes(&rt, rt.alloc(), &mut store, b"A", OldFile::Stays, full);
     expect(&rt, !store.refuses(), "it is disarmed");
     writes(&rt, rt.alloc(), &mut store, b"A", OldFile::Stays, Ok(()));
+    drop(store);
 }
 
 fn new_server(rt: &impl Abort, alloc: Global) -> Server<MemStore> {
@@ -120,6 +125,7 @@ fn a_new_server_holds_no_transfer(rt: HostRuntime) {
     let mut server = new_server(&rt, rt.alloc());
     holds_none(&rt, rt.alloc(), &mut server);
     has_no_timeout(&rt, rt.alloc(), &mut server);
+    drop(server);
 }
 
 #[test]
@@ -127,4 +133,5 @@ fn a_server_lends_its_store(rt: HostRuntime) {
     let mut server = new_server(&rt, rt.alloc());
     server.store_mut().refuse_next(true);
     expect(&rt, server.store().refuses(), "what it was told");
+    drop(server);
 }

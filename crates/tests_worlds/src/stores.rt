@@ -1,6 +1,6 @@
 //! Stores and paths of the tests.
 
-use crate::expect::{expect, expect_bytes};
+use crate::expect::{expect, expect_equal};
 use std::alloc::Global;
 use std::process::Abort;
 use tftp_file::{Path, StoreFault, path_of};
@@ -52,7 +52,7 @@ pub(crate) fn has_file(
 ) {
     let path = path(rt, alloc, name);
     let file = store.file(&path).expect(rt, "a file");
-    expect_bytes(rt, file, bytes, "what the store holds");
+    expect_equal(rt, &file, &bytes, "what the store holds");
 }
 
 /// The store has no file of this name.
