@@ -233,8 +233,10 @@ def clients() -> dict[str, Any]:
 
 
 def by_others(scene, built) -> None:
-    """Other projects' clients get from the server of files in memory, put to it, and get what they have put. Not through a
-    bad network: curl sends a last block for an hour, if each ACK of it was lost."""
+    """Other projects' clients get from the server of files in memory, put to it, and get what they have put.
+
+    Not through a bad network: a curl 7.88 that puts waits for an ACK that was lost, and sends nothing in 45 seconds.
+    """
     server, process = serves(scene, built)
     for program, words in clients().items():
         for name in ["memory", program]:
