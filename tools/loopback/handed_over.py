@@ -105,6 +105,8 @@ def test_a_client_asks_while_no_server_runs(scene) -> None:
     scene.tftp("get", server.word, "a", "first", "--no-dally").completes(3)
     server.has_closed("Complete")
     client = scene.tftp("get", server.word, "a", "second", "--no-dally", "--timeout", "60")
+    # (a server leaves the socket without waits, which its descriptors share)
+    bound.socket.settimeout(PATIENCE)
     expect(bound.socket.recv(512, socket.MSG_PEEK)[:4], b"\0\1a\0", "the request that waits")
     server = scene.serve_at(bound, "--log")
     client.completes(3)
