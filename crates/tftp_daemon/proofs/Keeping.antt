@@ -26,7 +26,7 @@ use Rattle.tftp_loop.specs.Serves.{AtPort, Does, LoopState, PortState}
 use Rattle.tftp_loop.specs.Serves.AtPort.{A_datagram, A_lost_datagram, A_late_datagram, Nothing_found}
 use Rattle.tftp_loop.specs.Serves.AtPort.{A_failed_receive, A_timeout, A_missed_timeout, Work}
 use Rattle.tftp_loop.specs.Serves.Does.{Waited, At_port, Request_received, No_request_found, Request_not_received}
-use Rattle.tftp_loop.specs.Serves.Does.{No_port_found, Request_answered, Request_lost, Clock_read, Store_set}
+use Rattle.tftp_loop.specs.Serves.Does.{Request_noted, Request_answered, Request_lost, Clock_read, Store_set}
 use Rattle.tftp_loop.specs.Serves.Does.{Transfer_closed}
 use Rattle.tftp_daemon.specs.Kept.{RunLeaves}
 
@@ -158,7 +158,7 @@ module _ {S F D : Type 0} (Same : S → S → Type 0) (meaning : StoreMeaning S 
   leaves_so old new (Request_received d) = stays (ap store_of d.is)
   leaves_so old new (No_request_found d) = stays (ap store_of d.is)
   leaves_so old new (Request_not_received d) = stays (ap store_of d.is)
-  leaves_so old new (No_port_found d) = stays (ap store_of d.is)
+  leaves_so old new (Request_noted d) = stays (ap store_of d.is)
   leaves_so old new (Request_answered d) =
       let answered = goes_so old.server d.from d.bytes d.tid _ d.steps.came d.steps.goes in
       let left = subst (λ (l : Left S F D). Same old.server.store l.new.store) (sym d.steps.left) answered in

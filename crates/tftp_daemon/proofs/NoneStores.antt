@@ -30,7 +30,7 @@ use Rattle.tftp_loop.specs.Serves.{AtPort, Does, LoopState, PortState}
 use Rattle.tftp_loop.specs.Serves.AtPort.{A_datagram, A_late_datagram, A_lost_datagram, Nothing_found}
 use Rattle.tftp_loop.specs.Serves.AtPort.{A_failed_receive, A_timeout, A_missed_timeout, Work}
 use Rattle.tftp_loop.specs.Serves.Does.{Waited, At_port, Request_received, No_request_found, Request_not_received}
-use Rattle.tftp_loop.specs.Serves.Does.{No_port_found, Request_answered, Request_lost, Clock_read, Store_set}
+use Rattle.tftp_loop.specs.Serves.Does.{Request_noted, Request_answered, Request_lost, Clock_read, Store_set}
 use Rattle.tftp_loop.specs.Serves.Does.{Transfer_closed}
 use Rattle.tftp_daemon.specs.Kept.{NoneStores, RunKeepsHeld, RunLeaves, StoresOnly}
 
@@ -196,7 +196,7 @@ module _ {S F D : Type 0} (Admits : S → Type 0) (May : List ℕ → Type 0) (m
   does_fine old new (Request_received d) admits fine = subst (AreFine May) (sym (ap held_in d.is)) fine
   does_fine old new (No_request_found d) admits fine = subst (AreFine May) (sym (ap held_in d.is)) fine
   does_fine old new (Request_not_received d) admits fine = subst (AreFine May) (sym (ap held_in d.is)) fine
-  does_fine old new (No_port_found d) admits fine = subst (AreFine May) (sym (ap held_in d.is)) fine
+  does_fine old new (Request_noted d) admits fine = subst (AreFine May) (sym (ap held_in d.is)) fine
   does_fine old new (Request_answered d) admits fine =
       let answered = goes_fine old.server d.from d.bytes d.tid fine admits _ d.steps.came d.steps.goes in
       let left = subst (λ (l : Left S F D). FineIn l.new) (sym d.steps.left) answered in

@@ -11,7 +11,7 @@ use Rattle.tftp_loop.specs.Serves.{PortState, LoopState, AtPort, Does, port_stat
 use Rattle.tftp_loop.specs.Serves.AtPort.{A_datagram, A_lost_datagram, A_late_datagram, Nothing_found}
 use Rattle.tftp_loop.specs.Serves.AtPort.{A_failed_receive, A_timeout, A_missed_timeout, Work}
 use Rattle.tftp_loop.specs.Serves.Does.{Waited, At_port, Request_received, No_request_found, Request_not_received}
-use Rattle.tftp_loop.specs.Serves.Does.{No_port_found}
+use Rattle.tftp_loop.specs.Serves.Does.{Request_noted}
 use Rattle.tftp_loop.specs.Serves.Does.{Request_answered, Request_lost, Clock_read, Store_set, Transfer_closed}
 
 pub record Adds (before after : List Event) : Type 0 where
@@ -74,7 +74,7 @@ module _ {S F D : Type 0} (meaning : StoreMeaning S D) (sources : SourceMeaning 
   step_adds s t (Request_received d) = adds_one _ s.events t.events (ap (λ (u : LoopState S F D). u.events) d.is)
   step_adds s t (No_request_found d) = adds_one _ s.events t.events (ap (λ (u : LoopState S F D). u.events) d.is)
   step_adds s t (Request_not_received d) = adds_one _ s.events t.events (ap (λ (u : LoopState S F D). u.events) d.is)
-  step_adds s t (No_port_found d) = adds_one _ s.events t.events (ap (λ (u : LoopState S F D). u.events) d.is)
+  step_adds s t (Request_noted d) = adds_one _ s.events t.events (ap (λ (u : LoopState S F D). u.events) d.is)
   step_adds s t (Request_answered d) = adds_to s.events _ t.events (ap (λ (u : LoopState S F D). u.events) d.is)
       (replied_adds _ d.left.opened.to d.left.sent s.events)
   step_adds s t (Request_lost d) = adds_none s.events t.events (ap (λ (u : LoopState S F D). u.events) d.is)
@@ -92,7 +92,7 @@ module _ {S F D : Type 0} (meaning : StoreMeaning S D) (sources : SourceMeaning 
   step_forward s t (Request_received d) = same_now s.now t _ d.is (omega arith)
   step_forward s t (No_request_found d) = same_now s.now t _ d.is (omega arith)
   step_forward s t (Request_not_received d) = same_now s.now t _ d.is (omega arith)
-  step_forward s t (No_port_found d) = same_now s.now t _ d.is (omega arith)
+  step_forward s t (Request_noted d) = same_now s.now t _ d.is (omega arith)
   step_forward s t (Request_answered d) = same_now s.now t _ d.is (omega arith)
   step_forward s t (Request_lost d) = same_now s.now t _ d.is (omega arith)
   step_forward s t (Clock_read d) = same_now s.now t _ d.is d.forward

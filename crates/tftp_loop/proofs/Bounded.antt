@@ -23,7 +23,7 @@ use Rattle.tftp_loop.specs.Run.Run.{Start, Then}
 use Rattle.tftp_loop.specs.Serves.{Timer, PortState, LoopState, AtPort, Does, interval_at, marked_by}
 use Rattle.tftp_loop.specs.Serves.{port_state, set_by, started, with_timer}
 use Rattle.tftp_loop.specs.Serves.Does.{Waited, At_port, Request_received, No_request_found, Request_not_received}
-use Rattle.tftp_loop.specs.Serves.Does.{No_port_found}
+use Rattle.tftp_loop.specs.Serves.Does.{Request_noted}
 use Rattle.tftp_loop.specs.Serves.Does.{Request_answered, Request_lost, Clock_read, Store_set, Transfer_closed}
 use Rattle.tftp_loop.specs.Expiry.{IsIdleAt, ReceivesNoneAt}
 use Rattle.tftp_loop.specs.Tended.{AreKept}
@@ -229,7 +229,7 @@ module _ {S F D : Type 0} (meaning : StoreMeaning S D) (sources : SourceMeaning 
   step_bounded s t (Request_received d) kept bounded = subst AreBounded (sym d.is) bounded
   step_bounded s t (No_request_found d) kept bounded = subst AreBounded (sym d.is) bounded
   step_bounded s t (Request_not_received d) kept bounded = subst AreBounded (sym d.is) bounded
-  step_bounded s t (No_port_found d) kept bounded = subst AreBounded (sym d.is) bounded
+  step_bounded s t (Request_noted d) kept bounded = subst AreBounded (sym d.is) bounded
   step_bounded s t (Request_answered d) kept bounded =
       subst AreBounded (sym d.is)
       (subst (λ (left : Left S F D). All (IsBounded left.new s.now)

@@ -29,7 +29,7 @@ use Rattle.tftp_loop.specs.Serves.{with_timer}
 use Rattle.tftp_loop.specs.Serves.AtPort.{A_datagram, A_lost_datagram, A_late_datagram, Nothing_found}
 use Rattle.tftp_loop.specs.Serves.AtPort.{A_failed_receive, A_timeout, A_missed_timeout, Work}
 use Rattle.tftp_loop.specs.Serves.Does.{Waited, At_port, Request_received, No_request_found, Request_not_received}
-use Rattle.tftp_loop.specs.Serves.Does.{No_port_found}
+use Rattle.tftp_loop.specs.Serves.Does.{Request_noted}
 use Rattle.tftp_loop.specs.Serves.Does.{Request_answered, Request_lost, Clock_read, Store_set, Transfer_closed}
 use Rattle.tftp_loop.specs.Reported.{IsNoWait}
 use Rattle.tftp_loop.specs.Expiry.{After, At_first, ClosesInSilence, Idles, IsIdle, IsIdleAt, NoneReceived}
@@ -257,8 +257,8 @@ module _ {S F D : Type 0} (meaning : StoreMeaning S D) (sources : SourceMeaning 
       passes Quiet More since s t _ (No_request_found d) fewer d.is refl refl lasts
   step_lives Quiet More since s t (Request_not_received d) is idle fewer silent soon kept lasts =
       passes Quiet More since s t _ (Request_not_received d) fewer d.is refl refl lasts
-  step_lives Quiet More since s t (No_port_found d) is idle fewer silent soon kept lasts =
-      passes Quiet More since s t _ (No_port_found d) fewer d.is refl refl lasts
+  step_lives Quiet More since s t (Request_noted d) is idle fewer silent soon kept lasts =
+      passes Quiet More since s t _ (Request_noted d) fewer d.is refl refl lasts
   step_lives Quiet More since s t (Request_answered d) is idle fewer silent soon kept lasts =
       let fs = replied (answering_port s.requests d.left.opened.tid) d.left.opened.to d.left.sent s.events in
       let adds = subst (λ (u : LoopState S F D). Adds s.events u.events) d.is
@@ -468,7 +468,7 @@ module _ {S F D : Type 0} (meaning : StoreMeaning S D) (sources : SourceMeaning 
   late_idle Quiet since s t (Request_received d) kept late lasts = (tt, tt)
   late_idle Quiet since s t (No_request_found d) kept late lasts = (tt, tt)
   late_idle Quiet since s t (Request_not_received d) kept late lasts = (tt, tt)
-  late_idle Quiet since s t (No_port_found d) kept late lasts = (tt, tt)
+  late_idle Quiet since s t (Request_noted d) kept late lasts = (tt, tt)
   late_idle Quiet since s t (Request_answered d) kept late lasts = (tt, tt)
   late_idle Quiet since s t (Request_lost d) kept late lasts = (tt, tt)
   late_idle Quiet since s t (Clock_read d) kept late lasts = (tt, tt)

@@ -19,11 +19,12 @@ use Rattle.tftp_loop.specs.Serves.{set_by, until_look}
 use Rattle.tftp_loop.specs.Serves.AtPort.{A_datagram, A_lost_datagram, A_late_datagram, Nothing_found}
 use Rattle.tftp_loop.specs.Serves.AtPort.{A_failed_receive, A_timeout, A_missed_timeout, Work}
 use Rattle.tftp_loop.specs.Serves.Does.{Waited, At_port, Request_received, No_request_found, Request_not_received}
-use Rattle.tftp_loop.specs.Serves.Does.{No_port_found}
+use Rattle.tftp_loop.specs.Serves.Does.{Request_noted}
 use Rattle.tftp_loop.specs.Serves.Does.{Request_answered, Request_lost, Clock_read, Store_set, Transfer_closed}
 use Rattle.tftp_loop.specs.Reported.{GoesOn, Goes_by, IsNoWait}
 use Rattle.tftp_loop.specs.Handled.{By_answer, By_loss, IsResolved}
 use Rattle.tftp_loop.specs.Sleeps.{HasItsOwnPort}
+use Rattle.tftp_loop.proofs.NoteLemmas.{note_tried}
 use Rattle.tftp_loop.proofs.PortStays.{or_left, or_right, own_receive, replied_tries, stays_at}
 use Rattle.tftp_loop.proofs.RunLemmas.{onward}
 
@@ -64,7 +65,7 @@ module _ {S F D : Type 0} (meaning : StoreMeaning S D) (sources : SourceMeaning 
       absurd (none-some (from, bytes) (sym d.none ∙ pending))
   step_pending from bytes first s t run (Request_not_received d) pending =
       absurd (none-some (from, bytes) (sym d.none ∙ pending))
-  step_pending from bytes first s t run (No_port_found d) pending =
+  step_pending from bytes first s t run (Request_noted d) pending =
       inl (ap (λ (u : LoopState S F D). u.pending) d.is ∙ pending)
   step_pending from bytes first s t run (Request_answered d) pending =
       let same = same_Some (d.from, d.bytes) (from, bytes) (sym d.pending ∙ pending) in
@@ -165,7 +166,8 @@ module _ {S F D : Type 0} (meaning : StoreMeaning S D) (sources : SourceMeaning 
       absurd (none-some (from, bytes) (sym d.none ∙ pending))
   step_untried from bytes s t (Request_not_received d) is own pending h =
       absurd (none-some (from, bytes) (sym d.none ∙ pending))
-  step_untried from bytes s t (No_port_found d) is own pending h = subst Untried (sym d.is) h
+  step_untried from bytes s t (Request_noted d) is own pending h =
+      subst Untried (sym d.is) (note_tried s.requests (was_tried s.requests s.events) d.note ∙ h)
   step_untried from bytes s t (Request_answered d) is own pending h =
       subst Untried (sym d.is) (replied_untried s.requests _ d.left.opened.to d.left.sent s.events h)
   step_untried from bytes s t (Request_lost d) is own pending h = subst Untried (sym d.is) h
@@ -249,7 +251,10 @@ module _ {S F D : Type 0} (meaning : StoreMeaning S D) (sources : SourceMeaning 
   step_reads s t (No_request_found d) is reads = subst Reads (sym d.is)
       (inr (own_receive s.requests (was_tried s.requests s.events)))
   step_reads s t (Request_not_received d) is reads = inl (ap (λ (u : LoopState S F D). u.marked) d.is)
-  step_reads s t (No_port_found d) is reads = subst Reads (sym d.is) reads
+  step_reads s t (Request_noted d) is reads =
+      same_reads s t (ap (λ (u : LoopState S F D). u.marked) d.is) (ap (λ (u : LoopState S F D). u.requests) d.is)
+      (λ h. kept_tries s.requests _ t.events (ap (λ (u : LoopState S F D). u.events) d.is)
+      (note_tried s.requests (was_tried s.requests s.events) d.note ∙ h)) reads
   step_reads s t (Request_answered d) is reads =
       same_reads s t (ap (λ (u : LoopState S F D). u.marked) d.is) (ap (λ (u : LoopState S F D). u.requests) d.is)
       (λ h. kept_tries s.requests _ t.events (ap (λ (u : LoopState S F D). u.events) d.is)

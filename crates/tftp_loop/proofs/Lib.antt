@@ -3,6 +3,7 @@ pub mod RunLemmas
 pub mod PortRuns
 pub mod ListLemmas
 pub mod LoopRuns
+pub mod NoteLemmas
 pub mod RequestRuns
 pub mod OrderLemmas
 pub mod PortTurns

@@ -19,11 +19,12 @@ use Rattle.tftp_loop.specs.Serves.{with_timer}
 use Rattle.tftp_loop.specs.Serves.AtPort.{A_datagram, A_lost_datagram, A_late_datagram, Nothing_found}
 use Rattle.tftp_loop.specs.Serves.AtPort.{A_failed_receive, A_timeout, A_missed_timeout, Work}
 use Rattle.tftp_loop.specs.Serves.Does.{Waited, At_port, Request_received, No_request_found, Request_not_received}
-use Rattle.tftp_loop.specs.Serves.Does.{No_port_found}
+use Rattle.tftp_loop.specs.Serves.Does.{Request_noted}
 use Rattle.tftp_loop.specs.Serves.Does.{Request_answered, Request_lost, Clock_read, Store_set, Transfer_closed}
 use Rattle.tftp_loop.specs.Tended.{AreApart}
 use Rattle.tftp_loop.proofs.Drained.{answered_drained, either_drained, other_drained, port_drained, replied_drained}
 use Rattle.tftp_loop.proofs.LoopStays.{all_appended, all_removed, all_set, other_port}
+use Rattle.tftp_loop.proofs.NoteLemmas.{note_drained}
 use Rattle.tftp_loop.proofs.PortStays.{or_left, or_right, own_receive}
 use Rattle.tftp_loop.proofs.Waits.{mapped_at}
 
@@ -217,8 +218,12 @@ module _ {S F D : Type 0} (meaning : StoreMeaning S D) (sources : SourceMeaning 
       still s.events (Quiet (Failed s.requests) ∷ s.events) s.now timer
       (other_drained s.requests timer.port (is_drained timer.port s.events) (λ same. own k e h (sym same)))
       (looked k e h))
-  step_looked s t (No_port_found d) own apart looked = subst AreLooked (sym d.is)
-      (λ k e h. still s.events _ s.now (slice_index_or s.timers k e) (λ was. was) (looked k e h))
+  step_looked s t (Request_noted d) own apart looked =
+      subst AreLooked (sym d.is)
+      (λ k e h.
+      let timer = slice_index_or s.timers k e in
+      still s.events _ s.now timer
+      (λ was. note_drained timer.port (is_drained timer.port s.events) d.note ∙ was) (looked k e h))
   step_looked s t (Request_answered d) own apart looked =
       let port = answering_port s.requests d.left.opened.tid in
       subst AreLooked (sym d.is)

@@ -16,13 +16,14 @@ use Rattle.tftp_sockets.specs.Quiet.{was_tried}
 use Rattle.tftp_loop.specs.Run.{Run}
 use Rattle.tftp_loop.specs.Run.Run.{Start, Then}
 use Rattle.tftp_loop.specs.Serves.{Timer, PortState, LoopState, Does, answering_port, interval_at, port_state, started}
-use Rattle.tftp_loop.specs.Serves.{with_timer}
+use Rattle.tftp_loop.specs.Serves.{note_event, with_timer}
 use Rattle.tftp_loop.specs.Serves.Does.{Waited, At_port, Request_received, No_request_found, Request_not_received}
-use Rattle.tftp_loop.specs.Serves.Does.{No_port_found, Request_answered, Request_lost, Clock_read, Store_set}
+use Rattle.tftp_loop.specs.Serves.Does.{Request_noted, Request_answered, Request_lost, Clock_read, Store_set}
 use Rattle.tftp_loop.specs.Serves.Does.{Transfer_closed}
 use Rattle.tftp_loop.specs.Served.{IsWork, Works, Work_by}
 use Rattle.tftp_loop.specs.Tended.{AreApart, AreKept, AreTried, IsHeld, IsRead, KeepsTries}
 use Rattle.tftp_loop.proofs.ListLemmas.{set_long}
+use Rattle.tftp_loop.proofs.NoteLemmas.{note_tried}
 use Rattle.tftp_loop.proofs.PortStays.{StaysAt, or_right, own_receive, looks_first, replied_tries, stays_at}
 use Rattle.tftp_loop.proofs.Tables.{set_other, set_own, appended_at, appended_last, appended_long, removed_long, was_at}
 use Rattle.tftp_loop.proofs.Tables.{any_default, inserted_apart, inserted_own, removed_apart}
@@ -303,8 +304,15 @@ module _ {S F D : Type 0} (meaning : StoreMeaning S D) (sources : SourceMeaning 
       subst (Keeps s) (sym d.is) (asks_keep s s.pending false (Quiet (Empty s.requests)) (λ q. refl))
   step_keeps s t (Request_not_received d) work =
       subst (Keeps s) (sym d.is) (asks_keep s s.pending true (Quiet (Failed s.requests)) (λ q. refl))
-  step_keeps s t (No_port_found d) work =
-      subst (Keeps s) (sym d.is) (record { tries = λ q h. h; kept = λ h. h; read = λ h. h; tried = λ h. h })
+  step_keeps s t (Request_noted d) work =
+      let tries : KeepsTries s.events (Quiet (note_event d.note) ∷ s.events) =
+      λ q h. note_tried q (was_tried q s.events) d.note ∙ h in
+      subst (Keeps s) (sym d.is) (record {
+        tries = tries;
+        kept = λ h. h;
+        read = λ h k e l m. tries (slice_index_or s.timers k e).port (h k e l m);
+        tried = λ h m. tries s.requests (h m);
+      })
   step_keeps s t (Request_answered d) work =
       let fs = replied (answering_port s.requests d.left.opened.tid) d.left.opened.to d.left.sent s.events in
       let tries : KeepsTries s.events fs =

@@ -16,9 +16,9 @@ use Rattle.tftp_server.specs.Request.{Came, Left, Nothing, Error_reply, A_transf
 use Rattle.tftp_server.specs.Port.{Ask, Ignores, Refuses, Reads, Writes, Service, Silent, Refused, Sends, Takes}
 use Rattle.tftp_loop.specs.Run.{Run}
 use Rattle.tftp_loop.specs.Run.Run.{Start, Then}
-use Rattle.tftp_loop.specs.Serves.{Timer, LoopState, AnswersRequest, FindsNoPort, LosesRequest, SetsStore, interval_at}
+use Rattle.tftp_loop.specs.Serves.{Timer, LoopState, AnswersRequest, LosesRequest, interval_at}
 use Rattle.tftp_loop.specs.Serves.{started, with_timer}
-use Rattle.tftp_loop.specs.Tended.{AreKept, AreSettled, Concludes, IsOpen}
+use Rattle.tftp_loop.specs.Tended.{AreKept, AreSettled, Concludes, IsOpen, Notes_it, Prepares, Sets_store}
 use Rattle.tftp_loop.proofs.LoopStays.{all_appended, some_none, work_keeps}
 use Rattle.tftp_loop.proofs.RequestRuns.{concludes_run}
 use Rattle.tftp_loop.proofs.Tables.{inserted_apart, inserted_own}
@@ -108,23 +108,16 @@ module _ {S F D : Type 0} (meaning : StoreMeaning S D) (sources : SourceMeaning 
       (opens_open ask transfer store goes))
 
 module _ {S F D : Type 0} (meaning : StoreMeaning S D) (sources : SourceMeaning F) where
-  -- trying ports changes no transfer
-  tried_settled : (s t : LoopState S F D) → Run (FindsNoPort meaning sources) s t → AreSettled s.server.held s.timers →
+  -- what is done first changes no transfer
+  prepared_settled : (s t : LoopState S F D) → Run (Prepares meaning sources) s t → AreSettled s.server.held s.timers →
       AreSettled t.server.held t.timers
-  tried_settled s t Start settled = settled
-  tried_settled s t (Then {middle} run d) settled =
-      subst (λ (u : LoopState S F D). AreSettled u.server.held u.timers) (sym d.is) (tried_settled s middle run settled)
-
-  set_open : (s t : LoopState S F D) → (t ≡ s) ⊎ SetsStore meaning sources s t → All (IsOpen s.server.held) s.timers →
-      All (IsOpen t.server.held) t.timers
-  set_open s t (inl e) unclosed = subst (λ (u : LoopState S F D). All (IsOpen u.server.held) u.timers) (sym e) unclosed
-  set_open s t (inr d) unclosed =
-      subst (λ (u : LoopState S F D). All (IsOpen u.server.held) u.timers) (sym d.is) unclosed
-
-  set_kept : (s t : LoopState S F D) → (t ≡ s) ⊎ SetsStore meaning sources s t → AreKept s.server.held s.timers →
-      AreKept t.server.held t.timers
-  set_kept s t (inl e) kept = subst (λ (u : LoopState S F D). AreKept u.server.held u.timers) (sym e) kept
-  set_kept s t (inr d) kept = subst (λ (u : LoopState S F D). AreKept u.server.held u.timers) (sym d.is) kept
+  prepared_settled s t Start settled = settled
+  prepared_settled s t (Then {middle} run (Notes_it d)) settled =
+      subst (λ (u : LoopState S F D). AreSettled u.server.held u.timers) (sym d.is)
+      (prepared_settled s middle run settled)
+  prepared_settled s t (Then {middle} run (Sets_store d)) settled =
+      subst (λ (u : LoopState S F D). AreSettled u.server.held u.timers) (sym d.is)
+      (prepared_settled s middle run settled)
 
   ends_open : (s t : LoopState S F D) → AnswersRequest meaning sources s t ⊎ LosesRequest meaning sources s t →
       AreKept s.server.held s.timers → All (IsOpen s.server.held) s.timers → All (IsOpen t.server.held) t.timers
@@ -143,7 +136,6 @@ module _ {S F D : Type 0} (meaning : StoreMeaning S D) (sources : SourceMeaning 
   concludes_settled s t c settled = record {
     kept = (work_keeps meaning sources s t (concludes_run meaning sources s t c)).kept settled.kept;
     none_closed =
-        let begun = tried_settled s c.begin c.tries settled in
-        ends_open c.middle t c.ends (set_kept c.begin c.middle c.set begun.kept)
-        (set_open c.begin c.middle c.set begun.none_closed);
+        let prepared = prepared_settled s c.middle c.prepares settled in
+        ends_open c.middle t c.ends prepared.kept prepared.none_closed;
   }

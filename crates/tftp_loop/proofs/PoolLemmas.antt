@@ -7,10 +7,10 @@ use Rattle.std.proofs.lemmas.List.Elements.{All-nil, All-cons, All-head, All-tai
 use Rattle.std.proofs.lemmas.List.Sorted.{All-permutation, length_permutation}
 use Rattle.tftp_sockets.specs.Journal.{Event}
 use Rattle.tftp_sockets.specs.Journal.Event.{Quiet}
-use Rattle.tftp_sockets.specs.Journal.QuietEvent.{No_socket}
+use Rattle.tftp_sockets.specs.Journal.QuietEvent.{New_socket, No_socket}
 use Rattle.tftp_loop.specs.Run.Run.{Start, Then}
 use Rattle.tftp_loop.specs.PortOrder.{HasPorts, IsOneOf, IsOrderOf, Turns, coming, ports_of}
-use Rattle.tftp_loop.specs.PortPool.{TriesInVain, TriesPorts}
+use Rattle.tftp_loop.specs.PortPool.{Binds, TriesInVain, TriesPorts}
 use Rattle.tftp_loop.specs.declared.port_order.PortOrder.{PortOrder}
 use Rattle.tftp_loop.specs.declared.port_order.PortRange.{PortRange}
 
@@ -89,8 +89,9 @@ next_some old new None has turns =
 next_some old new (Some port) has turns = refl
 
 -- ---- what the journal says of ports that were tried
-pub untried : {range : Option PortRange} (es fs : List Event) → fs ≡ es → TriesPorts range es fs
-untried {range = range} es fs same = subst (λ (xs : List Event). TriesPorts range es xs) (sym same) Start
+pub binds : {range : Option PortRange} (port : ℕ) (es fs gs : List Event) → gs ≡ Quiet (New_socket port) ∷ fs
+    → TriesPorts range es fs → Binds range es gs port
+binds port es fs gs is tries = record { between = fs; earlier = tries; is = is }
 
 pub tried_more : {range : Option PortRange} (port : ℕ) (es fs gs : List Event) → IsOneOf range port
     → gs ≡ Quiet (No_socket port) ∷ fs → TriesPorts range es fs → TriesPorts range es gs

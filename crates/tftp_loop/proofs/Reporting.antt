@@ -23,12 +23,13 @@ use Rattle.tftp_loop.specs.Serves.{set_by}
 use Rattle.tftp_loop.specs.Serves.AtPort.{A_datagram, A_lost_datagram, A_late_datagram, Nothing_found}
 use Rattle.tftp_loop.specs.Serves.AtPort.{A_failed_receive, A_timeout, A_missed_timeout, Work}
 use Rattle.tftp_loop.specs.Serves.Does.{Waited, At_port, Request_received, No_request_found, Request_not_received}
-use Rattle.tftp_loop.specs.Serves.Does.{No_port_found, Request_answered, Request_lost, Clock_read, Store_set}
+use Rattle.tftp_loop.specs.Serves.Does.{Request_noted, Request_answered, Request_lost, Clock_read, Store_set}
 use Rattle.tftp_loop.specs.Serves.Does.{Transfer_closed}
 use Rattle.tftp_loop.specs.Reported.{GoesOn, Goes_by, HasTimer, IsNoWait}
 use Rattle.tftp_loop.specs.Tended.{AreApart, AreKept, KeepsTries}
 use Rattle.tftp_loop.proofs.ListLemmas.{map_at, set_long}
 use Rattle.tftp_loop.proofs.LoopStays.{some_none}
+use Rattle.tftp_loop.proofs.NoteLemmas.{note_tried}
 use Rattle.tftp_loop.proofs.PortStays.{StaysAt, answered_tries, or_right, own_receive, replied_tries, stays_at}
 use Rattle.tftp_loop.proofs.Sleeping.{kept_along, step_kept}
 use Rattle.tftp_loop.proofs.Tables.{any_default, appended_at, appended_long, inserted_apart, removed_apart}
@@ -218,8 +219,9 @@ module _ {S F D : Type 0} (meaning : StoreMeaning S D) (sources : SourceMeaning 
       subst (Reads port) (sym d.is) (inl (or_right (s.requests == port) (was_tried port s.events) tried))
   step_reads port s t (Request_not_received d) is kept (inr due) =
       subst (Reads port) (sym d.is) (inr (same_due port s _ refl refl due))
-  step_reads port s t (No_port_found d) is kept (inl tried) = subst (Reads port) (sym d.is) (inl tried)
-  step_reads port s t (No_port_found d) is kept (inr due) =
+  step_reads port s t (Request_noted d) is kept (inl tried) =
+      subst (Reads port) (sym d.is) (inl (note_tried port (was_tried port s.events) d.note ∙ tried))
+  step_reads port s t (Request_noted d) is kept (inr due) =
       subst (Reads port) (sym d.is) (inr (same_due port s _ refl refl due))
   step_reads port s t (Request_answered d) is kept (inl tried) =
       subst (Reads port) (sym d.is) (inl (replied_tries _ d.left.opened.to d.left.sent s.events port tried))

@@ -1,30 +1,47 @@
 -- What happens at the request port.
-use Rattle.std.proofs.Common.{◌≡◌, ◌⊎◌, ℕ, true, false, List, [], ◌∷◌, ◌++◌, Option, Some, None, IsSome, refl, sym, ap}
+use Rattle.std.proofs.Common.{◌≡◌, ◌≢◌, ◌⊎◌, ℕ, Bool, true, false, List, [], ◌∷◌, ◌++◌, Option, Some, None, IsSome, refl, sym, ap}
 use Rattle.std.proofs.Common.{subst, ◌∙◌, inl, inr}
-use Rattle.std.specs.Prelude.{Ok, Err, is_ok, IfSome}
+use Rattle.std.specs.Prelude.{Ok, Err, is_ok, IfSome, is_some, ◌||◌}
 use Rattle.std.proofs.lemmas.Bool.{true≢false}
 use Rattle.tftp_file.specs.Source.{SourceMeaning}
 use Rattle.tftp_ends.specs.declared.endpoint.Endpoint.{Endpoint}
 use Rattle.tftp_store.specs.Store.{StoreMeaning}
 use Rattle.tftp_server.specs.State.{ServerState, at}
 use Rattle.tftp_server.specs.Request.{Admits, AdmissionState, CarriesOut, RequestStep, Left, Goes, Came, left_by}
+use Rattle.tftp_server.specs.Request.{Nothing, Error_reply}
 use Rattle.tftp_server.specs.Port.{Ask, Ignores, Refuses, Reads, Writes, asks_store}
-use Rattle.tftp_server.specs.Shortage.{AskLacksMemory}
+use Rattle.tftp_server.specs.Shortage.{NamesAPath}
+use Rattle.tftp_server.specs.CallersFiles.{refusal}
+use Rattle.tftp_ends.specs.declared.error_reply.ErrorReply.{ErrorReply}
+use Rattle.tftp_ends.specs.Step.{error_bytes}
 use Rattle.tftp_server.specs.declared.opened.Opened.{Opened}
 use Rattle.tftp_sockets.specs.Journal.{Event, replied}
-use Rattle.tftp_sockets.specs.Journal.Event.{Received}
+use Rattle.tftp_sockets.specs.Journal.Event.{Received, Quiet}
+use Rattle.tftp_sockets.specs.Journal.QuietEvent.{New_socket, Out_of_memory}
 use Rattle.tftp_loop.specs.PortOrder.{IsOneOf}
-use Rattle.tftp_loop.specs.PortPool.{TriesInVain, TriesPorts}
+use Rattle.tftp_loop.specs.PortPool.{Binds, TriesInVain, TriesPorts}
 use Rattle.tftp_loop.specs.Run.{Run}
 use Rattle.tftp_loop.specs.Run.Run.{Start, Then}
-use Rattle.tftp_loop.specs.MayOpen.{MayOpen, OpensNone}
-use Rattle.tftp_loop.specs.Serves.{LoopState, AnswersRequest, FindsNoPort, IsSet, LosesRequest, RequestLoss}
-use Rattle.tftp_loop.specs.Serves.{No_memory, No_port, SetsStore, answering_port, with_timer}
-use Rattle.tftp_loop.specs.Serves.Does.{No_port_found, Request_received, Request_answered, Request_lost, Store_set}
+use Rattle.tftp_loop.specs.MayOpen.{MayOpen, NeedsMemory}
+use Rattle.tftp_loop.specs.Serves.{LoopState, AnswersRequest, IsSet, LosesRequest, NotesRequest, RequestLoss}
+use Rattle.tftp_loop.specs.Serves.{RequestNote, Found_no_port, Found_port, Found_no_memory, No_memory, No_port}
+use Rattle.tftp_loop.specs.Serves.{Same_port, SetsStore, after_request, is_taken, note_event, with_timer}
+use Rattle.tftp_loop.specs.Serves.{answering_port}
+use Rattle.tftp_loop.specs.Serves.Does.{Request_noted, Request_received, Request_answered, Request_lost, Store_set}
 use Rattle.tftp_loop.specs.Served.{IsAdmission, Work_by}
-use Rattle.tftp_loop.specs.Tended.{Concludes}
+use Rattle.tftp_loop.specs.Tended.{Concludes, Prepares, Notes_it, Sets_store}
 use Rattle.tftp_loop.proofs.RunLemmas.{idle, once, onward}
 use Rattle.tftp_loop.proofs.LoopRuns.{Runs}
+use Rattle.tftp_loop.proofs.Tables.{free_identifier}
+
+-- where the answer to a datagram goes for which no store is asked, and what it is
+abbrev pub refused_to : Endpoint → Option ErrorReply → Option Endpoint
+refused_to from None = None
+refused_to from (Some reply) = Some from
+
+abbrev pub refused_bytes : Option ErrorReply → List ℕ
+refused_bytes None = []
+refused_bytes (Some reply) = error_bytes reply
 
 module _ {S F D : Type 0} (meaning : StoreMeaning S D) (sources : SourceMeaning F) where
   -- a datagram was received
@@ -92,87 +109,93 @@ module _ {S F D : Type 0} (meaning : StoreMeaning S D) (sources : SourceMeaning 
         asks = asks;
       }
 
-  pub no_opening : (before server : ServerState S F D) (from : Endpoint) (bytes : List ℕ) (admission : AdmissionState) →
-      server ≡ record before { store = server.store }
-      → IsAdmission before from bytes admission → asks_store admission.ask ≡ false → OpensNone server from bytes
-  no_opening before server from bytes admission rest admitted asks =
-      record {
-        ask = admission.ask;
-        admits = admits_set before server from bytes admission.ask rest admitted.admits;
-        asks = asks;
-      }
+  -- ---- what is done first
+  pub prepares_first : (s m t : LoopState S F D) → Run (Prepares meaning sources) s m → Concludes meaning sources m t
+      → Concludes meaning sources s t
+  prepares_first s m t run c =
+      record { middle = c.middle; prepares = onward run c.prepares; ends = c.ends }
 
-  -- what it decides was not carried out, and an empty buffer was to take the answer
-  pub not_carried_out : (s t : LoopState S F D) (from : Endpoint) (bytes : List ℕ) (before : ServerState S F D)
-      (admission : AdmissionState) (capacity used : ℕ) → s.server ≡ record before { store = s.server.store }
-      → IsAdmission before from bytes admission → used ≡ 0
-      → AskLacksMemory capacity used meaning sources s.server admission.ask
-      → RequestLoss meaning sources s t from bytes
-  not_carried_out s t from bytes before admission capacity used rest admitted empty lacks =
-      No_memory capacity (inr (
-        admission.ask,
-        admits_set before s.server from bytes admission.ask rest admitted.admits,
-        subst (λ (n : ℕ). AskLacksMemory capacity n meaning sources s.server admission.ask) empty lacks,
-      ))
+  -- a note
+  noted_as : (s t : LoopState S F D) (from : Endpoint) (bytes : List ℕ) → s.pending ≡ Some (from, bytes)
+      → (note : RequestNote s from bytes) → t ≡ record s { events = Quiet (note_event note) ∷ s.events }
+      → Prepares meaning sources s t
+  noted_as s t from bytes pending note is =
+      Notes_it (record { from = from; bytes = bytes; pending = pending; note = note; is = is })
 
-  -- ---- ports were tried for the datagram
+  -- ports were tried for the datagram
   module _ (s : LoopState S F D) (from : Endpoint) (bytes : List ℕ) (pending : s.pending ≡ Some (from, bytes))
       (opens : MayOpen s.server from bytes) where
     pub tried_as : {es fs : List Event} → TriesPorts s.range es fs →
-        Run (FindsNoPort meaning sources) (record s { events = es }) (record s { events = fs })
+        Run (Prepares meaning sources) (record s { events = es }) (record s { events = fs })
     tried_as Start = Start
-    tried_as (Then run tries) =
+    tried_as (Then {middle} {last} run tries) =
         Then (tried_as run)
-        (record {
-          from = from;
-          bytes = bytes;
-          pending = pending;
-          opens = opens;
-          port = tries.port;
-          within = tries.within;
-          is = ap (λ (es : List Event). record s { events = es }) tries.is;
-        })
+        (noted_as (record s { events = middle }) (record s { events = last }) from bytes pending
+        (Found_no_port opens tries.port tries.within)
+        (ap (λ (es : List Event). record s { events = es }) tries.is))
 
-  pub tries_first : (s m t : LoopState S F D) → Run (FindsNoPort meaning sources) s m → Concludes meaning sources m t →
-      Concludes meaning sources s t
-  tries_first s m t run c =
-      record { begin = c.begin; tries = onward run c.tries; middle = c.middle; set = c.set; ends = c.ends }
+    -- and a new socket is bound
+    pub bound_as : (es fs : List Event) (port : ℕ) → IsOneOf s.range port → Binds s.range es fs port →
+        Run (Prepares meaning sources) (record s { events = es }) (record s { events = fs })
+    bound_as es fs port within binds =
+        Then (tried_as binds.earlier)
+        (noted_as (record s { events = binds.between }) (record s { events = fs }) from bytes pending
+        (Found_port opens port within)
+        (ap (λ (gs : List Event). record s { events = gs }) binds.is))
 
   -- the datagram was lost, and nothing changed
   pub loses_as : (s t : LoopState S F D) (from : Endpoint) (bytes : List ℕ) → s.pending ≡ Some (from, bytes) →
-      RequestLoss meaning sources s t from bytes → t ≡ record s { pending = None }
+      RequestLoss s from bytes → t ≡ record s { pending = None }
       → Concludes meaning sources s t
   loses_as s t from bytes pending why is = record {
-    begin = s;
-    tries = Start;
     middle = s;
-    set = inl refl;
+    prepares = Start;
     ends = inr (record { from = from; bytes = bytes; pending = pending; why = why; is = is });
   }
+
+  -- memory was refused, and the datagram was lost
+  pub loses_for_memory : (s t : LoopState S F D) (from : Endpoint) (bytes : List ℕ) → s.pending ≡ Some (from, bytes) →
+      NeedsMemory s.server from bytes → t ≡ record s { pending = None; events = Quiet Out_of_memory ∷ s.events }
+      → Concludes meaning sources s t
+  loses_for_memory s t from bytes pending needs is =
+      let m : LoopState S F D = record s { events = Quiet Out_of_memory ∷ s.events } in
+      prepares_first s m t
+      (once (noted_as s m from bytes pending (Found_no_memory needs) refl))
+      (loses_as m t from bytes pending (No_memory needs (record { earlier = s.events; is = refl })) is)
 
   -- no port was found, and the datagram was lost
   pub tries_in_vain : (s t : LoopState S F D) (from : Endpoint) (bytes : List ℕ) (fs : List Event) →
       s.pending ≡ Some (from, bytes) → MayOpen s.server from bytes
       → TriesInVain s.range s.events fs → t ≡ record s { pending = None; events = fs } → Concludes meaning sources s t
   tries_in_vain s t from bytes fs pending opens vain is =
-      tries_first s (record s { events = fs }) t (tried_as s from bytes pending opens (Then vain.earlier vain.last))
-      (loses_as (record s { events = fs }) t from bytes pending (No_port opens vain.last.port vain.between vain.last.is)
-      is)
+      prepares_first s (record s { events = fs }) t
+      (tried_as s from bytes pending opens (Then vain.earlier vain.last))
+      (loses_as (record s { events = fs }) t from bytes pending
+      (No_port opens vain.last.port (record { earlier = vain.between; is = vain.last.is })) is)
 
-  -- the store was set, and the datagram was lost
+  -- a new socket is at a port that is taken, and the datagram was lost
+  pub binds_in_vain : (s t : LoopState S F D) (from : Endpoint) (bytes : List ℕ) (fs : List Event) (port : ℕ) →
+      s.pending ≡ Some (from, bytes) → MayOpen s.server from bytes → IsOneOf s.range port
+      → Binds s.range s.events fs port → is_taken s port ≡ true
+      → t ≡ record s { pending = None; events = fs } → Concludes meaning sources s t
+  binds_in_vain s t from bytes fs port pending opens within binds taken is =
+      prepares_first s (record s { events = fs }) t
+      (bound_as s from bytes pending opens s.events fs port within binds)
+      (loses_as (record s { events = fs }) t from bytes pending
+      (Same_port opens port (record { earlier = binds.between; is = binds.is }) taken) is)
+
+  -- the store was set, memory was refused, and the datagram was lost
   pub sets_and_loses : (s t : LoopState S F D) (from : Endpoint) (bytes : List ℕ) (set : ServerState S F D) →
       s.pending ≡ Some (from, bytes)
       → set ≡ record s.server { store = set.store } → meaning.stored set.store ≡ meaning.stored s.server.store →
       IsSet meaning s.server.store set.store
-      → RequestLoss meaning sources (record s { server = set }) t from bytes →
-      t ≡ record s { server = set; pending = None } → Concludes meaning sources s t
-  sets_and_loses s t from bytes set pending rest same behind why is = record {
-    begin = s;
-    tries = Start;
-    middle = record s { server = set };
-    set = inr (set_as s set rest same behind);
-    ends = inr (record { from = from; bytes = bytes; pending = pending; why = why; is = is });
-  }
+      → MayOpen set from bytes →
+      t ≡ record s { server = set; pending = None; events = Quiet Out_of_memory ∷ s.events }
+      → Concludes meaning sources s t
+  sets_and_loses s t from bytes set pending rest same behind opens is =
+      prepares_first s (record s { server = set }) t
+      (once (Sets_store (set_as s set rest same behind)))
+      (loses_for_memory (record s { server = set }) t from bytes pending (inr opens) is)
 
   -- the store was set, and an admission was carried out and answered
   pub sets_and_answers : (s t : LoopState S F D) (from : Endpoint) (bytes : List ℕ) (tid : ℕ)
@@ -182,7 +205,8 @@ module _ {S F D : Type 0} (meaning : StoreMeaning S D) (sources : SourceMeaning 
       IsSet meaning s.server.store set.store
       → (sent : List ℕ) × (out ≡ cleared ++ sent) × CarriesOut meaning sources set admission.from admission.bytes
       admission.ask tid (record { new = new; opened = opened; sent = sent })
-      → at tid set.held ≡ None → IfSome opened.tid (IsOneOf s.range) → cleared ≡ []
+      → at tid set.held ≡ None → IfSome opened.tid (IsOneOf s.range)
+      → IfSome opened.tid (λ port. port ≢ s.requests) → cleared ≡ []
       → t ≡ record s {
         server = new;
         pending = None;
@@ -191,7 +215,7 @@ module _ {S F D : Type 0} (meaning : StoreMeaning S D) (sources : SourceMeaning 
       }
       → Concludes meaning sources s t
   sets_and_answers s t from bytes tid set new admission cleared out opened pending admitted rest same behind carried
-      free port empty is =
+      free port own empty is =
       let sent = carried.0 in
       let left : Left S F D = record { new = new; opened = opened; sent = sent } in
       let At : Endpoint → Type 0 = λ e. CarriesOut meaning sources set e admission.bytes admission.ask tid left in
@@ -202,10 +226,8 @@ module _ {S F D : Type 0} (meaning : StoreMeaning S D) (sources : SourceMeaning 
       (admits_set s.server set from bytes admission.ask rest admitted.admits) carries in
       let put : out ≡ sent = carried.1 ∙ ap (λ (bs : List ℕ). bs ++ sent) empty in
       record {
-        begin = s;
-        tries = Start;
         middle = record s { server = set };
-        set = inr (set_as s set rest same behind);
+        prepares = once (Sets_store (set_as s set rest same behind));
         ends = inl (record {
           from = from;
           bytes = bytes;
@@ -214,6 +236,7 @@ module _ {S F D : Type 0} (meaning : StoreMeaning S D) (sources : SourceMeaning 
           free = free;
           left = left;
           port = port;
+          own = own;
           steps = steps;
           is = is ∙ ap (λ (bs : List ℕ). record s {
             server = new;
@@ -225,13 +248,12 @@ module _ {S F D : Type 0} (meaning : StoreMeaning S D) (sources : SourceMeaning 
       }
 
   -- what was concluded is work
-  tries_run : (s t : LoopState S F D) → Run (FindsNoPort meaning sources) s t → Runs meaning sources s t
-  tries_run s t Start = Start
-  tries_run s t (Then {middle} run d) = Then (tries_run s middle run) (Work_by (No_port_found d) tt)
-
-  sets_run : (s t : LoopState S F D) → Sets s t → Runs meaning sources s t
-  sets_run s t (inl e) = idle e
-  sets_run s t (inr d) = once (Work_by (Store_set d) tt)
+  prepared_run : (s t : LoopState S F D) → Run (Prepares meaning sources) s t → Runs meaning sources s t
+  prepared_run s t Start = Start
+  prepared_run s t (Then {middle} run (Notes_it d)) =
+      Then (prepared_run s middle run) (Work_by (Request_noted d) tt)
+  prepared_run s t (Then {middle} run (Sets_store d)) =
+      Then (prepared_run s middle run) (Work_by (Store_set d) tt)
 
   ends_run : (s t : LoopState S F D) → AnswersRequest meaning sources s t ⊎ LosesRequest meaning sources s t →
       Runs meaning sources s t
@@ -239,19 +261,50 @@ module _ {S F D : Type 0} (meaning : StoreMeaning S D) (sources : SourceMeaning 
   ends_run s t (inr d) = once (Work_by (Request_lost d) tt)
 
   pub concludes_run : (s t : LoopState S F D) → Concludes meaning sources s t → Runs meaning sources s t
-  concludes_run s t c =
-      onward (onward (tries_run s c.begin c.tries) (sets_run c.begin c.middle c.set)) (ends_run c.middle t c.ends)
+  concludes_run s t c = onward (prepared_run s c.middle c.prepares) (ends_run c.middle t c.ends)
 
-  -- if the store is not asked, no transfer opens
-  pub opens_none : (old : ServerState S F D) (from : Endpoint) (bytes : List ℕ) (ask : Ask) (tid : ℕ)
-      (left : Left S F D) → CarriesOut meaning sources old from bytes ask tid left
-      → asks_store ask ≡ false → left.opened.tid ≡ None
-  opens_none old from bytes Ignores tid left o none =
-      ap (λ (l : Left S F D). l.opened.tid) (o.left ∙ ap (λ (c : Came S F D). left_by c old from tid) o.goes)
-  opens_none old from bytes (Refuses reply) tid left o none =
-      ap (λ (l : Left S F D). l.opened.tid) (o.left ∙ ap (λ (c : Came S F D). left_by c old from tid) o.goes)
-  opens_none old from bytes (Reads path mode options) tid left o none = absurd (true≢false none)
-  opens_none old from bytes (Writes path mode agreed) tid left o none = absurd (true≢false none)
+  -- ---- a datagram for which no store is asked
+  -- it is answered by an ERROR, or not at all
+  refused_step : (s t : LoopState S F D) (from : Endpoint) (bytes : List ℕ) (ask : Ask) (tid : ℕ) (came : Came S F D)
+      → s.pending ≡ Some (from, bytes) → Admits s.server from bytes ask → Goes meaning sources s.server from bytes ask came
+      → at tid s.server.held ≡ None → IfSome (left_by came s.server from tid).opened.tid (IsOneOf s.range)
+      → IfSome (left_by came s.server from tid).opened.tid (λ port. port ≢ s.requests)
+      → t ≡ after_request s from (left_by came s.server from tid) → Concludes meaning sources s t
+  refused_step s t from bytes ask tid came pending admits goes free port own is =
+      record {
+        middle = s;
+        prepares = Start;
+        ends = inl (record {
+          from = from;
+          bytes = bytes;
+          pending = pending;
+          tid = tid;
+          free = free;
+          left = left_by came s.server from tid;
+          port = port;
+          own = own;
+          steps = request_step s.server from bytes ask tid (left_by came s.server from tid) admits
+              (record { came = came; goes = goes; left = refl });
+          is = is;
+        });
+      }
+
+  pub refuses_as : (s t : LoopState S F D) (from : Endpoint) (bytes : List ℕ) (ask : Ask)
+      → s.pending ≡ Some (from, bytes) → Admits s.server from bytes ask → asks_store ask ≡ false
+      → t ≡ record s {
+        pending = None;
+        events = replied s.requests (refused_to from (refusal ask)) (refused_bytes (refusal ask)) s.events;
+      }
+      → Concludes meaning sources s t
+  refuses_as s t from bytes Ignores pending admits none is =
+      let unused = free_identifier s.server.held in
+      refused_step s t from bytes Ignores unused.0 Nothing pending admits refl unused.1 tt tt is
+  refuses_as s t from bytes (Refuses reply) pending admits none is =
+      let unused = free_identifier s.server.held in
+      refused_step s t from bytes (Refuses reply) unused.0 (Error_reply reply s.server.store) pending admits refl
+      unused.1 tt tt is
+  refuses_as s t from bytes (Reads path mode options) pending admits none is = absurd (true≢false none)
+  refuses_as s t from bytes (Writes path mode agreed) pending admits none is = absurd (true≢false none)
 
 -- an empty option
 pub is_free : {T : Type 0} (o : Option T) → (IsSome o → ⊥) → o ≡ None
@@ -261,3 +314,9 @@ is_free (Some x) h = absurd (h refl)
 -- an answer is no fault
 pub ok-err : {T E : Type 0} (x : T) (e : E) → Ok x ≡ Err e → ⊥
 ok-err x e h = true≢false (ap is_ok h)
+
+-- a port that is not taken is neither
+pub not_taken : {T : Type 0} (same : Bool) (o : Option T) → (same || is_some o) ≡ false → (same ≡ false) × (o ≡ None)
+not_taken false None h = (refl, refl)
+not_taken false (Some x) h = absurd (true≢false h)
+not_taken true o h = absurd (true≢false h)

@@ -5,7 +5,7 @@ use Rattle.tftp_store.specs.Store.{StoreMeaning}
 use Rattle.tftp_sockets.specs.declared.watch.TheConstants.{LONGEST_WAIT}
 use Rattle.tftp_loop.specs.Serves.{LoopState, Does, Waits, round_end}
 use Rattle.tftp_loop.specs.Serves.Does.{Waited, At_port, Request_received, No_request_found, Request_not_received}
-use Rattle.tftp_loop.specs.Serves.Does.{No_port_found, Request_answered, Request_lost, Clock_read, Store_set}
+use Rattle.tftp_loop.specs.Serves.Does.{Request_noted, Request_answered, Request_lost, Clock_read, Store_set}
 use Rattle.tftp_loop.specs.Serves.Does.{Transfer_closed}
 use Rattle.tftp_loop.specs.Reported.{IsNoWait}
 
@@ -18,7 +18,7 @@ module _ {S F D : Type 0} (meaning : StoreMeaning S D) (sources : SourceMeaning 
   wait_or_work s t (Request_received d) = inr tt
   wait_or_work s t (No_request_found d) = inr tt
   wait_or_work s t (Request_not_received d) = inr tt
-  wait_or_work s t (No_port_found d) = inr tt
+  wait_or_work s t (Request_noted d) = inr tt
   wait_or_work s t (Request_answered d) = inr tt
   wait_or_work s t (Request_lost d) = inr tt
   wait_or_work s t (Clock_read d) = inr tt
@@ -70,7 +70,7 @@ module _ {S F D : Type 0} (meaning : StoreMeaning S D) (sources : SourceMeaning 
       same_round since s t (ap (λ (u : LoopState S F D). u.now) d.is) (ap (λ (u : LoopState S F D). u.limit) d.is) round
   step_round since s t (Request_not_received d) is round =
       same_round since s t (ap (λ (u : LoopState S F D). u.now) d.is) (ap (λ (u : LoopState S F D). u.limit) d.is) round
-  step_round since s t (No_port_found d) is round =
+  step_round since s t (Request_noted d) is round =
       same_round since s t (ap (λ (u : LoopState S F D). u.now) d.is) (ap (λ (u : LoopState S F D). u.limit) d.is) round
   step_round since s t (Request_answered d) is round =
       same_round since s t (ap (λ (u : LoopState S F D). u.now) d.is) (ap (λ (u : LoopState S F D). u.limit) d.is) round

@@ -16,7 +16,7 @@ use Rattle.tftp_loop.specs.declared.serving.LoopConfig.{LoopConfig}
 use Rattle.tftp_loop.specs.Serves.{Timer, LoopState, Does, Waits, at_start, is_busy, port_state, read_at, set_by}
 use Rattle.tftp_loop.specs.Serves.{until_look}
 use Rattle.tftp_loop.specs.Serves.Does.{Waited, At_port, Request_received, No_request_found, Request_not_received}
-use Rattle.tftp_loop.specs.Serves.Does.{No_port_found, Request_answered, Request_lost, Clock_read, Store_set}
+use Rattle.tftp_loop.specs.Serves.Does.{Request_noted, Request_answered, Request_lost, Clock_read, Store_set}
 use Rattle.tftp_loop.specs.Serves.Does.{Transfer_closed}
 use Rattle.tftp_loop.specs.Served.{Work_by}
 use Rattle.tftp_loop.specs.Sleeps.{HasItsOwnPort, MaySleep}
@@ -24,6 +24,7 @@ use Rattle.tftp_loop.specs.Tended.{AreKept}
 use Rattle.tftp_loop.proofs.Drained.{port_drained, replied_drained}
 use Rattle.tftp_loop.proofs.Looking.{AreLooked, looked_at_rest, read_looked, step_looked}
 use Rattle.tftp_loop.proofs.LoopStays.{work_keeps}
+use Rattle.tftp_loop.proofs.NoteLemmas.{note_drained}
 use Rattle.tftp_loop.proofs.PortStays.{own_receive}
 use Rattle.tftp_loop.proofs.Waits.{set_kept, waited_kept}
 
@@ -65,8 +66,9 @@ module _ {S F D : Type 0} (meaning : StoreMeaning S D) (sources : SourceMeaning 
   step_drained s t (Request_not_received d) own h =
       subst (λ (u : LoopState S F D). u.marked ≡ false → is_drained u.requests u.events ≡ true) (sym d.is)
       (λ m. not_marked m)
-  step_drained s t (No_port_found d) own h =
-      subst (λ (u : LoopState S F D). u.marked ≡ false → is_drained u.requests u.events ≡ true) (sym d.is) h
+  step_drained s t (Request_noted d) own h =
+      subst (λ (u : LoopState S F D). u.marked ≡ false → is_drained u.requests u.events ≡ true) (sym d.is)
+      (λ m. note_drained s.requests (is_drained s.requests s.events) d.note ∙ h m)
   step_drained s t (Request_answered d) own h =
       subst (λ (u : LoopState S F D). u.marked ≡ false → is_drained u.requests u.events ≡ true) (sym d.is)
       (λ m. replied_drained s.requests _ d.left.opened.to d.left.sent s.events (h m))
@@ -90,8 +92,8 @@ module _ {S F D : Type 0} (meaning : StoreMeaning S D) (sources : SourceMeaning 
       (work_keeps meaning sources s t (Then Start (Work_by (No_request_found d) tt))).kept kept
   step_kept s t (Request_not_received d) kept =
       (work_keeps meaning sources s t (Then Start (Work_by (Request_not_received d) tt))).kept kept
-  step_kept s t (No_port_found d) kept =
-      (work_keeps meaning sources s t (Then Start (Work_by (No_port_found d) tt))).kept kept
+  step_kept s t (Request_noted d) kept =
+      (work_keeps meaning sources s t (Then Start (Work_by (Request_noted d) tt))).kept kept
   step_kept s t (Request_answered d) kept =
       (work_keeps meaning sources s t (Then Start (Work_by (Request_answered d) tt))).kept kept
   step_kept s t (Request_lost d) kept =

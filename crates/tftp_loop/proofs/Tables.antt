@@ -1,5 +1,5 @@
 -- Elements and entries that a change leaves as they were.
-use Rattle.std.proofs.Common.{arith, ◌≡◌, ◌<◌, ◌≤◌, ◌-◌, ◌⊎◌, ℕ, zero, suc, Bool, true, false, List, [], ◌∷◌, ◌++◌}
+use Rattle.std.proofs.Common.{arith, ◌≡◌, ◌<◌, ◌≤◌, ◌+◌, ◌-◌, ◌⊎◌, ℕ, zero, suc, Bool, true, false, List, [], ◌∷◌, ◌++◌}
 use Rattle.std.proofs.Common.{length, take, Option, Some, None, cond, refl, sym, ap, ◌∙◌, inl, inr}
 use Rattle.std.specs.Prelude.{slice_set, slice_index_or, is_some, if◌then◌else◌}
 use Rattle.std.specs.List.{swap_remove}
@@ -234,6 +234,22 @@ module _ {T : Type 0} where
       inserted_own_at (nat_cmp tid e.0) (is_at (nat_cmp tid)) tid v e held (insert_entry nat_cmp held tid v)
       (own_test tid tid (nat_cmp tid tid) refl refl)
       (λ h. ap is_eq h) (λ h. ap is_eq h) (inserted_own tid v held)
+
+  -- what is greater than each identifier is none
+  abbrev above : List (ℕ × T) → ℕ
+  above [] = 0
+  above (e ∷ held) = e.0 + 1 + above held
+
+  none_above : (q : ℕ) (held : List (ℕ × T)) → above held ≤ q → found q held ≡ None
+  none_above q [] h = refl
+  none_above q (e ∷ held) h =
+      let sum : above (e ∷ held) ≡ e.0 + 1 + above held = refl in
+      not_first (is_at (nat_cmp q)) e.0 e.1 held (other_key q e.0 e.0 (λ same. omega (arith, same, h, sum)) refl)
+      ∙ none_above q held (omega (arith, h, sum))
+
+  -- some identifier is free
+  pub free_identifier : (held : List (ℕ × T)) → (tid : ℕ) × (found tid held ≡ None)
+  free_identifier held = (above held, none_above (above held) held (omega arith))
 
 -- what was taken is the record of the transfer
 pub taken_by : {X : Type 0} (b : Bool) (x y : X) → (if b then Some x else None) ≡ Some y → x ≡ y

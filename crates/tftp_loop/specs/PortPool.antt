@@ -3,7 +3,7 @@ use Rattle.std.specs.Prelude.{ℕ, ◌≡◌, List, ◌∷◌, Option, Some, Non
 use Rattle.std.specs.Prelude.{option_map}
 use Rattle.tftp_sockets.specs.Journal.{Event}
 use Rattle.tftp_sockets.specs.Journal.Event.{Quiet}
-use Rattle.tftp_sockets.specs.Journal.QuietEvent.{No_socket}
+use Rattle.tftp_sockets.specs.Journal.QuietEvent.{New_socket, No_socket}
 use Rattle.tftp_sockets.specs.declared.sockets.ServerSocket.{ServerSocket}
 use Rattle.tftp_loop.specs.PortOrder.{HasPorts, IsOneOf}
 use Rattle.tftp_loop.specs.declared.port_order.PortOrder.{PortOrder}
@@ -47,13 +47,19 @@ pub record TriesInVain (range : Option PortRange) (before after : List Event) : 
   pub earlier : TriesPorts range before between
   pub last : TriesPort range between after
 
--- the events of a call that returns a port, or none
+-- from one journal to the other a new socket is bound to this port, after others were tried
+pub record Binds (range : Option PortRange) (before after : List Event) (port : ℕ) : Type 0 where
+  pub between : List Event
+  pub earlier : TriesPorts range before between
+  pub is : after ≡ Quiet (New_socket port) ∷ between
+
+-- the events of a call that returns a new socket, or none
 abbrev pub Tries : Option PortRange → List Event → List Event → Option ServerSocket → Type 0
 Tries range before after None = TriesInVain range before after
-Tries range before after (Some socket) = TriesPorts range before after
+Tries range before after (Some socket) = Binds range before after socket.port
 
 -- the journal after a bind to the port, which may be in use
 abbrev pub after_bind : {E : Type 0} → ℕ → Result (Option ServerSocket) E → List Event → List Event
-after_bind port (Ok (Some socket)) events = events
+after_bind port (Ok (Some socket)) events = Quiet (New_socket socket.port) ∷ events
 after_bind port (Ok None) events = Quiet (No_socket port) ∷ events
 after_bind port (Err error) events = Quiet (No_socket port) ∷ events

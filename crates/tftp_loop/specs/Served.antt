@@ -1,5 +1,5 @@
 -- The loop's own values as states of its run.
-use Rattle.std.specs.Prelude.{ℕ, ◌≡◌, ◌⊎◌, ⊤, false, List, ◌∷◌, map, take, Option, Some, None}
+use Rattle.std.specs.Prelude.{ℕ, ◌≡◌, ◌≢◌, ◌⊎◌, ⊤, false, List, ◌∷◌, map, take, Option, Some, None}
 use Rattle.std.specs.Prelude.{IfSome}
 use Rattle.tftp_file.specs.Source.{SourceMeaning}
 use Rattle.tftp_ends.specs.declared.endpoint.Endpoint.{Endpoint}
@@ -137,13 +137,14 @@ module _ {S F D : Type 0} where
     WorksRound before old after new = Run Works (state_of before old) (state_of after new)
 
   -- the answer to a datagram of the request port was sent, and a transfer that opened has its port,
-  -- one of the range, if there is one
+  -- one of the range, if there is one, and not the request port
   pub record HasAnswered (from : Endpoint) (opened : Opened) (sent : List ℕ)
       (old new : ServerLoop S F D) : Type 0 where
     pub requests : new.sockets.requests.port ≡ old.sockets.requests.port
     pub range : new.sockets.pool.range ≡ old.sockets.pool.range
     pub longest : new.longest ≡ old.longest
     pub port : IfSome opened.tid (IsOneOf old.sockets.pool.range)
+    pub own : IfSome opened.tid (λ port. port ≢ old.sockets.requests.port)
     pub server : new.server ≡ old.server
     pub timers : map timer_of new.ports.items
         ≡ with_timer old.sockets.watch.now old.longest from opened.tid old.server.held

@@ -1,8 +1,9 @@
 -- A run of a server over UDP: each step is followed at once by its answer, nothing else is sent or
 -- printed, and the server waits only when its work is done (RFC 1350, sections 2 and 4).
-use Rattle.std.specs.Prelude.{ℕ, ◌≡◌, ◌≢◌, ◌≤◌, ◌<◌, ◌-◌, ◌+◌, ◌||◌, ◌⊎◌, min, max, Bool, true, false}
+use Rattle.std.specs.Prelude.{ℕ, ◌≡◌, ◌≢◌, ◌≤◌, ◌<◌, ◌-◌, ◌+◌, ◌==◌, ◌||◌, ◌⊎◌, min, max, Bool}
+use Rattle.std.specs.Prelude.{true, false}
 use Rattle.std.specs.Prelude.{if◌then◌else◌, List, [], ◌∷◌, ◌++◌, length, map, All, IfSome}
-use Rattle.std.specs.Prelude.{slice_set, slice_index_or, Option, Some, None, is_some, IsSome}
+use Rattle.std.specs.Prelude.{slice_set, slice_index_or, Option, Some, None, is_some}
 use Rattle.std.specs.List.{swap_remove, list_any}
 use Rattle.tftp_file.specs.Source.{SourceMeaning}
 use Rattle.tftp_ends.specs.declared.endpoint.Endpoint.{Endpoint}
@@ -12,7 +13,7 @@ use Rattle.tftp_ends.specs.declared.record.Record.{Record}
 use Rattle.tftp_ends.specs.declared.record.Step.{Step}
 use Rattle.tftp_ends.specs.declared.record.TheConstants.{DEFAULT_INTERVAL}
 use Rattle.tftp_ends.specs.End.{interval_of, terms_of}
-use Rattle.tftp_ends.specs.Shortage.{AppendsNothing, HasNoRoom}
+use Rattle.tftp_ends.specs.Shortage.{AppendsNothing}
 use Rattle.tftp_ends.specs.Step.{timeout_turn}
 use Rattle.tftp_store.specs.Store.{StoreMeaning}
 use Rattle.tftp_server.specs.State.{TransferState, ServerState, at, is_open, taken_of, without}
@@ -20,17 +21,18 @@ use Rattle.tftp_server.specs.Steps.{TakesDatagramLent, TimesOutLent, DatagramFau
 use Rattle.tftp_server.specs.declared.fault.ServerFault.{ServerFault}
 use Rattle.tftp_server.specs.declared.fault.ServerFault.TheVariants.{Memory}
 use Rattle.tftp_server.specs.Request.{RequestStep, Left}
-use Rattle.tftp_server.specs.Shortage.{LacksMemoryAt, RequestLacksMemory}
+use Rattle.tftp_server.specs.Shortage.{LacksMemoryAt}
 use Rattle.tftp_server.specs.Work.{WorksAt}
 use Rattle.tftp_sockets.specs.Watch.{deadline_of, last_moment}
 use Rattle.tftp_sockets.specs.declared.watch.TheConstants.{LONGEST_WAIT}
 use Rattle.tftp_lines.specs.Printed.{line_text}
 use Rattle.tftp_lines.specs.declared.printed.Printed.TheVariants.{Closed}
-use Rattle.tftp_sockets.specs.Journal.{Event, replied, answered}
+use Rattle.tftp_sockets.specs.Journal.{Event, QuietEvent, replied, answered}
 use Rattle.tftp_sockets.specs.Journal.Event.{Received, Watched, Elapsed, Printed, Quiet}
-use Rattle.tftp_sockets.specs.Journal.QuietEvent.{Empty, Failed, No_socket, Slept, Woke}
+use Rattle.tftp_sockets.specs.Journal.QuietEvent.{Empty, Failed, New_socket, No_socket, Out_of_memory}
+use Rattle.tftp_sockets.specs.Journal.QuietEvent.{Slept, Woke}
 use Rattle.tftp_sockets.specs.Quiet.{has_woken, is_among, was_tried}
-use Rattle.tftp_loop.specs.MayOpen.{MayOpen, OpensNone}
+use Rattle.tftp_loop.specs.MayOpen.{MayOpen, NeedsMemory}
 use Rattle.tftp_loop.specs.PortOrder.{IsOneOf}
 use Rattle.tftp_loop.specs.declared.port_order.PortRange.{PortRange}
 use Rattle.tftp_loop.specs.declared.serving.LoopConfig.{LoopConfig}
@@ -321,6 +323,59 @@ module _ {S F D : Type 0} where
             old.events;
       }
 
+-- ---- a datagram of the request port
+
+-- the last event is this one
+pub record IsLast (event : QuietEvent) (events : List Event) : Type 0 where
+  pub earlier : List Event
+  pub is : events ≡ Quiet event ∷ earlier
+
+module _ {S F D : Type 0} where
+  -- whether the port is that of a transfer, or the request port
+  abbrev pub is_taken : LoopState S F D → ℕ → Bool
+  is_taken s port = (port == s.requests) || is_some (at port s.server.held)
+
+module _ {S F D : Type 0} (old : LoopState S F D) (from : Endpoint) (bytes : List ℕ) where
+  -- what is noted of the pending datagram before it is answered or lost
+  pub data RequestNote : Type 0 where
+    -- it may open a transfer, and no socket could be bound to a port, one of the range, if there is
+    -- one
+    Found_no_port : MayOpen old.server from bytes → (port : ℕ) → IsOneOf old.range port
+        → RequestNote
+    -- it may open a transfer, and a new socket is bound to a port, one of the range, if there is one
+    Found_port : MayOpen old.server from bytes → (port : ℕ) → IsOneOf old.range port → RequestNote
+    -- memory was refused
+    Found_no_memory : NeedsMemory old.server from bytes → RequestNote
+
+  -- why the pending datagram is lost
+  pub data RequestLoss : Type 0 where
+    -- no answer can come to its sender, which is at port 0
+    No_answer : from.port ≡ 0 → RequestLoss
+    -- it needs memory, and the last event is that memory was refused
+    No_memory : NeedsMemory old.server from bytes → IsLast Out_of_memory old.events → RequestLoss
+    -- it may open a transfer, and the last event is that no socket could be bound to a port
+    No_port : MayOpen old.server from bytes → (port : ℕ) → IsLast (No_socket port) old.events
+        → RequestLoss
+    -- it may open a transfer, and the last event is that the system bound a new socket to the port
+    -- of another, or to the request port
+    Same_port : MayOpen old.server from bytes → (port : ℕ) → IsLast (New_socket port) old.events
+        → is_taken old port ≡ true → RequestLoss
+
+-- the event of a note
+abbrev pub note_event : {S F D : Type 0} {old : LoopState S F D} {from : Endpoint} {bytes : List ℕ}
+    → RequestNote old from bytes → QuietEvent
+note_event (Found_no_port opens port within) = No_socket port
+note_event (Found_port opens port within) = New_socket port
+note_event (Found_no_memory needs) = Out_of_memory
+
+-- what the search for a port and for memory finds is noted of the pending datagram
+pub record NotesRequest {S F D : Type 0} (old new : LoopState S F D) : Type 0 where
+  pub from : Endpoint
+  pub bytes : List ℕ
+  pub pending : old.pending ≡ Some (from, bytes)
+  pub note : RequestNote old from bytes
+  pub is : new ≡ record old { events = Quiet (note_event note) ∷ old.events }
+
 -- a store is set for the next transfer, its port and then its longest length: each call leaves of
 -- it what writing a draft back leaves
 pub record IsSet {S D : Type 0} (meaning : StoreMeaning S D) (old new : S) : Type 0 where
@@ -444,8 +499,8 @@ module _ {S F D : Type 0} (meaning : StoreMeaning S D) (sources : SourceMeaning 
 
   -- the server, as it is now, handles the pending datagram, and the answer is sent at once: an
   -- ERROR from the request port, or the first datagram of a transfer from a port that no transfer
-  -- has, and that is one of the range, if there is one (RFC 1350, section 4; RFC 2347, "Negotiation
-  -- Protocol")
+  -- has, that is not the request port, and that is one of the range, if there is one (RFC 1350,
+  -- section 4; RFC 2347, "Negotiation Protocol")
   pub record AnswersRequest : Type 0 where
     pub from : Endpoint
     pub bytes : List ℕ
@@ -454,49 +509,16 @@ module _ {S F D : Type 0} (meaning : StoreMeaning S D) (sources : SourceMeaning 
     pub free : at tid old.server.held ≡ None
     pub left : Left S F D
     pub port : IfSome left.opened.tid (IsOneOf old.range)
+    pub own : IfSome left.opened.tid (λ port. port ≢ old.requests)
     pub steps : RequestStep meaning sources old.server from bytes tid left
     pub is : new ≡ after_request old from left
-
-  -- no socket can be bound to a port, one of the range, if there is one, for the pending datagram,
-  -- which may open a transfer
-  pub record FindsNoPort : Type 0 where
-    pub from : Endpoint
-    pub bytes : List ℕ
-    pub pending : old.pending ≡ Some (from, bytes)
-    pub opens : MayOpen old.server from bytes
-    pub port : ℕ
-    pub within : IsOneOf old.range port
-    pub is : new ≡ record old { events = Quiet (No_socket port) ∷ old.events }
-
-  -- why the pending datagram is lost
-  pub data RequestLoss (from : Endpoint) (bytes : List ℕ) : Type 0 where
-    -- no answer can come to its sender, which is at port 0
-    No_answer : from.port ≡ 0 → RequestLoss from bytes
-    -- a growth was refused, where an empty buffer of this capacity is to hold the answer, or the
-    -- store
-    -- answered `Memory`
-    No_memory : (capacity : ℕ)
-        → RequestLacksMemory capacity 0 meaning sources old.server from bytes
-        → RequestLoss from bytes
-    -- it may open a transfer, and the list of ports, of this capacity, could not grow by one
-    No_room : MayOpen old.server from bytes → (capacity : ℕ)
-        → HasNoRoom capacity (length old.timers) 1 → RequestLoss from bytes
-    -- it may open a transfer, and the last event is that no socket could be bound to a port
-    No_port : MayOpen old.server from bytes → (port : ℕ) (earlier : List Event)
-        → old.events ≡ Quiet (No_socket port) ∷ earlier → RequestLoss from bytes
-    -- it opens none, and a transfer has the identifier 0, which stands for none
-    No_identifier : OpensNone old.server from bytes → IsSome (at 0 old.server.held)
-        → RequestLoss from bytes
-    -- it may open a transfer, and the system bound its socket to the port of another
-    Same_port : MayOpen old.server from bytes → (port : ℕ) → IsOneOf old.range port
-        → IsSome (at port old.server.held) → RequestLoss from bytes
 
   -- the pending datagram is lost
   pub record LosesRequest : Type 0 where
     pub from : Endpoint
     pub bytes : List ℕ
     pub pending : old.pending ≡ Some (from, bytes)
-    pub why : RequestLoss from bytes
+    pub why : RequestLoss old from bytes
     pub is : new ≡ record old { pending = None }
 
   -- the clock is read, directly after a wait: it never goes back, and a round lasts a second at most
@@ -545,7 +567,7 @@ module _ {S F D : Type 0} (meaning : StoreMeaning S D) (sources : SourceMeaning 
     Request_received : ReceivesRequest → Does
     No_request_found : FindsNoRequest → Does
     Request_not_received : FailsToReceiveRequest → Does
-    No_port_found : FindsNoPort → Does
+    Request_noted : NotesRequest old new → Does
     Request_answered : AnswersRequest → Does
     Request_lost : LosesRequest → Does
     Clock_read : ReadsClock → Does

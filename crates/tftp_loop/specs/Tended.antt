@@ -24,7 +24,7 @@ use Rattle.tftp_loop.specs.declared.transfer_port.TransferSocket.{TransferSocket
 use Rattle.tftp_loop.specs.Run.{Run}
 use Rattle.tftp_loop.specs.Serves.{Timer, PortState, LoopState, AnswersRequest, Closes}
 use Rattle.tftp_loop.specs.Serves.{LosesRequest}
-use Rattle.tftp_loop.specs.Serves.{FindsNoPort, SetsStore, deadline_by, next_look, marked_by}
+use Rattle.tftp_loop.specs.Serves.{NotesRequest, SetsStore, deadline_by, next_look, marked_by}
 use Rattle.tftp_loop.specs.Serves.{round_end, set_by}
 use Rattle.tftp_loop.specs.Served.{OnlyServesPort, close_reported, loop_state, state_of, timer_of}
 
@@ -261,13 +261,15 @@ module _ {S F D : Type 0} where
       pub takes : TakesTurn (leaves_by turn) index old middle
       pub finishes : Finishes index middle new
 
-    -- ports are tried for a pending datagram, or none, the store is set for it, or not, and it is
-    -- answered or lost
+    -- what is done for a pending datagram before it is answered or lost: a note, or the store is set
+    pub data Prepares (old new : LoopState S F D) : Type 0 where
+      Notes_it : NotesRequest old new → Prepares old new
+      Sets_store : SetsStore meaning sources old new → Prepares old new
+
+    -- then it is answered or lost
     pub record Concludes (old new : LoopState S F D) : Type 0 where
-      pub begin : LoopState S F D
-      pub tries : Run (FindsNoPort meaning sources) old begin
       pub middle : LoopState S F D
-      pub set : (middle ≡ begin) ⊎ SetsStore meaning sources begin middle
+      pub prepares : Run Prepares old middle
       pub ends : AnswersRequest meaning sources middle new
           ⊎ LosesRequest meaning sources middle new
 

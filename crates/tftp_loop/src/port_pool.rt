@@ -57,9 +57,17 @@ impl PortPool {
         })
     }
 
-    /// Takes the spare port, or binds one: the next of the order that is not in use, if there is an
-    /// order. `None` if that fails: at least one port was tried, and each failure is noted.
-    pub(crate) fn take_port<N: ServerUdp>(
+    /// Takes the spare port, if there is one.
+    pub(crate) fn take_spare(&mut self) -> Option<ServerSocket>
+        ensures same { self.new ≡ self.old }
+        ensures port { IfSome result (IsOfPool self.old) }
+    {
+        self.spare.take()
+    }
+
+    /// Binds a port: the next of the order that is not in use, if there is an order. `None` if that
+    /// fails: at least one port was tried, and each failure is noted.
+    pub(crate) fn bind_port<N: ServerUdp>(
         &mut self,
         net: &N,
         journal: &mut Journal,
@@ -68,9 +76,6 @@ impl PortPool {
         ensures port { IfSome result (IsOfPool self.old) }
         ensures tries { Tries self.old.range journal.old.events journal.new.events result }
     {
-        if let Some(spare) = self.spare.take() {
-            return Some(spare);
-        }
         let ip = self.ip;
         match &mut self.order {
             Some(order) => bind_next(net, journal, ip, order, &mut self.bind_error),

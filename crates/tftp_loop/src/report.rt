@@ -50,6 +50,31 @@ pub(crate) fn log_unopened<E: Eprint>(
     log.write(rt, line);
 }
 
+/// The answer to a datagram that opened no transfer.
+#[derive(Clone, Copy)]
+pub(crate) struct Refusal<'a> {
+    pub(crate) answer: &'a [u8],
+    /// Why the name of the file, or a file call, was refused, if one was.
+    pub(crate) reason: Option<Reason>,
+    /// That the answer was sent, if there is one, or why the system refused that.
+    pub(crate) sent: Result<(), Reason>,
+}
+
+/// Logs a datagram that opened no transfer, with its answer from this port.
+pub(crate) fn log_refused<E: Eprint>(
+    rt: &E,
+    alloc: Global,
+    log: Log,
+    port: u16,
+    datagram: Datagram<'_>,
+    refusal: Refusal<'_>,
+) {
+    log_unopened(rt, alloc, log, datagram, refusal.answer, refusal.reason);
+    if let Err(reason) = refusal.sent {
+        log_unsent_answer(rt, alloc, log, port, datagram, reason);
+    }
+}
+
 /// Logs a lost request.
 pub(crate) fn log_lost<E: Eprint>(
     rt: &E,

@@ -1,11 +1,14 @@
 //! The datagrams of the request port, and the transfers that they open.
 
-ghost use Rattle.std.specs.Prelude.{◌≡◌, ◌<◌, ◌≤◌, ◌++◌, ◌∷◌, [], true, false, None, Some, IfOk};
+ghost use Rattle.std.specs.Prelude.{◌≡◌, ◌≢◌, ◌<◌, ◌≤◌, ◌++◌, ◌∷◌, ◌==◌, ◌||◌, [], true, false, None};
+ghost use Rattle.std.specs.Prelude.{Some, IfOk, is_some};
 ghost use Rattle.std.specs.Prelude.{IfSome, vec_len, vec_capacity, map, take, length};
 ghost use Rattle.std.specs.Prelude.{◌+◌, ◌*◌, if◌then◌else◌};
 ghost use Rattle.tftp_server.specs.Port.{asks_store};
 ghost use Rattle.tftp_server.specs.Request.{Admits};
 ghost use Rattle.tftp_server.specs.State.{at};
+ghost use Rattle.tftp_sockets.specs.Journal.Event.{Quiet};
+ghost use Rattle.tftp_sockets.specs.Journal.QuietEvent.{Out_of_memory};
 ghost use Rattle.tftp_loop.specs.PortOrder.{IsOneOf};
 ghost use Rattle.tftp_loop.specs.PortPool.{IsOfPool};
 ghost use Rattle.tftp_loop.specs.Serves.{IsSet, answering_port, interval_at, started, with_timer};
@@ -15,9 +18,10 @@ ghost use Rattle.tftp_loop.specs.Tended.{IsSettled};
 
 use crate::datagram::Datagram;
 use crate::log_entry::{LogEntry, reason_unasked};
-use crate::report::{log_lost, log_unopened, log_unsent_answer};
+use crate::report::{Refusal, log_lost, log_refused, log_unopened, log_unsent_answer};
 use crate::server_loop::ServerLoop;
 use crate::server_udp::ServerUdp;
+use crate::sockets::Sockets;
 use crate::transfer_port::{TransferPort, TransferSocket, age_limit, next_look, reply};
 use tftp_ends::{DEFAULT_INTERVAL, Endpoint};
 use tftp_lines::{Lost, Reason};
@@ -25,8 +29,7 @@ use tftp_server::{Admission, Opened, Server, Store};
 use tftp_sockets::{Port, Receipt, ServerSocket, deadline};
 use tftp_store::ServedStore;
 
-/// The identifier passed to the server for a datagram that opens no transfer. Nothing can be sent to
-/// it, so that a request that bears it has no answer (RFC 768: a source port of 0 is none).
+/// The port of a datagram whose sender has none, and gets no answer (RFC 768).
 const NO_PORT: u16 = 0;
 
 /// The most bytes that the files of all transfers read ahead: more leave a processor's cache before
@@ -73,7 +76,7 @@ impl<S: ServedStore<Reason> + Drop> ServerLoop<S> {
         ensures rounds { self.new.rounds ≡ self.old.rounds }
     {
         let Ok(admission) = self.server.admit(datagram.from, datagram.bytes) else {
-            self.lose(rt, datagram, Lost::Memory);
+            self.lose_for_memory(rt, datagram);
             return;
         };
         if admission.may_open() {
@@ -124,7 +127,7 @@ impl<S: ServedStore<Reason> + Drop> ServerLoop<S> {
             return;
         }
         let Ok(admission) = self.server.admit(from, bytes) else {
-            self.lose(rt, Datagram { from, bytes }, Lost::Memory);
+            self.lose_for_memory(rt, Datagram { from, bytes });
             return;
         };
         if admission.may_open() {
@@ -142,8 +145,8 @@ impl<S: ServedStore<Reason> + Drop> ServerLoop<S> {
         }
     }
 
-    /// Carries out the admission of a datagram that may open a transfer, at a port of its own. The
-    /// datagram is lost if no port can be bound, or when out of memory.
+    /// Carries out the admission of a datagram that may open a transfer, at a port of its own: the
+    /// spare one, or a new one. The datagram is lost if no port can be bound, or when out of memory.
     fn open_request<N: ServerUdp + Eprint>(
         &mut self,
         rt: &N,
@@ -157,14 +160,39 @@ impl<S: ServedStore<Reason> + Drop> ServerLoop<S> {
         ensures rounds { self.new.rounds ≡ self.old.rounds }
     {
         let Ok(()) = self.ports.try_reserve(1) else {
-            self.lose(rt, datagram, Lost::Memory);
+            self.lose_for_memory(rt, datagram);
             return;
         };
-        let Some(spare) = self.sockets.port_for(rt, &mut self.journal, &admission) else {
+        match free_spare(&mut self.sockets, &self.server) {
+            Some(spare) => self.open_at(rt, datagram, admission, spare),
+            None => self.open_at_new_port(rt, datagram, admission),
+        }
+    }
+
+    /// Carries out the admission of a datagram that may open a transfer, at a new port. The datagram
+    /// is lost if none can be bound, or if the system binds it to a port that is taken.
+    fn open_at_new_port<N: ServerUdp + Eprint>(
+        &mut self,
+        rt: &N,
+        datagram: Datagram<'_>,
+        admission: Admission<'_>,
+    )
+        requires admitted { IsAdmission self.old.server datagram.from datagram.bytes.now admission }
+        requires may_open { asks_store admission.ask ≡ true }
+        requires reserved { vec_len self.old.ports < vec_capacity self.old.ports }
+        ensures answers { AnswersPending S.meaning S.Source.meaning datagram.entry.from
+            datagram.entry.bytes.now self.old self.new }
+        ensures rounds { self.new.rounds ≡ self.old.rounds }
+    {
+        let Some(bound) = self.sockets.port_for(rt, &mut self.journal, &admission) else {
             self.lose(rt, datagram, Lost::Port(self.sockets.bind_error()));
             return;
         };
-        self.open_at(rt, datagram, admission, spare);
+        if is_taken(&self.sockets, &self.server, bound.port()) {
+            self.lose(rt, datagram, Lost::Port(None));
+            return;
+        }
+        self.open_at(rt, datagram, admission, bound);
     }
 
     /// Carries out the admission of a datagram that may open a transfer at this port.
@@ -178,6 +206,8 @@ impl<S: ServedStore<Reason> + Drop> ServerLoop<S> {
         requires admitted { IsAdmission self.old.server datagram.from datagram.bytes.now admission }
         requires may_open { asks_store admission.ask ≡ true }
         requires port { IsOfPool self.old.sockets.pool spare }
+        requires own { spare.port ≢ self.old.sockets.requests.port }
+        requires free { at spare.port self.old.server.held ≡ None }
         requires reserved { vec_len self.old.ports < vec_capacity self.old.ports }
         ensures answers { AnswersPending S.meaning S.Source.meaning datagram.entry.from
             datagram.entry.bytes.now self.old self.new }
@@ -192,7 +222,7 @@ impl<S: ServedStore<Reason> + Drop> ServerLoop<S> {
             Ok(opened) => self.answer_opened(rt, datagram, spare, opened, reason),
             Err(_) => {
                 self.sockets.give_back(spare);
-                self.lose(rt, datagram, Lost::Memory);
+                self.lose_for_memory(rt, datagram);
             }
         }
     }
@@ -209,6 +239,7 @@ impl<S: ServedStore<Reason> + Drop> ServerLoop<S> {
     )
         requires reserved { vec_len self.old.ports < vec_capacity self.old.ports }
         requires port { IsOfPool self.old.sockets.pool spare }
+        requires own { spare.port ≢ self.old.sockets.requests.port }
         requires tid { IfSome opened.tid (λ tid. tid ≡ spare.port) }
         ensures { HasAnswered datagram.entry.from opened self.old.out.items self.old self.new }
     {
@@ -234,14 +265,45 @@ impl<S: ServedStore<Reason> + Drop> ServerLoop<S> {
             datagram.entry.bytes.now self.old self.new }
         ensures rounds { self.new.rounds ≡ self.old.rounds }
     {
-        set_store(&mut self.server, &admission, NO_PORT);
-        self.out.clear();
-        let opened = self.server.open(admission, NO_PORT, &mut self.out);
-        let reason = reason_unasked(self.out.as_slice());
-        match opened {
-            Ok(opened) => self.refuse(rt, datagram, opened.to, reason),
-            Err(_) => self.lose(rt, datagram, Lost::Memory),
+        match admission.refusal() {
+            Some(reply) => self.answer(rt, datagram, Some(datagram.from), reply.datagram()),
+            None => self.answer(rt, datagram, None, &[]),
         }
+    }
+
+    /// Sends the answer, if there is one, to a datagram for which no store was asked, from the
+    /// request port.
+    fn answer<E: Eprint>(
+        &mut self,
+        rt: &E,
+        datagram: Datagram<'_>,
+        to: Option<Endpoint>,
+        answer: &[u8],
+    )
+        ensures { HasAnswered datagram.entry.from (record { tid = None; to = to })
+            answer.now self.old self.new }
+    {
+        let sent = reply(&self.sockets.requests, &mut self.journal, to, answer);
+        if self.log.is_written {
+            let reason = reason_unasked(answer);
+            let port = self.sockets.requests.port();
+            let refusal = Refusal {
+                answer,
+                reason,
+                sent,
+            };
+            log_refused(rt, self.alloc, self.log, port, datagram, refusal);
+        }
+    }
+
+    /// Notes that memory was refused for a datagram, which is lost by that.
+    fn lose_for_memory<E: Eprint>(&mut self, rt: &E, datagram: Datagram<'_>)
+        ensures rest { self.new ≡ record self.old { journal = self.new.journal } }
+        ensures noted { self.new.journal.events ≡ Quiet Out_of_memory
+            ∷ self.old.journal.events }
+    {
+        self.journal.out_of_memory();
+        self.lose(rt, datagram, Lost::Memory);
     }
 
     /// Logs a lost request, if there is a log.
@@ -267,11 +329,13 @@ impl<S: ServedStore<Reason> + Drop> ServerLoop<S> {
         let answer = self.out.as_slice();
         let sent = reply(&self.sockets.requests, &mut self.journal, to, answer);
         if self.log.is_written {
-            log_unopened(rt, self.alloc, self.log, datagram, answer, reason);
-            if let Err(reason) = sent {
-                let port = self.sockets.requests.port();
-                log_unsent_answer(rt, self.alloc, self.log, port, datagram, reason);
-            }
+            let port = self.sockets.requests.port();
+            let refusal = Refusal {
+                answer,
+                reason,
+                sent,
+            };
+            log_refused(rt, self.alloc, self.log, port, datagram, refusal);
         }
     }
 
@@ -284,6 +348,7 @@ impl<S: ServedStore<Reason> + Drop> ServerLoop<S> {
         to: Option<Endpoint>,
     )
         requires port { IsOneOf self.old.sockets.pool.range spare.port }
+        requires own { spare.port ≢ self.old.sockets.requests.port }
         requires reserved { vec_len self.old.ports < vec_capacity self.old.ports }
         ensures { HasAnswered datagram.entry.from (record { tid = Some spare.port; to = to })
             self.old.out.items self.old self.new }
@@ -350,6 +415,28 @@ impl<S: ServedStore<Reason> + Drop> ServerLoop<S> {
         }
         Some(entry)
     }
+}
+
+/// Takes the spare port, if there is one. `None` if it is taken.
+fn free_spare<S: Store>(sockets: &mut Sockets, server: &Server<S>) -> Option<ServerSocket>
+    ensures same { sockets.new ≡ sockets.old }
+    ensures port { IfSome result (IsOfPool sockets.old.pool) }
+    ensures own { IfSome result (λ spare. spare.port ≢ sockets.old.requests.port) }
+    ensures free { IfSome result (λ spare. at spare.port server.now.held ≡ None) }
+{
+    let spare = sockets.take_spare()?;
+    if is_taken(sockets, server, spare.port()) {
+        return None;
+    }
+    Some(spare)
+}
+
+/// Whether the port is that of a transfer, or the request port.
+fn is_taken<S: Store>(sockets: &Sockets, server: &Server<S>, port: u16) -> bool
+    ensures { result ≡ ((port == sockets.now.requests.port)
+        || is_some (at port server.now.held)) }
+{
+    port == sockets.requests.port() || server.record(port).is_some()
 }
 
 /// Sets the store for the transfer that an admission may open at this port.

@@ -1,9 +1,9 @@
 //! Opens the UDP sockets of a server, and orders their ports.
 
-ghost use Rattle.std.specs.Prelude.{◌≡◌, ◌∷◌, IfOk, OnErr, OnOk};
+ghost use Rattle.std.specs.Prelude.{◌≡◌, ◌∷◌, IfOk, OnErr};
 ghost use Rattle.tftp_sockets.specs.Bound.{IsBoundTo};
 ghost use Rattle.tftp_sockets.specs.Journal.Event.{Quiet};
-ghost use Rattle.tftp_sockets.specs.Journal.QuietEvent.{No_socket};
+ghost use Rattle.tftp_sockets.specs.Journal.QuietEvent.{New_socket, No_socket};
 ghost use Rattle.tftp_loop.specs.PortOrder.{IsOrderOf};
 
 use crate::port_order::{PortOrder, PortRange};
@@ -22,10 +22,12 @@ pub trait ServerUdp {
     fn bind(&self, at: Endpoint) -> io::Result<ServerSocket>
         ensures { IfOk result (λ socket. IsBoundTo at socket.ip socket.port) };
 
-    /// Binds a socket as `bind` does. That it fails is noted, with the port of the endpoint.
+    /// Binds a socket as `bind` does. The port of the new socket is noted, or that it fails, with the
+    /// port of the endpoint.
     fn bind_noted(&self, journal: &mut Journal, at: Endpoint) -> io::Result<ServerSocket>
         ensures bound { IfOk result (λ socket. IsBoundTo at socket.ip socket.port) }
-        ensures ok { OnOk result (journal.new.events ≡ journal.old.events) }
+        ensures ok { IfOk result (λ socket. journal.new.events ≡ Quiet (New_socket socket.port)
+            ∷ journal.old.events) }
         ensures err { OnErr result (journal.new.events ≡ Quiet (No_socket at.port)
             ∷ journal.old.events) };
 

@@ -89,9 +89,16 @@ impl Sockets {
         }
     }
 
-    /// Takes the spare port for a transfer that may open, or binds one: the next of the order that
-    /// is not in use, if there is an order. `None` if that fails: at least one port was tried, and
-    /// each failure is noted.
+    /// Takes the spare port, if there is one.
+    pub(crate) fn take_spare(&mut self) -> Option<ServerSocket>
+        ensures same { self.new ≡ self.old }
+        ensures port { IfSome result (IsOfPool self.old.pool) }
+    {
+        self.pool.take_spare()
+    }
+
+    /// Binds a port for a transfer that may open: the next of the order that is not in use, if there
+    /// is an order. `None` if that fails: at least one port was tried, and each failure is noted.
     pub(crate) fn port_for<N: ServerUdp>(
         &mut self,
         net: &N,
@@ -103,7 +110,7 @@ impl Sockets {
         ensures port { IfSome result (IsOfPool self.old.pool) }
         ensures tries { Tries self.old.pool.range journal.old.events journal.new.events result }
     {
-        self.pool.take_port(net, journal)
+        self.pool.bind_port(net, journal)
     }
 
     /// Why the newest bind of a transfer's port failed, if one did.

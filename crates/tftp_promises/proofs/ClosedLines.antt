@@ -12,7 +12,7 @@ use Rattle.tftp_loop.specs.Serves.{PortState, LoopState, AtPort, Does, at_start,
 use Rattle.tftp_loop.specs.Serves.AtPort.{A_datagram, A_lost_datagram, A_late_datagram, Nothing_found, A_failed_receive}
 use Rattle.tftp_loop.specs.Serves.AtPort.{A_timeout, A_missed_timeout, Work}
 use Rattle.tftp_loop.specs.Serves.Does.{Waited, At_port, Request_received, No_request_found, Request_not_received}
-use Rattle.tftp_loop.specs.Serves.Does.{No_port_found, Request_answered, Request_lost, Clock_read, Store_set}
+use Rattle.tftp_loop.specs.Serves.Does.{Request_noted, Request_answered, Request_lost, Clock_read, Store_set}
 use Rattle.tftp_loop.specs.Serves.Does.{Transfer_closed}
 use Rattle.tftp_loop.specs.declared.serving.LoopConfig.{LoopConfig}
 use Rattle.tftp_promises.specs.Lines.{lines_of, close_lines, closed_lines}
@@ -52,7 +52,7 @@ module _ {S F D : Type 0} {stores : StoreMeaning S D} {sources : SourceMeaning F
   step_lines old new (Request_received d) = ap (λ (s : LoopState S F D). lines_of s.events) d.is
   step_lines old new (No_request_found d) = ap (λ (s : LoopState S F D). lines_of s.events) d.is
   step_lines old new (Request_not_received d) = ap (λ (s : LoopState S F D). lines_of s.events) d.is
-  step_lines old new (No_port_found d) = ap (λ (s : LoopState S F D). lines_of s.events) d.is
+  step_lines old new (Request_noted d) = ap (λ (s : LoopState S F D). lines_of s.events) d.is
   step_lines old new (Request_answered d) =
       ap (λ (s : LoopState S F D). lines_of s.events) d.is
       ∙ no_line_replied (answering_port old.requests d.left.opened.tid) d.left.opened.to d.left.sent old.events

@@ -12,7 +12,7 @@ use Rattle.tftp_store.specs.Store.{StoreMeaning}
 use Rattle.tftp_loop.specs.Run.{Run}
 use Rattle.tftp_loop.specs.Run.Run.{Start, Then}
 use Rattle.tftp_loop.specs.Serves.{LoopState, Does, Waited, At_port, Request_received, No_request_found}
-use Rattle.tftp_loop.specs.Serves.{Request_not_received, No_port_found, Request_answered, Request_lost, Clock_read}
+use Rattle.tftp_loop.specs.Serves.{Request_not_received, Request_noted, Request_answered, Request_lost, Clock_read}
 use Rattle.tftp_loop.specs.Serves.{Store_set, Transfer_closed}
 use Rattle.tftp_promises.specs.Openings.{DistinctPortsAreFresh, is_ours, our_ports, ours_by}
 use Rattle.tftp_promises.specs.Order.{Programs}
@@ -66,7 +66,7 @@ module _ {S F D G K : Type 0} {stores : StoreMeaning S D} {sources : SourceMeani
   step_twice run (Request_received h) rest n = rest n
   step_twice run (No_request_found h) rest n = rest n
   step_twice run (Request_not_received h) rest n = rest n
-  step_twice run (No_port_found h) rest n = rest n
+  step_twice run (Request_noted h) rest n = rest n
   step_twice run (Request_answered answers) rest n =
       answered_twice (is_ours programs answers.from) answers.left.opened.tid (opened_ports run) (our_ports programs run)
       (λ port c. ours_among programs run port c) rest n

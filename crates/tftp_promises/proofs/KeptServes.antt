@@ -14,12 +14,13 @@ use Rattle.tftp_store.specs.Store.{StoreMeaning, files_of as stored_files}
 use Rattle.tftp_server.specs.State.{TransferState, ServerState}
 use Rattle.tftp_sockets.specs.Journal.{Event}
 use Rattle.tftp_sockets.specs.Journal.Event.{Received, Watched, Elapsed, Printed, Quiet}
-use Rattle.tftp_sockets.specs.Journal.QuietEvent.{Empty, Failed, No_socket, Slept, Woke}
+use Rattle.tftp_sockets.specs.Journal.QuietEvent.{Empty, Failed, Slept, Woke}
 use Rattle.tftp_loop.specs.Serves.{LoopState, Does, port_state, Waited, At_port, Request_received, No_request_found}
-use Rattle.tftp_loop.specs.Serves.{Request_not_received, No_port_found, Request_answered, Request_lost, Clock_read}
+use Rattle.tftp_loop.specs.Serves.{Request_not_received, Request_noted, Request_answered, Request_lost, Clock_read}
 use Rattle.tftp_loop.specs.Serves.{Store_set, Transfer_closed}
 use Rattle.tftp_loop.specs.Serves.{Waits, ServesPort, ReceivesRequest, FindsNoRequest, FailsToReceiveRequest}
-use Rattle.tftp_loop.specs.Serves.{FindsNoPort, AnswersRequest, LosesRequest, ReadsClock, SetsStore, AtPort, A_datagram}
+use Rattle.tftp_loop.specs.Serves.{NotesRequest, AnswersRequest, LosesRequest, ReadsClock, SetsStore, AtPort, A_datagram}
+use Rattle.tftp_loop.specs.Serves.{note_event}
 use Rattle.tftp_loop.specs.Serves.{A_lost_datagram, A_late_datagram, Nothing_found, A_failed_receive, A_timeout}
 use Rattle.tftp_loop.specs.Serves.{A_missed_timeout}
 use Rattle.tftp_loop.specs.Serves.{ReceivesAndHandles, Work}
@@ -173,13 +174,13 @@ module _ {S F D G K : Type 0} {stores : StoreMeaning S D} {sources : SourceMeani
         (λ a. record { opens = refl; moves = λ moved. refl }) h.is refl refl (λ from bytes e. e)
         (Quiet (Failed old.state.requests) ∷ []) refl (tt, tt)
 
-    -- ---- no port is found
-    untaken_keeps : (h : FindsNoPort stores sources old.state new) →
-        IsKept programs how (server_did programs old (No_port_found h) added)
-    untaken_keeps h =
-        same_keeps (No_port_found h) refl (λ port. refl) (λ port transfer r. r)
+    -- ---- a note of a request
+    noting_keeps : (h : NotesRequest old.state new) →
+        IsKept programs how (server_did programs old (Request_noted h) added)
+    noting_keeps h =
+        same_keeps (Request_noted h) refl (λ port. refl) (λ port transfer r. r)
         (λ a. record { opens = refl; moves = λ moved. refl }) h.is refl refl (λ from bytes e. e)
-        (Quiet (No_socket h.port) ∷ []) refl (tt, tt)
+        (Quiet (note_event h.note) ∷ []) refl (tt, tt)
 
     -- ---- a request is lost
     losing_keeps : (h : LosesRequest stores sources old.state new) →
@@ -352,8 +353,8 @@ module _ {S F D G K : Type 0} {stores : StoreMeaning S D} {sources : SourceMeani
       finding_keeps old new kept added events take h
   serves_keep answers_keep old new (Request_not_received h) added kept fresh events take =
       failing_keeps old new kept added events take h
-  serves_keep answers_keep old new (No_port_found h) added kept fresh events take =
-      untaken_keeps old new kept added events take h
+  serves_keep answers_keep old new (Request_noted h) added kept fresh events take =
+      noting_keeps old new kept added events take h
   serves_keep answers_keep old new (Request_answered h) added kept fresh events take =
       answers_keep old new h added kept fresh events take
   serves_keep answers_keep old new (Request_lost h) added kept fresh events take =

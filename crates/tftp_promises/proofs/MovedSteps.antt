@@ -19,7 +19,7 @@ use Rattle.tftp_store.specs.Store.{StoreMeaning}
 use Rattle.tftp_server.specs.Request.{Came, Nothing, Error_reply, A_transfer, left_by}
 use Rattle.tftp_server.specs.State.{TransferState}
 use Rattle.tftp_loop.specs.Serves.{LoopState, Does, Waited, At_port, Request_received, No_request_found}
-use Rattle.tftp_loop.specs.Serves.{Request_not_received, No_port_found, Request_answered, Request_lost, Clock_read}
+use Rattle.tftp_loop.specs.Serves.{Request_not_received, Request_noted, Request_answered, Request_lost, Clock_read}
 use Rattle.tftp_loop.specs.Serves.{Store_set, Transfer_closed}
 use Rattle.tftp_loop.specs.Serves.{ServesPort, AnswersRequest, AtPort, A_datagram, A_lost_datagram, A_late_datagram}
 use Rattle.tftp_loop.specs.Serves.{Nothing_found, A_failed_receive, A_timeout, A_missed_timeout, Work, PortState}
@@ -126,7 +126,7 @@ module _ {S F D G K : Type 0} {stores : StoreMeaning S D} {sources : SourceMeani
   server_more a (Request_received h) moved none = begins_itself moved.bytes
   server_more a (No_request_found h) moved none = begins_itself moved.bytes
   server_more a (Request_not_received h) moved none = begins_itself moved.bytes
-  server_more a (No_port_found h) moved none = begins_itself moved.bytes
+  server_more a (Request_noted h) moved none = begins_itself moved.bytes
   server_more a (Request_answered answers) moved none =
       opening_more (came_if (is_same (place programs (length (opened_ports run)) answers.from answers.tid) a)
       answers.steps.came) moved none
@@ -162,7 +162,7 @@ module _ {S F D G K : Type 0} {stores : StoreMeaning S D} {sources : SourceMeani
   opens_none (Request_received h) a n = refl
   opens_none (No_request_found h) a n = refl
   opens_none (Request_not_received h) a n = refl
-  opens_none (No_port_found h) a n = refl
+  opens_none (Request_noted h) a n = refl
   opens_none (Request_answered answers) a n = answer_opens_none answers a n
   opens_none (Request_lost h) a n = refl
   opens_none (Clock_read h) a n = refl

@@ -15,7 +15,7 @@ use Rattle.tftp_sockets.specs.Journal.{Event}
 use Rattle.tftp_loop.specs.Run.{Run}
 use Rattle.tftp_loop.specs.Run.Run.{Start, Then}
 use Rattle.tftp_loop.specs.Serves.{LoopState, Does, Waited, At_port, Request_received, No_request_found}
-use Rattle.tftp_loop.specs.Serves.{Request_not_received, No_port_found, Request_answered, Request_lost, Clock_read}
+use Rattle.tftp_loop.specs.Serves.{Request_not_received, Request_noted, Request_answered, Request_lost, Clock_read}
 use Rattle.tftp_loop.specs.Serves.{Store_set, Transfer_closed, AnswersRequest}
 use Rattle.tftp_rules.specs.Machine.{At_server, Endpoint}
 use Rattle.tftp_promises.specs.Openings.{above, is_ours, our_ports, ours_by, place, total}
@@ -111,7 +111,7 @@ module _ {S F D G K : Type 0} {stores : StoreMeaning S D} {sources : SourceMeani
   placed_cases run (Request_received h) a c = absurd (nothing_in a c)
   placed_cases run (No_request_found h) a c = absurd (nothing_in a c)
   placed_cases run (Request_not_received h) a c = absurd (nothing_in a c)
-  placed_cases run (No_port_found h) a c = absurd (nothing_in a c)
+  placed_cases run (Request_noted h) a c = absurd (nothing_in a c)
   placed_cases run (Request_answered answers) a c =
       answer_place answers.from (length (opened_ports run)) answers.left.opened.tid a c
   placed_cases run (Request_lost h) a c = absurd (nothing_in a c)
@@ -261,7 +261,7 @@ module _ {S F D G K : Type 0} {stores : StoreMeaning S D} {sources : SourceMeani
   ours_opened (Request_received h) port c = c
   ours_opened (No_request_found h) port c = c
   ours_opened (Request_not_received h) port c = c
-  ours_opened (No_port_found h) port c = c
+  ours_opened (Request_noted h) port c = c
   ours_opened (Request_answered answers) port c =
       ours_here (is_ours programs answers.from) (option_to_list answers.left.opened.tid) port c
   ours_opened (Request_lost h) port c = c
@@ -307,7 +307,7 @@ module _ {S F D G K : Type 0} {stores : StoreMeaning S D} {sources : SourceMeani
     not_again (Request_received h) added fresh a c now = nothing_in a now
     not_again (No_request_found h) added fresh a c now = nothing_in a now
     not_again (Request_not_received h) added fresh a c now = nothing_in a now
-    not_again (No_port_found h) added fresh a c now = nothing_in a now
+    not_again (Request_noted h) added fresh a c now = nothing_in a now
     not_again (Request_answered answers) added fresh a c now =
         answered_again answers added fresh a c answers.left.opened.tid refl now
     not_again (Request_lost h) added fresh a c now = nothing_in a now

@@ -22,7 +22,7 @@ use Rattle.tftp_loop.specs.Serves.{with_timer, interval_at, started}
 use Rattle.tftp_loop.specs.Serves.AtPort.{A_datagram, A_lost_datagram, A_late_datagram, Nothing_found, A_failed_receive}
 use Rattle.tftp_loop.specs.Serves.AtPort.{A_timeout, A_missed_timeout, Work}
 use Rattle.tftp_loop.specs.Serves.Does.{Waited, At_port, Request_received, No_request_found, Request_not_received}
-use Rattle.tftp_loop.specs.Serves.Does.{No_port_found, Request_answered, Request_lost, Clock_read, Store_set}
+use Rattle.tftp_loop.specs.Serves.Does.{Request_noted, Request_answered, Request_lost, Clock_read, Store_set}
 use Rattle.tftp_loop.specs.Serves.Does.{Transfer_closed}
 use Rattle.tftp_loop.specs.declared.serving.LoopConfig.{LoopConfig}
 use Rattle.tftp_promises.specs.Timers.{HasOneTimerEach, timer_ports}
@@ -191,7 +191,7 @@ module _ {S F D : Type 0} (stores : StoreMeaning S D) (sources : SourceMeaning F
   step_matched old new (Request_received d) matched = subst IsMatched (sym d.is) matched
   step_matched old new (No_request_found d) matched = subst IsMatched (sym d.is) matched
   step_matched old new (Request_not_received d) matched = subst IsMatched (sym d.is) matched
-  step_matched old new (No_port_found d) matched = subst IsMatched (sym d.is) matched
+  step_matched old new (Request_noted d) matched = subst IsMatched (sym d.is) matched
   step_matched old new (Request_answered d) matched =
       subst IsMatched (sym d.is)
       (subst (λ (left : Left S F D). AreMatched (with_timer old.now old.longest d.from left.opened.tid left.new.held

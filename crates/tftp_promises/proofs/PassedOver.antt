@@ -17,7 +17,7 @@ use Rattle.tftp_sockets.specs.Journal.Event.{Received, Sent, Watched, Elapsed, P
 use Rattle.tftp_loop.specs.Run.{Run}
 use Rattle.tftp_loop.specs.Run.Run.{Start, Then}
 use Rattle.tftp_loop.specs.Serves.{LoopState, Does, Waited, At_port, Request_received, No_request_found}
-use Rattle.tftp_loop.specs.Serves.{Request_not_received, No_port_found, Request_answered, Request_lost, Clock_read}
+use Rattle.tftp_loop.specs.Serves.{Request_not_received, Request_noted, Request_answered, Request_lost, Clock_read}
 use Rattle.tftp_loop.specs.Serves.{Store_set, Transfer_closed}
 use Rattle.tftp_promises.specs.Alone.{HasNothing, IsPassedOver, OthersHaveNothing, alone, heard_with, just_asking}
 use Rattle.tftp_promises.specs.AnyFiles.{IsEnd, IsOurs, KeepAnyFiles, ProgramEnd, client_end, has_of, peer_of}
@@ -167,7 +167,7 @@ module _ {S F D G K : Type 0} {stores : StoreMeaning S D} {sources : SourceMeani
   ours_by_same (Request_received h) = refl
   ours_by_same (No_request_found h) = refl
   ours_by_same (Request_not_received h) = refl
-  ours_by_same (No_port_found h) = refl
+  ours_by_same (Request_noted h) = refl
   ours_by_same (Request_answered answers) = refl
   ours_by_same (Request_lost h) = refl
   ours_by_same (Clock_read h) = refl

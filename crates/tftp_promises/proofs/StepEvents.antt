@@ -9,12 +9,12 @@ use Rattle.tftp_rules.specs.Machine.{Endpoint}
 use Rattle.tftp_store.specs.Store.{StoreMeaning}
 use Rattle.tftp_sockets.specs.Journal.{Event, answered, replied}
 use Rattle.tftp_sockets.specs.Journal.Event.{Received, Sent, Watched, Elapsed, Printed, Quiet}
-use Rattle.tftp_sockets.specs.Journal.QuietEvent.{Empty, Failed, No_socket, Slept, Woke}
+use Rattle.tftp_sockets.specs.Journal.QuietEvent.{Empty, Failed, Slept, Woke}
 use Rattle.tftp_loop.specs.Serves.{LoopState, PortState, Does, AtPort, A_datagram, A_lost_datagram}
 use Rattle.tftp_loop.specs.Serves.{A_late_datagram, Nothing_found, A_failed_receive, A_timeout, A_missed_timeout, Work, Waited, At_port}
-use Rattle.tftp_loop.specs.Serves.{Request_received, No_request_found, Request_not_received, No_port_found}
+use Rattle.tftp_loop.specs.Serves.{Request_received, No_request_found, Request_not_received, Request_noted}
 use Rattle.tftp_loop.specs.Serves.{Request_answered, Request_lost, Clock_read, Store_set, Transfer_closed}
-use Rattle.tftp_loop.specs.Serves.{answering_port}
+use Rattle.tftp_loop.specs.Serves.{answering_port, note_event}
 use Rattle.tftp_client.specs.Converses.{State, HandlesReceived, MayElapse, wait_at}
 use Rattle.tftp_client.specs.Converses.HandlesReceived.{Answers, Loses}
 use Rattle.tftp_client.specs.Converses.MayElapse.{Stays, Elapses}
@@ -102,7 +102,8 @@ module _ {S F D : Type 0} {stores : StoreMeaning S D} {sources : SourceMeaning F
       Notes (Quiet (Empty old.requests)) [] tt (ap (λ (s : LoopState S F D). s.events) r.is)
   server_adds {old = old} (Request_not_received r) =
       Notes (Quiet (Failed old.requests)) [] tt (ap (λ (s : LoopState S F D). s.events) r.is)
-  server_adds (No_port_found r) = Notes (Quiet (No_socket r.port)) [] tt (ap (λ (s : LoopState S F D). s.events) r.is)
+  server_adds (Request_noted r) =
+      Notes (Quiet (note_event r.note)) [] tt (ap (λ (s : LoopState S F D). s.events) r.is)
   server_adds {old = old} (Request_answered r) =
       reply_adds (answering_port old.requests r.left.opened.tid) r.left.opened.to r.left.sent
       (ap (λ (s : LoopState S F D). s.events) r.is)

@@ -19,7 +19,7 @@ use Rattle.tftp_server.specs.State.{AnyRepeats, TransferState, IsRepeated, Repea
 use Rattle.tftp_loop.specs.Run.{Run}
 use Rattle.tftp_loop.specs.Run.Run.{Start, Then}
 use Rattle.tftp_loop.specs.Serves.{Does, LoopState, Waited, At_port, Request_received, No_request_found}
-use Rattle.tftp_loop.specs.Serves.{Request_not_received, No_port_found, Request_answered, Request_lost, Clock_read}
+use Rattle.tftp_loop.specs.Serves.{Request_not_received, Request_noted, Request_answered, Request_lost, Clock_read}
 use Rattle.tftp_loop.specs.Serves.{Store_set, Transfer_closed}
 use Rattle.tftp_rules.specs.Machine.{Endpoint}
 use Rattle.tftp_rules.specs.OpenEnds.{OpenEnd, has_failed, open_view, peer_of}
@@ -81,7 +81,7 @@ module _ {S F D : Type 0} {stores : StoreMeaning S D} {sources : SourceMeaning F
   removed_closed (Request_received x) port t removes = absurd removes
   removed_closed (No_request_found x) port t removes = absurd removes
   removed_closed (Request_not_received x) port t removes = absurd removes
-  removed_closed (No_port_found x) port t removes = absurd removes
+  removed_closed (Request_noted x) port t removes = absurd removes
   removed_closed (Request_answered x) port t removes = absurd removes
   removed_closed (Request_lost x) port t removes = absurd removes
   removed_closed (Clock_read x) port t removes = absurd removes

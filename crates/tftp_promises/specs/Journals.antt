@@ -6,17 +6,20 @@ use Rattle.tftp_file.specs.Source.{SourceMeaning}
 use Rattle.tftp_rules.specs.Machine.{Endpoint}
 use Rattle.tftp_sockets.specs.Journal.{Event, QuietEvent}
 use Rattle.tftp_sockets.specs.Journal.Event.{Received, Sent, Watched, Elapsed, Printed, Quiet}
-use Rattle.tftp_sockets.specs.Journal.QuietEvent.{Empty, Failed, No_socket, Slept, Woke}
+use Rattle.tftp_sockets.specs.Journal.QuietEvent.{Empty, Failed, New_socket, No_socket, Out_of_memory}
+use Rattle.tftp_sockets.specs.Journal.QuietEvent.{Slept, Woke}
 use Rattle.tftp_promises.specs.Programs.{ClientProgram}
 
 -- a receive at this port without a datagram, or the begin of a wait; a client's waits report none,
--- and it notes no failed bind
+-- and it notes no bind and no refused memory
 abbrev pub IsQuietAt : ℕ → QuietEvent → Type 0
 IsQuietAt port (Empty at) = at ≡ port
 IsQuietAt port (Failed at) = at ≡ port
 IsQuietAt port (Slept millis) = Unit {0}
 IsQuietAt port (Woke ports) = ⊥
 IsQuietAt port (No_socket at) = ⊥
+IsQuietAt port (New_socket at) = ⊥
+IsQuietAt port Out_of_memory = ⊥
 
 -- a datagram, a receive or a timeout of this port, a wait, a reading of the clock, or a line
 abbrev pub IsOfPort : ℕ → Event → Type 0

@@ -3,7 +3,8 @@ use Rattle.tftp_lines.specs.ClientOutcome.{end_text}
 use Rattle.tftp_lines.specs.Printed.{line_text}
 use Rattle.tftp_sockets.specs.Journal.{Event}
 use Rattle.tftp_sockets.specs.Journal.Event.{Received, Sent, Watched, Elapsed, Printed, Quiet}
-use Rattle.tftp_sockets.specs.Journal.QuietEvent.{Empty, Failed, No_socket, Slept, Woke}
+use Rattle.tftp_sockets.specs.Journal.QuietEvent.{Empty, Failed, New_socket, No_socket, Out_of_memory}
+use Rattle.tftp_sockets.specs.Journal.QuietEvent.{Slept, Woke}
 use Rattle.tftp_sockets.specs.declared.event_ref.EventRef.{EventRef}
 use Rattle.tftp_sockets.specs.declared.event_ref.EventRef.TheVariants as refs
 
@@ -20,3 +21,5 @@ event_of (refs.Failed port) = Quiet (Failed port)
 event_of (refs.Slept millis) = Quiet (Slept millis)
 event_of (refs.Woke ports) = Quiet (Woke ports.now)
 event_of (refs.NoSocket port) = Quiet (No_socket port)
+event_of (refs.NewSocket port) = Quiet (New_socket port)
+event_of refs.OutOfMemory = Quiet Out_of_memory

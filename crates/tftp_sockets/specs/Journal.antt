@@ -3,7 +3,7 @@ use Rattle.std.specs.Prelude.{ℕ, List, ◌∷◌, Option, Some, None}
 use Rattle.tftp_ends.specs.Step.{Reply}
 use Rattle.tftp_ends.specs.declared.endpoint.Endpoint.{Endpoint}
 
--- what a program learns of its sockets without a datagram (ours)
+-- what a program learns of its sockets without a datagram, and of its memory (ours)
 pub data QuietEvent : Type 0 where
   -- a receive at the port found nothing
   Empty : (port : ℕ) → QuietEvent
@@ -15,6 +15,10 @@ pub data QuietEvent : Type 0 where
   Woke : (ports : List ℕ) → QuietEvent
   -- no socket could be bound to the port, or to any port for 0
   No_socket : (port : ℕ) → QuietEvent
+  -- a new socket is bound to the port
+  New_socket : (port : ℕ) → QuietEvent
+  -- memory was refused
+  Out_of_memory : QuietEvent
 
 pub data Event : Type 0 where
   -- a datagram was received at the port, from this endpoint, with these bytes (RFC 1350, section 4)
@@ -28,7 +32,7 @@ pub data Event : Type 0 where
   Elapsed : (port : ℕ) (time : ℕ) → Event
   -- a line was printed on standard output, without its end
   Printed : (line : List ℕ) → Event
-  -- nothing was received, no socket was bound, or the program waited
+  -- nothing was received, a socket was bound or none, memory was refused, or the program waited
   Quiet : QuietEvent → Event
 
 -- the journal after these bytes were sent from the port, if they go somewhere

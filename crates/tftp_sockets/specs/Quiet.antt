@@ -3,7 +3,8 @@ use Rattle.std.specs.Prelude.{ℕ, ◌+◌, ◌==◌, ◌&&◌, ◌||◌, not, B
 use Rattle.std.specs.List.{list_any}
 use Rattle.tftp_sockets.specs.Journal.{Event, QuietEvent}
 use Rattle.tftp_sockets.specs.Journal.Event.{Received, Sent, Watched, Elapsed, Printed, Quiet}
-use Rattle.tftp_sockets.specs.Journal.QuietEvent.{Empty, Failed, No_socket, Slept, Woke}
+use Rattle.tftp_sockets.specs.Journal.QuietEvent.{Empty, Failed, New_socket, No_socket, Out_of_memory}
+use Rattle.tftp_sockets.specs.Journal.QuietEvent.{Slept, Woke}
 
 -- whether the port is one of these
 abbrev pub is_among : ℕ → List ℕ → Bool
@@ -16,6 +17,8 @@ drained_by port (Failed p) before = not (p == port) && before
 drained_by port (Slept millis) before = before
 drained_by port (Woke ports) before = not (is_among port ports) && before
 drained_by port (No_socket p) before = before
+drained_by port (New_socket p) before = before
+drained_by port Out_of_memory before = before
 
 -- whether the last event of the port is that a receive found nothing there
 abbrev pub is_drained : ℕ → List Event → Bool
@@ -34,6 +37,8 @@ tried_by port (Failed p) before = (p == port) || before
 tried_by port (Slept millis) before = false
 tried_by port (Woke ports) before = false
 tried_by port (No_socket p) before = before
+tried_by port (New_socket p) before = before
+tried_by port Out_of_memory before = before
 
 -- whether a receive was tried at the port since the newest wait
 abbrev pub was_tried : ℕ → List Event → Bool
@@ -52,6 +57,8 @@ waits_in (Failed port) = 0
 waits_in (Slept millis) = 1
 waits_in (Woke ports) = 0
 waits_in (No_socket port) = 0
+waits_in (New_socket port) = 0
+waits_in Out_of_memory = 0
 
 -- how many waits there were
 abbrev pub waits : List Event → ℕ
@@ -70,6 +77,8 @@ ends_wait (Failed port) = false
 ends_wait (Slept millis) = false
 ends_wait (Woke ports) = true
 ends_wait (No_socket port) = false
+ends_wait (New_socket port) = false
+ends_wait Out_of_memory = false
 
 -- whether the newest event is the end of a wait
 abbrev pub has_woken : List Event → Bool

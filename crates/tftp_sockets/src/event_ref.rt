@@ -29,4 +29,8 @@ pub(crate) enum EventRef<'a> {
     Woke(&'a [u16]),
     /// No socket could be bound to the port.
     NoSocket(u16),
+    /// A new socket is bound to the port.
+    NewSocket(u16),
+    /// Memory was refused.
+    OutOfMemory,
 }

@@ -4,7 +4,8 @@ ghost use Rattle.std.specs.Prelude.{◌≡◌, List, [], ◌∷◌};
 ghost use Rattle.std.specs.Borrow.{ftrue};
 ghost use Rattle.tftp_sockets.specs.EventRef.{event_of};
 ghost use Rattle.tftp_sockets.specs.Journal.{Event};
-ghost use Rattle.tftp_sockets.specs.Journal.Event.{Elapsed};
+ghost use Rattle.tftp_sockets.specs.Journal.Event.{Elapsed, Quiet};
+ghost use Rattle.tftp_sockets.specs.Journal.QuietEvent.{Out_of_memory};
 
 use crate::event_ref::EventRef;
 use std::marker::{Model, PhantomData};
@@ -38,6 +39,13 @@ impl Journal {
         ensures { self.new.events ≡ Elapsed port time ∷ self.old.events }
     {
         self.note(&EventRef::Elapsed(port, time));
+    }
+
+    /// Notes that memory was refused.
+    pub fn out_of_memory(&mut self)
+        ensures { self.new.events ≡ Quiet Out_of_memory ∷ self.old.events }
+    {
+        self.note(&EventRef::OutOfMemory);
     }
 
     /// Notes an event.

@@ -2,9 +2,9 @@
 //! [`Journal`].
 //!
 //! Review alone shows that a note is true: the sockets, the clock and the printer of std and `mio`
-//! have no model. Each datagram, wait, receive without a datagram, failed bind of a transfer's
-//! port, reading of the clock and printed line has one note: what was passed to the system or
-//! returned by it, and for a receive or a datagram the port that the socket is bound to. That a
+//! have no model. Each datagram, wait, receive without a datagram, bind of a transfer's port,
+//! reading of the clock and printed line has one note: what was passed to the system or returned
+//! by it, and for a receive or a datagram the port that the socket is bound to. That a
 //! port stays empty, once a receive found nothing there, until a wait reports it, is trusted too.
 //! Once they have their command line, `tftp` and `tftpd` call no socket and print no line of
 //! standard output elsewhere, and read the clock elsewhere only to start their watch. Help and
@@ -19,7 +19,7 @@ ghost use Rattle.tftp_lines.specs.ClientOutcome.{end_text};
 ghost use Rattle.tftp_lines.specs.Printed.{line_text};
 ghost use Rattle.tftp_sockets.specs.declared.watch.TheConstants.{LONGEST_WAIT};
 ghost use Rattle.tftp_sockets.specs.Journal.Event.{Sent, Watched, Printed as Line, Quiet};
-ghost use Rattle.tftp_sockets.specs.Journal.QuietEvent.{No_socket, Slept, Woke};
+ghost use Rattle.tftp_sockets.specs.Journal.QuietEvent.{New_socket, No_socket, Slept, Woke};
 ghost use Rattle.tftp_sockets.specs.Bound.{IsBoundTo};
 ghost use Rattle.std.specs.IoError.{error_kind};
 ghost use Rattle.tftp_sockets.specs.Receipt.{FindsNothing, Fits, receive_event};
@@ -51,13 +51,13 @@ pub struct ServerSocket {
 
 impl ServerSocket {
     /// Binds a socket to the endpoint; the system chooses a port for 0. It fails with the system's
-    /// error, or with `AddrNotAvailable` if the system reports another port.
+    /// error, or with `AddrNotAvailable` if the system reports another port, or the port 0.
     pub fn bind<N: Net>(net: &N, at: Endpoint) -> io::Result<ServerSocket>
         ensures { IfOk result (λ socket. IsBoundTo at socket.ip socket.port) }
     {
         let udp = ReadySocket::bind(net, address_of(at))?;
         let port = udp.local_addr()?.port();
-        if at.port != 0 && port != at.port {
+        if !is_port_for(at, port) {
             return Err(io::Error::from(ErrorKind::AddrNotAvailable));
         }
         Ok(ServerSocket {
@@ -67,20 +67,24 @@ impl ServerSocket {
         })
     }
 
-    /// Binds a socket as [`ServerSocket::bind`] does. That it fails is noted, with the port of the
-    /// endpoint.
+    /// Binds a socket as [`ServerSocket::bind`] does. The port of the new socket is noted, or that
+    /// it fails, with the port of the endpoint.
     pub fn bind_noted<N: Net>(
         net: &N,
         journal: &mut Journal,
         at: Endpoint,
     ) -> io::Result<ServerSocket>
         ensures bound { IfOk result (λ socket. IsBoundTo at socket.ip socket.port) }
-        ensures ok { OnOk result (journal.new.events ≡ journal.old.events) }
+        ensures ok { IfOk result (λ socket. journal.new.events ≡ Quiet (New_socket socket.port)
+            ∷ journal.old.events) }
         ensures err { OnErr result (journal.new.events ≡ Quiet (No_socket at.port)
             ∷ journal.old.events) }
     {
         match ServerSocket::bind(net, at) {
-            Ok(socket) => Ok(socket),
+            Ok(socket) => {
+                journal.note(&EventRef::NewSocket(socket.port));
+                Ok(socket)
+            }
             Err(error) => {
                 journal.note(&EventRef::NoSocket(at.port));
                 Err(error)
@@ -134,6 +138,16 @@ impl ServerSocket {
             Err(error) => Err(reason_of(&error)),
         }
     }
+}
+
+/// Whether the system may report this port for a socket that was to be bound to the endpoint.
+fn is_port_for(at: Endpoint, port: u16) -> bool
+    ensures { IsTrue result → (at.port ≢ 0 → port ≡ at.port) × (port ≢ 0) }
+{
+    if port == 0 {
+        return false;
+    }
+    at.port == 0 || port == at.port
 }
 
 /// A blocking socket of a client. It is not connected, since any port of the server may answer the

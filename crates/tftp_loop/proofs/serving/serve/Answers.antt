@@ -12,7 +12,8 @@ returns-in-Ok g c =
     let port = c.in-Ok.sockets.requests.port in
     let At : List ℕ → Type 0 = λ ip. ServesFrom g.S.Store.meaning g.S.Source.Source.meaning c.args.config.now
     port c.args.server c.listen.result.0 (listening ip port c.args.journal.events) c.listen.result.1.events in
-    Bound port (record { same_ip = refl; same_port = c.in-Ok.ensures.bound.same_port })
+    let bound = c.in-Ok.ensures.bound in
+    Bound port (record { same_ip = refl; same_port = bound.same_port; has_port = bound.has_port })
     (subst At c.in-Ok.ensures.bound.same_ip c.listen.ensures)
 
 pub returns-in-Err : goal.returns-in-Err

@@ -1,12 +1,11 @@
-use Rattle.std.proofs.Common.{refl, sym, ap, subst, inl, inr, ℕ}
+use Rattle.std.proofs.Common.{map, refl, ap, ◌∙◌}
 use Rattle.tftp_server.specs.State.{at}
-use Rattle.tftp_loop.specs.PortOrder.{IsOneOf}
+use Rattle.tftp_loop.specs.declared.server_loop.ServerLoop.{ServerLoop}
 use Rattle.tftp_loop.specs.declared.sockets.Sockets.{Sockets}
-use Rattle.std.specs.Prelude.{Some, None, Err}
-use Rattle.tftp_loop.specs.Serves.{Same_port}
-use Rattle.tftp_loop.specs.Served.{loop_state}
+use Rattle.std.specs.Prelude.{Some, None}
+use Rattle.tftp_loop.specs.Served.{loop_state, timer_of}
 use Rattle.tftp_loop.proofs.LoopRuns.{same_state}
-use Rattle.tftp_loop.proofs.RequestRuns.{may_open, not_carried_out, sets_and_answers, sets_and_loses, is_free, ok-err}
+use Rattle.tftp_loop.proofs.RequestRuns.{may_open, sets_and_answers, sets_and_loses, is_free, ok-err}
 use Rattle.tftp_loop.proofs.server_loop.ServerLoop.open_at.Goals as goal
 
 pub returns-in-Ok-clause-answers : goal.returns-in-Ok-clause-answers
@@ -21,7 +20,7 @@ returns-in-Ok-clause-answers g c =
     d.from d.bytes.now c.port-tid.result c.set_store.new.server c.open-opened.new.self c.args.admission
     c.clear.new.self.items c.open-opened.new.out.items c.in-Ok.opened
     refl c.requires.admitted c.set_store.ensures.rest c.set_store.ensures.same c.set_store.ensures.behind
-    c.in-Ok.ensures.carries_out free a.port
+    c.in-Ok.ensures.carries_out free a.port a.own
     c.clear.ensures.items
     (same_state _ _ a.requests a.range a.longest a.server refl a.timers a.now a.limit refl a.marked a.left_to_close a.rounds a.events)
 
@@ -33,22 +32,19 @@ returns-in-Err-clause-answers g c =
     let d = c.args.datagram in
     let back = c.give_back.ensures in
     let why = c.in-Err.ensures in
+    let lost = c.lose_for_memory.ensures in
     let s = loop_state (Some (d.from, d.bytes.now)) c.args.self.now in
     sets_and_loses g.S.Store.meaning g.S.Source.Source.meaning s _ d.from d.bytes.now c.set_store.new.server
     refl c.set_store.ensures.rest c.set_store.ensures.same c.set_store.ensures.behind
-    (elim why.fault [
-      | inl e ↦
-          Same_port (may_open g.S.Store.meaning g.S.Source.Source.meaning c.args.self.now.server c.set_store.new.server
-          d.from d.bytes.now c.args.admission c.set_store.ensures.rest c.requires.admitted
-          c.requires.may_open)
-          c.port-tid.result (subst (λ (port : ℕ). IsOneOf s.range port) (sym c.port-tid.ensures) c.requires.port.port)
-          (why.in_use.0 (ap Err e))
-      | inr e ↦
-          not_carried_out g.S.Store.meaning g.S.Source.Source.meaning (record s { server = c.set_store.new.server }) _
-          d.from d.bytes.now c.args.self.now.server c.args.admission
-          _ _ c.set_store.ensures.rest c.requires.admitted c.clear.ensures.len (why.why (ap Err e))
-    ])
-    (same_state _ _ (ap (λ (s : Sockets). s.requests.port) back)
-    (ap (λ (s : Sockets). s.pool.range) back) refl why.err.0 refl refl
-    (ap (λ (s : Sockets). s.watch.now) back) (ap (λ (s : Sockets). s.limit) back) refl
-    (ap (λ (s : Sockets). s.is_ready) back) refl refl refl)
+    (may_open g.S.Store.meaning g.S.Source.Source.meaning c.args.self.now.server c.set_store.new.server
+    d.from d.bytes.now c.args.admission c.set_store.ensures.rest c.requires.admitted c.requires.may_open)
+    (same_state _ _
+    (ap (λ (d : ServerLoop _ _ _). d.sockets.requests.port) lost.rest ∙ ap (λ (s : Sockets). s.requests.port) back)
+    (ap (λ (d : ServerLoop _ _ _). d.sockets.pool.range) lost.rest ∙ ap (λ (s : Sockets). s.pool.range) back)
+    (ap (λ (d : ServerLoop _ _ _). d.longest) lost.rest)
+    (ap (λ (d : ServerLoop _ _ _). d.server) lost.rest ∙ why.err.0) refl
+    (ap (λ (d : ServerLoop _ _ _). map timer_of d.ports.items) lost.rest)
+    (ap (λ (d : ServerLoop _ _ _). d.sockets.watch.now) lost.rest ∙ ap (λ (s : Sockets). s.watch.now) back)
+    (ap (λ (d : ServerLoop _ _ _). d.sockets.limit) lost.rest ∙ ap (λ (s : Sockets). s.limit) back) refl
+    (ap (λ (d : ServerLoop _ _ _). d.sockets.is_ready) lost.rest ∙ ap (λ (s : Sockets). s.is_ready) back)
+    (ap (λ (d : ServerLoop _ _ _). d.left) lost.rest) (ap (λ (d : ServerLoop _ _ _). d.rounds) lost.rest) lost.noted)

@@ -1,18 +1,22 @@
-use Rattle.std.proofs.Common.{arith, take, refl, inl}
+use Rattle.std.proofs.Common.{arith, take, refl, ap, inl, ◌∙◌}
 use Rattle.std.specs.Prelude.{Some}
-use Rattle.tftp_loop.specs.Serves.{No_answer, No_memory}
+use Rattle.tftp_loop.specs.declared.server_loop.ServerLoop.{ServerLoop}
+use Rattle.tftp_loop.specs.Serves.{No_answer}
 use Rattle.tftp_loop.specs.Served.{loop_state}
 use Rattle.tftp_loop.specs.Tended.{Concluded}
-use Rattle.tftp_loop.proofs.RequestRuns.{loses_as}
+use Rattle.tftp_loop.proofs.LoopRuns.{noted_state}
+use Rattle.tftp_loop.proofs.RequestRuns.{loses_as, loses_for_memory}
 use Rattle.tftp_loop.proofs.server_loop.ServerLoop.take_received.Goals as goal
 
 pub returns-in_default-clause-handles : goal.returns-in_default-clause-handles
 returns-in_default-clause-handles g c =
     let bytes = take c.args.count c.args.request.now in
+    let lost = c.lose_for_memory.ensures in
     Concluded
-    (loses_as g.S.Store.meaning g.S.Source.Source.meaning (loop_state (Some (c.args.from, bytes)) c.args.self.now) _
-    c.args.from bytes refl (No_memory 0 (inl c.in_default.ensures.why)) refl)
-    c.requires.pending
+    (loses_for_memory g.S.Store.meaning g.S.Source.Source.meaning
+    (loop_state (Some (c.args.from, bytes)) c.args.self.now) _ c.args.from bytes refl
+    (inl c.in_default.ensures.why) (noted_state c.args.self.now c.lose_for_memory.new.self _ lost.rest lost.noted))
+    (ap (λ (d : ServerLoop _ _ _). d.pending) lost.rest ∙ c.requires.pending)
 
 pub returns-then-from-eq-NO_PORT-clause-handles : goal.returns-then-from-eq-NO_PORT-clause-handles
 returns-then-from-eq-NO_PORT-clause-handles g c =
