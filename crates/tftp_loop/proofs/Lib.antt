@@ -12,8 +12,9 @@ pub mod Tables
 pub mod PortStays
 pub mod LoopStays
 pub mod Opened
-pub mod Visits
 pub mod Waits
+pub mod Counting
+pub mod Visits
 pub mod Receipts
 pub mod Drained
 pub mod Looking

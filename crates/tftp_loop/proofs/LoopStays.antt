@@ -273,10 +273,10 @@ module _ {S F D : Type 0} (meaning : StoreMeaning S D) (sources : SourceMeaning 
   still_tried false pending P f h = absurd (let g : false ≡ true = h in cc)
 
   -- the request port was read
-  asks_keep : (s : LoopState S F D) (pending : Option (Endpoint × List ℕ)) (marked : Bool) (event : Event)
+  asks_keep : (s : LoopState S F D) (pending : Option (Endpoint × List ℕ)) (marked asked : Bool) (event : Event)
       → ((q : ℕ) → was_tried q (event ∷ s.events) ≡ ((s.requests == q) || was_tried q s.events))
-      → Keeps s (record s { pending = pending; marked = marked; events = event ∷ s.events })
-  asks_keep s pending marked event reads =
+      → Keeps s (record s { pending = pending; marked = marked; asked = asked; events = event ∷ s.events })
+  asks_keep s pending marked asked event reads =
       let tries : KeepsTries s.events (event ∷ s.events) =
       λ q h. reads q ∙ or_right (s.requests == q) (was_tried q s.events) h in
       record {
@@ -299,11 +299,11 @@ module _ {S F D : Type 0} (meaning : StoreMeaning S D) (sources : SourceMeaning 
       })
   step_keeps s t (Request_received d) work =
       subst (Keeps s) (sym d.is)
-      (asks_keep s (Some (d.from, d.bytes)) true (Received s.requests d.from d.bytes) (λ q. refl))
+      (asks_keep s (Some (d.from, d.bytes)) true true (Received s.requests d.from d.bytes) (λ q. refl))
   step_keeps s t (No_request_found d) work =
-      subst (Keeps s) (sym d.is) (asks_keep s s.pending false (Quiet (Empty s.requests)) (λ q. refl))
+      subst (Keeps s) (sym d.is) (asks_keep s s.pending false s.asked (Quiet (Empty s.requests)) (λ q. refl))
   step_keeps s t (Request_not_received d) work =
-      subst (Keeps s) (sym d.is) (asks_keep s s.pending true (Quiet (Failed s.requests)) (λ q. refl))
+      subst (Keeps s) (sym d.is) (asks_keep s s.pending true s.asked (Quiet (Failed s.requests)) (λ q. refl))
   step_keeps s t (Request_noted d) work =
       let tries : KeepsTries s.events (Quiet (note_event d.note) ∷ s.events) =
       λ q h. note_tried q (was_tried q s.events) d.note ∙ h in

@@ -1,5 +1,6 @@
 -- A transfer that opens has not closed.
 use Rattle.std.proofs.Common.{◌≡◌, ◌⊎◌, ℕ, Bool, false, List, [], ◌∷◌, length, Option, Some, None, refl, sym, ap, subst}
+use Rattle.std.proofs.Common.{arith}
 use Rattle.std.proofs.Common.{◌∙◌, inl, inr}
 use Rattle.std.specs.Prelude.{Result, Ok, Err, slice_index_or, is_some, All, if◌then◌else◌}
 use Rattle.tftp_wire.specs.declared.mode.Mode.{Mode}
@@ -18,7 +19,8 @@ use Rattle.tftp_loop.specs.Run.{Run}
 use Rattle.tftp_loop.specs.Run.Run.{Start, Then}
 use Rattle.tftp_loop.specs.Serves.{Timer, LoopState, AnswersRequest, LosesRequest, interval_at}
 use Rattle.tftp_loop.specs.Serves.{started, with_timer}
-use Rattle.tftp_loop.specs.Tended.{AreKept, AreSettled, Concludes, IsOpen, Notes_it, Prepares, Sets_store}
+use Rattle.tftp_loop.specs.Tended.{AreKept, AreSettled, Concludes, IsOpen, Notes_it, Prepares, ReceivedFew}
+use Rattle.tftp_loop.specs.Tended.{Sets_store}
 use Rattle.tftp_loop.proofs.LoopStays.{all_appended, some_none, work_keeps}
 use Rattle.tftp_loop.proofs.RequestRuns.{concludes_run}
 use Rattle.tftp_loop.proofs.Tables.{inserted_apart, inserted_own}
@@ -139,3 +141,45 @@ module _ {S F D : Type 0} (meaning : StoreMeaning S D) (sources : SourceMeaning 
         let prepared = prepared_settled s c.middle c.prepares settled in
         ends_open c.middle t c.ends prepared.kept prepared.none_closed;
   }
+
+  -- it is counted anew only after a wait
+  prepared_asked : (s t : LoopState S F D) → Run (Prepares meaning sources) s t → t.asked ≡ s.asked
+  prepared_asked s t Start = refl
+  prepared_asked s t (Then {middle} run (Notes_it d)) =
+      ap (λ (u : LoopState S F D). u.asked) d.is ∙ prepared_asked s middle run
+  prepared_asked s t (Then {middle} run (Sets_store d)) =
+      ap (λ (u : LoopState S F D). u.asked) d.is ∙ prepared_asked s middle run
+
+  pub concludes_asked : (s t : LoopState S F D) → Concludes meaning sources s t → t.asked ≡ s.asked
+  concludes_asked s t c = elim c.ends [
+    | inl d ↦ ap (λ (u : LoopState S F D). u.asked) d.is ∙ prepared_asked s c.middle c.prepares
+    | inr d ↦ ap (λ (u : LoopState S F D). u.asked) d.is ∙ prepared_asked s c.middle c.prepares
+  ]
+
+  module _ (most : ℕ) where
+    abbrev pub few_in : LoopState S F D → Type 0
+    few_in s = All (ReceivedFew most) s.timers
+
+    prepared_few : (s t : LoopState S F D) → Run (Prepares meaning sources) s t → few_in s → few_in t
+    prepared_few s t Start few = few
+    prepared_few s t (Then {middle} run (Notes_it d)) few =
+        subst few_in (sym d.is) (prepared_few s middle run few)
+    prepared_few s t (Then {middle} run (Sets_store d)) few =
+        subst few_in (sym d.is) (prepared_few s middle run few)
+
+    with_few : (now : ℕ) (longest : Option ℕ) (from : Endpoint) (opened : Option ℕ)
+        (held : List (ℕ × TransferState F D)) (timers : List Timer) → All (ReceivedFew most) timers
+        → All (ReceivedFew most) (with_timer now longest from opened held timers)
+    with_few now longest from None held timers few = few
+    with_few now longest from (Some port) held timers few =
+        all_appended (ReceivedFew most) timers (started now longest port from (interval_at (at port held)))
+        (λ k d h. few k d h) (omega arith)
+
+    pub concludes_few : (s t : LoopState S F D) → Concludes meaning sources s t → few_in s → few_in t
+    concludes_few s t c few = elim c.ends [
+      | inl d ↦
+          subst few_in (sym d.is)
+          (with_few c.middle.now c.middle.longest d.from d.left.opened.tid d.left.new.held c.middle.timers
+          (prepared_few s c.middle c.prepares few))
+      | inr d ↦ subst few_in (sym d.is) (prepared_few s c.middle c.prepares few)
+    ]

@@ -127,9 +127,9 @@ module _ {S F D : Type 0} (meaning : StoreMeaning S D) (sources : SourceMeaning 
       → SameTimer old.timer new.timer
   same_timer now old new (A_datagram d) = same_by old.timer new.timer
       (timer_after now d.step.progress old.timer) d.timer (after_same now d.step.progress old.timer)
-  same_timer now old new (A_lost_datagram d) = same_by old.timer new.timer (marked_as true old.timer) d.timer
+  same_timer now old new (A_lost_datagram d) = same_by old.timer new.timer (timer_after now false old.timer) d.timer
       (record { port = refl; peer = refl; interval = refl; age = refl })
-  same_timer now old new (A_late_datagram d) = same_by old.timer new.timer (marked_as true old.timer) d.timer
+  same_timer now old new (A_late_datagram d) = same_by old.timer new.timer (timer_after now false old.timer) d.timer
       (record { port = refl; peer = refl; interval = refl; age = refl })
   same_timer now old new (Nothing_found d) = same_by old.timer new.timer (marked_as false old.timer) d.timer
       (record { port = refl; peer = refl; interval = refl; age = refl })

@@ -14,7 +14,7 @@ use Rattle.tftp_sockets.specs.Quiet.{was_tried}
 use Rattle.tftp_loop.specs.Run.{Run}
 use Rattle.tftp_loop.specs.Run.Run.{Then}
 use Rattle.tftp_loop.specs.Serves.{Timer, PortState, AtPort, AnswersDatagram, LosesDatagram, WorksAtPort}
-use Rattle.tftp_loop.specs.Serves.{AnswersTimeout, marked_as, restarted, timer_after}
+use Rattle.tftp_loop.specs.Serves.{AnswersTimeout, marked_as, most_in_round, restarted, timer_after}
 use Rattle.tftp_loop.specs.Serves.AtPort.{A_datagram, A_lost_datagram, A_late_datagram, Nothing_found}
 use Rattle.tftp_loop.specs.Serves.AtPort.{A_failed_receive, A_timeout, A_missed_timeout, Work}
 use Rattle.tftp_loop.proofs.RunLemmas.{once, idle, onward}
@@ -43,13 +43,14 @@ module _ {S F D : Type 0} (meaning : StoreMeaning S D) (sources : SourceMeaning 
   -- a datagram was received, handled and answered
   pub receives : (old new : ServerState S F D) (timer timer' : Timer) (es before es' : List Event) (from : Endpoint)
       (bytes : List ℕ) (step : Step)
-      → now ≤ timer.age_limit → before ≡ Received timer.port from bytes ∷ es →
+      → now ≤ timer.age_limit → timer.received < most_in_round → before ≡ Received timer.port from bytes ∷ es →
       AnswersDatagram meaning sources timer.port from bytes old new before es' step
       → timer' ≡ timer_after now step.progress timer → Runs (here old timer es) (here new timer' es')
-  receives old new timer timer' es before es' from bytes step in_time noted handles timed =
+  receives old new timer timer' es before es' from bytes step in_time few noted handles timed =
       let At : List Event → Type 0 =
       λ before. AnswersDatagram meaning sources timer.port from bytes old new before es' step in
       once (A_datagram (record {
+        few = few;
         in_time = in_time;
         from = from;
         bytes = bytes;
@@ -61,11 +62,12 @@ module _ {S F D : Type 0} (meaning : StoreMeaning S D) (sources : SourceMeaning 
   -- a datagram was received and lost
   pub receives_lost : (old new : ServerState S F D) (timer timer' : Timer) (es before es' : List Event)
       (from : Endpoint) (bytes : List ℕ)
-      → now ≤ timer.age_limit → before ≡ Received timer.port from bytes ∷ es → LosesDatagram meaning sources timer.port from bytes old new →
-      es' ≡ before → timer' ≡ marked_as true timer
+      → now ≤ timer.age_limit → timer.received < most_in_round → before ≡ Received timer.port from bytes ∷ es → LosesDatagram meaning sources timer.port from bytes old new →
+      es' ≡ before → timer' ≡ timer_after now false timer
       → Runs (here old timer es) (here new timer' es')
-  receives_lost old new timer timer' es before es' from bytes in_time noted loses same timed =
+  receives_lost old new timer timer' es before es' from bytes in_time few noted loses same timed =
       once (A_lost_datagram (record {
+        few = few;
         in_time = in_time;
         from = from;
         bytes = bytes;
@@ -76,11 +78,12 @@ module _ {S F D : Type 0} (meaning : StoreMeaning S D) (sources : SourceMeaning 
 
   -- a datagram was received too late, and dropped
   pub receives_late : (server : ServerState S F D) (timer timer' : Timer) (es before : List Event) (from : Endpoint)
-      (bytes : List ℕ) → timer.age_limit < now
-      → before ≡ Received timer.port from bytes ∷ es → timer' ≡ marked_as true timer
+      (bytes : List ℕ) → timer.age_limit < now → timer.received < most_in_round
+      → before ≡ Received timer.port from bytes ∷ es → timer' ≡ timer_after now false timer
       → Runs (here server timer es) (here server timer' before)
-  receives_late server timer timer' es before from bytes late noted timed =
+  receives_late server timer timer' es before from bytes late few noted timed =
       once (A_late_datagram (record {
+        few = few;
         late = late;
         from = from;
         bytes = bytes;

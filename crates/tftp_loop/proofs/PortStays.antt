@@ -1,5 +1,6 @@
 -- What a turn at one port leaves of the others.
 use Rattle.std.proofs.Common.{arith, ◌≡◌, ◌≤◌, ◌==◌, ◌||◌, ℕ, Bool, true, false, List, ◌∷◌, Option, Some, None, IsSome}
+use Rattle.std.proofs.Common.{◌+◌}
 use Rattle.std.proofs.Common.{refl, sym, ap, subst, ◌∙◌}
 use Rattle.std.specs.BTreeMap.{is_at}
 use Rattle.std.specs.Ordering.{nat_cmp}
@@ -101,6 +102,11 @@ after_port : (now : ℕ) (progress : Bool) (timer : Timer) → (timer_after now 
 after_port now true timer = refl
 after_port now false timer = refl
 
+pub after_received : (now : ℕ) (progress : Bool) (timer : Timer)
+    → (timer_after now progress timer).received ≡ timer.received + 1
+after_received now true timer = refl
+after_received now false timer = refl
+
 module _ {S F D : Type 0} (meaning : StoreMeaning S D) (sources : SourceMeaning F) where
   same_server : (port : ℕ) (old new : ServerState S F D) → new ≡ old → StaysHeld port old.held new.held
   same_server port old new e = same_held port old.held new.held (ap (λ (s : ServerState S F D). s.held) e)
@@ -160,11 +166,11 @@ module _ {S F D : Type 0} (meaning : StoreMeaning S D) (sources : SourceMeaning 
       receives_at old new (Received old.timer.port d.from d.bytes) (λ q. refl) (same_tries _ new.events d.events)
       (ap (λ (t : Timer). t.port) d.timer)
       (keeps_held old.timer.port (at old.timer.port old.server.held) old.server new.server d.loses.keeps)
-      (λ h. looks_by (marked_as true old.timer) new.timer d.timer (omega arith))
+      (λ h. looks_by (timer_after now false old.timer) new.timer d.timer (omega arith))
   stays_at now old new (A_late_datagram d) =
       receives_at old new (Received old.timer.port d.from d.bytes) (λ q. refl) (same_tries _ new.events d.events)
       (ap (λ (t : Timer). t.port) d.timer) (same_server old.timer.port old.server new.server d.server)
-      (λ h. looks_by (marked_as true old.timer) new.timer d.timer (omega arith))
+      (λ h. looks_by (timer_after now false old.timer) new.timer d.timer (omega arith))
   stays_at now old new (Nothing_found d) =
       receives_at old new (Quiet (Empty old.timer.port)) (λ q. refl) (same_tries _ new.events d.events)
       (ap (λ (t : Timer). t.port) d.timer) (same_server old.timer.port old.server new.server d.server)

@@ -1,7 +1,7 @@
 -- What is received at the request port, and what becomes of it.
 use Rattle.std.proofs.Common.{arith, ◌≡◌, ◌||◌, ℕ, zero, suc, Bool, true, false, List, [], ◌∷◌, length, map, take, min}
 use Rattle.std.proofs.Common.{Option, Some, None, refl, sym, ap, subst, ◌∙◌, ◌⊎◌, inr}
-use Rattle.std.specs.Prelude.{Result, Ok, Err, IfErr, OnOk}
+use Rattle.std.specs.Prelude.{All, Result, Ok, Err, IfErr, OnOk}
 use Rattle.tftp_file.specs.Source.{SourceMeaning}
 use Rattle.tftp_ends.specs.declared.endpoint.Endpoint.{Endpoint}
 use Rattle.tftp_store.specs.Store.{StoreMeaning}
@@ -16,10 +16,10 @@ use Rattle.tftp_loop.specs.Serves.{LoopState, Timer}
 use Rattle.tftp_loop.specs.Serves.Does.{No_request_found, Request_not_received}
 use Rattle.tftp_loop.specs.Served.{FailsToPrint, WorksRound, Work_by, loop_state, pending_in, state_of, timer_of}
 use Rattle.tftp_loop.specs.Tended.{AnswersPending, AreSettled, AreTried, HandlesReceived, Concluded, Kept}
-use Rattle.tftp_loop.specs.Tended.{HasTriedRequests, IsSettled}
+use Rattle.tftp_loop.specs.Tended.{HasFew, HasTriedRequests, IsSettled, ReceivedFew}
 use Rattle.tftp_loop.proofs.LoopRuns.{Runs, same_state}
 use Rattle.tftp_loop.proofs.LoopStays.{work_keeps}
-use Rattle.tftp_loop.proofs.Opened.{concludes_settled}
+use Rattle.tftp_loop.proofs.Opened.{concludes_asked, concludes_few, concludes_settled}
 use Rattle.tftp_loop.proofs.PortStays.{received_tried}
 use Rattle.tftp_loop.proofs.RequestRuns.{concludes_run, receives_as}
 use Rattle.tftp_loop.proofs.RunLemmas.{idle, once, onward}
@@ -75,10 +75,23 @@ module _ {S F D : Type 0} (meaning : StoreMeaning S D) (sources : SourceMeaning 
   answered_settled bytes old middle from answers settled =
       concludes_settled meaning sources (loop_state (Some (from, bytes)) old) (loop_state None middle) answers settled
 
+  -- what was received is counted so
+  pub answered_asked : (bytes : List ℕ) (old middle : ServerLoop S F D) (from : Endpoint) →
+      AnswersPending meaning sources from bytes old middle
+      → middle.sockets.has_received ≡ old.sockets.has_received
+  answered_asked bytes old middle from answers =
+      concludes_asked meaning sources (loop_state (Some (from, bytes)) old) (loop_state None middle) answers
+
+  pub answered_few : (most : ℕ) (bytes : List ℕ) (old middle : ServerLoop S F D) (from : Endpoint) →
+      AnswersPending meaning sources from bytes old middle → HasFew most old → HasFew most middle
+  answered_few most bytes old middle from answers few =
+      concludes_few meaning sources most (loop_state (Some (from, bytes)) old) (loop_state None middle) answers few
+
   -- ---- a datagram was received
   module _ (before buffer : List ℕ) (old noted new : ServerLoop S F D) (from : Endpoint) (count : ℕ)
       (none : old.pending ≡ None) (marked : old.sockets.is_ready ≡ true)
-      (is : noted ≡ record old { journal = noted.journal })
+      (first : old.sockets.has_received ≡ false)
+      (is : noted ≡ record old { sockets = record old.sockets { has_received = true }; journal = noted.journal })
       (events : noted.journal.events ≡ Received old.sockets.requests.port from
       (take count buffer) ∷ old.journal.events) where
     abbrev received : LoopState S F D
@@ -87,11 +100,12 @@ module _ {S F D : Type 0} (meaning : StoreMeaning S D) (sources : SourceMeaning 
     received_run : Runs meaning sources (state_of before old) received
     received_run =
         subst (λ (s : LoopState S F D). Runs meaning sources s received) (sym (none_pending before old none))
-        (receives_as meaning sources (loop_state None old) received from (take count buffer) refl
+        (receives_as meaning sources (loop_state None old) received from (take count buffer) refl first
         (same_state received
         (record (loop_state None old) {
           pending = Some (from, take count buffer);
           marked = true;
+          asked = true;
           events = Received old.sockets.requests.port from (take count buffer) ∷ old.journal.events;
         })
         (ap (λ (d : ServerLoop S F D). d.sockets.requests.port) is)
@@ -99,7 +113,8 @@ module _ {S F D : Type 0} (meaning : StoreMeaning S D) (sources : SourceMeaning 
         (ap (λ (d : ServerLoop S F D). d.server) is) refl (ap (λ (d : ServerLoop S F D). (loop_state None d).timers) is)
         (ap (λ (d : ServerLoop S F D). d.sockets.watch.now) is)
         (ap (λ (d : ServerLoop S F D). d.sockets.limit) is) refl
-        (ap (λ (d : ServerLoop S F D). d.sockets.is_ready) is ∙ marked) (ap (λ (d : ServerLoop S F D). d.left) is)
+        (ap (λ (d : ServerLoop S F D). d.sockets.is_ready) is ∙ marked)
+        (ap (λ (d : ServerLoop S F D). d.sockets.has_received) is) (ap (λ (d : ServerLoop S F D). d.left) is)
         (ap (λ (d : ServerLoop S F D). d.rounds) is) events))
 
     received_is_tried : AreTried received
@@ -136,6 +151,17 @@ module _ {S F D : Type 0} (meaning : StoreMeaning S D) (sources : SourceMeaning 
     pub handled_settled : HandlesReceived meaning sources from count buffer noted new → IsSettled old → IsSettled new
     handled_settled handles settled = then_settled handles (noted_settled settled)
 
+    then_few : (most : ℕ) → HandlesReceived meaning sources from count buffer noted new → HasFew most noted
+        → HasFew most new
+    then_few most (Concluded answers pending) few =
+        concludes_few meaning sources most received (loop_state None new) answers few
+    then_few most (Kept e) few = subst (λ (d : ServerLoop S F D). HasFew most d) (sym e) few
+
+    pub handled_few : (most : ℕ) → HandlesReceived meaning sources from count buffer noted new → HasFew most old
+        → HasFew most new
+    handled_few most handles few =
+        then_few most handles (subst (λ (d : ServerLoop S F D). HasFew most d) (sym is) few)
+
   -- ---- a receive found nothing, or failed
   looked_state : (before after : List ℕ) (old new : ServerLoop S F D) (ready : Bool) (event : Event) →
       old.pending ≡ None
@@ -155,6 +181,7 @@ module _ {S F D : Type 0} (meaning : StoreMeaning S D) (sources : SourceMeaning 
       (ap (λ (d : ServerLoop S F D). d.sockets.watch.now) is)
       (ap (λ (d : ServerLoop S F D). d.sockets.limit) is) refl
       (ap (λ (d : ServerLoop S F D). d.sockets.is_ready) is)
+      (ap (λ (d : ServerLoop S F D). d.sockets.has_received) is)
       (ap (λ (d : ServerLoop S F D). d.left) is) (ap (λ (d : ServerLoop S F D). d.rounds) is) events
 
   pub finds_none : (before after : List ℕ) (old new : ServerLoop S F D) → old.pending ≡ None →
@@ -197,3 +224,8 @@ starts_settled d none =
       };
       none_closed = λ k t h. absurd (omega (arith, h));
     })
+
+pub starts_few : {S F D : Type 0} (d : ServerLoop S F D) → d.ports.items ≡ [] → HasFew 0 d
+starts_few d none =
+    subst (λ (ts : List Timer). All (ReceivedFew 0) ts) (sym (ap (map timer_of) none))
+    (λ k t h. absurd (omega (arith, h)))

@@ -46,13 +46,15 @@ refused_bytes (Some reply) = error_bytes reply
 module _ {S F D : Type 0} (meaning : StoreMeaning S D) (sources : SourceMeaning F) where
   -- a datagram was received
   pub receives_as : (s t : LoopState S F D) (from : Endpoint) (bytes : List ℕ) → s.pending ≡ None
-      → t ≡ record s {
+      → s.asked ≡ false → t ≡ record s {
         pending = Some (from, bytes);
         marked = true;
+        asked = true;
         events = Received s.requests from bytes ∷ s.events;
       } → Runs meaning sources s t
-  receives_as s t from bytes none is =
-      once (Work_by (Request_received (record { from = from; bytes = bytes; none = none; is = is })) tt)
+  receives_as s t from bytes none first is =
+      once
+      (Work_by (Request_received (record { from = from; bytes = bytes; none = none; first = first; is = is })) tt)
 
   -- the step of the store, if it was set
   abbrev pub Sets : LoopState S F D → LoopState S F D → Type 0

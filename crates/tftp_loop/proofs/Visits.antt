@@ -21,6 +21,8 @@ use Rattle.tftp_loop.specs.declared.server_loop.ServerLoop.{ServerLoop}
 use Rattle.tftp_loop.specs.declared.port_turn.Turn.{Turn}
 use Rattle.tftp_loop.specs.declared.port_turn.Turn.TheVariants as turns
 use Rattle.tftp_loop.specs.Served.{OnlyWorks, Work_by, close_reported, state_of, timer_of}
+use Rattle.tftp_loop.specs.declared.port_turn.TheConstants.{MOST_AT_ONCE}
+use Rattle.tftp_loop.specs.Tended.{AllBelow, AwaitTurn, ReceivedFew, before_turn}
 use Rattle.tftp_loop.specs.Tended.{AllFrom, AreKept, AreRead, AreSettled, AreTimed, Finishes, Goes, HaveTurned, Stays}
 use Rattle.tftp_loop.specs.Tended.{IsOpen, IsRead, IsSettled, IsTimed, KeepsTries, TakesTurn, leaves_by, leaves_read}
 use Rattle.tftp_loop.specs.Tended.{leaves_timed, timers_of}
@@ -30,7 +32,13 @@ use Rattle.tftp_loop.proofs.LoopStays.{all_removed, all_set, other_held, other_p
 use Rattle.tftp_loop.proofs.PortLemmas.{set_found}
 use Rattle.tftp_loop.proofs.PortStays.{StaysAt, stays_along, works_held}
 use Rattle.tftp_loop.proofs.RunLemmas.{idle, once, onward}
-use Rattle.tftp_loop.proofs.Tables.{any_default, removed_apart, set_other, set_own}
+use Rattle.tftp_loop.proofs.Tables.{any_default, removed_apart, set_other, set_own, was_at}
+use Rattle.tftp_loop.proofs.Counting.{counted_along}
+
+-- a turn begins with few datagrams received
+pub few_before : (turn : Turn) (timer : Timer) → ReceivedFew (before_turn turn) timer → timer.received ≤ MOST_AT_ONCE
+few_before turns.Ready timer few = omega (arith, few)
+few_before turns.Due timer few = few
 
 module _ {S F D : Type 0} (meaning : StoreMeaning S D) (sources : SourceMeaning F)
     {leaves : PortState S F D → ℕ → Type 0} {index : ℕ} {old middle new : ServerLoop S F D}
@@ -193,6 +201,35 @@ module _ {S F D : Type 0} (meaning : StoreMeaning S D) (sources : SourceMeaning 
         | Goes each ↦ after_close P index (omega arith) rest (each []).0 (each []).1
       ]
 
+  -- and of all before it, which stay
+  pub before : (P : Timer → Type 0) → AllBelow P (index + 1) (timers_of old) → AllBelow P index (timers_of new)
+  before P below k d l h =
+      let rest : (k < length (timers_of old)) → P (slice_index_or put k d) =
+      λ h'. subst P (sym (set_other (timers_of old) index next k d (λ e. omega (arith, e, l))))
+      (below k d (omega (arith, l)) h') in
+      let long : length (timers_of middle) ≡ length (timers_of old) =
+      ap (λ (ts : List Timer). length ts) timers ∙ set_long (timers_of old) index next in
+      let in_middle : (k < length (timers_of middle)) → P (slice_index_or (timers_of middle) k d) =
+      λ h'. subst (λ (ts : List Timer). P (slice_index_or ts k d)) (sym timers) (rest (omega (arith, long, h'))) in
+      elim finishes [
+        | Stays e unclosed ↦
+            let same = ap (λ (n : ServerLoop S F D). timers_of n) e in
+            let longer = ap (λ (ts : List Timer). length ts) same in
+            subst (λ (ts : List Timer). P (slice_index_or ts k d)) (sym same) (in_middle (omega (arith, h, longer)))
+        | Goes each ↦
+            let closes = (each []).0 in
+            let same = (each []).1 in
+            let removed = closed_timers closes in
+            let longer = ap (λ (ts : List Timer). length ts) removed in
+            let was_here = was_at (timers_of middle) closes.index closes.timer k d closes.within (omega (arith, h, longer)) in
+            subst (λ (ts : List Timer). P (slice_index_or ts k d)) (sym removed) (elim was_here.which [
+              | inl at_end ↦ let e = at_end.0 in absurd (omega (arith, e, same, l))
+              | inr apart ↦
+                  subst P (sym (was_here.is d ∙ ap (λ (j : ℕ). slice_index_or (timers_of middle) j d) apart.1))
+                  (in_middle (let inside = was_here.within in let e = apart.1 in omega (arith, inside, e)))
+            ])
+      ]
+
   turn_runs : (buffer : List ℕ) → Runs meaning sources (state_of buffer old) (state_of buffer middle)
   turn_runs buffer =
       let At : List (Port TransferSocket) → Type 0 =
@@ -215,6 +252,16 @@ module _ {S F D : Type 0} (meaning : StoreMeaning S D) (sources : SourceMeaning 
 
   pub works_after : OnlyWorks meaning sources old new
   works_after buffer = onward (turn_runs buffer) (finish_runs buffer)
+
+module _ {S F D : Type 0} (meaning : StoreMeaning S D) (sources : SourceMeaning F) where
+  -- how many were received in a turn
+  few_next : (most index : ℕ) (old middle : ServerLoop S F D) (leaves : PortState S F D → ℕ → Type 0)
+      (takes : TakesTurn meaning sources leaves index old middle)
+      → (timer_of takes.port).received ≤ most → (timer_of takes.next).received ≤ most + MOST_AT_ONCE
+  few_next most index old middle leaves takes began =
+      let all = counted_along meaning sources old.sockets.watch.now _ _ takes.serves in
+      let few = takes.few in
+      omega (arith, all, few, began)
 
 module _ {S F D : Type 0} (meaning : StoreMeaning S D) (sources : SourceMeaning F) {index : ℕ}
     {old middle new : ServerLoop S F D} where
@@ -240,9 +287,20 @@ module _ {S F D : Type 0} (meaning : StoreMeaning S D) (sources : SourceMeaning 
 
   -- the ports from this one on have had their turn
   pub turned_after : (turn : Turn) → TakesTurn meaning sources (leaves_by turn) index old middle →
-      Finishes meaning sources index middle new → HaveTurned turn (index + 1) old → HaveTurned turn index new
-  turned_after turns.Ready takes finishes turned = read_after takes finishes turned
-  turned_after turns.Due takes finishes turned = timed_after takes finishes turned
+      Finishes meaning sources index middle new → AwaitTurn turn (index + 1) old → HaveTurned turn (index + 1) old
+      → HaveTurned turn index new
+  turned_after turns.Ready takes finishes waiting turned =
+      let read = read_after takes finishes (λ k d l h. (turned k d l h).0) in
+      let own : (timer_of takes.port).received ≤ 0 =
+      subst (ReceivedFew 0)
+      (sym (map_is timer_of old.ports.items index takes.port takes.is_port))
+      (waiting index (timer_of takes.port) (omega arith) (map_within timer_of old.ports.items index takes.within)) in
+      let few =
+      after meaning sources takes finishes (ReceivedFew MOST_AT_ONCE) (λ k d l h. (turned k d l h).1)
+      (λ unclosed. let some = few_next meaning sources 0 index old middle leaves_read takes own in omega (arith, some)) in
+      λ k d l h. (read k d l h, few k d l h)
+  turned_after turns.Due takes finishes waiting turned =
+      λ k d l h. timed_after takes finishes (λ k d l h. turned k d l h) k d l h
 
 not_taken : {X : Type 0} (b : Bool) (x : X) → (if b then Some x else None) ≡ None → b ≡ false
 not_taken true x e = absurd (none-some x (sym e))

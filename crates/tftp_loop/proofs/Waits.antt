@@ -25,6 +25,8 @@ use Rattle.tftp_loop.specs.Serves.{read_at, round_end, set_by, until_look}
 use Rattle.tftp_loop.specs.Serves.Does.{Waited, Clock_read}
 use Rattle.tftp_loop.specs.Served.{pending_in, state_of, timer_of}
 use Rattle.tftp_loop.specs.Tended.{AreSettled, AreKept, HasRead, HasSlept, HasWoken, IsHeld, IsSettled, IsTended}
+use Rattle.tftp_loop.specs.Tended.{ReceivedFew}
+use Rattle.tftp_loop.specs.Tended.{HasFew}
 use Rattle.tftp_loop.specs.Tended.{marked_if, millis_of, set_if, timers_of}
 use Rattle.tftp_loop.proofs.ListLemmas.{map_at}
 use Rattle.tftp_loop.proofs.LoopRuns.{same_state}
@@ -83,7 +85,7 @@ module _ {S F D : Type 0} where
       sym (same_state (state_of buffer read)
       (record (read_at read.sockets.watch.now (state_of buffer d)) { limit = read.sockets.limit })
       r.requests r.range r.longest r.server (ap (λ (p : Option (Endpoint × ℕ)). pending_in p buffer) r.pending) r.timers
-      refl refl refl r.marked r.left r.rounds r.events)
+      refl refl refl r.marked r.asked r.left r.rounds r.events)
 
   pub may_wait : (buffer : List ℕ) (d read : ServerLoop S F D) (millis : ℕ) (ports : List ℕ) → HasRead d read →
       IsTended d → 1 ≤ d.left → 1 ≤ d.rounds → millis ≤ millis_of read
@@ -225,6 +227,7 @@ module _ {S F D : Type 0} (meaning : StoreMeaning S D) (sources : SourceMeaning 
       let s = state_of buffer old in
       let waited : LoopState S F D = record s {
         marked = s.marked || is_among s.requests ports;
+        asked = false;
         timers = map (marked_by ports) (map (set_by time) s.timers);
         now = time;
         limit = min (s.now + LONGEST_WAIT) last_moment;
@@ -267,7 +270,7 @@ module _ {S F D : Type 0} (meaning : StoreMeaning S D) (sources : SourceMeaning 
             (woken.timers ∙ ap (map (marked_by ports)) (slept.timers ∙ reads.timers)) refl (woken.limit ∙ end) refl
             (woken.marked ∙ (ap (λ (b : Bool). b || is_among noted.sockets.requests.port ports)
             (slept.marked ∙ reads.marked)
-            ∙ ap (λ (p : ℕ). old.sockets.is_ready || is_among p ports) requests))
+            ∙ ap (λ (p : ℕ). old.sockets.is_ready || is_among p ports) requests)) woken.asked
             (woken.left ∙ (slept.left ∙ reads.left))
             (woken.rounds ∙ ap (λ (n : ℕ). n - 1) (slept.rounds ∙ reads.rounds))
             (woken.events ∙ ap (λ (es : List Event). Watched new.sockets.watch.now ∷ es)
@@ -294,3 +297,11 @@ module _ {S F D : Type 0} (meaning : StoreMeaning S D) (sources : SourceMeaning 
       subst (λ (ts : List Timer). AreSettled new.server.held ts) (sym woken.timers)
       (subst (λ (s : ServerState S F D). AreSettled s.held (map (marked_by ports) (timers_of noted))) (sym woken.server)
       (mapped_held noted.server.held (marked_by ports) (marks ports) (timers_of noted) settled))
+
+  -- and counts anew
+  pub woken_few : (noted new : ServerLoop S F D) (ports : List ℕ) → HasWoken ports noted new → HasFew 0 new
+  woken_few noted new ports woken =
+      subst (λ (ts : List Timer). All (ReceivedFew 0) ts) (sym woken.timers)
+      (λ k d h.
+      let e = length-map (timers_of noted) (marked_by ports) in
+      subst (ReceivedFew 0) (sym (mapped_at (marked_by ports) (timers_of noted) k d (omega (arith, e, h)))) (omega arith))

@@ -1,7 +1,12 @@
--- How many datagrams a server receives at one port before it goes on to the next (ours).
-use Rattle.std.specs.Prelude.{ℕ, ◌≤◌, ◌+◌, List, [], ◌∷◌}
+-- How many datagrams a server receives at one port before it goes on to the next, and between two
+-- waits (ours).
+use Rattle.std.specs.Prelude.{ℕ, ◌≡◌, ◌≤◌, ◌+◌, List, [], ◌∷◌, All}
+use Rattle.tftp_file.specs.Source.{SourceMeaning}
+use Rattle.tftp_store.specs.Store.{StoreMeaning}
 use Rattle.tftp_sockets.specs.Journal.{Event}
 use Rattle.tftp_sockets.specs.Journal.Event.{Received, Sent, Watched, Elapsed, Printed, Quiet}
+use Rattle.tftp_loop.specs.Run.{Run}
+use Rattle.tftp_loop.specs.Serves.{Timer, PortState, LoopState, AtPort, Does, most_in_round}
 
 -- how many datagrams were received
 abbrev pub received_in : List Event → ℕ
@@ -16,3 +21,16 @@ received_in (Quiet event ∷ events) = received_in events
 -- at most so many datagrams were received from one journal to the other
 abbrev pub ReceivesAtMost : ℕ → List Event → List Event → Type 0
 ReceivesAtMost most before after = received_in after ≤ most + received_in before
+
+module _ {S F D : Type 0} (meaning : StoreMeaning S D) (sources : SourceMeaning F) where
+  -- a timer counts each datagram that is received at its port
+  abbrev pub CountsReceived : Type 0
+  CountsReceived =
+      (now : ℕ) (old new : PortState S F D) → Run (AtPort meaning sources now) old new
+      → new.timer.received + received_in old.events ≡ old.timer.received + received_in new.events
+
+  -- and at no time of a run has it counted more since the newest wait
+  abbrev pub ReceivesFew : Type 0
+  ReceivesFew =
+      (start now : LoopState S F D) → start.timers ≡ [] → Run (Does meaning sources) start now
+      → All (λ (timer : Timer). timer.received ≤ most_in_round) now.timers

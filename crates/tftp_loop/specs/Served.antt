@@ -37,6 +37,7 @@ timer_of port =
       look_at = port.due;
       provisional = port.socket.is_provisional;
       age_limit = port.socket.age_limit;
+      received = port.socket.received;
     }
 
 module _ {S F D : Type 0} where
@@ -99,6 +100,7 @@ module _ {S F D : Type 0} where
         limit = d.sockets.limit;
         woken = false;
         marked = d.sockets.is_ready;
+        asked = d.sockets.has_received;
         left = d.left;
         rounds = d.rounds;
         events = d.journal.events;
@@ -152,6 +154,7 @@ module _ {S F D : Type 0} where
     pub now : new.sockets.watch.now ≡ old.sockets.watch.now
     pub limit : new.sockets.limit ≡ old.sockets.limit
     pub marked : new.sockets.is_ready ≡ old.sockets.is_ready
+    pub asked : new.sockets.has_received ≡ old.sockets.has_received
     pub left_to_close : new.left ≡ old.left
     pub rounds : new.rounds ≡ old.rounds
     pub events : new.journal.events

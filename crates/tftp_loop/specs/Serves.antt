@@ -56,6 +56,8 @@ pub record Timer : Type 0 where
   pub provisional : Bool
   -- the time behind which the transfer is over age, and its datagrams are dropped
   pub age_limit : ℕ
+  -- how many datagrams were received at the port since the newest wait
+  pub received : ℕ
 
 -- a server, the timer of one of its transfers, and the journal
 pub record PortState (S F D : Type 0) : Type 0 where
@@ -84,6 +86,8 @@ pub record LoopState (S F D : Type 0) : Type 0 where
   pub woken : Bool
   -- whether a datagram may be at the request port
   pub marked : Bool
+  -- whether one was received there since the newest wait
+  pub asked : Bool
   -- how many transfers are yet to close, and how many waits may still begin
   pub left : ℕ
   pub rounds : ℕ
@@ -94,6 +98,10 @@ pub record LoopState (S F D : Type 0) : Type 0 where
 -- in milliseconds: a second datagram that arrived with the first is reported only once
 abbrev pub look_after : ℕ
 look_after = 500
+
+-- how many datagrams are received at the port of a transfer between two waits, at most
+abbrev pub most_in_round : ℕ
+most_in_round = 64
 
 -- when a port is read again, if its transfer opens or advances now
 abbrev pub next_look : ℕ → ℕ → ℕ
@@ -122,8 +130,8 @@ restarted now timer =
 abbrev pub marked_as : Bool → Timer → Timer
 marked_as marked timer = record timer { marked = marked; look_at = timer.deadline }
 
--- the timer after a datagram: progress restarts it, and the port is left for a while; else more
--- datagrams may be there
+-- the timer after a datagram, which is counted: progress restarts it, and the port is left for a
+-- while; else more datagrams may be there
 abbrev pub timer_after : ℕ → Bool → Timer → Timer
 timer_after now true timer =
     record timer {
@@ -131,8 +139,10 @@ timer_after now true timer =
       marked = false;
       look_at = next_look now timer.interval;
       provisional = true;
+      received = timer.received + 1;
     }
-timer_after now false timer = marked_as true timer
+timer_after now false timer =
+    record timer { marked = true; look_at = timer.deadline; received = timer.received + 1 }
 
 -- the timer of a transfer that opens now, and is over age after so many seconds, if it ever is
 abbrev pub started : ℕ → Option ℕ → ℕ → Endpoint → ℕ → Timer
@@ -146,6 +156,7 @@ started now longest port peer interval =
       look_at = next_look now interval;
       provisional = true;
       age_limit = age_limit_of now longest;
+      received = 0;
     }
 
 -- the deadline after a reading of the clock, if it was provisional or not: an interval from a time
@@ -165,7 +176,8 @@ set_by time timer =
 
 -- the timer after a wait that reported these ports
 abbrev pub marked_by : List ℕ → Timer → Timer
-marked_by ports timer = record timer { marked = timer.marked || is_among timer.port ports }
+marked_by ports timer =
+    record timer { marked = timer.marked || is_among timer.port ports; received = 0 }
 
 -- ---- at the port of a transfer
 
@@ -208,8 +220,9 @@ module _ {S F D : Type 0} (meaning : StoreMeaning S D) (sources : SourceMeaning 
 
   module _ (now : ℕ) (old new : PortState S F D) where
     -- a datagram is received and handled, since the transfer is not over age; progress restarts the
-    -- timer
+    -- timer. Few datagrams were received there since the newest wait
     pub record ReceivesAndHandles : Type 0 where
+      pub few : old.timer.received < most_in_round
       pub in_time : now ≤ old.timer.age_limit
       pub from : Endpoint
       pub bytes : List ℕ
@@ -220,20 +233,22 @@ module _ {S F D : Type 0} (meaning : StoreMeaning S D) (sources : SourceMeaning 
 
     -- a datagram is received and lost
     pub record ReceivesAndLoses : Type 0 where
+      pub few : old.timer.received < most_in_round
       pub in_time : now ≤ old.timer.age_limit
       pub from : Endpoint
       pub bytes : List ℕ
       pub loses : LosesDatagram old.timer.port from bytes old.server new.server
-      pub timer : new.timer ≡ marked_as true old.timer
+      pub timer : new.timer ≡ timer_after now false old.timer
       pub events : new.events ≡ Received old.timer.port from bytes ∷ old.events
 
     -- a datagram is received once the transfer is over age, and dropped
     pub record ReceivesLate : Type 0 where
+      pub few : old.timer.received < most_in_round
       pub late : old.timer.age_limit < now
       pub from : Endpoint
       pub bytes : List ℕ
       pub server : new.server ≡ old.server
-      pub timer : new.timer ≡ marked_as true old.timer
+      pub timer : new.timer ≡ timer_after now false old.timer
       pub events : new.events ≡ Received old.timer.port from bytes ∷ old.events
 
     -- a receive finds nothing
@@ -448,6 +463,7 @@ module _ {S F D : Type 0} (meaning : StoreMeaning S D) (sources : SourceMeaning 
     pub may : MayWait old time millis ports
     pub is : new ≡ record old {
       marked = old.marked || is_among old.requests ports;
+      asked = false;
       timers = map (marked_by ports) (map (set_by time) old.timers);
       now = time;
       limit = min (old.now + LONGEST_WAIT) last_moment;
@@ -470,14 +486,17 @@ module _ {S F D : Type 0} (meaning : StoreMeaning S D) (sources : SourceMeaning 
       events = next.events;
     }
 
-  -- a datagram is received at the request port while none is pending
+  -- a datagram is received at the request port while none is pending, the first since the newest
+  -- wait
   pub record ReceivesRequest : Type 0 where
     pub from : Endpoint
     pub bytes : List ℕ
     pub none : old.pending ≡ None
+    pub first : old.asked ≡ false
     pub is : new ≡ record old {
       pending = Some (from, bytes);
       marked = true;
+      asked = true;
       events = Received old.requests from bytes ∷ old.events;
     }
 
@@ -590,6 +609,7 @@ at_start config requests server events =
       limit = LONGEST_WAIT;
       woken = false;
       marked = true;
+      asked = false;
       left = config.ending.transfers;
       rounds = config.ending.rounds;
       events = events;

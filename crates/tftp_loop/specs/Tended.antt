@@ -16,11 +16,13 @@ use Rattle.tftp_sockets.specs.Journal.Event.{Quiet, Watched}
 use Rattle.tftp_sockets.specs.Journal.QuietEvent.{Slept, Woke}
 use Rattle.tftp_sockets.specs.Quiet.{is_among, was_tried}
 use Rattle.tftp_loop.specs.declared.server_loop.ServerLoop.{ServerLoop}
+use Rattle.tftp_loop.specs.declared.port_turn.TheConstants.{MOST_AT_ONCE}
 use Rattle.tftp_loop.specs.declared.port_turn.Turn.{Turn}
 use Rattle.tftp_loop.specs.declared.port_turn.Turn.TheVariants as turns
 use Rattle.tftp_loop.specs.declared.port_turn.PortStatus.{PortStatus}
 use Rattle.tftp_loop.specs.declared.port_turn.PortStatus.TheVariants as statuses
 use Rattle.tftp_loop.specs.declared.transfer_port.TransferSocket.{TransferSocket}
+use Rattle.tftp_loop.specs.Fair.{ReceivesAtMost}
 use Rattle.tftp_loop.specs.Run.{Run}
 use Rattle.tftp_loop.specs.Serves.{Timer, PortState, LoopState, AnswersRequest, Closes}
 use Rattle.tftp_loop.specs.Serves.{LosesRequest}
@@ -34,6 +36,15 @@ use Rattle.tftp_loop.specs.Served.{OnlyServesPort, close_reported, loop_state, s
 abbrev pub AllFrom : {X : Type 0} → (X → Type 0) → ℕ → List X → Type 0
 AllFrom {X} P from xs = (k : ℕ) (d : X) → from ≤ k → k < length xs → P (slice_index_or xs k d)
 
+-- it holds of each element before this index
+abbrev pub AllBelow : {X : Type 0} → (X → Type 0) → ℕ → List X → Type 0
+AllBelow {X} P below xs =
+    (k : ℕ) (d : X) → k < below → k < length xs → P (slice_index_or xs k d)
+
+-- at most so many datagrams were received at the port since the newest wait
+abbrev pub ReceivedFew : ℕ → Timer → Type 0
+ReceivedFew most timer = timer.received ≤ most
+
 -- the port is not marked, or was read since the last wait
 abbrev pub IsRead : List Event → Timer → Type 0
 IsRead events timer = timer.marked ≡ true → was_tried timer.port events ≡ true
@@ -43,6 +54,11 @@ pub record IsTimed (now : ℕ) (timer : Timer) : Type 0 where
   pub due : (now < timer.deadline) ⊎ (timer.deadline ≡ deadline_of now timer.interval)
   pub look : (now < timer.look_at) ⊎ ((timer.look_at ≡ timer.deadline)
       ⊎ (timer.look_at ≡ next_look now timer.interval))
+
+-- how many datagrams were received at a port when its turn begins, at most
+abbrev pub before_turn : Turn → ℕ
+before_turn turns.Ready = 0
+before_turn turns.Due = MOST_AT_ONCE
 
 -- what a status states of the timer of its port
 abbrev pub LeavesTimer : PortStatus → ℕ → Timer → Type 0
@@ -108,10 +124,18 @@ module _ {S F D : Type 0} where
   abbrev pub AreTimed : ℕ → ServerLoop S F D → Type 0
   AreTimed from d = AllFrom (IsTimed d.sockets.watch.now) from (timers_of d)
 
+  -- at most so many datagrams were received at each port since the newest wait
+  abbrev pub HasFew : ℕ → ServerLoop S F D → Type 0
+  HasFew most d = All (ReceivedFew most) (timers_of d)
+
+  -- at each port before this index no more were received than before its turn
+  abbrev pub AwaitTurn : Turn → ℕ → ServerLoop S F D → Type 0
+  AwaitTurn turn below d = AllBelow (ReceivedFew (before_turn turn)) below (timers_of d)
+
   -- the port of a timer has had its turn
   abbrev pub HasTurned : Turn → ServerLoop S F D → Timer → Type 0
-  HasTurned turns.Ready d = IsRead d.journal.events
-  HasTurned turns.Due d = IsTimed d.sockets.watch.now
+  HasTurned turns.Ready d timer = IsRead d.journal.events timer × ReceivedFew MOST_AT_ONCE timer
+  HasTurned turns.Due d timer = IsTimed d.sockets.watch.now timer
 
   -- the ports from this index on have had their turn
   abbrev pub HaveTurned : Turn → ℕ → ServerLoop S F D → Type 0
@@ -143,7 +167,10 @@ module _ {S F D : Type 0} where
 -- the port after a wait that reported these
 abbrev pub marked_if : List ℕ → Port TransferSocket → Port TransferSocket
 marked_if reported port =
-    record port { is_ready = port.is_ready || is_among port.socket.udp.port reported }
+    record port {
+      is_ready = port.is_ready || is_among port.socket.udp.port reported;
+      socket = record port.socket { received = 0 };
+    }
 
 -- the port after a reading of the clock
 abbrev pub set_if : ℕ → Port TransferSocket → Port TransferSocket
@@ -169,6 +196,7 @@ module _ {S F D : Type 0} where
         ≤ max old.sockets.watch.now (round_end old.sockets.watch.now old.sockets.limit)
     pub limit : new.sockets.limit ≡ min (old.sockets.watch.now + LONGEST_WAIT) last_moment
     pub marked : new.sockets.is_ready ≡ old.sockets.is_ready
+    pub asked : new.sockets.has_received ≡ old.sockets.has_received
     pub left : new.left ≡ old.left
     pub rounds : new.rounds ≡ old.rounds
     pub events : new.journal.events ≡ Watched new.sockets.watch.now ∷ old.journal.events
@@ -184,6 +212,7 @@ module _ {S F D : Type 0} where
     pub now : new.sockets.watch.now ≡ old.sockets.watch.now
     pub limit : new.sockets.limit ≡ old.sockets.limit
     pub marked : new.sockets.is_ready ≡ old.sockets.is_ready
+    pub asked : new.sockets.has_received ≡ old.sockets.has_received
     pub left : new.left ≡ old.left
     pub rounds : new.rounds ≡ old.rounds
     pub events : new.journal.events
@@ -203,6 +232,7 @@ module _ {S F D : Type 0} where
     pub limit : new.sockets.limit ≡ round_end old.sockets.watch.now old.sockets.limit
     pub marked : new.sockets.is_ready
         ≡ (old.sockets.is_ready || is_among old.sockets.requests.port ports)
+    pub asked : new.sockets.has_received ≡ false
     pub left : new.left ≡ old.left
     pub rounds : new.rounds ≡ old.rounds - 1
     pub events : new.journal.events ≡ Watched new.sockets.watch.now ∷ old.journal.events
@@ -243,6 +273,7 @@ module _ {S F D : Type 0} where
       pub leaves_it : leaves
           (record { server = new.server; timer = timer_of next; events = new.journal.events })
           old.sockets.watch.now
+      pub few : ReceivesAtMost MOST_AT_ONCE old.journal.events new.journal.events
       pub items : new.ports.items ≡ slice_set old.ports.items index next
       pub rest : new ≡ record old { server = new.server; ports = new.ports; journal = new.journal }
 

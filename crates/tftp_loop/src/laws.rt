@@ -1,6 +1,7 @@
 //! Laws of a server's runs, over the definitions alone. Its store is of any type.
 
 ghost use Rattle.tftp_loop.specs.Expiry.{ClosesOverAge, ClosesWithoutProgress, TimesOutInSilence};
+ghost use Rattle.tftp_loop.specs.Fair.{CountsReceived, ReceivesFew};
 ghost use Rattle.tftp_loop.specs.Handled.{HandlesBeforeItSleeps, HandlesByTheNextWait};
 ghost use Rattle.tftp_loop.specs.Handled.{ReadsTheRequestPort};
 ghost use Rattle.tftp_loop.specs.PortsInTurn.{UsesNoPortTwice};
@@ -49,4 +50,11 @@ pub fn a_server_closes_what_makes_no_progress<T: Store>()
 /// A server with a range of ports takes no port of it twice before it has taken each.
 pub fn a_range_gives_each_port_once()
     ensures { UsesNoPortTwice }
+{}
+
+/// No port starves another. Between two waits at most 64 datagrams are received at the port of a
+/// transfer, each of which its timer counts, and one at the request port (`ReceivesRequest`).
+pub fn a_server_receives_few_between_waits<T: Store>()
+    ensures counts { CountsReceived T.meaning T.Source.meaning }
+    ensures few { ReceivesFew T.meaning T.Source.meaning }
 {}

@@ -1,13 +1,13 @@
 //! A turn at the port of a transfer: its datagrams, and its timeout.
 
 ghost use Rattle.std.specs.Prelude.{◌≡◌, ◌≤◌, ◌⊎◌, IsSome, MatchOption, IfSome};
-ghost use Rattle.std.specs.Prelude.{false, ℕ};
+ghost use Rattle.std.specs.Prelude.{◌<◌, ◌+◌, false, ℕ};
 ghost use Rattle.tftp_server.specs.State.{at, is_open, taken_of};
 ghost use Rattle.tftp_loop.specs.Fair.{ReceivesAtMost};
 ghost use Rattle.tftp_loop.specs.PortTurn.{AnswersReceived, HasStatus, IsTried, ServesTurn};
 ghost use Rattle.tftp_loop.specs.PortTurn.{at_turn};
 ghost use Rattle.tftp_loop.specs.Serves.{AnswersDatagram, AnswersTimeout, LosesDatagram};
-ghost use Rattle.tftp_loop.specs.Serves.{Timer, WorksAtPort, restarted, timer_after};
+ghost use Rattle.tftp_loop.specs.Serves.{Timer, WorksAtPort, most_in_round, restarted, timer_after};
 ghost use Rattle.tftp_loop.specs.Served.{OnlyServesPort, at_port, timer_of};
 ghost use Rattle.tftp_loop.specs.Tended.{IsTimed, KeepsTries, LeavesTimer, leaves_by, leaves_read};
 ghost use Rattle.tftp_loop.specs.Tended.{leaves_timed};
@@ -15,7 +15,7 @@ ghost use Rattle.tftp_loop.specs.Tended.{leaves_timed};
 use crate::datagram::Datagram;
 use crate::log_entry::LogEntry;
 use crate::transfer_port::{
-    TransferPort, mark_empty, mark_ready, note_step, reply, restart, work_at,
+    TransferPort, mark_empty, mark_ready, note_received, note_step, reply, restart, work_at,
 };
 use tftp_ends::{Endpoint, Step};
 use tftp_lines::Reason;
@@ -27,6 +27,8 @@ use tftp_sockets::{Journal, Receipt, ServerSocket, is_due};
 const MOST_AT_ONCE: usize = 32;
 
 const _: () = prove!(1 <= MOST_AT_ONCE && MOST_AT_ONCE <= 32);
+// A port has two turns between two waits: one if it is marked, and one if it is due.
+const _: () = prove!(2 * MOST_AT_ONCE <= 64);
 
 /// What is done at the port of each transfer.
 #[derive(Clone, Copy)]
@@ -69,7 +71,8 @@ pub(crate) fn take_turn_at<S: Store>(
     turn: Turn,
     buffer: &mut [u8],
 )
-    requires { port.old.due ≤ port.old.socket.times_out_at }
+    requires due { port.old.due ≤ port.old.socket.times_out_at }
+    requires few { port.old.socket.received ≤ MOST_AT_ONCE }
     ensures serves { OnlyServesPort S.meaning S.Source.meaning moment.now server.old port.old
         journal.old server.new port.new journal.new }
     ensures leaves { leaves_by turn (at_port server.new port.new journal.new) moment.now }
@@ -100,7 +103,8 @@ struct PortTurn<'a, S: Store> {
 impl<S: Store> PortTurn<'_, S> {
     /// Takes the turn.
     fn take(&mut self, turn: Turn, buffer: &mut [u8])
-        requires { self.old.port.now.due ≤ self.old.port.now.socket.times_out_at }
+        requires due { self.old.port.now.due ≤ self.old.port.now.socket.times_out_at }
+        requires few { self.old.port.now.socket.received ≤ MOST_AT_ONCE }
         ensures serves { ServesTurn S.meaning S.Source.meaning MOST_AT_ONCE self.old self.new }
         ensures leaves { leaves_by turn (at_turn self.new) self.old.now }
     {
@@ -112,6 +116,7 @@ impl<S: Store> PortTurn<'_, S> {
 
     /// Handles the datagrams at the port, if it is marked.
     fn take_ready(&mut self, buffer: &mut [u8])
+        requires { self.old.port.now.socket.received ≤ MOST_AT_ONCE }
         ensures serves { ServesTurn S.meaning S.Source.meaning MOST_AT_ONCE self.old self.new }
         ensures read { leaves_read (at_turn self.new) self.new.now }
     {
@@ -123,7 +128,8 @@ impl<S: Store> PortTurn<'_, S> {
     /// Handles the datagrams at the port, if it is due. Without progress, delivers the timeout if
     /// that is due.
     fn take_due(&mut self, buffer: &mut [u8])
-        requires { self.old.port.now.due ≤ self.old.port.now.socket.times_out_at }
+        requires due { self.old.port.now.due ≤ self.old.port.now.socket.times_out_at }
+        requires few { self.old.port.now.socket.received ≤ MOST_AT_ONCE }
         ensures serves { ServesTurn S.meaning S.Source.meaning MOST_AT_ONCE self.old self.new }
         ensures timed { leaves_timed (at_turn self.new) self.new.now }
     {
@@ -142,6 +148,7 @@ impl<S: Store> PortTurn<'_, S> {
 
     /// Handles datagrams, until the transfer advances or closes, or none is left.
     fn take_datagrams(&mut self, buffer: &mut [u8]) -> PortStatus
+        requires { self.old.port.now.socket.received ≤ MOST_AT_ONCE }
         ensures serves { ServesTurn S.meaning S.Source.meaning MOST_AT_ONCE self.old self.new }
         ensures status { HasStatus result self.new }
         ensures tried { IsTried self.new }
@@ -157,9 +164,12 @@ impl<S: Store> PortTurn<'_, S> {
 
     /// Receives a datagram, if there is one, and handles it. It is lost when out of memory.
     fn take_datagram(&mut self, buffer: &mut [u8]) -> PortStatus
+        requires { self.old.port.now.socket.received < most_in_round }
         ensures serves { ServesTurn S.meaning S.Source.meaning 1 self.old self.new }
         ensures status { HasStatus result self.new }
         ensures tried { IsTried self.new }
+        ensures counted { self.new.port.now.socket.received
+            ≤ self.old.port.now.socket.received + 1 }
     {
         match self.port.socket.udp.receive(self.journal, buffer) {
             Receipt::Datagram(from, count) => {
@@ -180,12 +190,15 @@ impl<S: Store> PortTurn<'_, S> {
     /// Handles a datagram that was received at the port, and sends the answer. Once the transfer is
     /// over age the datagram is dropped: so its timeouts run out.
     fn answer_in_time(&mut self, datagram: Datagram<'_>) -> PortStatus
+        requires { self.old.port.now.socket.received < most_in_round }
         ensures answers { AnswersReceived S.meaning S.Source.meaning datagram.entry self.old
             self.new }
         ensures status { HasStatus result self.new }
+        ensures counted { self.new.port.now.socket.received
+            ≡ self.old.port.now.socket.received + 1 }
     {
         if self.port.socket.age_limit < self.now {
-            mark_ready(self.port);
+            note_received(self.port);
             return PortStatus::Unfinished;
         }
         self.answer_received(datagram)
@@ -194,10 +207,13 @@ impl<S: Store> PortTurn<'_, S> {
     /// Handles a datagram that was received at the port, and sends the answer. After that the file
     /// reads ahead or is written back.
     fn answer_received(&mut self, datagram: Datagram<'_>) -> PortStatus
-        requires { self.old.now ≤ self.old.port.now.socket.age_limit }
+        requires in_time { self.old.now ≤ self.old.port.now.socket.age_limit }
+        requires few { self.old.port.now.socket.received < most_in_round }
         ensures answers { AnswersReceived S.meaning S.Source.meaning datagram.entry self.old
             self.new }
         ensures status { HasStatus result self.new }
+        ensures counted { self.new.port.now.socket.received
+            ≡ self.old.port.now.socket.received + 1 }
     {
         let tid = self.port.socket.udp.port();
         let socket = &mut self.port.socket;
@@ -209,7 +225,7 @@ impl<S: Store> PortTurn<'_, S> {
             self.journal,
             datagram,
         ) else {
-            mark_ready(self.port);
+            note_received(self.port);
             return PortStatus::Unfinished;
         };
         note_step(self.port, self.now, &step);

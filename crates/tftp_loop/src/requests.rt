@@ -14,7 +14,8 @@ ghost use Rattle.tftp_loop.specs.PortPool.{IsOfPool};
 ghost use Rattle.tftp_loop.specs.Serves.{IsSet, answering_port, interval_at, started, with_timer};
 ghost use Rattle.tftp_loop.specs.Served.{HasAnswered, IsAdmission, WorksRound, timer_of};
 ghost use Rattle.tftp_loop.specs.Tended.{AnswersPending, HandlesReceived, HasTriedRequests};
-ghost use Rattle.tftp_loop.specs.Tended.{IsSettled};
+ghost use Rattle.tftp_loop.specs.Tended.{HasFew, IsSettled};
+ghost use Rattle.tftp_loop.specs.declared.port_turn.TheConstants.{MOST_AT_ONCE};
 
 use crate::datagram::Datagram;
 use crate::log_entry::{LogEntry, reason_unasked};
@@ -40,10 +41,12 @@ impl<S: ServedStore<Reason> + Drop> ServerLoop<S> {
     /// Handles the pending datagram of the request port, and then the next one, if there is one. It
     /// is the only one of its round, since an opening asks the store while transfers wait.
     pub(crate) fn take_request<N: ServerUdp + Eprint>(&mut self, rt: &N, request: &mut [u8])
+        requires first { self.old.sockets.has_received ≡ false }
         ensures works { WorksRound S.meaning S.Source.meaning request.old self.old request.new
             self.new }
         ensures settled { IsSettled self.old → IsSettled self.new }
         ensures tried { HasTriedRequests self.new }
+        ensures few { HasFew MOST_AT_ONCE self.old → HasFew MOST_AT_ONCE self.new }
         ensures rounds { self.new.rounds ≡ self.old.rounds }
     {
         self.take_pending(rt, request);
@@ -59,6 +62,8 @@ impl<S: ServedStore<Reason> + Drop> ServerLoop<S> {
             self.new }
         ensures settled { IsSettled self.old → IsSettled self.new }
         ensures pending { self.new.pending ≡ None }
+        ensures few { HasFew MOST_AT_ONCE self.old → HasFew MOST_AT_ONCE self.new }
+        ensures asked { self.new.sockets.has_received ≡ self.old.sockets.has_received }
         ensures rounds { self.new.rounds ≡ self.old.rounds }
     {
         let Some((from, count)) = self.pending else {
@@ -90,14 +95,19 @@ impl<S: ServedStore<Reason> + Drop> ServerLoop<S> {
     fn receive_request<N: ServerUdp + Eprint>(&mut self, rt: &N, request: &mut [u8])
         requires pending { self.old.pending ≡ None }
         requires marked { self.old.sockets.is_ready ≡ true }
+        requires first { self.old.sockets.has_received ≡ false }
         ensures works { WorksRound S.meaning S.Source.meaning request.old self.old request.new
             self.new }
         ensures settled { IsSettled self.old → IsSettled self.new }
         ensures tried { HasTriedRequests self.new }
+        ensures few { HasFew MOST_AT_ONCE self.old → HasFew MOST_AT_ONCE self.new }
         ensures rounds { self.new.rounds ≡ self.old.rounds }
     {
         match self.sockets.requests.receive(&mut self.journal, request) {
-            Receipt::Datagram(from, count) => self.take_received(rt, from, count, request),
+            Receipt::Datagram(from, count) => {
+                self.sockets.has_received = true;
+                self.take_received(rt, from, count, request);
+            }
             Receipt::Nothing => self.sockets.is_ready = false,
             // A datagram may be there: the port stays marked.
             Receipt::Failed => {}
@@ -387,6 +397,7 @@ impl<S: ServedStore<Reason> + Drop> ServerLoop<S> {
                 times_out_at,
                 is_provisional: true,
                 moved_at: self.sockets.watch.now,
+                received: 0,
                 age_limit: age_limit(self.sockets.watch.now, self.longest),
                 file_work_limit: file_work_limit(&self.server, tid),
                 log_entry,

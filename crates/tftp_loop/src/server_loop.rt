@@ -1,14 +1,14 @@
 //! The loop over the ports of a server, in one thread.
 
 ghost use Rattle.std.specs.Prelude.{◌≡◌, ◌≤◌, ◌<◌, ◌+◌, ◌⊎◌, ◌||◌, IfErr, OnOk, None, is_some, []};
-ghost use Rattle.std.specs.Prelude.{IfOk, length, map, if◌then◌else◌};
+ghost use Rattle.std.specs.Prelude.{IfOk, length, map, false, if◌then◌else◌};
 ghost use Rattle.std.specs.List.{list_any};
 ghost use Rattle.tftp_sockets.specs.Quiet.{is_among};
 ghost use Rattle.tftp_loop.specs.Serves.{marked_by};
 ghost use Rattle.tftp_loop.specs.Served.{FailsToPrint, OnlyWorks, OnlyServes, ServesRounds};
 ghost use Rattle.tftp_loop.specs.Served.{WorksRound};
 ghost use Rattle.tftp_loop.specs.Tended.{ClosesPort, Finishes, HasRead, HasSlept, HasWoken};
-ghost use Rattle.tftp_loop.specs.Tended.{HaveTurned};
+ghost use Rattle.tftp_loop.specs.Tended.{AwaitTurn, HasFew, HaveTurned, before_turn};
 ghost use Rattle.tftp_loop.specs.Tended.{IsSettled, IsTended, TakesTurn, Visits, leaves_by};
 ghost use Rattle.tftp_loop.specs.Tended.{millis_of, timers_of};
 
@@ -140,7 +140,9 @@ impl<S: ServedStore<Reason> + Drop> ServerLoop<S> {
         request: &mut [u8],
         datagram: &mut [u8],
     ) -> Result<(), LoopFault>
-        requires { IsSettled self.old }
+        requires settled { IsSettled self.old }
+        requires few { HasFew 0 self.old }
+        requires first { self.old.sockets.has_received ≡ false }
         ensures serves { ServesRounds S.meaning S.Source.meaning request.old self.old
             request.new self.new }
         ensures end { OnOk result ((self.new.left ≡ 0) ⊎ (self.new.rounds ≡ 0)) }
@@ -165,7 +167,9 @@ impl<S: ServedStore<Reason> + Drop> ServerLoop<S> {
         request: &mut [u8],
         datagram: &mut [u8],
     ) -> Result<(), LoopFault>
-        requires { IsSettled self.old }
+        requires settled { IsSettled self.old }
+        requires few { HasFew 0 self.old }
+        requires first { self.old.sockets.has_received ≡ false }
         ensures works { WorksRound S.meaning S.Source.meaning request.old self.old request.new
             self.new }
         ensures tended { OnOk result (1 ≤ self.new.left → IsTended self.new) }
@@ -189,6 +193,8 @@ impl<S: ServedStore<Reason> + Drop> ServerLoop<S> {
         requires rounds { 1 ≤ self.old.rounds }
         ensures serves { OnlyServes S.meaning S.Source.meaning self.old self.new }
         ensures settled { IsSettled self.new }
+        ensures few { HasFew 0 self.new }
+        ensures first { self.new.sockets.has_received ≡ false }
         ensures rounds { self.new.rounds + 1 ≡ self.old.rounds }
     {
         let millis = self.millis_to_wait();
@@ -208,6 +214,8 @@ impl<S: ServedStore<Reason> + Drop> ServerLoop<S> {
         requires rounds { 1 ≤ self.old.rounds }
         ensures serves { OnlyServes S.meaning S.Source.meaning self.old self.new }
         ensures settled { IsSettled self.new }
+        ensures few { HasFew 0 self.new }
+        ensures first { self.new.sockets.has_received ≡ false }
         ensures rounds { self.new.rounds + 1 ≡ self.old.rounds }
     {
         if poll_now(&mut self.sockets.poll, reports) {
@@ -244,6 +252,8 @@ impl<S: ServedStore<Reason> + Drop> ServerLoop<S> {
         requires rounds { 1 ≤ self.old.rounds }
         ensures serves { OnlyServes S.meaning S.Source.meaning self.old self.new }
         ensures settled { IsSettled self.new }
+        ensures few { HasFew 0 self.new }
+        ensures first { self.new.sockets.has_received ≡ false }
         ensures rounds { self.new.rounds + 1 ≡ self.old.rounds }
     {
         self.active = count_active(self.sockets.watch.now, self.ports.as_slice());
@@ -290,11 +300,12 @@ impl<S: ServedStore<Reason> + Drop> ServerLoop<S> {
         self.sockets.limit = end;
     }
 
-    /// Marks the ports that a wait reported.
+    /// Marks the ports that a wait reported, and counts anew what is received at each.
     fn mark(&mut self, reported: &[u16])
         ensures requests { self.new.sockets ≡ record self.old.sockets {
           is_ready = self.old.sockets.is_ready
               || is_among self.old.sockets.requests.port reported.now;
+          has_received = false;
         } }
         ensures transfers { timers_of self.new ≡ map (marked_by reported.now)
             (timers_of self.old) }
@@ -337,10 +348,12 @@ impl<S: ServedStore<Reason> + Drop> ServerLoop<S> {
         turn: Turn,
         buffer: &mut [u8],
     ) -> Result<(), LoopFault>
-        requires { IsSettled self.old }
+        requires settled { IsSettled self.old }
+        requires few { HasFew (before_turn turn) self.old }
         ensures works { OnlyWorks S.meaning S.Source.meaning self.old self.new }
         ensures settled { IsSettled self.new }
         ensures turned { OnOk result (1 ≤ self.new.left → HaveTurned turn 0 self.new) }
+        ensures asked { self.new.sockets.has_received ≡ self.old.sockets.has_received }
         ensures rounds { self.new.rounds ≡ self.old.rounds }
         ensures fault { IfErr result (λ fault. FailsToPrint fault self.new.journal.events) }
     {
@@ -367,9 +380,12 @@ impl<S: ServedStore<Reason> + Drop> ServerLoop<S> {
     ) -> Result<(), LoopFault>
         requires left { 1 ≤ self.old.left }
         requires settled { IsSettled self.old }
+        requires waiting { AwaitTurn turn (index + 1) self.old }
         ensures works { OnlyWorks S.meaning S.Source.meaning self.old self.new }
         ensures settled { IsSettled self.new }
         ensures turned { HaveTurned turn (index + 1) self.old → HaveTurned turn index self.new }
+        ensures waiting { AwaitTurn turn index self.new }
+        ensures asked { self.new.sockets.has_received ≡ self.old.sockets.has_received }
         ensures rounds { self.new.rounds ≡ self.old.rounds }
         ensures fault { IfErr result (λ fault. FailsToPrint fault self.new.journal.events) }
     {
@@ -390,7 +406,9 @@ impl<S: ServedStore<Reason> + Drop> ServerLoop<S> {
         requires left { 1 ≤ self.old.left }
         requires within { index < length self.old.ports.items }
         requires settled { IsSettled self.old }
+        requires waiting { AwaitTurn turn (index + 1) self.old }
         ensures visits { Visits S.meaning S.Source.meaning turn index self.old self.new }
+        ensures asked { self.new.sockets.has_received ≡ self.old.sockets.has_received }
         ensures rounds { self.new.rounds ≡ self.old.rounds }
         ensures fault { IfErr result (λ fault. FailsToPrint fault self.new.journal.events) }
     {
@@ -402,6 +420,7 @@ impl<S: ServedStore<Reason> + Drop> ServerLoop<S> {
     fn take_turn(&mut self, turn: Turn, index: usize, buffer: &mut [u8])
         requires within { index < length self.old.ports.items }
         requires settled { IsSettled self.old }
+        requires waiting { AwaitTurn turn (index + 1) self.old }
         ensures { TakesTurn S.meaning S.Source.meaning (leaves_by turn) index self.old self.new }
     {
         let moment = Moment {
@@ -425,6 +444,7 @@ impl<S: ServedStore<Reason> + Drop> ServerLoop<S> {
         requires left { 1 ≤ self.old.left }
         requires within { index < length self.old.ports.items }
         ensures finishes { Finishes S.meaning S.Source.meaning index self.old self.new }
+        ensures asked { self.new.sockets.has_received ≡ self.old.sockets.has_received }
         ensures rounds { self.new.rounds ≡ self.old.rounds }
         ensures fault { IfErr result (λ fault. FailsToPrint fault self.new.journal.events) }
     {

@@ -1,6 +1,6 @@
 //! Serves over UDP, from the bind of the request port to the end.
 
-ghost use Rattle.std.specs.Prelude.{◌≡◌, true};
+ghost use Rattle.std.specs.Prelude.{◌≡◌, true, false};
 ghost use Rattle.tftp_loop.specs.WholeRun.{Serves, ServesFrom, listening};
 
 use crate::port_order::PortRange;
@@ -98,6 +98,7 @@ fn listen<N: ServerUdp + Clock + Print + Eprint, S: ServedStore<Reason> + Drop>(
     requires time { sockets.watch.now ≡ 0 }
     requires limit { sockets.limit ≡ LONGEST_WAIT }
     requires marked { sockets.is_ready ≡ true }
+    requires asked { sockets.has_received ≡ false }
     requires range { sockets.pool.range ≡ config.now.ports }
     ensures { ServesFrom S.meaning S.Source.meaning config.now sockets.requests.port server
         result.0 (listening sockets.requests.ip sockets.requests.port journal.events)
@@ -126,6 +127,7 @@ fn run<N: ServerUdp + Clock + Print + Eprint, S: ServedStore<Reason> + Drop>(
     requires time { sockets.watch.now ≡ 0 }
     requires limit { sockets.limit ≡ LONGEST_WAIT }
     requires marked { sockets.is_ready ≡ true }
+    requires asked { sockets.has_received ≡ false }
     requires range { sockets.pool.range ≡ config.now.ports }
     ensures { ServesFrom S.meaning S.Source.meaning config.now sockets.requests.port server
         result.0 journal.events result.1.events }

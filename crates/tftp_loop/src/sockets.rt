@@ -1,6 +1,6 @@
 //! The request port of a server, and the ports for its transfers.
 
-ghost use Rattle.std.specs.Prelude.{◌≡◌, ◌||◌, true, IfOk, IfSome};
+ghost use Rattle.std.specs.Prelude.{◌≡◌, ◌||◌, true, false, IfOk, IfSome};
 ghost use Rattle.tftp_server.specs.Port.{asks_store};
 ghost use Rattle.tftp_sockets.specs.Bound.{IsBoundTo};
 ghost use Rattle.tftp_sockets.specs.Quiet.{is_among};
@@ -26,6 +26,8 @@ pub(crate) struct Sockets {
     pub(crate) requests: ServerSocket,
     /// Whether a datagram may be at the request port.
     pub(crate) is_ready: bool,
+    /// Whether a datagram was received at the request port since the last wait.
+    pub(crate) has_received: bool,
     /// The ports of transfers.
     pool: PortPool,
     /// The time, read after each wait and before the next.
@@ -48,6 +50,7 @@ impl Sockets {
         ensures pool { IfOk result (λ sockets. sockets.pool
             ≡ record { ip = config.now.listen.ip; range = config.now.ports }) }
         ensures marked { IfOk result (λ sockets. sockets.is_ready ≡ true) }
+        ensures asked { IfOk result (λ sockets. sockets.has_received ≡ false) }
     {
         let mut requests = net.bind(config.listen)?;
         let poll = poll_for(net, &mut requests)?;
@@ -56,6 +59,7 @@ impl Sockets {
             poll,
             requests,
             is_ready: true,
+            has_received: false,
             pool,
             watch: Watch::new(read_clock(net, 0)),
             limit: LONGEST_WAIT,
@@ -81,8 +85,10 @@ impl Sockets {
     pub(crate) fn mark(&mut self, reported: &[u16])
         ensures { self.new ≡ record self.old {
           is_ready = self.old.is_ready || is_among self.old.requests.port reported.now;
+          has_received = false;
         } }
     {
+        self.has_received = false;
         let port = self.requests.port();
         if reported.contains(&port) {
             self.is_ready = true;

@@ -1,11 +1,11 @@
 //! The port of a transfer: its socket, its timer and its mark.
 
-ghost use Rattle.std.specs.Prelude.{◌≡◌, true, false, map, min, ◌+◌};
+ghost use Rattle.std.specs.Prelude.{◌≡◌, ◌<◌, true, false, map, min, ◌+◌};
 ghost use Rattle.tftp_sockets.specs.Journal.{replied};
 ghost use Rattle.tftp_sockets.specs.Watch.{last_moment};
 ghost use Rattle.tftp_loop.specs.Fair.{ReceivesAtMost};
 ghost use Rattle.tftp_loop.specs.Serves.{WorksAtPort, age_limit_of, look_after, marked_as};
-ghost use Rattle.tftp_loop.specs.Serves.{restarted, timer_after};
+ghost use Rattle.tftp_loop.specs.Serves.{most_in_round, restarted, timer_after};
 ghost use Rattle.tftp_loop.specs.Served.{timer_of};
 ghost use Rattle.tftp_loop.specs.Tended.{marked_if, set_if};
 
@@ -40,6 +40,8 @@ pub(crate) struct TransferSocket {
     pub(crate) moved_at: u64,
     /// The time behind which the transfer is over age, in milliseconds: its datagrams are dropped.
     pub(crate) age_limit: u64,
+    /// The number of datagrams that were received at the port since the last wait.
+    pub(crate) received: usize,
     /// The number of active transfers up to which its file reads ahead or is written back.
     pub(crate) file_work_limit: usize,
     /// The log entry, if there is a log.
@@ -78,28 +80,41 @@ pub(crate) fn reply(
     }
 }
 
-/// Restarts the timer of a transfer if a step was progress, and leaves the port for a while. Else
-/// the port stays marked.
+/// Counts a datagram. If its step was progress, restarts the timer of the transfer, and leaves the
+/// port for a while. Else the port stays marked.
 pub(crate) fn note_step(port: &mut TransferPort, now: u64, step: &Step)
+    requires { port.old.socket.received < most_in_round }
     ensures { timer_of port.new ≡ timer_after now step.now.progress (timer_of port.old) }
 {
     if step.progress {
         note_progress(port, now);
     } else {
-        mark_ready(port);
+        note_received(port);
     }
 }
 
-/// Restarts the timer of a transfer, and leaves its port for a while.
+/// Counts a datagram, restarts the timer of its transfer, and leaves its port for a while.
 fn note_progress(port: &mut TransferPort, now: u64)
+    requires { port.old.socket.received < most_in_round }
     ensures { timer_of port.new ≡ timer_after now true (timer_of port.old) }
 {
     let deadline = deadline(now, port.socket.interval);
+    port.socket.received += 1;
     port.socket.moved_at = now;
     port.socket.times_out_at = deadline;
     port.socket.is_provisional = true;
     port.is_ready = false;
     port.due = deadline.min(next_look(now));
+}
+
+/// Counts a datagram that made no progress. More may be at the port.
+pub(crate) fn note_received(port: &mut TransferPort)
+    requires { port.old.socket.received < most_in_round }
+    ensures { timer_of port.new ≡ timer_after 0 false (timer_of port.old) }
+{
+    port.socket.received += 1;
+    port.is_ready = true;
+    port.due = port.socket.times_out_at;
 }
 
 /// When a port is read again, if its transfer opens or advances at `now` and does not expire
@@ -138,7 +153,7 @@ pub(crate) fn mark_empty(port: &mut TransferPort)
     port.due = port.socket.times_out_at;
 }
 
-/// Marks the ports that a wait reported.
+/// Marks the ports that a wait reported, and counts anew what is received at each.
 pub(crate) fn mark_all(ports: &mut [TransferPort], reported: &[u16])
     ensures { ports.new ≡ map (marked_if reported.now) ports.old }
 {
@@ -147,10 +162,11 @@ pub(crate) fn mark_all(ports: &mut [TransferPort], reported: &[u16])
     }
 }
 
-/// Marks a port if a wait reported it.
+/// Marks a port if a wait reported it, and counts anew.
 fn mark_reported(port: &mut TransferPort, reported: &[u16])
     ensures { port.new ≡ marked_if reported.now port.old }
 {
+    port.socket.received = 0;
     let number = port.socket.udp.port();
     if reported.contains(&number) {
         port.is_ready = true;

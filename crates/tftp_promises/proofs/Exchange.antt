@@ -115,9 +115,12 @@ module _ (more : List Client) (before : List Noted) where
       ),
     )
 
+    honest_22 : Honest 22
+    honest_22 = (tt, (tt, (tt, (tt, honest_18))))
+
     -- all of them, if the latecomer's request is
-    pub honest_all : Comes 0 (Received 69 latecomer read_request) (reverse (take 18 exchange) ++ before) → Honest 20
-    honest_all comes = (tt, (comes, honest_18))
+    pub honest_all : Comes 0 (Received 69 latecomer read_request) (reverse (take 22 exchange) ++ before) → Honest 24
+    honest_all comes = (tt, (comes, honest_22))
 
 -- ---- a client alone with the server
 pub two_apart : (p q : ℕ) → p ≢ q → AreDistinct (p ∷ q ∷ [])
@@ -238,7 +241,7 @@ strange_still = record {
 honest_late : AreHonest two late_exchange
 honest_late =
     honest_all (asking ∷ []) asked strange_still (tt, tt)
-    (delivered (asking ∷ []) asked 2 0 other_ip server_ip refl refl 7001 69 read_request _ (18, omega arith, refl))
+    (delivered (asking ∷ []) asked 2 0 other_ip server_ip refl refl 7001 69 read_request _ (22, omega arith, refl))
 
 -- what holds of the server holds of each
 one_server : (P : ℕ → Server → Type 0) → P 0 server → (i : ℕ) (s : Server) → slice_get two.servers i ≡ Some s → P i s

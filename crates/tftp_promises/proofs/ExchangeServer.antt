@@ -33,9 +33,9 @@ use Rattle.tftp_sockets.specs.Journal.{answered}
 use Rattle.tftp_sockets.specs.Journal.Event.{Received}
 use Rattle.tftp_loop.specs.Run.{Run}
 use Rattle.tftp_loop.specs.Run.Run.{Start, Then}
-use Rattle.tftp_loop.specs.Serves.{Timer, PortState, Does, timer_after}
+use Rattle.tftp_loop.specs.Serves.{Timer, PortState, Does, most_in_round, timer_after}
 use Rattle.tftp_loop.specs.Serves.AtPort.{A_datagram}
-use Rattle.tftp_loop.specs.Serves.Does.{At_port, Request_received, Request_answered, Transfer_closed}
+use Rattle.tftp_loop.specs.Serves.Does.{At_port, Clock_read, Request_received, Request_answered, Transfer_closed, Waited}
 use Rattle.tftp_promises.specs.Openings.{HasClosed, above, is_ours, our_ports}
 use Rattle.tftp_promises.specs.Order.{Programs}
 use Rattle.tftp_promises.specs.Ports.{opened_ports}
@@ -46,7 +46,7 @@ use Rattle.tftp_promises.specs.Witness.{requests, stranger}
 use Rattle.tftp_promises.proofs.ExchangeParts.{ack_spelled, read_8, read_spelled}
 use Rattle.tftp_promises.proofs.ExchangeStates.{Held, Loop, at_stranger, completes, config, late, read_by, reading_0}
 use Rattle.tftp_promises.proofs.ExchangeStates.{reading_1, reading_2, sends, serving, store, timed, s0, s1, s2, s3, s4, s5}
-use Rattle.tftp_promises.proofs.ExchangeStates.{s6, s7, s8, t2}
+use Rattle.tftp_promises.proofs.ExchangeStates.{s6, s7, s8, t2, waited, woken}
 
 -- ---- the steps
 abbrev Step : Loop → Loop → Type 0
@@ -65,7 +65,7 @@ module _ (old : Loop) (index : ℕ) (timer : Timer) (transfer : Held) (from : En
     events = answered timer.port turn.reply (Received timer.port from bytes ∷ old.events);
   }
 
-  handles : old.now ≤ timer.age_limit → index < length old.timers → timer ≡ slice_index_or old.timers index timer →
+  handles : old.now ≤ timer.age_limit → timer.received < most_in_round → index < length old.timers → timer ≡ slice_index_or old.timers index timer →
       at timer.port old.server.held ≡ Some transfer →
       StepIn memory_meaning memory_source from bytes transfer.end
       (files_in old.server.store transfer.path old.server.config.overwrite transfer.files) turn
@@ -78,13 +78,14 @@ module _ (old : Loop) (index : ℕ) (timer : Timer) (transfer : Held) (from : En
         timers = slice_set old.timers index port_after.timer;
         events = port_after.events;
       })
-  handles in_time within is_timer found steps lends stays kind = At_port (record {
+  handles in_time few within is_timer found steps lends stays kind = At_port (record {
     index = index;
     timer = timer;
     within = within;
     is_timer = is_timer;
     next = port_after;
     does = A_datagram (record {
+      few = few;
       in_time = in_time;
       from = from;
       bytes = bytes;
@@ -138,7 +139,7 @@ reads_file peer = record {
 }
 
 pub asks_to_read : Step s0 s1
-asks_to_read = Request_received (record { from = reader; bytes = read_request; none = refl; is = refl })
+asks_to_read = Request_received (record { from = reader; bytes = read_request; none = refl; first = refl; is = refl })
 
 pub opens_read : Step s1 s2
 unfolding occurrences_of name_of answered_option
@@ -195,8 +196,8 @@ refuses_wrong_peer =
 
 pub answers_wrong_peer : Step s2 s3
 answers_wrong_peer =
-    handles s2 0 (timed reader false 500) (read_by reading_0 read_file) stranger (ack_bytes 0) at_stranger
-    (Error UnknownTransferId) store (Source read_file) (omega arith) (omega arith) refl refl refuses_wrong_peer refl refl
+    handles s2 0 (timed reader false 500 0) (read_by reading_0 read_file) stranger (ack_bytes 0) at_stranger
+    (Error UnknownTransferId) store (Source read_file) (omega arith) (omega arith) (omega arith) refl refl refuses_wrong_peer refl refl
     tt
 
 -- the block is read and sent
@@ -221,8 +222,8 @@ reads_block = record {
 
 pub sends_block : Step s3 s4
 sends_block =
-    handles s3 0 (timed reader true 1000) (read_by reading_0 read_file) reader (ack_bytes 0) sends LastSent store
-    (Source []) (omega arith) (omega arith) refl refl reads_block refl refl tt
+    handles s3 0 (timed reader true 1000 1) (read_by reading_0 read_file) reader (ack_bytes 0) sends LastSent store
+    (Source []) (omega arith) (omega arith) (omega arith) refl refl reads_block refl refl tt
 
 -- it is acknowledged, and the transfer closes
 is_acknowledged : StepIn memory_meaning memory_source reader (ack_bytes 1) reading_1 (Source []) completes (Source [])
@@ -230,13 +231,13 @@ is_acknowledged = record { decoded = Some (Ack 1); says = ack_spelled 1 (omega a
 
 pub completes_read : Step s4 s5
 completes_read =
-    handles s4 0 (timed reader false 500) (read_by reading_1 []) reader (ack_bytes 1) completes Nothing store (Source [])
-    (omega arith) (omega arith) refl refl is_acknowledged refl refl tt
+    handles s4 0 (timed reader false 500 2) (read_by reading_1 []) reader (ack_bytes 1) completes Nothing store (Source [])
+    (omega arith) (omega arith) (omega arith) refl refl is_acknowledged refl refl tt
 
 pub closes_read : Step s5 s6
 closes_read = Transfer_closed (record {
   index = 0;
-  timer = timed reader false 500;
+  timer = timed reader false 500 3;
   within = omega arith;
   is_timer = refl;
   taken = (record_of reading_2, None);
@@ -247,8 +248,37 @@ closes_read = Transfer_closed (record {
   is = refl;
 })
 
-pub asks_again : Step s6 s7
-asks_again = Request_received (record { from = latecomer; bytes = read_request; none = refl; is = refl })
+-- the server waits, and reads the clock
+pub waits_again : Step s6 waited
+waits_again = Waited (record {
+  time = 0;
+  forward = omega arith;
+  soon = omega arith;
+  millis = 0;
+  ports = 69 ∷ [];
+  may = record {
+    read = refl;
+    left = omega arith;
+    rounds = omega arith;
+    requests = λ h. refl;
+    transfers = λ k d h. absurd (omega (arith, h));
+    longest = omega arith;
+    shortest = λ h. inl refl;
+  };
+  is = refl;
+})
+
+pub wakes_again : Step waited woken
+wakes_again = Clock_read (record {
+  time = 0;
+  woken = refl;
+  forward = omega arith;
+  soon = omega arith;
+  is = refl;
+})
+
+pub asks_again : Step woken s7
+asks_again = Request_received (record { from = latecomer; bytes = read_request; none = refl; first = refl; is = refl })
 
 pub opens_again : Step s7 s8
 unfolding occurrences_of name_of answered_option
@@ -278,8 +308,8 @@ agreeable = search rules
 
 abbrev pub serves : Run (Does memory_meaning memory_source) s0 s8
 serves =
-    Then (Then (Then (Then (Then (Then (Then (Then Start asks_to_read) opens_read) answers_wrong_peer) sends_block)
-    completes_read) closes_read) asks_again) opens_again
+    Then (Then (Then (Then (Then (Then (Then (Then (Then (Then Start asks_to_read) opens_read) answers_wrong_peer)
+    sends_block) completes_read) closes_read) waits_again) wakes_again) asks_again) opens_again
 
 abbrev pub server : ServerProgram memory_meaning memory_source requests
 server = record {
@@ -309,7 +339,7 @@ second = record {
 
 -- the transfers that it opened
 pub all_opened : opened_ports serves ≡ 1024 ∷ 1024 ∷ []
-unfolding handles asks_to_read opens_read answers_wrong_peer sends_block completes_read closes_read asks_again opens_again
+unfolding handles asks_to_read opens_read answers_wrong_peer sends_block completes_read closes_read waits_again wakes_again asks_again opens_again
 all_opened = refl
 
 pub opened_second : opened_ports second.run ≡ 2048 ∷ []
@@ -318,7 +348,7 @@ opened_second = refl
 
 -- those of the client that reads
 pub ports_first : ports_for reader serves ≡ 1024 ∷ []
-unfolding handles asks_to_read opens_read answers_wrong_peer sends_block completes_read closes_read asks_again opens_again
+unfolding handles asks_to_read opens_read answers_wrong_peer sends_block completes_read closes_read waits_again wakes_again asks_again opens_again
 ports_first = refl
 
 pub ports_second : ports_for reader second.run ≡ 2048 ∷ []
@@ -333,13 +363,13 @@ ours_of late reads = (if late then 1024 ∷ [] else []) ++ ((if reads then 1024 
 module _ {G K : Type 0} {inputs : SourceMeaning G} {outputs : SinkMeaning K}
     (programs : Programs memory_meaning memory_source inputs outputs) where
   pub opened_for : our_ports programs serves ≡ ours_of (is_ours programs latecomer) (is_ours programs reader)
-  unfolding handles asks_to_read opens_read answers_wrong_peer sends_block completes_read closes_read asks_again
+  unfolding handles asks_to_read opens_read answers_wrong_peer sends_block completes_read closes_read waits_again wakes_again asks_again
       opens_again
   opened_for = refl
 
   pub closed_there : is_ours programs reader ≡ true →
       HasClosed programs serves 1024 (read_by reading_2 []) (endpoint programs.ip 1024)
-  unfolding handles asks_to_read opens_read answers_wrong_peer sends_block completes_read closes_read asks_again
+  unfolding handles asks_to_read opens_read answers_wrong_peer sends_block completes_read closes_read waits_again wakes_again asks_again
       opens_again
   closed_there reads =
       inr

@@ -16,7 +16,8 @@ use Rattle.tftp_lines.specs.declared.printed.Printed.TheVariants.{Closed}
 use Rattle.tftp_rules.specs.Machine.{Endpoint}
 use Rattle.tftp_server.specs.State.{TransferState, ServerState}
 use Rattle.tftp_server.specs.declared.config.Config.{Config}
-use Rattle.tftp_sockets.specs.Journal.Event.{Received, Sent, Printed}
+use Rattle.tftp_sockets.specs.Journal.Event.{Received, Sent, Watched, Printed, Quiet}
+use Rattle.tftp_sockets.specs.Journal.QuietEvent.{Slept, Woke}
 use Rattle.tftp_sockets.specs.Watch.{last_moment}
 use Rattle.tftp_loop.specs.Serves.{Timer, LoopState, at_start}
 use Rattle.tftp_loop.specs.declared.serving.LoopConfig.{LoopConfig}
@@ -82,8 +83,8 @@ abbrev pub read_by : EndState → List ℕ → Held
 read_by end source = record { end = end; files = Source source; path = read_name; request = read_request }
 
 -- ---- the timers
-abbrev pub timed : Endpoint → Bool → ℕ → Timer
-timed peer marked look_at =
+abbrev pub timed : Endpoint → Bool → (look_at received : ℕ) → Timer
+timed peer marked look_at received =
     record {
       port = 1024;
       peer = peer;
@@ -93,6 +94,7 @@ timed peer marked look_at =
       look_at = look_at;
       provisional = true;
       age_limit = last_moment;
+      received = received;
     }
 
 -- ---- the states
@@ -100,13 +102,13 @@ abbrev pub s0 : Loop
 s0 = at_start service 69 (serving []) []
 
 abbrev pub s1 : Loop
-s1 = record s0 { pending = Some (reader, read_request); events = Received 69 reader read_request ∷ [] }
+s1 = record s0 { pending = Some (reader, read_request); asked = true; events = Received 69 reader read_request ∷ [] }
 
 abbrev pub s2 : Loop
 s2 = record s1 {
   server = serving ((1024, read_by reading_0 read_file) ∷ []);
   pending = None;
-  timers = timed reader false 500 ∷ [];
+  timers = timed reader false 500 0 ∷ [];
   events = Sent 1024 reader (oack_bytes agreed) ∷ s1.events;
 }
 
@@ -115,26 +117,27 @@ abbrev pub t2 : Loop
 t2 = record s1 {
   server = serving ((2048, read_by reading_0 read_file) ∷ []);
   pending = None;
-  timers = record (timed reader false 500) { port = 2048 } ∷ [];
+  timers = record (timed reader false 500 0) { port = 2048 } ∷ [];
   events = Sent 2048 reader (oack_bytes agreed) ∷ s1.events;
 }
 
 abbrev pub s3 : Loop
 s3 = record s2 {
-  timers = timed reader true 1000 ∷ [];
+  timers = timed reader true 1000 1 ∷ [];
   events = Sent 1024 stranger (error_bytes UnknownTransferId) ∷ Received 1024 stranger (ack_bytes 0) ∷ s2.events;
 }
 
 abbrev pub s4 : Loop
 s4 = record s3 {
   server = serving ((1024, read_by reading_1 []) ∷ []);
-  timers = timed reader false 500 ∷ [];
+  timers = timed reader false 500 2 ∷ [];
   events = Sent 1024 reader (data_bytes 1 read_file) ∷ Received 1024 reader (ack_bytes 0) ∷ s3.events;
 }
 
 abbrev pub s5 : Loop
 s5 = record s4 {
   server = serving ((1024, read_by reading_2 []) ∷ []);
+  timers = timed reader false 500 3 ∷ [];
   events = Received 1024 reader (ack_bytes 1) ∷ s4.events;
 }
 
@@ -146,16 +149,30 @@ s6 = record s5 {
   events = Printed (line_text (Closed 1024 5000 outcomes.Complete)) ∷ s5.events;
 }
 
+-- after a wait, and after the reading of the clock
+abbrev pub waited : Loop
+waited = record s6 {
+  asked = false;
+  limit = 1000;
+  woken = true;
+  rounds = 1;
+  events = Quiet (Woke (69 ∷ [])) ∷ Quiet (Slept 0) ∷ Watched 0 ∷ s6.events;
+}
+
+abbrev pub woken : Loop
+woken = record waited { woken = false; events = Watched 0 ∷ waited.events }
+
 abbrev pub s7 : Loop
-s7 = record s6 {
+s7 = record woken {
   pending = Some (latecomer, read_request);
-  events = Received 69 latecomer read_request ∷ s6.events;
+  asked = true;
+  events = Received 69 latecomer read_request ∷ woken.events;
 }
 
 abbrev pub s8 : Loop
 s8 = record s7 {
   server = serving ((1024, read_by late read_file) ∷ []);
   pending = None;
-  timers = timed latecomer false 500 ∷ [];
+  timers = timed latecomer false 500 0 ∷ [];
   events = Sent 1024 latecomer (oack_bytes agreed) ∷ s7.events;
 }

@@ -27,7 +27,7 @@ use Rattle.tftp_lines.specs.declared.printed.Printed.TheVariants.{Closed}
 use Rattle.tftp_rules.specs.Machine.{Endpoint}
 use Rattle.tftp_server.specs.State.{TransferState}
 use Rattle.tftp_sockets.specs.Journal.Event.{Received, Sent, Watched, Printed, Quiet}
-use Rattle.tftp_sockets.specs.Journal.QuietEvent.{Slept}
+use Rattle.tftp_sockets.specs.Journal.QuietEvent.{Slept, Woke}
 use Rattle.tftp_promises.specs.Alone.{IsPassedOver, IsServed, alone}
 use Rattle.tftp_promises.specs.Joined.{AreJoined}
 use Rattle.tftp_promises.specs.Modelled.{AreModelled}
@@ -97,7 +97,8 @@ exchange =
     ∷ (1, Printed (end_text (ends.Complete 1)))
     ∷ (0, Received 1024 reader (ack_bytes 1))
     ∷ (0, Printed (line_text (Closed 1024 5000 outcomes.Complete)))
-    -- another reads at the same port
+    -- another reads at the same port, after a wait: a server receives one request between two waits
+    ∷ (0, Watched 0) ∷ (0, Quiet (Slept 0)) ∷ (0, Quiet (Woke (69 ∷ []))) ∷ (0, Watched 0)
     ∷ (0, Received 69 latecomer read_request) ∷ (0, Sent 1024 latecomer (oack_bytes agreed)) ∷ []
 
 -- these programs noted it, and the latecomer is a stranger; the client is complete and has the

@@ -7,7 +7,7 @@ use Rattle.tftp_loop.specs.Serves.{at_start}
 use Rattle.tftp_loop.specs.Served.{pending_in, state_of, timer_of}
 use Rattle.tftp_loop.proofs.RunLemmas.{onward, idle}
 use Rattle.tftp_loop.proofs.LoopRuns.{same_state}
-use Rattle.tftp_loop.proofs.Receipts.{ends_by, starts_settled}
+use Rattle.tftp_loop.proofs.Receipts.{ends_by, starts_few, starts_settled}
 use Rattle.tftp_loop.proofs.serving.run.Goals as goal
 
 pub returns-in_default : goal.returns-in_default
@@ -19,7 +19,11 @@ returns-in_default g c = record {
 }
 
 pub take_rounds-result-requires : goal.take_rounds-result-requires
-take_rounds-result-requires g c = starts_settled c.new-running.result c.new-running.ensures.ports
+take_rounds-result-requires g c = record {
+  settled = starts_settled c.new-running.result c.new-running.ensures.ports;
+  few = starts_few c.new-running.result c.new-running.ensures.ports;
+  first = ap (λ (s : Sockets). s.has_received) c.new-running.ensures.sockets ∙ c.requires.asked;
+}
 
 pub returns : goal.returns
 returns g c =
@@ -39,7 +43,8 @@ returns g c =
           (ap (λ (p : Option (Endpoint × ℕ)). pending_in p request) made.pending) (ap (map timer_of) made.ports)
           (ap (λ (s : Sockets). s.watch.now) made.sockets ∙ c.requires.time)
           (ap (λ (s : Sockets). s.limit) made.sockets ∙ c.requires.limit) refl
-          (ap (λ (s : Sockets). s.is_ready) made.sockets ∙ c.requires.marked) made.left made.rounds
+          (ap (λ (s : Sockets). s.is_ready) made.sockets ∙ c.requires.marked)
+          (ap (λ (s : Sockets). s.has_received) made.sockets ∙ c.requires.asked) made.left made.rounds
           (ap (λ (j : Journal). j.events) made.journal)))
           rounds.ensures.serves;
       noted = refl;

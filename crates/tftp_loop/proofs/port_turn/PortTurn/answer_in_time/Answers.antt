@@ -1,4 +1,5 @@
-use Rattle.std.proofs.Common.{arith, refl}
+use Rattle.std.proofs.Common.{arith, refl, ap}
+use Rattle.tftp_loop.specs.Serves.{Timer}
 use Rattle.tftp_loop.specs.Served.{timer_of}
 use Rattle.tftp_loop.proofs.PortRuns.{receives_late}
 use Rattle.tftp_loop.proofs.port_turn.PortTurn.answer_in_time.Goals as goal
@@ -11,8 +12,11 @@ returns-then-self-clause-answers g c =
       serves =
           λ events noted.
           receives_late g.S.Store.meaning g.S.Source.Source.meaning old.now old.server.now (timer_of old.port.now)
-          (timer_of c.mark_ready.new.port) events old.journal.now.events c.args.datagram.from
-          c.args.datagram.bytes.now (omega (arith)) noted c.mark_ready.ensures;
+          (timer_of c.note_received.new.port) events old.journal.now.events c.args.datagram.from
+          c.args.datagram.bytes.now (omega (arith)) c.requires noted c.note_received.ensures;
       tries = λ q h. h;
       received = omega arith;
     }
+
+pub returns-then-self-clause-counted : goal.returns-then-self-clause-counted
+returns-then-self-clause-counted g c = ap (λ (t : Timer). t.received) c.note_received.ensures

@@ -1,6 +1,8 @@
-use Rattle.std.proofs.Common.{refl}
+use Rattle.std.proofs.Common.{refl, ap, ◌∙◌}
+use Rattle.tftp_loop.specs.Serves.{Timer}
 use Rattle.tftp_loop.specs.Served.{timer_of}
 use Rattle.tftp_loop.proofs.PortRuns.{here, receives, receives_lost, then_works}
+use Rattle.tftp_loop.proofs.PortStays.{after_received}
 use Rattle.tftp_loop.proofs.port_turn.PortTurn.answer_received.Goals as goal
 
 pub returns-in_default-clause-answers : goal.returns-in_default-clause-answers
@@ -11,9 +13,9 @@ returns-in_default-clause-answers g c =
       serves =
           λ events noted.
           receives_lost g.S.Store.meaning g.S.Source.Source.meaning old.now old.server.now c.handle.new.server
-          (timer_of old.port.now) (timer_of c.mark_ready.new.port)
+          (timer_of old.port.now) (timer_of c.note_received.new.port)
           events old.journal.now.events c.handle.new.journal.events c.args.datagram.from c.args.datagram.bytes.now
-          c.requires noted c.in_default.ensures.handled.0 c.in_default.ensures.handled.1 c.mark_ready.ensures;
+          c.requires.in_time c.requires.few noted c.in_default.ensures.handled.0 c.in_default.ensures.handled.1 c.note_received.ensures;
       tries = c.handle.ensures.tries;
       received = c.handle.ensures.received;
     }
@@ -32,8 +34,17 @@ returns-clause-answers g c =
           (receives g.S.Store.meaning g.S.Source.Source.meaning old.now old.server.now c.handle.new.server
           (timer_of old.port.now) (timer_of c.note_step.new.port)
           events old.journal.now.events c.handle.new.journal.events c.args.datagram.from c.args.datagram.bytes.now
-          c.in-Some.step c.requires noted c.in-Some.ensures.handled c.note_step.ensures)
+          c.in-Some.step c.requires.in_time c.requires.few noted c.in-Some.ensures.handled c.note_step.ensures)
           refl c.work_after.ensures.works;
       tries = c.handle.ensures.tries;
       received = c.handle.ensures.received;
     }
+
+pub returns-in_default-clause-counted : goal.returns-in_default-clause-counted
+returns-in_default-clause-counted g c = ap (λ (t : Timer). t.received) c.note_received.ensures
+
+pub returns-clause-counted : goal.returns-clause-counted
+returns-clause-counted g c =
+    let old = c.args.self.now in
+    ap (λ (t : Timer). t.received) c.note_step.ensures
+    ∙ after_received old.now c.in-Some.step.progress (timer_of old.port.now)

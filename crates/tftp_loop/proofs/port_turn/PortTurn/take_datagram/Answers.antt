@@ -1,7 +1,8 @@
-use Rattle.std.proofs.Common.{◌≡◌, true, ℕ, refl, sym, subst}
+use Rattle.std.proofs.Common.{arith, ◌≡◌, true, ℕ, refl, sym, ap, subst}
 use Rattle.std.specs.Prelude.{take}
 use Rattle.tftp_sockets.specs.Journal.QuietEvent.{Empty, Failed}
 use Rattle.tftp_sockets.specs.Quiet.{was_tried}
+use Rattle.tftp_loop.specs.Serves.{Timer}
 use Rattle.tftp_loop.specs.Served.{timer_of}
 use Rattle.tftp_loop.proofs.PortRuns.{finds_nothing, fails_to_receive}
 use Rattle.tftp_loop.proofs.PortStays.{received_tried, stays_along}
@@ -55,3 +56,14 @@ returns-in-Failed-clause-serves g c =
           receives_none
           (Failed old.port.now.socket.udp.port) 1 old.journal.now.events c.receive.new.journal.events noted;
     }
+
+pub returns-in-Datagram-clause-counted : goal.returns-in-Datagram-clause-counted
+returns-in-Datagram-clause-counted g c = let one = c.answer_in_time.ensures.counted in omega (arith, one)
+
+pub returns-in-Nothing-clause-counted : goal.returns-in-Nothing-clause-counted
+returns-in-Nothing-clause-counted g c =
+    let none = ap (λ (t : Timer). t.received) c.mark_empty.ensures in omega (arith, none)
+
+pub returns-in-Failed-clause-counted : goal.returns-in-Failed-clause-counted
+returns-in-Failed-clause-counted g c =
+    let none = ap (λ (t : Timer). t.received) c.mark_ready.ensures in omega (arith, none)

@@ -4,13 +4,14 @@ use Rattle.tftp_loop.proofs.TurnLemmas.{idles, serves_onward}
 use Rattle.tftp_loop.proofs.port_turn.PortTurn.take_datagrams.Goals as goal
 
 pub loop-turn-init : goal.loop-turn-init
-loop-turn-init g c = (idles g.S.Store.meaning g.S.Source.Source.meaning 0 _, inl refl)
+loop-turn-init g c = (idles g.S.Store.meaning g.S.Source.Source.meaning 0 _, omega arith, inl refl)
 
 pub loop-turn-preserved : goal.loop-turn-preserved
 loop-turn-preserved g c = (
   serves_onward g.S.Store.meaning g.S.Source.Source.meaning c.loop-turn.turn 1 (c.loop-turn.turn + 1) _ _ _
       (omega arith)
       c.loop-turn.invariant.0 c.take_datagram.ensures.serves,
+  let before = c.loop-turn.invariant.1 in let one = c.take_datagram.ensures.counted in omega (arith, before, one),
   inr (c.take_datagram.ensures.tried, c.in-Unfinished.ensures.status.timer),
 )
 
@@ -18,3 +19,9 @@ pub returns-in_default-clause-serves : goal.returns-in_default-clause-serves
 returns-in_default-clause-serves g c =
     serves_onward g.S.Store.meaning g.S.Source.Source.meaning c.loop-turn.turn 1 MOST_AT_ONCE _ _ _ (omega arith)
     c.loop-turn.invariant.0 c.take_datagram.ensures.serves
+
+pub take_datagram-requires : goal.take_datagram-requires
+take_datagram-requires g c =
+    let before = c.loop-turn.invariant.1 in
+    let few = c.requires in
+    omega (arith, before, few)

@@ -1,4 +1,4 @@
-use Rattle.std.proofs.Common.{◌≡◌, ◌⊎◌}
+use Rattle.std.proofs.Common.{◌≡◌, ◌≤◌, ◌+◌, ◌⊎◌}
 use Rattle.tftp_loop.specs.PortTurn.{IsTried, ServesTurn}
 use Rattle.tftp_loop.proofs.port_turn.PortTurn.take_datagrams.Given as goal
 
@@ -6,4 +6,5 @@ use Rattle.tftp_loop.proofs.port_turn.PortTurn.take_datagrams.Given as goal
 abbrev pub invariant-loop-turn : goal.invariant-loop-turn
 invariant-loop-turn g l =
     ServesTurn g.S.Store.meaning g.S.Source.Source.meaning l.turn l.initial.self l.self
+    × (l.self.port.now.socket.received ≤ l.initial.self.port.now.socket.received + l.turn)
     × ((l.turn ≡ 0) ⊎ (IsTried l.self × (l.self.port.now.due ≡ l.self.port.now.socket.times_out_at)))

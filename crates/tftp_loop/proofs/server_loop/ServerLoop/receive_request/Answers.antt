@@ -1,26 +1,48 @@
-use Rattle.std.proofs.Common.{refl}
-use Rattle.tftp_loop.proofs.Receipts.{handled_run, handled_settled, handled_tried, finds_none, fails_to_find}
+use Rattle.std.proofs.Common.{refl, true}
+use Rattle.tftp_loop.specs.declared.port_turn.TheConstants.{MOST_AT_ONCE}
+use Rattle.tftp_loop.proofs.Receipts.{handled_few, handled_run, handled_settled, handled_tried, finds_none}
+use Rattle.tftp_loop.proofs.Receipts.{fails_to_find}
 use Rattle.tftp_loop.proofs.server_loop.ServerLoop.receive_request.Goals as goal
 
 pub returns-in-Datagram-clause-works : goal.returns-in-Datagram-clause-works
 returns-in-Datagram-clause-works g c =
     handled_run g.S.Store.meaning g.S.Source.Source.meaning c.args.request.now c.receive.new.buffer c.args.self.now
-    (record c.args.self.now { journal = c.receive.new.journal }) c.take_received.new.self
-    c.in-Datagram.from c.in-Datagram.count c.requires.pending c.requires.marked refl c.in-Datagram.ensures.noted
+    (record c.args.self.now {
+      sockets = record c.args.self.now.sockets { has_received = true };
+      journal = c.receive.new.journal;
+    }) c.take_received.new.self
+    c.in-Datagram.from c.in-Datagram.count c.requires.pending c.requires.marked c.requires.first refl c.in-Datagram.ensures.noted
     c.take_received.ensures.handles
 
 pub returns-in-Datagram-clause-settled : goal.returns-in-Datagram-clause-settled
 returns-in-Datagram-clause-settled g c =
     handled_settled g.S.Store.meaning g.S.Source.Source.meaning c.args.request.now c.receive.new.buffer c.args.self.now
-    (record c.args.self.now { journal = c.receive.new.journal }) c.take_received.new.self
-    c.in-Datagram.from c.in-Datagram.count c.requires.pending c.requires.marked refl c.in-Datagram.ensures.noted
+    (record c.args.self.now {
+      sockets = record c.args.self.now.sockets { has_received = true };
+      journal = c.receive.new.journal;
+    }) c.take_received.new.self
+    c.in-Datagram.from c.in-Datagram.count c.requires.pending c.requires.marked c.requires.first refl c.in-Datagram.ensures.noted
     c.take_received.ensures.handles
+
+pub returns-in-Datagram-clause-few : goal.returns-in-Datagram-clause-few
+returns-in-Datagram-clause-few g c =
+    λ few.
+    handled_few g.S.Store.meaning g.S.Source.Source.meaning c.args.request.now c.receive.new.buffer c.args.self.now
+    (record c.args.self.now {
+      sockets = record c.args.self.now.sockets { has_received = true };
+      journal = c.receive.new.journal;
+    }) c.take_received.new.self
+    c.in-Datagram.from c.in-Datagram.count c.requires.pending c.requires.marked c.requires.first refl c.in-Datagram.ensures.noted
+    MOST_AT_ONCE c.take_received.ensures.handles few
 
 pub returns-in-Datagram-clause-tried : goal.returns-in-Datagram-clause-tried
 returns-in-Datagram-clause-tried g c =
     handled_tried g.S.Store.meaning g.S.Source.Source.meaning c.args.request.now c.receive.new.buffer c.args.self.now
-    (record c.args.self.now { journal = c.receive.new.journal }) c.take_received.new.self
-    c.in-Datagram.from c.in-Datagram.count c.requires.pending c.requires.marked refl c.in-Datagram.ensures.noted
+    (record c.args.self.now {
+      sockets = record c.args.self.now.sockets { has_received = true };
+      journal = c.receive.new.journal;
+    }) c.take_received.new.self
+    c.in-Datagram.from c.in-Datagram.count c.requires.pending c.requires.marked c.requires.first refl c.in-Datagram.ensures.noted
     c.take_received.ensures.handles
 
 pub returns-in-Nothing-clause-works : goal.returns-in-Nothing-clause-works

@@ -31,6 +31,7 @@ returns g c =
       soon = omega (arith, soon, is, end);
       limit = omega (arith, limit);
       marked = refl;
+      asked = refl;
       left = refl;
       rounds = refl;
       events = read.noted ∙ ap (λ (n : ℕ). Watched n ∷ c.args.self.now.journal.events) (sym is);

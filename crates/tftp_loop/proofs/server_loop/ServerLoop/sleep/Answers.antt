@@ -1,6 +1,6 @@
 use Rattle.std.proofs.Common.{arith, inl}
 use Rattle.tftp_loop.specs.Tended.{HasRead, millis_of}
-use Rattle.tftp_loop.proofs.Waits.{may_wait, read_settled, slept_settled, waits_as, woken_settled}
+use Rattle.tftp_loop.proofs.Waits.{may_wait, read_settled, slept_settled, waits_as, woken_few, woken_settled}
 use Rattle.tftp_loop.proofs.server_loop.ServerLoop.sleep.Goals as goal
 
 pub returns-clause-serves : goal.returns-clause-serves
@@ -21,6 +21,7 @@ returns-clause-serves g c =
       soon = c.set_deadlines.ensures.soon;
       limit = c.set_deadlines.ensures.limit;
       marked = c.set_deadlines.ensures.marked;
+      asked = c.set_deadlines.ensures.asked;
       left = c.set_deadlines.ensures.left;
       rounds = c.set_deadlines.ensures.rounds;
       events = c.set_deadlines.ensures.events;
@@ -47,8 +48,14 @@ returns-clause-settled g c =
       soon = c.set_deadlines.ensures.soon;
       limit = c.set_deadlines.ensures.limit;
       marked = c.set_deadlines.ensures.marked;
+      asked = c.set_deadlines.ensures.asked;
       left = c.set_deadlines.ensures.left;
       rounds = c.set_deadlines.ensures.rounds;
       events = c.set_deadlines.ensures.events;
     })
     c.requires.tended.settled))
+
+pub returns-clause-few : goal.returns-clause-few
+returns-clause-few g c =
+    woken_few g.S.Store.meaning g.S.Source.Source.meaning c.wait_for_ports.new.self c.wake.new.self
+    c.wait_for_ports.new.reports.ports.items c.wake.ensures

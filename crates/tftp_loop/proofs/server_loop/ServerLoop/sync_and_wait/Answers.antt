@@ -2,7 +2,7 @@ use Rattle.std.proofs.Common.{arith, inr, refl}
 use Rattle.tftp_loop.specs.Tended.{HasRead}
 use Rattle.tftp_loop.proofs.LoopRuns.{runs_as}
 use Rattle.tftp_loop.proofs.RunLemmas.{onward}
-use Rattle.tftp_loop.proofs.Waits.{may_wait, read_settled, waits_as, woken_settled}
+use Rattle.tftp_loop.proofs.Waits.{may_wait, read_settled, waits_as, woken_few, woken_settled}
 use Rattle.tftp_loop.proofs.server_loop.ServerLoop.sync_and_wait.Goals as goal
 
 pub returns-then-poll_now-clause-serves : goal.returns-then-poll_now-clause-serves
@@ -22,6 +22,7 @@ returns-then-poll_now-clause-serves g c =
       soon = c.set_deadlines.ensures.soon;
       limit = c.set_deadlines.ensures.limit;
       marked = c.set_deadlines.ensures.marked;
+      asked = c.set_deadlines.ensures.asked;
       left = c.set_deadlines.ensures.left;
       rounds = c.set_deadlines.ensures.rounds;
       events = c.set_deadlines.ensures.events;
@@ -40,6 +41,7 @@ returns-then-poll_now-clause-serves g c =
       now = refl;
       limit = refl;
       marked = refl;
+      asked = refl;
       left = refl;
       rounds = refl;
       events = c.note_poll.ensures;
@@ -60,6 +62,7 @@ returns-then-poll_now-clause-settled g c =
       soon = c.set_deadlines.ensures.soon;
       limit = c.set_deadlines.ensures.limit;
       marked = c.set_deadlines.ensures.marked;
+      asked = c.set_deadlines.ensures.asked;
       left = c.set_deadlines.ensures.left;
       rounds = c.set_deadlines.ensures.rounds;
       events = c.set_deadlines.ensures.events;
@@ -71,3 +74,8 @@ returns-clause-serves g c =
     λ buffer.
     onward (runs_as g.S.Store.meaning g.S.Source.Source.meaning (c.sync.ensures.works buffer))
     (c.sleep.ensures.serves buffer)
+
+pub returns-then-poll_now-clause-few : goal.returns-then-poll_now-clause-few
+returns-then-poll_now-clause-few g c =
+    woken_few g.S.Store.meaning g.S.Source.Source.meaning _ c.wake.new.self c.poll_now.new.reports.ports.items
+    c.wake.ensures

@@ -1,6 +1,7 @@
 use Rattle.std.proofs.Common.{ap, take}
+use Rattle.tftp_loop.specs.declared.port_turn.TheConstants.{MOST_AT_ONCE}
 use Rattle.tftp_loop.specs.Run.Run.{Start}
-use Rattle.tftp_loop.proofs.Receipts.{answered_run, answered_settled}
+use Rattle.tftp_loop.proofs.Receipts.{answered_asked, answered_few, answered_run, answered_settled}
 use Rattle.tftp_loop.proofs.server_loop.ServerLoop.take_pending.Goals as goal
 
 pub returns-in_default-clause-works : goal.returns-in_default-clause-works
@@ -17,3 +18,14 @@ returns-clause-settled g c =
     λ settled.
     answered_settled g.S.Store.meaning g.S.Source.Source.meaning (take c.min.result c.args.request.now) c.args.self.now
     c.answer_pending.new.self c.in-Some.from c.answer_pending.ensures.answers settled
+
+pub returns-clause-asked : goal.returns-clause-asked
+returns-clause-asked g c =
+    answered_asked g.S.Store.meaning g.S.Source.Source.meaning (take c.min.result c.args.request.now) c.args.self.now
+    c.answer_pending.new.self c.in-Some.from c.answer_pending.ensures.answers
+
+pub returns-clause-few : goal.returns-clause-few
+returns-clause-few g c =
+    λ few.
+    answered_few g.S.Store.meaning g.S.Source.Source.meaning MOST_AT_ONCE (take c.min.result c.args.request.now)
+    c.args.self.now c.answer_pending.new.self c.in-Some.from c.answer_pending.ensures.answers few

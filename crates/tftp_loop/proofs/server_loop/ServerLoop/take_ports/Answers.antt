@@ -1,4 +1,4 @@
-use Rattle.std.proofs.Common.{arith}
+use Rattle.std.proofs.Common.{arith, ◌∙◌}
 use Rattle.std.proofs.lemmas.Result.{on_ok_weaker}
 use Rattle.tftp_loop.proofs.LoopStays.{work_keeps}
 use Rattle.tftp_loop.proofs.Receipts.{from_state, to_state}
@@ -27,11 +27,20 @@ returns-clause-tended g c =
     record {
       settled = c.take_turns-2.ensures.settled;
       read =
-          λ k d l h. timed.read (asked.read (λ k d h. c.in_ok-take_turns.ensures.turned (omega (arith, some)) k d
-          (omega arith) h)) k d h;
+          λ k d l h. timed.read (asked.read (λ k d h. (c.in_ok-take_turns.ensures.turned (omega (arith, some)) k d
+          (omega arith) h).0)) k d h;
       timed = due left;
       requests =
           from_state buffer c.take_turns-2.new.self
           (timed.tried (to_state buffer c.take_request.new.self c.take_request.ensures.tried));
     })
     c.take_turns-2.ensures.turned
+
+pub take_request-requires : goal.take_request-requires
+take_request-requires g c = record { first = c.take_turns.ensures.asked ∙ c.requires.first }
+
+pub take_turns-requires-2-clause-few : goal.take_turns-requires-2-clause-few
+take_turns-requires-2-clause-few g c =
+    let some = c.if-self-eq0.false in
+    c.take_request.ensures.few
+    (λ k d h. (c.in_ok-take_turns.ensures.turned (omega (arith, some)) k d (omega arith) h).1)

@@ -1,7 +1,8 @@
-use Rattle.std.proofs.Common.{sym, subst}
+use Rattle.std.proofs.Common.{arith, sym, subst}
 use Rattle.tftp_loop.specs.Served.{timer_of}
-use Rattle.tftp_loop.specs.Tended.{IsHeld}
+use Rattle.tftp_loop.specs.Tended.{IsHeld, ReceivedFew, before_turn}
 use Rattle.tftp_loop.proofs.ListLemmas.{map_is, map_within}
+use Rattle.tftp_loop.proofs.Visits.{few_before}
 use Rattle.tftp_loop.proofs.server_loop.ServerLoop.take_turn.Goals as goal
 
 pub take_turn_at-requires : goal.take_turn_at-requires
@@ -11,5 +12,12 @@ take_turn_at-requires g c =
     let each =
     c.requires.settled.kept.each c.args.index (timer_of port)
     (map_within timer_of ports c.args.index c.requires.within) in
-    (subst (IsHeld c.args.self.now.server.held)
-    (sym (map_is timer_of ports c.args.index port c.index_mut-port.ensures.value)) each).look
+    let is = sym (map_is timer_of ports c.args.index port c.index_mut-port.ensures.value) in
+    record {
+      due = (subst (IsHeld c.args.self.now.server.held) is each).look;
+      few =
+          few_before c.args.turn (timer_of port)
+          (subst (ReceivedFew (before_turn c.args.turn)) is
+          (c.requires.waiting c.args.index (timer_of port) (omega arith)
+          (map_within timer_of ports c.args.index c.requires.within)));
+    }

@@ -11,8 +11,10 @@ loop-index-init g c =
     let long = length-map ports.items timer_of in
     record {
       works = λ buffer. Start;
-      settled = c.requires;
+      settled = c.requires.settled;
       turns = λ k d l h. absurd (omega (arith, ports.ok.0, c.len-index.ensures, long, l, h));
+      waiting = λ k d l h. c.requires.few k d h;
+      asked = refl;
       rounds = refl;
     }
 
@@ -24,6 +26,8 @@ loop-index-preserved g c =
       works = λ buffer. onward (i.works buffer) (c.visit.ensures.works buffer);
       settled = c.visit.ensures.settled;
       turns = c.visit.ensures.turned (λ k d l h. i.turns k d (omega (arith, test, l)) h);
+      waiting = λ k d l h. c.visit.ensures.waiting k d l h;
+      asked = c.visit.ensures.asked ∙ i.asked;
       rounds = c.visit.ensures.rounds ∙ i.rounds;
     }
 
@@ -38,3 +42,8 @@ pub returns-clause-turned : goal.returns-clause-turned
 returns-clause-turned g c =
     let test = c.loop-index-test.false in
     λ some k d l h. c.loop-index.invariant.turns k d (omega (arith, test)) h
+
+pub visit-requires-clause-waiting : goal.visit-requires-clause-waiting
+visit-requires-clause-waiting g c =
+    let test = c.loop-index-test.true in
+    λ k d l h. c.loop-index.invariant.waiting k d (omega (arith, test, l)) h

@@ -1,6 +1,6 @@
 use Rattle.std.proofs.Common.{◌≡◌}
 use Rattle.tftp_loop.specs.Served.{OnlyWorks}
-use Rattle.tftp_loop.specs.Tended.{HaveTurned, IsSettled}
+use Rattle.tftp_loop.specs.Tended.{AwaitTurn, HaveTurned, IsSettled}
 use Rattle.tftp_loop.proofs.server_loop.ServerLoop.take_turns.Given as goal
 
 -- the ports from the index on had their turn
@@ -10,6 +10,8 @@ invariant-loop-index g l =
       works : OnlyWorks g.S.Store.meaning g.S.Source.Source.meaning l.initial.self l.self;
       settled : IsSettled l.self;
       turns : HaveTurned l.fn.turn l.index l.self;
+      waiting : AwaitTurn l.fn.turn l.index l.self;
+      asked : l.self.sockets.has_received ≡ l.initial.self.sockets.has_received;
       rounds : l.self.rounds ≡ l.initial.self.rounds;
     }
 

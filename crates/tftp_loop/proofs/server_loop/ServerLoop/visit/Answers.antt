@@ -1,5 +1,7 @@
+use Rattle.std.proofs.Common.{arith}
 use Rattle.tftp_loop.specs.Run.Run.{Start}
-use Rattle.tftp_loop.proofs.Visits.{visit_settled, works_after, turned_after}
+use Rattle.tftp_loop.specs.Tended.{ReceivedFew, before_turn}
+use Rattle.tftp_loop.proofs.Visits.{before, visit_settled, works_after, turned_after}
 use Rattle.tftp_loop.proofs.server_loop.ServerLoop.visit.Goals as goal
 
 pub returns-then-index-len-clause-works : goal.returns-then-index-len-clause-works
@@ -18,4 +20,14 @@ returns-clause-settled g c =
 pub returns-clause-turned : goal.returns-clause-turned
 returns-clause-turned g c =
     let v = c.serve_port.ensures.visits in
-    λ turned. turned_after g.S.Store.meaning g.S.Source.Source.meaning c.args.turn v.takes v.finishes turned
+    λ turned.
+    turned_after g.S.Store.meaning g.S.Source.Source.meaning c.args.turn v.takes v.finishes c.requires.waiting turned
+
+pub returns-then-index-len-clause-waiting : goal.returns-then-index-len-clause-waiting
+returns-then-index-len-clause-waiting g c = λ k d l h. c.requires.waiting k d (omega (arith, l)) h
+
+pub returns-clause-waiting : goal.returns-clause-waiting
+returns-clause-waiting g c =
+    let v = c.serve_port.ensures.visits in
+    before g.S.Store.meaning g.S.Source.Source.meaning v.takes v.finishes (ReceivedFew (before_turn c.args.turn))
+    c.requires.waiting

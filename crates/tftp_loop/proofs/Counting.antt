@@ -1,0 +1,144 @@
+-- How many datagrams are received at a port.
+use Rattle.std.proofs.Common.{arith, ◌≡◌, ◌≤◌, ◌<◌, ◌+◌, ℕ, Bool, false, List, [], ◌∷◌, map, length, Option, Some, None}
+use Rattle.std.proofs.Common.{refl, sym, ap, subst, ◌∙◌}
+use Rattle.std.specs.Prelude.{All}
+use Rattle.std.proofs.lemmas.List.{length-map}
+use Rattle.tftp_file.specs.Source.{SourceMeaning}
+use Rattle.tftp_ends.specs.declared.endpoint.Endpoint.{Endpoint}
+use Rattle.tftp_ends.specs.Step.{Reply}
+use Rattle.tftp_server.specs.State.{TransferState, at}
+use Rattle.tftp_store.specs.Store.{StoreMeaning}
+use Rattle.tftp_sockets.specs.Journal.{Event, answered}
+use Rattle.tftp_sockets.specs.Journal.Event.{Received, Elapsed}
+use Rattle.tftp_loop.specs.Fair.{received_in}
+use Rattle.tftp_loop.specs.Run.{Run}
+use Rattle.tftp_loop.specs.Run.Run.{Start, Then}
+use Rattle.tftp_loop.specs.Serves.{Timer, PortState, LoopState, AtPort, Does, interval_at, marked_by, most_in_round}
+use Rattle.tftp_loop.specs.Serves.{port_state, set_by, started, timer_after, with_timer}
+use Rattle.tftp_loop.specs.Serves.Does.{Waited, At_port, Request_received, No_request_found, Request_not_received}
+use Rattle.tftp_loop.specs.Serves.Does.{Request_noted, Request_answered, Request_lost, Clock_read, Store_set}
+use Rattle.tftp_loop.specs.Serves.Does.{Transfer_closed}
+use Rattle.tftp_loop.specs.Serves.AtPort.{A_datagram, A_lost_datagram, A_late_datagram, Nothing_found}
+use Rattle.tftp_loop.specs.Serves.AtPort.{A_failed_receive, A_timeout, A_missed_timeout, Work}
+use Rattle.tftp_loop.proofs.LoopStays.{all_appended, all_removed, all_set}
+use Rattle.tftp_loop.proofs.PortStays.{after_received}
+use Rattle.tftp_loop.proofs.Waits.{waited_at}
+
+answered_in : (port : ℕ) (reply : Option Reply) (es : List Event) → received_in (answered port reply es) ≡ received_in es
+answered_in port None es = refl
+answered_in port (Some reply) es = refl
+
+module _ {S F D : Type 0} (meaning : StoreMeaning S D) (sources : SourceMeaning F) where
+  -- each datagram is counted once
+  abbrev Counts : PortState S F D → PortState S F D → Type 0
+  Counts s t = t.timer.received + received_in s.events ≡ s.timer.received + received_in t.events
+
+  counts : (now : ℕ) (s t : PortState S F D) → AtPort meaning sources now s t → Counts s t
+  counts now s t (A_datagram d) =
+      let timer = ap (λ (u : Timer). u.received) d.timer ∙ after_received now d.step.progress s.timer in
+      let events = ap received_in d.handles.events ∙ answered_in s.timer.port d.handles.takes.takes.turn.reply _ in
+      omega (arith, timer, events)
+  counts now s t (A_lost_datagram d) =
+      let timer = ap (λ (u : Timer). u.received) d.timer in
+      let events = ap received_in d.events in
+      omega (arith, timer, events)
+  counts now s t (A_late_datagram d) =
+      let timer = ap (λ (u : Timer). u.received) d.timer in
+      let events = ap received_in d.events in
+      omega (arith, timer, events)
+  counts now s t (Nothing_found d) =
+      let timer = ap (λ (u : Timer). u.received) d.timer in
+      let events = ap received_in d.events in
+      omega (arith, timer, events)
+  counts now s t (A_failed_receive d) =
+      let timer = ap (λ (u : Timer). u.received) d.timer in
+      let events = ap received_in d.events in
+      omega (arith, timer, events)
+  counts now s t (A_timeout d) =
+      let timer = ap (λ (u : Timer). u.received) d.timer in
+      let events = ap received_in d.times_out.events ∙ answered_in s.timer.port _ (Elapsed s.timer.port now ∷ s.events) in
+      omega (arith, timer, events)
+  counts now s t (A_missed_timeout d) =
+      let timer = ap (λ (u : Timer). u.received) d.timer in
+      let events = ap received_in d.events in
+      omega (arith, timer, events)
+  counts now s t (Work d) =
+      let timer = ap (λ (u : Timer). u.received) d.timer in
+      let events = ap received_in d.events in
+      omega (arith, timer, events)
+
+  pub counted_along : (now : ℕ) (s t : PortState S F D) → Run (AtPort meaning sources now) s t → Counts s t
+  counted_along now s t Start = refl
+  counted_along now s t (Then {middle} run does) =
+      let a = counted_along now s middle run in
+      let b = counts now middle t does in
+      omega (arith, a, b)
+
+  -- ---- at all ports
+  abbrev IsFew : Timer → Type 0
+  IsFew timer = timer.received ≤ most_in_round
+
+  abbrev AreFew : LoopState S F D → Type 0
+  AreFew s = All IsFew s.timers
+
+  counted_few : (now : ℕ) (progress : Bool) (timer timer' : Timer) → timer.received < most_in_round
+      → timer' ≡ timer_after now progress timer → IsFew timer'
+  counted_few now progress timer timer' few is =
+      let more = ap (λ (u : Timer). u.received) is ∙ after_received now progress timer in omega (arith, few, more)
+
+  same_few : (timer timer' : Timer) → timer'.received ≡ timer.received → IsFew timer → IsFew timer'
+  same_few timer timer' is few = omega (arith, is, few)
+
+  port_few : (now : ℕ) (s t : PortState S F D) → AtPort meaning sources now s t → IsFew s.timer → IsFew t.timer
+  port_few now s t (A_datagram d) few = counted_few now d.step.progress s.timer t.timer d.few d.timer
+  port_few now s t (A_lost_datagram d) few = counted_few now false s.timer t.timer d.few d.timer
+  port_few now s t (A_late_datagram d) few = counted_few now false s.timer t.timer d.few d.timer
+  port_few now s t (Nothing_found d) few = same_few s.timer t.timer (ap (λ (u : Timer). u.received) d.timer) few
+  port_few now s t (A_failed_receive d) few = same_few s.timer t.timer (ap (λ (u : Timer). u.received) d.timer) few
+  port_few now s t (A_timeout d) few = same_few s.timer t.timer (ap (λ (u : Timer). u.received) d.timer) few
+  port_few now s t (A_missed_timeout d) few = same_few s.timer t.timer (ap (λ (u : Timer). u.received) d.timer) few
+  port_few now s t (Work d) few = same_few s.timer t.timer (ap (λ (u : Timer). u.received) d.timer) few
+
+  with_few : (now : ℕ) (longest : Option ℕ) (from : Endpoint) (opened : Option ℕ)
+      (held : List (ℕ × TransferState F D)) (timers : List Timer) → All IsFew timers
+      → All IsFew (with_timer now longest from opened held timers)
+  with_few now longest from None held timers few = few
+  with_few now longest from (Some port) held timers few =
+      all_appended IsFew timers (started now longest port from (interval_at (at port held)))
+      (λ k d h. few k d h) (omega arith)
+
+  waited_few : (time : ℕ) (ports : List ℕ) (timers : List Timer)
+      → All IsFew (map (marked_by ports) (map (set_by time) timers))
+  waited_few time ports timers k d h =
+      let e = length-map (map (set_by time) timers) (marked_by ports) in
+      let f = length-map timers (set_by time) in
+      subst IsFew (sym (waited_at time ports timers k d (omega (arith, e, f, h)))) (omega arith)
+
+  step_few : (s t : LoopState S F D) → Does meaning sources s t → AreFew s → AreFew t
+  step_few s t (Waited d) few = subst AreFew (sym d.is) (waited_few d.time d.ports s.timers)
+  step_few s t (At_port d) few =
+      subst AreFew (sym d.is)
+      (λ k e h.
+      all_set IsFew s.timers 0 d.index d.next.timer d.within (λ k e l h apart. few k e h)
+      (port_few s.now (port_state s d.timer) d.next d.does
+      (subst IsFew (sym d.is_timer) (few d.index d.timer d.within))) k e (omega arith) h)
+  step_few s t (Request_received d) few = subst AreFew (sym d.is) few
+  step_few s t (No_request_found d) few = subst AreFew (sym d.is) few
+  step_few s t (Request_not_received d) few = subst AreFew (sym d.is) few
+  step_few s t (Request_noted d) few = subst AreFew (sym d.is) few
+  step_few s t (Request_answered d) few =
+      subst AreFew (sym d.is) (with_few s.now s.longest d.from d.left.opened.tid d.left.new.held s.timers few)
+  step_few s t (Request_lost d) few = subst AreFew (sym d.is) few
+  step_few s t (Clock_read d) few = subst AreFew (sym d.is) few
+  step_few s t (Store_set d) few = subst AreFew (sym d.is) few
+  step_few s t (Transfer_closed d) few =
+      subst AreFew (sym d.is)
+      (λ k e h.
+      all_removed IsFew s.timers 0 d.index d.timer (omega arith) d.within (λ k e l h apart. few k e h) k e
+      (omega arith) h)
+
+  pub few_along : (start now : LoopState S F D) → start.timers ≡ [] → Run (Does meaning sources) start now → AreFew now
+  few_along start now none Start =
+      subst (All IsFew) (sym none) (λ k d h. absurd (omega (arith, h)))
+  few_along start now none (Then {middle} run does) =
+      step_few middle now does (few_along start middle none run)

@@ -1,0 +1,11 @@
+-- The lemmas that are the law.
+use Rattle.tftp_loop.proofs.Counting.{counted_along, few_along}
+use Rattle.tftp_loop.proofs.laws.a_server_receives_few_between_waits.Goals as goal
+
+pub returns-clause-counts : goal.returns-clause-counts
+returns-clause-counts g c = λ now old new run.
+    counted_along g.T.Store.meaning g.T.Source.Source.meaning now old new run
+
+pub returns-clause-few : goal.returns-clause-few
+returns-clause-few g c = λ start now none run.
+    few_along g.T.Store.meaning g.T.Source.Source.meaning start now none run
