@@ -1,5 +1,8 @@
 //! What `tftp-show` is asked for.
 
+ghost use Rattle.std.specs.Prelude.{◌≡◌, None, false};
+ghost use Rattle.tftp_show.specs.declared.task.Style.TheVariants.{Report};
+
 /// What is printed.
 #[derive(Clone, Copy, PartialEq, Eq)]
 pub enum Style {
@@ -30,7 +33,12 @@ pub struct Task {
 
 impl Task {
     /// The report of all transfers of an input that is there.
-    pub fn report() -> Task {
+    pub fn report() -> Task
+        ensures style { result.style ≡ Report }
+        ensures all { (result.only ≡ None) × (result.drawn ≡ None) }
+        ensures port { result.port ≡ 69 }
+        ensures at_end { result.is_live ≡ false }
+    {
         Task {
             style: Style::Report,
             only: None,
