@@ -374,11 +374,13 @@ module _ {G K : Type 0} {inputs : SourceMeaning G} {outputs : SinkMeaning K}
   closed_there reads =
       inr
       (inr
+      (inr
+      (inr
       (inl (
         (refl, refl),
         sym (ap (λ (b : Bool). endpoint programs.ip
             (if b then 1024 else above programs + length (opened_ports (Then Start asks_to_read)))) reads),
-      )))
+      )))))
 
   pub ours_second : our_ports programs second.run ≡ (if is_ours programs reader then 2048 ∷ [] else []) ++ []
   unfolding asks_to_read opens_second
