@@ -1,5 +1,5 @@
 -- What a client did is one run of it, and that of a program.
-use Rattle.std.proofs.Common.{◌≡◌, ℕ, List, [], ◌∷◌, ◌++◌, append_assoc, refl, sym, subst, ◌∙◌}
+use Rattle.std.proofs.Common.{◌≡◌, ℕ, List, [], ◌∷◌, ◌++◌, append_assoc, refl, sym, ap, subst, ◌∙◌}
 use Rattle.tftp_file.specs.Sink.{SinkMeaning}
 use Rattle.tftp_file.specs.Source.{SourceMeaning}
 use Rattle.tftp_file.specs.declared.files.Files.{Files}
@@ -9,30 +9,41 @@ use Rattle.tftp_lines.specs.declared.client_outcome.ClientOutcome.TheVariants as
 use Rattle.tftp_rules.specs.Machine.{Endpoint}
 use Rattle.tftp_sockets.specs.Journal.{Event}
 use Rattle.tftp_sockets.specs.Journal.Event.{Sent}
+use Rattle.tftp_client.specs.Moved.{Moved, handling_moves, run_moves}
 use Rattle.tftp_client.specs.Runs.{begun}
 use Rattle.tftp_client.specs.Converses.{State, Converses, progress_of}
 use Rattle.tftp_client.specs.Converses.Converses.{Begins, Receives, Waits, Times, Rests}
 use Rattle.tftp_promises.specs.ClientRuns.{ClientRun, ClientsAreRuns, Starts, Goes_on, Receives_one, Waits_until}
-use Rattle.tftp_promises.specs.ClientRuns.{Reads_clock, Times_out, File_works, Prints_line}
+use Rattle.tftp_promises.specs.ClientRuns.{Reads_clock, Times_out, File_works, Prints_line, moved_in}
 use Rattle.tftp_promises.specs.ClientPrograms.{ClientsArePrograms, IsClientRun}
 use Rattle.tftp_promises.specs.Programs.{ClientOpens}
 use Rattle.tftp_promises.proofs.ClientJournals.{converse}
 
 module _ {G K : Type 0} {inputs : SourceMeaning G} {outputs : SinkMeaning K} {port : ℕ} {first : State}
     {file : Files G K} where
-  -- a run goes on
+  -- a run goes on, and what moves in what follows moves in it
+  goes_so : {s : State} {files : Files G K} (run : ClientRun inputs outputs port first file s files) →
+      {s' : State} {files' : Files G K} (more : Converses inputs outputs port s files s' files') →
+      (all : ClientRun inputs outputs port first file s' files') × (moved_in all ≡ run_moves more (moved_in run))
+  goes_so run Begins = (run, refl)
+  goes_so run (Receives {files' = files'} more may later answers) =
+      let so = goes_so run more in
+      let told : Moved = handling_moves answers.handles (run_moves more (moved_in run)) in
+      let To : State → Type 0 = λ t. (all : ClientRun inputs outputs port first file t files') × (moved_in all ≡ told) in
+      subst To (sym answers.is) (
+        Goes_on (Goes_on so.0 (Receives_one may later answers.handles))
+            (Reads_clock (progress_of inputs outputs answers.handles) answers.later),
+        ap (λ (m : Moved). handling_moves answers.handles m) so.1,
+      )
+  goes_so run (Waits more may which later) =
+      let so = goes_so run more in (Goes_on so.0 (Waits_until may which later), so.1)
+  goes_so run (Times more elapses) = let so = goes_so run more in (Goes_on so.0 (Times_out elapses), so.1)
+  goes_so run (Rests more works) = let so = goes_so run more in (Goes_on so.0 (File_works works), so.1)
+
   goes_on : {s : State} {files : Files G K} → ClientRun inputs outputs port first file s files →
       {s' : State} {files' : Files G K} → Converses inputs outputs port s files s' files' →
       ClientRun inputs outputs port first file s' files'
-  goes_on run Begins = run
-  goes_on run (Receives {files' = files'} more may later answers) =
-      let To : State → Type 0 = λ t. ClientRun inputs outputs port first file t files' in
-      subst To (sym answers.is) (Goes_on
-      (Goes_on (goes_on run more) (Receives_one may later answers.handles))
-      (Reads_clock (progress_of inputs outputs answers.handles) answers.later))
-  goes_on run (Waits more may which later) = Goes_on (goes_on run more) (Waits_until may which later)
-  goes_on run (Times more elapses) = Goes_on (goes_on run more) (Times_out elapses)
-  goes_on run (Rests more works) = Goes_on (goes_on run more) (File_works works)
+  goes_on run more = (goes_so run more).0
 
 pub clients_run : {G K : Type 0} (inputs : SourceMeaning G) (outputs : SinkMeaning K) → ClientsAreRuns inputs outputs
 clients_run inputs outputs port end before s files runs = record {
@@ -51,8 +62,8 @@ clients_run inputs outputs port end before s files runs = record {
 module _ {G K : Type 0} (inputs : SourceMeaning G) (outputs : SinkMeaning K) {to : Endpoint} where
   program_of : (ip : List ℕ) {first : EndState} {file : Files G K} (opens : ClientOpens inputs outputs to first file)
       (before : List Event) (port : ℕ) (last : State) (files : Files G K) →
-      ClientRun inputs outputs port (begun port first before) file last files →
-      IsClientRun inputs outputs ip opens before last.events
+      (runs : ClientRun inputs outputs port (begun port first before) file last files) →
+      IsClientRun inputs outputs ip opens before last (moved_in runs)
   program_of ip {first} {file} opens before port last files runs =
       let since = converse runs in
       let asked : List Event = Sent port first.position.last_sent_to first.position.last_sent ∷ [] in
@@ -77,15 +88,22 @@ module _ {G K : Type 0} (inputs : SourceMeaning G) (outputs : SinkMeaning K) {to
         name = refl;
         begins = refl;
         notes = notes;
+        ends = refl;
+        moves = refl;
       }
 
 pub clients_are_programs : {G K : Type 0} (inputs : SourceMeaning G) (outputs : SinkMeaning K) →
     ClientsArePrograms inputs outputs
 clients_are_programs inputs outputs to ip first file opens before port s files converses = record {
-  runs_so = program_of inputs outputs ip opens before port s files (goes_on Starts converses);
+  runs_so =
+      let so = goes_so Starts converses in
+      subst (λ (m : Moved). IsClientRun inputs outputs ip opens before s m) so.1
+      (program_of inputs outputs ip opens before port s files so.0);
   stays_so = λ count after stays.
-      let run =
-      goes_on (Goes_on (goes_on Starts converses) (Prints_line (end_text (ends.Complete count)))) stays.converses in
-      subst (λ (events : List Event). IsClientRun inputs outputs ip opens before events) stays.events
-      (program_of inputs outputs ip opens before port stays.last stays.files run);
+      let so = goes_so Starts converses in
+      let line = end_text (ends.Complete count) in
+      let on = goes_so (Goes_on so.0 (Prints_line line)) stays.converses in
+      subst (λ (m : Moved). IsClientRun inputs outputs ip opens before stays.last m)
+      (on.1 ∙ ap (λ (m : Moved). run_moves stays.converses m) so.1)
+      (program_of inputs outputs ip opens before port stays.last stays.files on.0);
 }

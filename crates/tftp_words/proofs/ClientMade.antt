@@ -1,5 +1,6 @@
 -- What a `tftp` did for its words is what some programs did: none, one, or two where its options were refused.
-use Rattle.std.proofs.Common.{◌≡◌, ℕ, List, [], ◌∷◌, ◌++◌, refl, ap, ◌∙◌, subst, inl, inr}
+use Rattle.std.proofs.Common.{◌≡◌, ℕ, true, List, [], ◌∷◌, ◌++◌, length, append_assoc, Option, Some, None, refl, sym}
+use Rattle.std.proofs.Common.{ap, ◌∙◌, subst, inl, inr}
 use Rattle.std.specs.List.{AllByRecursion}
 use Rattle.tftp_negotiate.specs.declared.known.Kind.{Kind}
 use Rattle.tftp_negotiate.specs.declared.known.Kind.TheVariants.{Read, Write}
@@ -8,20 +9,22 @@ use Rattle.tftp_file.specs.Source.{SourceMeaning}
 use Rattle.tftp_file.specs.declared.files.Files.{Files}
 use Rattle.tftp_file.specs.declared.files.Files.TheVariants.{Source, Sink}
 use Rattle.tftp_file.specs.declared.length.TheConstants.{MAX_WIRE}
-use Rattle.tftp_ends.specs.End.{EndState}
+use Rattle.tftp_ends.specs.End.{EndState, is_complete}
 use Rattle.tftp_ends.specs.Opening.{getting, putting}
 use Rattle.tftp_ends.specs.declared.endpoint.Endpoint.{Endpoint}
+use Rattle.tftp_ends.specs.declared.side.Side.TheVariants.{ClientRead, ClientWrite}
 use Rattle.tftp_lines.specs.declared.client_outcome.ClientOutcome.{ClientOutcome}
 use Rattle.tftp_lines.specs.declared.client_outcome.ClientOutcome.TheVariants as ends
 use Rattle.tftp_sockets.specs.Journal.{Event}
 use Rattle.tftp_client.specs.Converses.{State, most_waits}
+use Rattle.tftp_client.specs.Moved.{Moved, nothing_moved, run_moves}
 use Rattle.tftp_client.specs.Ordered.{RunsOrder, RunsWords}
-use Rattle.tftp_client.specs.Runs.{Completes, FailsBy, FailsTransfer, IsFileOf, MayOpen, RunsAs, StaysOn, measured}
-use Rattle.tftp_client.specs.Runs.{opens, plain, printed}
+use Rattle.tftp_client.specs.Runs.{Completes, FailsBy, FailsTransfer, IsCountOf, IsFileOf, IsWhole, MayOpen, RunsAs}
+use Rattle.tftp_client.specs.Runs.{StaysOn, Transfers, measured, moved_by, opens, plain, printed}
 use Rattle.tftp_client.specs.Words.{WordsName}
-use Rattle.tftp_promises.specs.ClientPrograms.{ClientsArePrograms, IsClientRun}
+use Rattle.tftp_promises.specs.ClientPrograms.{ClientsArePrograms, IsClientRun, IsCounted, Mode, Netascii, Octet}
 use Rattle.tftp_promises.specs.Programs.{ClientOpens, ClientProgram, To_read, To_write, name_of}
-use Rattle.tftp_words.specs.Ran.{AreRunsOf, ClientRan, IsRunOf, Job, NotedBy, side_of}
+use Rattle.tftp_words.specs.Ran.{AreRunsOf, ClientRan, CountsLast, IsRunOf, Job, NotedBy, count_by, count_in, side_of}
 
 module _ {G K : Type 0} (inputs : SourceMeaning G) (outputs : SinkMeaning K) {to : Endpoint} where
   -- the end of a job opens to this server
@@ -77,6 +80,17 @@ module _ {G K : Type 0} {inputs : SourceMeaning G} {outputs : SinkMeaning K} {to
   both P [] more h k = k
   both P (client ∷ clients) more h k = (h.0, both P clients more h.1 k)
 
+-- the last of both
+last_of : {G K : Type 0} {inputs : SourceMeaning G} {outputs : SinkMeaning K} {to : Endpoint} (count : Option ℕ)
+    (clients more : List (ClientProgram inputs outputs to)) → CountsLast count more → CountsLast count (clients ++ more)
+last_of None clients more h = tt
+last_of {inputs = inputs} {outputs = outputs} {to = to} (Some count) clients more h = (
+  clients ++ h.0,
+  h.1,
+  ap (λ (all : List (ClientProgram inputs outputs to)). clients ++ all) h.2 ∙ sym (append_assoc clients h.0 (h.1 ∷ [])),
+  h.3,
+)
+
 job_mode : (kind : Kind) (job : Job) (length : ℕ) → (opens kind job length).role.mode ≡ job.mode
 job_mode Read job length = refl
 job_mode Write job length = refl
@@ -85,33 +99,42 @@ job_side : (kind : Kind) (job : Job) (length : ℕ) → (opens kind job length).
 job_side Read job length = refl
 job_side Write job length = refl
 
+job_length : (kind : Kind) (job : Job) (length : ℕ) → side_of kind ≡ ClientWrite →
+    (opens kind job length).role.length ≡ length
+job_length Read job length is = cc
+job_length Write job length is = refl
+
 module _ {G K : Type 0} {inputs : SourceMeaning G} {outputs : SinkMeaning K}
     (are_programs : ClientsArePrograms inputs outputs) (ran : ClientRan inputs outputs) (to : Endpoint) where
   -- programs that noted what leads from the one journal to the other
-  record Made (before after : List Event) : Type 0 where
+  record Made (count : Option ℕ) (before after : List Event) : Type 0 where
     clients : List (ClientProgram inputs outputs to)
     noted : NotedBy before clients after
     each : AllByRecursion (IsRunOf ran) clients
+    counts : CountsLast count clients
 
-  made_none : {before after : List Event} → after ≡ before → Made before after
-  made_none same = record { clients = []; noted = same; each = tt }
+  made_none : {before after : List Event} → after ≡ before → Made None before after
+  made_none same = record { clients = []; noted = same; each = tt; counts = tt }
 
-  made_both : {before middle after : List Event} → Made before middle → Made middle after → Made before after
-  made_both {before} {middle} {after} first then = record {
+  made_both : {count : Option ℕ} {before middle after : List Event} → Made None before middle →
+      Made count middle after → Made count before after
+  made_both {count} {before} {middle} {after} first then = record {
     clients = first.clients ++ then.clients;
     noted = noted_then before middle after first.clients then.clients first.noted then.noted;
     each = both (IsRunOf ran) first.clients then.clients first.each then.each;
+    counts = last_of count first.clients then.clients then.counts;
   }
 
   module _ (job : Job) (named : WordsName ran.words job) (there : job.server ≡ to) where
     -- the run of an end of the job, with these options
     module _ (tried : Job) (name : tried.name.now ≡ job.name.now) (mode : tried.mode ≡ job.mode)
         (kind : tried.kind ≡ job.kind) (server : tried.server ≡ to) where
-      made_one : {before after : List Event} (length : ℕ) (file : Files G K) (may : MayOpen tried.kind tried length)
-          (side : IsFileOf inputs outputs tried.kind file) →
-          IsClientRun inputs outputs ran.ip (job_opens inputs outputs tried.kind tried length file server may side) before after →
-          Made before after
-      made_one length file may side run = record {
+      made_one : {before : List Event} {s : State} {moved : Moved} (count : Option ℕ) (length : ℕ) (file : Files G K)
+          (may : MayOpen tried.kind tried length) (side : IsFileOf inputs outputs tried.kind file)
+          (run : IsClientRun inputs outputs ran.ip (job_opens inputs outputs tried.kind tried length file server may side)
+          before s moved) → CountsLast count (run.client ∷ []) → Made count before s.events
+      made_one count length file may side run counts = record {
+        counts = counts;
         clients = run.client ∷ [];
         noted = (run.begins, run.notes);
         each = (
@@ -131,16 +154,15 @@ module _ {G K : Type 0} {inputs : SourceMeaning G} {outputs : SinkMeaning K}
 
       -- it failed, if it opened
       made_stopped : (most : ℕ) (before after : List Event) (end : ClientOutcome) →
-          FailsBy inputs outputs most tried before after end → Made before after
+          FailsBy inputs outputs most tried before after end → Made None before after
       made_stopped most before after (ends.Failed outcome) failed =
           let f = failed.1 in
           let opened = job_opens inputs outputs tried.kind tried failed.0 f.fails.file server f.may f.side in
           let run =
           are_programs to ran.ip (opens tried.kind tried failed.0) f.fails.file opened before f.fails.port
           f.fails.stops.last f.fails.stops.files f.fails.stops.converses in
-          made_one failed.0 f.fails.file f.may f.side
-          (subst (λ (events : List Event). IsClientRun inputs outputs ran.ip opened before events)
-          f.fails.stops.events run.runs_so)
+          subst (λ (events : List Event). Made None before events) f.fails.stops.events
+          (made_one None failed.0 f.fails.file f.may f.side run.runs_so tt)
       made_stopped most before after (ends.Complete count) failed = made_none failed.1
       made_stopped most before after ends.FileFault failed = made_none failed.1
       made_stopped most before after ends.SocketFault failed = made_none failed.1
@@ -148,30 +170,70 @@ module _ {G K : Type 0} {inputs : SourceMeaning G} {outputs : SinkMeaning K}
       made_stopped most before after ends.Memory failed = made_none failed.1
 
       -- it is complete, and stayed
-      made_complete : {port count : ℕ} {before after : List Event} {last : State} {files : Files G K} →
-          RunsAs inputs outputs port tried.kind tried before last files count →
-          StaysOn inputs outputs port (printed count last) files after → Made before after
-      made_complete {port} {count} {before} {after} {last} {files} runs stays =
-          let opened = job_opens inputs outputs tried.kind tried runs.length runs.runs.file server runs.may runs.side in
-          let run =
-          are_programs to ran.ip (opens tried.kind tried runs.length) runs.runs.file opened before port last files
-          runs.runs.converses in
-          made_one runs.length runs.runs.file runs.may runs.side (run.stays_so count after stays)
+      module _ {port count : ℕ} {before after : List Event} {last : State} {files : Files G K}
+          (runs : RunsAs inputs outputs port tried.kind tried before last files count)
+          (stays : StaysOn inputs outputs port (printed count last) files after)
+          (stayed : is_complete stays.last.end.position.phase ≡ true)
+          (still : (moved : Moved) → run_moves stays.converses moved ≡ moved)
+          (file : IsFileOf inputs outputs tried.kind files) where
+        abbrev moved : Moved
+        moved = run_moves runs.runs.converses nothing_moved
+
+        -- N of a file that was received, and of one that was sent
+        received : (k : Kind) (f : Files G K) → IsFileOf inputs outputs k f →
+            IsWhole inputs outputs f count moved.bytes → side_of k ≡ ClientRead → count ≡ length moved.bytes
+        received Read (Sink sink) of whole is = whole.4
+        received Read (Source source) of whole is = absurd of
+        received Write f of whole is = cc
+
+        sent : (k : Kind) (f : Files G K) (m : Mode) → IsFileOf inputs outputs k f →
+            IsCountOf inputs outputs f m runs.length count → side_of k ≡ ClientWrite → m ≡ Octet → count ≡ runs.length
+        sent Write (Source source) Octet of counts is octet = counts
+        sent Write (Source source) Netascii of counts is octet = cc
+        sent Write (Sink sink) m of counts is octet = absurd of
+        sent Read f m of counts is octet = cc
+
+        made_complete : IsWhole inputs outputs files count moved.bytes → Made (Some count) before after
+        made_complete whole =
+            let opened = job_opens inputs outputs tried.kind tried runs.length runs.runs.file server runs.may runs.side in
+            let run =
+            (are_programs to ran.ip (opens tried.kind tried runs.length) runs.runs.file opened before port last files
+            runs.runs.converses).stays_so count after stays in
+            let side_is : run.client.first.role.side ≡ side_of tried.kind =
+            ap (λ (e : EndState). e.role.side) run.end ∙ job_side tried.kind tried runs.length in
+            let mode_is : run.client.first.role.mode ≡ tried.mode =
+            ap (λ (e : EndState). e.role.mode) run.end ∙ job_mode tried.kind tried runs.length in
+            let counted : IsCounted count run.client = record {
+              complete = ap (λ (e : EndState). is_complete e.position.phase) run.ends ∙ stayed;
+              received =
+                  λ is. received tried.kind files file whole (sym side_is ∙ is)
+                  ∙ ap (λ (m : Moved). length m.bytes) (sym (run.moves ∙ still moved));
+              sent = λ is octet.
+                  sent tried.kind files tried.mode file runs.counts (sym side_is ∙ is) (sym mode_is ∙ octet)
+                  ∙ (sym (job_length tried.kind tried runs.length (sym side_is ∙ is))
+                  ∙ ap (λ (e : EndState). e.role.length) (sym run.end));
+            } in
+            subst (λ (events : List Event). Made (Some count) before events) stays.events
+            (made_one (Some count) runs.length runs.runs.file runs.may runs.side run ([], run.client, refl, counted))
 
     itself_stopped : (most : ℕ) (before after : List Event) (end : ClientOutcome) →
-        FailsBy inputs outputs most job before after end → Made before after
+        FailsBy inputs outputs most job before after end → Made None before after
     itself_stopped most before after end failed = made_stopped job refl refl refl there most before after end failed
 
-    made_completes : (before after : List Event) → Completes inputs outputs job before after → Made before after
-    made_completes before after h = elim h.transfers [
-      | inl runs ↦ made_complete job refl refl refl there runs h.stays
-      | inr again ↦
+    made_completes : (before after : List Event) (h : Completes inputs outputs job before after) →
+        Made (Some h.count) before after
+    made_completes before after h = by_transfers h.transfers h.whole where
+      by_transfers : (transfers : Transfers inputs outputs (most_waits before) h.port job before h.last h.files h.count) →
+          IsWhole inputs outputs h.files h.count (moved_by inputs outputs transfers).bytes →
+          Made (Some h.count) before after
+      by_transfers (inl runs) whole =
+          made_complete job refl refl refl there runs h.stays h.stayed h.still h.side whole
+      by_transfers (inr again) whole =
           made_both (itself_stopped (most_waits before) before again.0 again.1.end again.1.fails)
-          (made_complete (plain job) refl refl refl there again.2 h.stays)
-    ]
+          (made_complete (plain job) refl refl refl there again.2 h.stays h.stayed h.still h.side whole)
 
     made_failed : (most : ℕ) (before after : List Event) (end : ClientOutcome) →
-        FailsTransfer inputs outputs most job before after end → Made before after
+        FailsTransfer inputs outputs most job before after end → Made None before after
     made_failed most before after end h = elim h [
       | inl failed ↦ itself_stopped most before after end failed
       | inr again ↦
@@ -179,23 +241,21 @@ module _ {G K : Type 0} {inputs : SourceMeaning G} {outputs : SinkMeaning K}
           (made_stopped (plain job) refl refl refl there most again.0 after end again.2)
     ]
 
-    made_order : (status : ℕ) (before after : List Event) → RunsOrder inputs outputs job status before after →
-        Made before after
-    made_order status before after h = elim h [
-      | inl done ↦ made_completes before after done.1
-      | inr failed ↦ made_failed (most_waits before) before after failed.1 failed.3
-    ]
+    made_order : (status : ℕ) (before after : List Event) (h : RunsOrder inputs outputs job status before after) →
+        Made (count_by inputs outputs job status before after h) before after
+    made_order status before after (inl done) = made_completes before after done.1
+    made_order status before after (inr failed) = made_failed (most_waits before) before after failed.1 failed.3
 
   -- what the command did
   made_words : ((job : Job) → WordsName ran.words job → job.server ≡ to) →
-      RunsWords inputs outputs ran.words ran.status ran.before ran.after → Made ran.before ran.after
-  made_words asks h = elim h [
-    | inl nothing ↦ made_none nothing.0
-    | inr did ↦ made_order did.0 did.1 (asks did.0 did.1) ran.status ran.before ran.after did.2
-  ]
+      (h : RunsWords inputs outputs ran.words ran.status ran.before ran.after) →
+      Made (count_in inputs outputs ran.words ran.status ran.before ran.after h) ran.before ran.after
+  made_words asks (inl nothing) = made_none nothing.0
+  made_words asks (inr did) =
+      made_order did.0 did.1 (asks did.0 did.1) ran.status ran.before ran.after did.2
 
   pub client_made : ((job : Job) → WordsName ran.words job → job.server ≡ to) →
       (clients : List (ClientProgram inputs outputs to)) × AreRunsOf ran clients
   client_made asks =
       let made = made_words asks ran.ran in
-      (made.clients, record { noted = made.noted; each = made.each })
+      (made.clients, record { noted = made.noted; each = made.each; counts = made.counts })

@@ -16,11 +16,12 @@ use Rattle.tftp_sockets.specs.Journal.{Event}
 use Rattle.tftp_loop.specs.WholeRun.{Serves, Unbound, Bound, listening}
 use Rattle.tftp_loop.specs.declared.serving.LoopConfig.{LoopConfig}
 use Rattle.tftp_loop.specs.declared.serving.LoopFault.{LoopFault}
-use Rattle.tftp_client.specs.Ordered.{RunsWords}
+use Rattle.tftp_client.specs.Ordered.{RunsOrder, RunsWords}
 use Rattle.tftp_client.specs.Words.{WordsName}
 use Rattle.tftp_folder.specs.declared.folder_store.FolderStore.{FolderStore}
 use Rattle.tftp_daemon.specs.Configured.{ListensAt, ServesWords}
 use Rattle.tftp_daemon.specs.Words.{WordsConfigure}
+use Rattle.tftp_promises.specs.ClientPrograms.{IsCounted}
 use Rattle.tftp_promises.specs.Order.{Programs}
 use Rattle.tftp_promises.specs.Programs.{ClientProgram, ServerProgram, name_of}
 use Rattle.tftp_promises.specs.Several.{Several}
@@ -74,6 +75,20 @@ abbrev pub port_of : {R G H F D : Type 0} {stores : StoreMeaning (FolderStore R 
     {sources : SourceMeaning F} → ServerRan stores sources → Option ℕ
 port_of ran = bound_in ran.words ran.status ran.before ran.after ran.ran
 
+-- N of the line `complete N` that a command printed, if its job is complete
+abbrev pub count_by : {G K : Type 0} (inputs : SourceMeaning G) (outputs : SinkMeaning K) (job : Job)
+    (status : ℕ) (before after : List Event)
+    → RunsOrder inputs outputs job status before after → Option ℕ
+count_by inputs outputs job status before after (inl done) = Some done.1.count
+count_by inputs outputs job status before after (inr failed) = None
+
+abbrev pub count_in : {G K : Type 0} (inputs : SourceMeaning G) (outputs : SinkMeaning K)
+    (words : List (List ℕ)) (status : ℕ) (before after : List Event)
+    → RunsWords inputs outputs words status before after → Option ℕ
+count_in inputs outputs words status before after (inl nothing) = None
+count_in inputs outputs words status before after (inr did) =
+    count_by inputs outputs did.0 status before after did.2
+
 -- the end of a job
 abbrev pub side_of : Kind → Side
 side_of Read = ClientRead
@@ -105,11 +120,22 @@ module _ {G K : Type 0} {inputs : SourceMeaning G} {outputs : SinkMeaning K} whe
   NotedBy before (client ∷ clients) after =
       (client.before ≡ before) × NotedBy (client.noted ++ before) clients after
 
-  -- these programs are what a `tftp` ran: none, one, or two where its options were refused
+  -- the number, if there is one, is N of the last of them
+  abbrev pub CountsLast : {to : Endpoint} → Option ℕ → List (ClientProgram inputs outputs to)
+      → Type 0
+  CountsLast None clients = Unit {0}
+  CountsLast {to} (Some count) clients =
+      (earlier : List (ClientProgram inputs outputs to)) × (client : ClientProgram inputs outputs to)
+      × (clients ≡ earlier ++ client ∷ []) × IsCounted count client
+
+  -- these programs are what a `tftp` ran: none, one, or two where its options were refused; the
+  -- last is complete if its line was printed, with this N
   pub record AreRunsOf (ran : ClientRan inputs outputs) {to : Endpoint}
       (clients : List (ClientProgram inputs outputs to)) : Type 0 where
     pub noted : NotedBy ran.before clients ran.after
     pub each : AllByRecursion (IsRunOf ran) clients
+    pub counts : CountsLast
+        (count_in inputs outputs ran.words ran.status ran.before ran.after ran.ran) clients
 
   -- and these what all of them ran
   abbrev pub AreAllRuns : {to : Endpoint} → List (ClientRan inputs outputs)
