@@ -307,8 +307,8 @@ def try_instances(it) -> None:
 
 
 def try_grade(it) -> None:
-    """What `systemd-analyze security` says of both, from 0.0 to 10.0 where all is exposed."""
-    for unit in ["tftpd", "tftpd@6901"]:
+    """What `systemd-analyze security` says of each, from 0.0 to 10.0 where all is exposed."""
+    for unit in ["tftpd", "tftpd@6901", "tftpd-socket"]:
         told = it.told(f"systemd-analyze --no-pager security {unit}")
         found = re.search(r"Overall exposure level .*: ([\d.]+)", told)
         print(f"units: exposure of {unit}: {found and found[1]}")
@@ -333,6 +333,12 @@ def try_package(it) -> None:
     until("port 69 is served after the upgrade", it.is_served)
     after = process_ids(it, *units)
     expect([one in ("0", other) for one, other in zip(after, before)], [False] * 2, f"whether {before} is {after}")
+    it.run("systemctl disable --now tftpd; systemctl enable --now tftpd.socket")
+    expect(it.is_served(), True, "whether the port is served that is handed over")
+    before = process_ids(it, "tftpd-socket")
+    it.run(install, input=it.packages[0])
+    expect(it.is_served(), True, "whether it is served after another installation")
+    expect(process_ids(it, "tftpd-socket") in (["0"], before), False, "whether another process serves it")
     it.run("dpkg -r fanjuvery")
     left = it.told("readlink /proc/[0-9]*/exe | grep tftpd")
     expect(left, "", "the processes that a removal leaves")
