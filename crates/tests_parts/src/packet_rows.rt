@@ -196,7 +196,7 @@ fn reads_alike(rt: &impl Abort, alloc: Global, bytes: &[u8]) {
     }
 }
 
-fn prefixs_read_alike(rt: &impl Abort, alloc: Global, bytes: &[u8]) {
+fn prefixes_read_alike(rt: &impl Abort, alloc: Global, bytes: &[u8]) {
     for len in 0..bytes.len() + 1 {
         reads_alike(rt, alloc, &bytes[..len]);
     }
@@ -205,14 +205,14 @@ fn prefixs_read_alike(rt: &impl Abort, alloc: Global, bytes: &[u8]) {
 #[test]
 fn ref_equals_owned(rt: HostRuntime) {
     for &(bytes, _) in &PACKETS {
-        prefixs_read_alike(&rt, rt.alloc(), bytes);
+        prefixes_read_alike(&rt, rt.alloc(), bytes);
     }
 }
 
 #[test]
 fn ref_equals_owned_of_faults(rt: HostRuntime) {
     for &(bytes, _, _) in &FAULTS {
-        prefixs_read_alike(&rt, rt.alloc(), bytes);
+        prefixes_read_alike(&rt, rt.alloc(), bytes);
     }
 }
 

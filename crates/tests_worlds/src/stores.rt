@@ -25,7 +25,7 @@ pub(crate) fn store_of(rt: &impl Abort, alloc: Global, name: &[u8], bytes: &[u8]
     MemStore::new(alloc, files).expect(rt, "memory")
 }
 
-/// Writes a file by a prefix, an append and a commit.
+/// Writes a file by `begin`, `append` and `commit`.
 pub(crate) fn write<S: Store>(
     store: &mut S,
     alloc: Global,

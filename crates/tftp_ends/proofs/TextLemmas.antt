@@ -86,7 +86,7 @@ wrong_begins text LoneLf h =
 wrong_begins text EndsInCr h = absurd h.1
 wrong_begins text Memory h = absurd h.1
 
--- a push of the prefix of a wire text fails only if out of memory
+-- a push of a text that begins a wire text fails only if out of memory
 pub refused_for_memory : (text : List ℕ) (fault : NetFault) → begins_netascii text ≡ true → fault ≢ Memory
     → Refuses text fault → ⊥
 refused_for_memory text LoneCr b n h = true≢false (sym b ∙ wrong_begins text LoneCr h)

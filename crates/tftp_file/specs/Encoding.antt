@@ -15,7 +15,7 @@ abbrev pub text_left : Encoding → List ℕ → List ℕ
 text_left Octet bytes = bytes
 text_left (Netascii held) bytes = netascii_left held bytes
 
--- the encoding at the prefix of a text
+-- the encoding at the beginning of a text
 abbrev pub encoding_of : Mode → Encoding
 encoding_of mode.Octet = Octet
 encoding_of mode.Netascii = Netascii None

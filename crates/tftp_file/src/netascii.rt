@@ -56,7 +56,7 @@ impl From<AllocError> for NetFault {
 pub struct NetEncoder {}
 
 impl NetEncoder {
-    /// An encoder at the prefix of a text.
+    /// An encoder at the beginning of a text.
     pub fn new() -> NetEncoder {
         NetEncoder {}
     }
@@ -115,7 +115,7 @@ impl Model for NetDecoder {
 }
 
 impl NetDecoder {
-    /// A decoder at the prefix of a text.
+    /// A decoder at the beginning of a text.
     pub fn new() -> NetDecoder
         ensures { result ≡ [] }
     {

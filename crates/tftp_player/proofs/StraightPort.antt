@@ -1,4 +1,4 @@
--- The prefix of a run without loss: a client asks, and the server's port accepts its request.
+-- The beginning of a run without loss: a client asks, and the server's port accepts its request.
 use Rattle.std.proofs.Common.{◌≡◌, ℕ, ◌+◌, ◌*◌, ◌<◌, Bool, true, false, List, [], ◌∷◌, ◌++◌, length, Option, Some, None}
 use Rattle.std.proofs.Common.{Result, Ok, Err, refl, sym, ap, ◌∙◌, subst, arith, length-append}
 use Rattle.std.specs.Prelude.{◌↔◌, IsTrue, if◌then◌else◌, nat_le, nat_lt, slice_get}

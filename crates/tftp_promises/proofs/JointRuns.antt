@@ -154,7 +154,7 @@ module _ {S F D G K : Type 0} {stores : StoreMeaning S D} {sources : SourceMeani
   server_rests joint does same =
       Server_does joint does [] same (λ port from bytes i. absurd (let l = i.1 in omega arith))
 
-  -- at the prefix of the order the server has made silent steps only
+  -- at the beginning of the order the server has made silent steps only
   server_first : {state : LoopState S F D} (run : ServerRun state) (noted : List Event)
       (clients : List (ClientStage G K)) → state.events ≡ noted ++ programs.server.start.events → noted ≡ [] →
       map (λ (client : Client). Unasked) programs.clients ≡ clients → Joint programs (snap run noted clients)
@@ -441,7 +441,7 @@ module _ {S F D G K : Type 0} {stores : StoreMeaning S D} {sources : SourceMeani
   of_program (suc k) e earlier comes ih sn fits =
       of_client k e earlier comes ih sn fits (slice_get programs.clients k) refl
 
-  -- at the prefix of the order no client has sent its request
+  -- at the beginning of the order no client has sent its request
   client_first : (client : Client) {stage : ClientStage G K} → ClientFits client [] stage → stage ≡ Unasked
   client_first client (Not_yet none) = refl
   client_first client (Conversed_so run own is (w ∷ waits) quiet none) = no_more w (waits ++ _) (sym none)

@@ -7,7 +7,7 @@ use Rattle.tftp_file.specs.Block.{IsPrefixOf}
 use Rattle.tftp_rules.specs.Machine.{Endpoint, Request, Message, Machine, Network}
 use Rattle.tftp_rules.specs.Rules.{message}
 use Rattle.tftp_rules.specs.Shows.{EndView, Matches, Shows, IsShown, AreApart}
-use Rattle.tftp_rules.specs.Texts.{PrefixsJoin, OnlyNothingBeginsNothing}
+use Rattle.tftp_rules.specs.Texts.{PrefixesJoin, OnlyNothingBeginsNothing}
 use Rattle.tftp_rules.specs.MachineSafety.{party_view}
 use Rattle.tftp_rules.specs.Safety.{IsSenderAt}
 use Rattle.tftp_rules.specs.ViewSafety.{IsAmong, safety_view, IsSafeViews, PeersAtHome}
@@ -15,7 +15,7 @@ use Rattle.tftp_rules.proofs.Steps.{own_server}
 use Rattle.tftp_rules.proofs.Shown.{shown_by}
 use Rattle.tftp_rules.proofs.Runs.{IsSafeMachine-holds}
 
-pub IsPrefixOf-trans : PrefixsJoin
+pub IsPrefixOf-trans : PrefixesJoin
 IsPrefixOf-trans xs ys zs a b =
     (a.0 ++ b.0, sym (append_assoc xs a.0 b.0) ∙ (ap (λ (us : List ℕ). us ++ b.0) a.1 ∙ b.1))
 

@@ -20,8 +20,8 @@ BlocksHaveLengths =
     → length (block text size (n + 1)) ≡ min size (length text - n * size)
 
 -- a prefix of a prefix is one
-abbrev pub PrefixsJoin : Type 0
-PrefixsJoin =
+abbrev pub PrefixesJoin : Type 0
+PrefixesJoin =
     (xs ys zs : List ℕ) → IsPrefixOf xs ys → IsPrefixOf ys zs → IsPrefixOf xs zs
 
 -- only the empty text is a prefix of the empty text

@@ -13,7 +13,7 @@ ghost use Rattle.tftp_rules.specs.Recorded.{AreRecorded};
 ghost use Rattle.tftp_rules.specs.Rules.{Rule, IsLegal, run, start};
 ghost use Rattle.tftp_rules.specs.Shows.{EndView, AreApart, IsShown};
 ghost use Rattle.tftp_rules.specs.Texts.{EndpointsAreTheirParts, BlocksGoOn, BlocksHaveLengths};
-ghost use Rattle.tftp_rules.specs.Texts.{PrefixsJoin, OnlyNothingBeginsNothing};
+ghost use Rattle.tftp_rules.specs.Texts.{PrefixesJoin, OnlyNothingBeginsNothing};
 ghost use Rattle.tftp_rules.specs.ViewSafety.{IsSafeViews, PeersAtHome};
 
 /// After every legal list of rules, in any network, the transfers are safe: the ends of an
@@ -85,6 +85,6 @@ pub fn texts_go_on()
     ensures endpoints { EndpointsAreTheirParts }
     ensures blocks { BlocksGoOn }
     ensures lengths { BlocksHaveLengths }
-    ensures joins { PrefixsJoin }
+    ensures joins { PrefixesJoin }
     ensures nothing { OnlyNothingBeginsNothing }
 {}

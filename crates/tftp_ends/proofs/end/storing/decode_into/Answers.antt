@@ -1,4 +1,4 @@
--- The prefix of a wire text has no wrong byte.
+-- A text that begins a wire text has no wrong byte.
 use Rattle.tftp_ends.proofs.TextLemmas.{refused_for_memory}
 use Rattle.tftp_ends.proofs.end.storing.decode_into.Goals as goal
 
