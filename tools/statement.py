@@ -52,7 +52,7 @@ COMMANDS = {
     "IsBoundTo": "at this address, and at this port, or at any for 0",
     "EndsBy": "without a fault so many transfers closed or waits are over, and with one the loop stopped for it",
     "listening": "the line of the request port was printed",
-    "Does": "a step of the server's loop, by the tables of the standard: what it notes, and what it leaves",
+    "LoopStep": "a step of the server's loop, by the tables of the standard: what it notes, and what it leaves",
     "at_start": "the loop before its first step, with no transfer",
     "tftpd_app": "the rules of the command line of `tftpd`",
     "Timer": "the timer of a transfer, by its port",

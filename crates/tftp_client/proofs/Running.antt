@@ -18,7 +18,7 @@ use Rattle.tftp_client.specs.declared.transfer.Job.{Job}
 use Rattle.tftp_client.specs.Converses.{Converses, EndsBy, State}
 use Rattle.tftp_client.specs.Ordered.{RunsOrder, RunsWords}
 use Rattle.tftp_client.specs.Words.{WordsName, tftp_app}
-use Rattle.tftp_client.specs.Runs.{FailsBy, FailsEnd, FailsTransfer, StaysOn, IsNew, Refused, Runs}
+use Rattle.tftp_client.specs.Runs.{FailsBy, FailsEnd, FailsTransfer, Dallies, IsNew, Refused, Runs}
 use Rattle.tftp_client.specs.Runs.{IsFileOf, MayOpen, RunsAs, RunsJob, Stops, Transfers, begun, opens, plain}
 
 -- for a last call whose result is returned as it is
@@ -123,9 +123,9 @@ module _ {S K : Type 0} (sources : SourceMeaning S) (sinks : SinkMeaning K) wher
 
   -- a client continued from this state, which is that one
   pub goes_on : {port : ℕ} {first first' : State} {file : Files S K} {after : List Event} → first ≡ first'
-      → StaysOn sources sinks port first file after → StaysOn sources sinks port first' file after
+      → Dallies sources sinks port first file after → Dallies sources sinks port first' file after
   goes_on {port} {file = file} {after = after} is run = let From : State
-      → Type 0 = λ s. StaysOn sources sinks port s file after in subst From is run
+      → Type 0 = λ s. Dallies sources sinks port s file after in subst From is run
 
   -- an order was run, or there is none and nothing was done
   pub runs_words : {before after : List Event} (words : List (List ℕ)) {status : ℕ} (ordered : Result Order ℕ)

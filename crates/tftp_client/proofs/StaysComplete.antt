@@ -28,7 +28,7 @@ use Rattle.tftp_client.specs.Converses.Converses.{Begins, Receives, Waits, Times
 use Rattle.tftp_client.specs.Converses.HandlesReceived.{Answers, Loses}
 use Rattle.tftp_client.specs.Converses.MayElapse.{Stays, Elapses}
 use Rattle.tftp_client.specs.Moved.{Moved, acts_move, handling_moves, nothing_moved, run_moves}
-use Rattle.tftp_client.specs.Runs.{StaysOn}
+use Rattle.tftp_client.specs.Runs.{Dallies}
 use Rattle.tftp_client.proofs.Committing.{by_tests, if_either, waits_complete}
 
 -- a response that begins no transfer
@@ -140,10 +140,10 @@ module _ {S K : Type 0} (sources : SourceMeaning S) (sinks : SinkMeaning K) wher
 
   -- what a complete client did from its line on
   pub stays_complete : {port : ℕ} {first : State} {file : Files S K} {after : List Event}
-      (stays : StaysOn sources sinks port first file after) → IsDone first.end → IsDone stays.last.end
+      (stays : Dallies sources sinks port first file after) → IsDone first.end → IsDone stays.last.end
   stays_complete stays done = (converses nothing_moved stays.converses done).0
 
   pub moves_nothing : {port : ℕ} {first : State} {file : Files S K} {after : List Event}
-      (stays : StaysOn sources sinks port first file after) → IsDone first.end → (moved : Moved)
+      (stays : Dallies sources sinks port first file after) → IsDone first.end → (moved : Moved)
       → run_moves stays.converses moved ≡ moved
   moves_nothing stays done moved = (converses moved stays.converses done).1

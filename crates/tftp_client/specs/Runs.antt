@@ -190,7 +190,7 @@ module _ {S K : Type 0} (sources : SourceMeaning S) (sinks : SinkMeaning K) wher
       × FailsBy most (plain job) middle after end)
 
   -- the client went on from that state
-  pub record StaysOn (port : ℕ) (first : State) (file : Files S K)
+  pub record Dallies (port : ℕ) (first : State) (file : Files S K)
       (after : List Event) : Type 0 where
     pub last : State
     pub files : Files S K
@@ -208,7 +208,7 @@ module _ {S K : Type 0} (sources : SourceMeaning S) (sinks : SinkMeaning K) wher
     pub complete : is_complete last.end.position.phase ≡ true
     pub side : IsFileOf job.kind files
     pub whole : IsWhole files count (moved_by transfers).bytes
-    pub stays : StaysOn port (printed count last) files after
+    pub stays : Dallies port (printed count last) files after
     -- it stays complete, and nothing moves
     pub stayed : is_complete stays.last.end.position.phase ≡ true
     pub still : (moved : Moved) → run_moves stays.converses moved ≡ moved

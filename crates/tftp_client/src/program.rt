@@ -8,7 +8,7 @@ ghost use Rattle.tftp_sockets.specs.Quiet.{waits as waits_in};
 ghost use Rattle.tftp_client.specs.Conversation.{state_of};
 ghost use Rattle.tftp_client.specs.Converses.{most_waits};
 ghost use Rattle.tftp_client.specs.Ordered.{RunsOrder, RunsWords};
-ghost use Rattle.tftp_client.specs.Runs.{StaysOn, printed};
+ghost use Rattle.tftp_client.specs.Runs.{Dallies, printed};
 
 use crate::cause::CauseLine;
 use crate::client_udp::ClientUdp;
@@ -169,7 +169,7 @@ fn conclude<N: Clock + Print + Eprint, R: Files + Drop>(
 ) -> u8
     ensures status { result ≤ 2 }
     ensures ends { (result ≡ 0) ⊎ (result ≡ 2) }
-    ensures goes { StaysOn ⟦<LocalSource<R::File> as Source>⟧.meaning
+    ensures goes { Dallies ⟦<LocalSource<R::File> as Source>⟧.meaning
         ⟦<LocalFile<R> as Sink>⟧.meaning completed.conversation.socket.port
         (printed completed.count (state_of completed.conversation journal.old.events))
         completed.files journal.new.events }

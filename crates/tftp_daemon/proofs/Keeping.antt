@@ -22,13 +22,13 @@ use Rattle.tftp_server.specs.State.{TransferState, ServerState}
 use Rattle.tftp_server.specs.Steps.{KeepsHeld, StepIn}
 use Rattle.tftp_server.specs.Work.{FilesWork, WorksAt}
 use Rattle.tftp_loop.specs.Run.{Start, Then}
-use Rattle.tftp_loop.specs.Serves.{AtPort, Does, LoopState, PortState}
-use Rattle.tftp_loop.specs.Serves.AtPort.{A_datagram, A_lost_datagram, A_late_datagram, Nothing_found}
-use Rattle.tftp_loop.specs.Serves.AtPort.{A_failed_receive, A_timeout, A_missed_timeout, Work}
-use Rattle.tftp_loop.specs.Serves.Does.{Waited, At_port, Request_received, No_request_found, Request_not_received}
-use Rattle.tftp_loop.specs.Serves.Does.{Request_noted, Request_answered, Request_lost, Clock_read, Store_set}
-use Rattle.tftp_loop.specs.Serves.Does.{Transfer_closed}
-use Rattle.tftp_daemon.specs.Kept.{RunLeaves}
+use Rattle.tftp_loop.specs.Steps.{PortStep, LoopStep, LoopState, PortState}
+use Rattle.tftp_loop.specs.Steps.PortStep.{A_datagram, A_lost_datagram, A_late_datagram, Nothing_found}
+use Rattle.tftp_loop.specs.Steps.PortStep.{A_failed_receive, A_timeout, A_missed_timeout, Work}
+use Rattle.tftp_loop.specs.Steps.LoopStep.{Waited, At_port, Request_received, No_request_found, Request_not_received}
+use Rattle.tftp_loop.specs.Steps.LoopStep.{Request_noted, Request_answered, Request_lost, Clock_read, Store_set}
+use Rattle.tftp_loop.specs.Steps.LoopStep.{Transfer_closed}
+use Rattle.tftp_daemon.specs.Leaves.{RunLeaves}
 
 -- a relation that each call of a store keeps
 pub record AreKept {S D : Type 0} (Same : S → S → Type 0) (meaning : StoreMeaning S D) : Type 0 where
@@ -103,7 +103,7 @@ module _ {S F D : Type 0} (Same : S → S → Type 0) (meaning : StoreMeaning S 
   held_so tid None old new h = stays (ap (λ (s : ServerState S F D). s.store) h)
   held_so tid (Some transfer) old new h = kept_so old.store new.store transfer.files h.0.files h.1.stays h.1.draft
 
-  port_so : (now : ℕ) (old new : PortState S F D) → AtPort meaning sources now old new
+  port_so : (now : ℕ) (old new : PortState S F D) → PortStep meaning sources now old new
       → Same old.server.store new.server.store
   port_so now old new (A_datagram d) =
       let t = d.handles.takes in
@@ -151,7 +151,7 @@ module _ {S F D : Type 0} (Same : S → S → Type 0) (meaning : StoreMeaning S 
   abbrev store_of : LoopState S F D → S
   store_of s = s.server.store
 
-  leaves_so : (old new : LoopState S F D) → Does meaning sources old new → Same old.server.store new.server.store
+  leaves_so : (old new : LoopState S F D) → LoopStep meaning sources old new → Same old.server.store new.server.store
   leaves_so old new (Waited d) = stays (ap store_of d.is)
   leaves_so old new (At_port d) =
       subst (Same old.server.store) (sym (ap store_of d.is)) (port_so old.now _ d.next d.does)

@@ -26,13 +26,13 @@ use Rattle.tftp_server.specs.State.{TransferState, ServerState, at, draft_of, wi
 use Rattle.tftp_server.specs.Steps.{KeepsHeld, with_end}
 use Rattle.tftp_server.specs.Work.{FilesWork, WorksAt}
 use Rattle.tftp_loop.specs.Run.{Start, Then}
-use Rattle.tftp_loop.specs.Serves.{AtPort, Does, LoopState, PortState}
-use Rattle.tftp_loop.specs.Serves.AtPort.{A_datagram, A_late_datagram, A_lost_datagram, Nothing_found}
-use Rattle.tftp_loop.specs.Serves.AtPort.{A_failed_receive, A_timeout, A_missed_timeout, Work}
-use Rattle.tftp_loop.specs.Serves.Does.{Waited, At_port, Request_received, No_request_found, Request_not_received}
-use Rattle.tftp_loop.specs.Serves.Does.{Request_noted, Request_answered, Request_lost, Clock_read, Store_set}
-use Rattle.tftp_loop.specs.Serves.Does.{Transfer_closed}
-use Rattle.tftp_daemon.specs.Kept.{NoneStores, RunKeepsHeld, RunLeaves, StoresOnly}
+use Rattle.tftp_loop.specs.Steps.{PortStep, LoopStep, LoopState, PortState}
+use Rattle.tftp_loop.specs.Steps.PortStep.{A_datagram, A_late_datagram, A_lost_datagram, Nothing_found}
+use Rattle.tftp_loop.specs.Steps.PortStep.{A_failed_receive, A_timeout, A_missed_timeout, Work}
+use Rattle.tftp_loop.specs.Steps.LoopStep.{Waited, At_port, Request_received, No_request_found, Request_not_received}
+use Rattle.tftp_loop.specs.Steps.LoopStep.{Request_noted, Request_answered, Request_lost, Clock_read, Store_set}
+use Rattle.tftp_loop.specs.Steps.LoopStep.{Transfer_closed}
+use Rattle.tftp_daemon.specs.Leaves.{NoneStores, RunKeepsHeld, RunLeaves, StoresOnly}
 
 module _ {F D : Type 0} where
   -- ---- of the files of one transfer
@@ -132,7 +132,7 @@ module _ {S F D : Type 0} (Admits : S → Type 0) (May : List ℕ → Type 0) (m
       (ap (λ (t : TransferState F D). t.path) works.1.rest) (fine_at May tid old.held fine found))
       works.2
 
-  port_fine : (now : ℕ) (old new : PortState S F D) → AtPort meaning sources now old new → FineIn old.server
+  port_fine : (now : ℕ) (old new : PortState S F D) → PortStep meaning sources now old new → FineIn old.server
       → FineIn new.server
   port_fine now old new (A_datagram d) fine =
       let t = d.handles.takes in
@@ -188,7 +188,7 @@ module _ {S F D : Type 0} (Admits : S → Type 0) (May : List ℕ → Type 0) (m
   abbrev held_in : LoopState S F D → List (ℕ × TransferState F D)
   held_in s = s.server.held
 
-  does_fine : (old new : LoopState S F D) → Does meaning sources old new → Admits old.server.store
+  does_fine : (old new : LoopState S F D) → LoopStep meaning sources old new → Admits old.server.store
       → FineIn old.server → FineIn new.server
   does_fine old new (Waited d) admits fine = subst (AreFine May) (sym (ap held_in d.is)) fine
   does_fine old new (At_port d) admits fine =

@@ -1,4 +1,4 @@
-pub mod Kept
+pub mod Leaves
 pub mod CommandLine
 pub mod Words
 pub mod Configured

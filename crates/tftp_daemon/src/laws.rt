@@ -1,7 +1,7 @@
 //! Laws of the runs of `tftpd`, over the definitions alone.
 
-ghost use Rattle.tftp_daemon.specs.Kept.{ReadOnlyRunStoresNothing, RunKeepsSettings};
-ghost use Rattle.tftp_daemon.specs.Kept.{UploadsStayInTheirFolder};
+ghost use Rattle.tftp_daemon.specs.Leaves.{ReadOnlyRunStoresNothing, RunKeepsSettings};
+ghost use Rattle.tftp_daemon.specs.Leaves.{UploadsStayInTheirFolder};
 
 use std::rt::Files;
 use tftp_file::Source;

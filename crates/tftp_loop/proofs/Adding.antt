@@ -7,12 +7,12 @@ use Rattle.tftp_ends.specs.Step.{Reply}
 use Rattle.tftp_store.specs.Store.{StoreMeaning}
 use Rattle.tftp_sockets.specs.Journal.{Event, answered, replied}
 use Rattle.tftp_sockets.specs.Journal.Event.{Received, Sent, Watched, Elapsed}
-use Rattle.tftp_loop.specs.Serves.{PortState, LoopState, AtPort, Does, port_state}
-use Rattle.tftp_loop.specs.Serves.AtPort.{A_datagram, A_lost_datagram, A_late_datagram, Nothing_found}
-use Rattle.tftp_loop.specs.Serves.AtPort.{A_failed_receive, A_timeout, A_missed_timeout, Work}
-use Rattle.tftp_loop.specs.Serves.Does.{Waited, At_port, Request_received, No_request_found, Request_not_received}
-use Rattle.tftp_loop.specs.Serves.Does.{Request_noted}
-use Rattle.tftp_loop.specs.Serves.Does.{Request_answered, Request_lost, Clock_read, Store_set, Transfer_closed}
+use Rattle.tftp_loop.specs.Steps.{PortState, LoopState, PortStep, LoopStep, port_state}
+use Rattle.tftp_loop.specs.Steps.PortStep.{A_datagram, A_lost_datagram, A_late_datagram, Nothing_found}
+use Rattle.tftp_loop.specs.Steps.PortStep.{A_failed_receive, A_timeout, A_missed_timeout, Work}
+use Rattle.tftp_loop.specs.Steps.LoopStep.{Waited, At_port, Request_received, No_request_found, Request_not_received}
+use Rattle.tftp_loop.specs.Steps.LoopStep.{Request_noted}
+use Rattle.tftp_loop.specs.Steps.LoopStep.{Request_answered, Request_lost, Clock_read, Store_set, Transfer_closed}
 
 pub record Adds (before after : List Event) : Type 0 where
   pub more : List Event
@@ -44,7 +44,7 @@ replied_adds port None bytes es = adds_none es es refl
 replied_adds port (Some to) bytes es = adds_one (Sent port to bytes) es _ refl
 
 module _ {S F D : Type 0} (meaning : StoreMeaning S D) (sources : SourceMeaning F) where
-  port_adds : (now : ℕ) (old new : PortState S F D) → AtPort meaning sources now old new → Adds old.events new.events
+  port_adds : (now : ℕ) (old new : PortState S F D) → PortStep meaning sources now old new → Adds old.events new.events
   port_adds now old new (A_datagram d) =
       let received = Received old.timer.port d.from d.bytes ∷ old.events in
       adds_to old.events _ new.events d.handles.events
@@ -64,7 +64,7 @@ module _ {S F D : Type 0} (meaning : StoreMeaning S D) (sources : SourceMeaning 
   port_adds now old new (A_missed_timeout d) = adds_one (Elapsed old.timer.port now) old.events new.events d.events
   port_adds now old new (Work d) = adds_none old.events new.events d.events
 
-  pub step_adds : (s t : LoopState S F D) → Does meaning sources s t → Adds s.events t.events
+  pub step_adds : (s t : LoopState S F D) → LoopStep meaning sources s t → Adds s.events t.events
   step_adds s t (Waited d) =
       adds_more s.events _ t.events (adds_one (Watched d.time) s.events _ refl)
       (adds_more (Watched d.time ∷ s.events) _ t.events (adds_one _ (Watched d.time ∷ s.events) _ refl)
@@ -86,7 +86,7 @@ module _ {S F D : Type 0} (meaning : StoreMeaning S D) (sources : SourceMeaning 
   same_now : (now : ℕ) (t u : LoopState S F D) → t ≡ u → now ≤ u.now → now ≤ t.now
   same_now now t u e h = subst (λ (v : LoopState S F D). now ≤ v.now) (sym e) h
 
-  pub step_forward : (s t : LoopState S F D) → Does meaning sources s t → s.now ≤ t.now
+  pub step_forward : (s t : LoopState S F D) → LoopStep meaning sources s t → s.now ≤ t.now
   step_forward s t (Waited d) = same_now s.now t _ d.is d.forward
   step_forward s t (At_port d) = same_now s.now t _ d.is (omega arith)
   step_forward s t (Request_received d) = same_now s.now t _ d.is (omega arith)

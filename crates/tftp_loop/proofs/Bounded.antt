@@ -20,13 +20,13 @@ use Rattle.tftp_server.specs.State.{TransferState, ServerState, at, with_new, wi
 use Rattle.tftp_server.specs.declared.config.Config.{Config}
 use Rattle.tftp_loop.specs.Run.{Run}
 use Rattle.tftp_loop.specs.Run.Run.{Start, Then}
-use Rattle.tftp_loop.specs.Serves.{Timer, PortState, LoopState, AtPort, Does, interval_at, marked_by}
-use Rattle.tftp_loop.specs.Serves.{port_state, set_by, started, with_timer}
-use Rattle.tftp_loop.specs.Serves.Does.{Waited, At_port, Request_received, No_request_found, Request_not_received}
-use Rattle.tftp_loop.specs.Serves.Does.{Request_noted}
-use Rattle.tftp_loop.specs.Serves.Does.{Request_answered, Request_lost, Clock_read, Store_set, Transfer_closed}
+use Rattle.tftp_loop.specs.Steps.{Timer, PortState, LoopState, PortStep, LoopStep, interval_at, marked_by}
+use Rattle.tftp_loop.specs.Steps.{port_state, set_by, started, with_timer}
+use Rattle.tftp_loop.specs.Steps.LoopStep.{Waited, At_port, Request_received, No_request_found, Request_not_received}
+use Rattle.tftp_loop.specs.Steps.LoopStep.{Request_noted}
+use Rattle.tftp_loop.specs.Steps.LoopStep.{Request_answered, Request_lost, Clock_read, Store_set, Transfer_closed}
 use Rattle.tftp_loop.specs.Expiry.{IsIdleAt, ReceivesNoneAt}
-use Rattle.tftp_loop.specs.Tended.{AreKept}
+use Rattle.tftp_loop.specs.MayWait.{AreKept}
 use Rattle.tftp_loop.proofs.LoopStays.{all_appended, all_removed, all_set, other_port, some_none}
 use Rattle.tftp_loop.proofs.PortEnds.{HasLimit, IsNear, at_transfer, changes_limit, changes_near, restarted_near}
 use Rattle.tftp_loop.proofs.PortEnds.{same_config, same_timer, set_near}
@@ -129,7 +129,7 @@ module _ {S F D : Type 0} (meaning : StoreMeaning S D) (sources : SourceMeaning 
   }
 
   set_bounded : (s : LoopState S F D) (index : ℕ) (timer : Timer) (next : PortState S F D) → index < length s.timers
-      → timer ≡ slice_index_or s.timers index timer → AtPort meaning sources s.now (port_state s timer) next
+      → timer ≡ slice_index_or s.timers index timer → PortStep meaning sources s.now (port_state s timer) next
       → AreKept s.server.held s.timers → All (IsBounded s.server s.now) s.timers
       → All (IsBounded next.server s.now) (slice_set s.timers index next.timer)
   set_bounded s index timer next within is does kept bounded =
@@ -205,7 +205,7 @@ module _ {S F D : Type 0} (meaning : StoreMeaning S D) (sources : SourceMeaning 
   abbrev AreBounded : LoopState S F D → Type 0
   AreBounded s = All (IsBounded s.server s.now) s.timers
 
-  step_bounded : (s t : LoopState S F D) → Does meaning sources s t → AreKept s.server.held s.timers → AreBounded s
+  step_bounded : (s t : LoopState S F D) → LoopStep meaning sources s t → AreKept s.server.held s.timers → AreBounded s
       → AreBounded t
   step_bounded s t (Waited d) kept bounded =
       subst AreBounded (sym d.is)
@@ -249,7 +249,7 @@ module _ {S F D : Type 0} (meaning : StoreMeaning S D) (sources : SourceMeaning 
     pub bounded : All (IsBounded s.server s.now) s.timers
 
   pub sound_along : (start s : LoopState S F D) → start.timers ≡ []
-      → Run (Does meaning sources) start s → IsSound s
+      → Run (LoopStep meaning sources) start s → IsSound s
   sound_along start s empty Start =
       let none : length start.timers ≡ 0 = ap (λ (ts : List Timer). length ts) empty in
       record {

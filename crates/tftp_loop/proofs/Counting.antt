@@ -13,13 +13,13 @@ use Rattle.tftp_sockets.specs.Journal.Event.{Received, Elapsed}
 use Rattle.tftp_loop.specs.Fair.{received_in}
 use Rattle.tftp_loop.specs.Run.{Run}
 use Rattle.tftp_loop.specs.Run.Run.{Start, Then}
-use Rattle.tftp_loop.specs.Serves.{Timer, PortState, LoopState, AtPort, Does, interval_at, marked_by, most_in_round}
-use Rattle.tftp_loop.specs.Serves.{port_state, set_by, started, timer_after, with_timer}
-use Rattle.tftp_loop.specs.Serves.Does.{Waited, At_port, Request_received, No_request_found, Request_not_received}
-use Rattle.tftp_loop.specs.Serves.Does.{Request_noted, Request_answered, Request_lost, Clock_read, Store_set}
-use Rattle.tftp_loop.specs.Serves.Does.{Transfer_closed}
-use Rattle.tftp_loop.specs.Serves.AtPort.{A_datagram, A_lost_datagram, A_late_datagram, Nothing_found}
-use Rattle.tftp_loop.specs.Serves.AtPort.{A_failed_receive, A_timeout, A_missed_timeout, Work}
+use Rattle.tftp_loop.specs.Steps.{Timer, PortState, LoopState, PortStep, LoopStep, interval_at, marked_by, most_in_round}
+use Rattle.tftp_loop.specs.Steps.{port_state, set_by, started, timer_after, with_timer}
+use Rattle.tftp_loop.specs.Steps.LoopStep.{Waited, At_port, Request_received, No_request_found, Request_not_received}
+use Rattle.tftp_loop.specs.Steps.LoopStep.{Request_noted, Request_answered, Request_lost, Clock_read, Store_set}
+use Rattle.tftp_loop.specs.Steps.LoopStep.{Transfer_closed}
+use Rattle.tftp_loop.specs.Steps.PortStep.{A_datagram, A_lost_datagram, A_late_datagram, Nothing_found}
+use Rattle.tftp_loop.specs.Steps.PortStep.{A_failed_receive, A_timeout, A_missed_timeout, Work}
 use Rattle.tftp_loop.proofs.LoopStays.{all_appended, all_removed, all_set}
 use Rattle.tftp_loop.proofs.PortStays.{after_received}
 use Rattle.tftp_loop.proofs.Waits.{waited_at}
@@ -33,7 +33,7 @@ module _ {S F D : Type 0} (meaning : StoreMeaning S D) (sources : SourceMeaning 
   abbrev Counts : PortState S F D → PortState S F D → Type 0
   Counts s t = t.timer.received + received_in s.events ≡ s.timer.received + received_in t.events
 
-  counts : (now : ℕ) (s t : PortState S F D) → AtPort meaning sources now s t → Counts s t
+  counts : (now : ℕ) (s t : PortState S F D) → PortStep meaning sources now s t → Counts s t
   counts now s t (A_datagram d) =
       let timer = ap (λ (u : Timer). u.received) d.timer ∙ after_received now d.step.progress s.timer in
       let events = ap received_in d.handles.events ∙ answered_in s.timer.port d.handles.takes.takes.turn.reply _ in
@@ -67,7 +67,7 @@ module _ {S F D : Type 0} (meaning : StoreMeaning S D) (sources : SourceMeaning 
       let events = ap received_in d.events in
       omega (arith, timer, events)
 
-  pub counted_along : (now : ℕ) (s t : PortState S F D) → Run (AtPort meaning sources now) s t → Counts s t
+  pub counted_along : (now : ℕ) (s t : PortState S F D) → Run (PortStep meaning sources now) s t → Counts s t
   counted_along now s t Start = refl
   counted_along now s t (Then {middle} run does) =
       let a = counted_along now s middle run in
@@ -89,7 +89,7 @@ module _ {S F D : Type 0} (meaning : StoreMeaning S D) (sources : SourceMeaning 
   same_few : (timer timer' : Timer) → timer'.received ≡ timer.received → IsFew timer → IsFew timer'
   same_few timer timer' is few = omega (arith, is, few)
 
-  port_few : (now : ℕ) (s t : PortState S F D) → AtPort meaning sources now s t → IsFew s.timer → IsFew t.timer
+  port_few : (now : ℕ) (s t : PortState S F D) → PortStep meaning sources now s t → IsFew s.timer → IsFew t.timer
   port_few now s t (A_datagram d) few = counted_few now d.step.progress s.timer t.timer d.few d.timer
   port_few now s t (A_lost_datagram d) few = counted_few now false s.timer t.timer d.few d.timer
   port_few now s t (A_late_datagram d) few = counted_few now false s.timer t.timer d.few d.timer
@@ -114,7 +114,7 @@ module _ {S F D : Type 0} (meaning : StoreMeaning S D) (sources : SourceMeaning 
       let f = length-map timers (set_by time) in
       subst IsFew (sym (waited_at time ports timers k d (omega (arith, e, f, h)))) (omega arith)
 
-  step_few : (s t : LoopState S F D) → Does meaning sources s t → AreFew s → AreFew t
+  step_few : (s t : LoopState S F D) → LoopStep meaning sources s t → AreFew s → AreFew t
   step_few s t (Waited d) few = subst AreFew (sym d.is) (waited_few d.time d.ports s.timers)
   step_few s t (At_port d) few =
       subst AreFew (sym d.is)
@@ -137,7 +137,7 @@ module _ {S F D : Type 0} (meaning : StoreMeaning S D) (sources : SourceMeaning 
       all_removed IsFew s.timers 0 d.index d.timer (omega arith) d.within (λ k e l h apart. few k e h) k e
       (omega arith) h)
 
-  pub few_along : (start now : LoopState S F D) → start.timers ≡ [] → Run (Does meaning sources) start now → AreFew now
+  pub few_along : (start now : LoopState S F D) → start.timers ≡ [] → Run (LoopStep meaning sources) start now → AreFew now
   few_along start now none Start =
       subst (All IsFew) (sym none) (λ k d h. absurd (omega (arith, h)))
   few_along start now none (Then {middle} run does) =

@@ -9,9 +9,9 @@ use Rattle.tftp_store.specs.Store.{StoreMeaning}
 use Rattle.tftp_sockets.specs.Journal.{Event, answered, replied}
 use Rattle.tftp_sockets.specs.Journal.Event.{Received, Elapsed}
 use Rattle.tftp_sockets.specs.Quiet.{is_drained}
-use Rattle.tftp_loop.specs.Serves.{PortState, AtPort}
-use Rattle.tftp_loop.specs.Serves.AtPort.{A_datagram, A_lost_datagram, A_late_datagram, Nothing_found}
-use Rattle.tftp_loop.specs.Serves.AtPort.{A_failed_receive, A_timeout, A_missed_timeout, Work}
+use Rattle.tftp_loop.specs.Steps.{PortState, PortStep}
+use Rattle.tftp_loop.specs.Steps.PortStep.{A_datagram, A_lost_datagram, A_late_datagram, Nothing_found}
+use Rattle.tftp_loop.specs.Steps.PortStep.{A_failed_receive, A_timeout, A_missed_timeout, Work}
 
 -- an answer receives nothing
 pub answered_drained : (r port : ℕ) (reply : Option Reply) (es : List Event) → is_drained r es ≡ true
@@ -35,7 +35,7 @@ either_drained true drained h = refl
 either_drained false drained h = h
 
 module _ {S F D : Type 0} (meaning : StoreMeaning S D) (sources : SourceMeaning F) where
-  pub port_drained : (r now : ℕ) (old new : PortState S F D) → AtPort meaning sources now old new
+  pub port_drained : (r now : ℕ) (old new : PortState S F D) → PortStep meaning sources now old new
       → (old.timer.port ≡ r → ⊥) → is_drained r old.events ≡ true → is_drained r new.events ≡ true
   port_drained r now old new (A_datagram d) apart h =
       let received = Received old.timer.port d.from d.bytes ∷ old.events in

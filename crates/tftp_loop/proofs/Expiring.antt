@@ -23,18 +23,18 @@ use Rattle.tftp_sockets.specs.Journal.{Event, replied}
 use Rattle.tftp_sockets.specs.Journal.Event.{Printed}
 use Rattle.tftp_loop.specs.Run.{Run}
 use Rattle.tftp_loop.specs.Run.Run.{Start, Then}
-use Rattle.tftp_loop.specs.Serves.{Timer, PortState, LoopState, AtPort, Does, Waits, answering_port}
-use Rattle.tftp_loop.specs.Serves.{deadline_by, interval_at, marked_by, port_state, set_by, started}
-use Rattle.tftp_loop.specs.Serves.{with_timer}
-use Rattle.tftp_loop.specs.Serves.AtPort.{A_datagram, A_lost_datagram, A_late_datagram, Nothing_found}
-use Rattle.tftp_loop.specs.Serves.AtPort.{A_failed_receive, A_timeout, A_missed_timeout, Work}
-use Rattle.tftp_loop.specs.Serves.Does.{Waited, At_port, Request_received, No_request_found, Request_not_received}
-use Rattle.tftp_loop.specs.Serves.Does.{Request_noted}
-use Rattle.tftp_loop.specs.Serves.Does.{Request_answered, Request_lost, Clock_read, Store_set, Transfer_closed}
+use Rattle.tftp_loop.specs.Steps.{Timer, PortState, LoopState, PortStep, LoopStep, Waits, answering_port}
+use Rattle.tftp_loop.specs.Steps.{deadline_by, interval_at, marked_by, port_state, set_by, started}
+use Rattle.tftp_loop.specs.Steps.{with_timer}
+use Rattle.tftp_loop.specs.Steps.PortStep.{A_datagram, A_lost_datagram, A_late_datagram, Nothing_found}
+use Rattle.tftp_loop.specs.Steps.PortStep.{A_failed_receive, A_timeout, A_missed_timeout, Work}
+use Rattle.tftp_loop.specs.Steps.LoopStep.{Waited, At_port, Request_received, No_request_found, Request_not_received}
+use Rattle.tftp_loop.specs.Steps.LoopStep.{Request_noted}
+use Rattle.tftp_loop.specs.Steps.LoopStep.{Request_answered, Request_lost, Clock_read, Store_set, Transfer_closed}
 use Rattle.tftp_loop.specs.Reported.{IsNoWait}
 use Rattle.tftp_loop.specs.Expiry.{After, At_first, ClosesInSilence, Idles, IsIdle, IsIdleAt, NoneReceived}
 use Rattle.tftp_loop.specs.Expiry.{PrintsClose, ReceivesNone, ReceivesNoneAt, closing_time, counted_from}
-use Rattle.tftp_loop.specs.Tended.{AreKept}
+use Rattle.tftp_loop.specs.MayWait.{AreKept}
 use Rattle.tftp_loop.proofs.Adding.{Adds, adds_more, step_adds, step_forward}
 use Rattle.tftp_loop.proofs.Bounded.{some_at, sound_along}
 use Rattle.tftp_loop.proofs.EndSteps.{most_left, open_left, timeouts_left}
@@ -126,7 +126,7 @@ module _ {S F D : Type 0} (meaning : StoreMeaning S D) (sources : SourceMeaning 
   -- a step at a port
   step_at : (Quiet More : Type 0) (since : ℕ) (s : LoopState S F D) (index : ℕ) (own : Timer) (next : PortState S F D)
       → index < length s.timers → own ≡ slice_index_or s.timers index own
-      → (does : AtPort meaning sources s.now (port_state s own) next) → AreKept s.server.held s.timers
+      → (does : PortStep meaning sources s.now (port_state s own) next) → AreKept s.server.held s.timers
       → (More → Quiet) → (own.port ≡ timer.port → IsIdleAt meaning sources does)
       → (More → own.port ≡ timer.port → ReceivesNoneAt meaning sources does) → s.now ≤ since + round
       → Adds s.events next.events → Lasts Quiet since s
@@ -232,7 +232,7 @@ module _ {S F D : Type 0} (meaning : StoreMeaning S D) (sources : SourceMeaning 
 
   -- ---- one step
   -- that leaves each timer and each transfer
-  passes : (Quiet More : Type 0) (since : ℕ) (s t u : LoopState S F D) (does : Does meaning sources s t)
+  passes : (Quiet More : Type 0) (since : ℕ) (s t u : LoopState S F D) (does : LoopStep meaning sources s t)
       → (More → Quiet) → t ≡ u → u.timers ≡ s.timers → u.server.held ≡ s.server.held → Lasts Quiet since s
       → Lives More since t
   passes Quiet More since s t u does fewer is timers held lasts =
@@ -240,7 +240,7 @@ module _ {S F D : Type 0} (meaning : StoreMeaning S D) (sources : SourceMeaning 
       (ap (λ (v : LoopState S F D). v.timers) is ∙ timers) (ap (λ (v : LoopState S F D). v.server.held) is ∙ held)
       lasts)
 
-  step_lives : (Quiet More : Type 0) (since : ℕ) (s t : LoopState S F D) (does : Does meaning sources s t)
+  step_lives : (Quiet More : Type 0) (since : ℕ) (s t : LoopState S F D) (does : LoopStep meaning sources s t)
       → IsNoWait meaning sources does → IsIdle meaning sources timer.port does → (More → Quiet)
       → (More → ReceivesNone meaning sources timer.port does) → t.now ≤ since + round → AreKept s.server.held s.timers
       → Lasts Quiet since s → Lives More since t
@@ -390,7 +390,7 @@ module _ {S F D : Type 0} (meaning : StoreMeaning S D) (sources : SourceMeaning 
     pub kept : AreKept s.server.held s.timers
     pub lives : Lives Quiet since s
 
-  module _ (Quiet More : Type 0) (s t : LoopState S F D) (does : Does meaning sources s t)
+  module _ (Quiet More : Type 0) (s t : LoopState S F D) (does : LoopStep meaning sources s t)
       (idle : IsIdle meaning sources timer.port does) (fewer : More → Quiet)
       (silent : More → ReceivesNone meaning sources timer.port does) (was : LivesOn Quiet s) where
     work_lives : IsNoWait meaning sources does → LivesOn More t
@@ -436,7 +436,7 @@ module _ {S F D : Type 0} (meaning : StoreMeaning S D) (sources : SourceMeaning 
 
   -- ---- over age
   -- a step at a port whose transfer is over age handles nothing
-  late_at : (now : ℕ) (old new : PortState S F D) (does : AtPort meaning sources now old new)
+  late_at : (now : ℕ) (old new : PortState S F D) (does : PortStep meaning sources now old new)
       → old.timer.age_limit < now → IsIdleAt meaning sources does × ReceivesNoneAt meaning sources does
   late_at now old new (A_datagram d) late = let in_time = d.in_time in absurd (omega (arith, in_time, late))
   late_at now old new (A_lost_datagram d) late = let in_time = d.in_time in absurd (omega (arith, in_time, late))
@@ -447,7 +447,7 @@ module _ {S F D : Type 0} (meaning : StoreMeaning S D) (sources : SourceMeaning 
   late_at now old new (A_missed_timeout d) late = (tt, tt)
   late_at now old new (Work d) late = (tt, tt)
 
-  late_idle : (Quiet : Type 0) (since : ℕ) (s t : LoopState S F D) (does : Does meaning sources s t)
+  late_idle : (Quiet : Type 0) (since : ℕ) (s t : LoopState S F D) (does : LoopStep meaning sources s t)
       → AreKept s.server.held s.timers → timer.age_limit < s.now → Lasts Quiet since s
       → IsIdle meaning sources timer.port does × ReceivesNone meaning sources timer.port does
   late_idle Quiet since s t (At_port d) kept late lasts =
@@ -476,7 +476,7 @@ module _ {S F D : Type 0} (meaning : StoreMeaning S D) (sources : SourceMeaning 
   late_idle Quiet since s t (Transfer_closed d) kept late lasts = (tt, tt)
 
   -- what was printed stays so
-  gone_lives : (s t : LoopState S F D) → Does meaning sources s t → LivesOn (Unit {0}) s → Gone (Unit {0}) s
+  gone_lives : (s t : LoopState S F D) → LoopStep meaning sources s t → LivesOn (Unit {0}) s → Gone (Unit {0}) s
       → LivesOn (Unit {0}) t
   gone_lives s t does was gone =
       let kept = step_kept meaning sources s t does was.kept in
@@ -501,7 +501,7 @@ module _ {S F D : Type 0} (meaning : StoreMeaning S D) (sources : SourceMeaning 
     pub late : timer.age_limit < s.now
     pub on : LivesOn (Unit {0}) s
 
-  late_along : {s : LoopState S F D} → Run (Does meaning sources) first s → timer.age_limit < first.now
+  late_along : {s : LoopState S F D} → Run (LoopStep meaning sources) first s → timer.age_limit < first.now
       → s.now ≤ last_moment → LivesOn (Unit {0}) first → LivesLate s
   late_along Start late soon start = record { late = late; on = start }
   late_along (Then {middle} {last} run does) late soon start =
@@ -553,7 +553,7 @@ counted_later now false = omega arith
 module _ {S F D : Type 0} (meaning : StoreMeaning S D) (sources : SourceMeaning F) where
   -- a transfer lasts at first
   begins : (start first : LoopState S F D) (timer : Timer) (transfer : TransferState F D)
-      → start.timers ≡ [] → Run (Does meaning sources) start first
+      → start.timers ≡ [] → Run (LoopStep meaning sources) start first
       → Contains first.timers timer → at timer.port first.server.held ≡ Some transfer
       → LivesOn meaning sources first timer transfer.end (Unit {0}) first
   begins start first timer transfer empty run has found =
@@ -590,7 +590,7 @@ module _ {S F D : Type 0} (meaning : StoreMeaning S D) (sources : SourceMeaning 
       }
 
   pub times_out_in_silence : (start first last new : LoopState S F D) (timer : Timer) (transfer : TransferState F D)
-      → start.timers ≡ [] → Run (Does meaning sources) start first
+      → start.timers ≡ [] → Run (LoopStep meaning sources) start first
       → Contains first.timers timer
       → at timer.port first.server.held ≡ Some transfer
       → (idles : Idles meaning sources timer.port first last) → NoneReceived meaning sources idles
@@ -609,7 +609,7 @@ module _ {S F D : Type 0} (meaning : StoreMeaning S D) (sources : SourceMeaning 
       ]
 
   pub closes_without_progress : (start first last new : LoopState S F D) (timer : Timer)
-      → start.timers ≡ [] → Run (Does meaning sources) start first
+      → start.timers ≡ [] → Run (LoopStep meaning sources) start first
       → Contains first.timers timer
       → Idles meaning sources timer.port first last → Waits meaning sources last new
       → closing_time (counted_from first.now timer) timer.interval first.server.config.retries < last.now
@@ -630,10 +630,10 @@ module _ {S F D : Type 0} (meaning : StoreMeaning S D) (sources : SourceMeaning 
       ]
 
   pub closes_over_age : (start first last new : LoopState S F D) (timer : Timer) (transfer : TransferState F D)
-      → start.timers ≡ [] → Run (Does meaning sources) start first
+      → start.timers ≡ [] → Run (LoopStep meaning sources) start first
       → Contains first.timers timer → at timer.port first.server.held ≡ Some transfer
       → timer.age_limit < first.now
-      → Run (Does meaning sources) first last → Waits meaning sources last new
+      → Run (LoopStep meaning sources) first last → Waits meaning sources last new
       → closing_time (counted_from first.now timer) timer.interval first.server.config.retries < last.now
       → last.now ≤ last_moment
       → (outcome : Outcome) × PrintsClose timer.port timer.peer.port outcome first.events last.events

@@ -14,13 +14,13 @@ use Rattle.tftp_sockets.specs.Journal.Event.{Received, Elapsed}
 use Rattle.tftp_sockets.specs.Quiet.{is_among, was_tried}
 use Rattle.tftp_loop.specs.Run.{Run}
 use Rattle.tftp_loop.specs.Run.Run.{Start, Then}
-use Rattle.tftp_loop.specs.Serves.{Timer, PortState, LoopState, AtPort, Does, Waits, ReceivesRequest, port_state}
-use Rattle.tftp_loop.specs.Serves.{set_by, until_look}
-use Rattle.tftp_loop.specs.Serves.AtPort.{A_datagram, A_lost_datagram, A_late_datagram, Nothing_found}
-use Rattle.tftp_loop.specs.Serves.AtPort.{A_failed_receive, A_timeout, A_missed_timeout, Work}
-use Rattle.tftp_loop.specs.Serves.Does.{Waited, At_port, Request_received, No_request_found, Request_not_received}
-use Rattle.tftp_loop.specs.Serves.Does.{Request_noted}
-use Rattle.tftp_loop.specs.Serves.Does.{Request_answered, Request_lost, Clock_read, Store_set, Transfer_closed}
+use Rattle.tftp_loop.specs.Steps.{Timer, PortState, LoopState, PortStep, LoopStep, Waits, ReceivesRequest, port_state}
+use Rattle.tftp_loop.specs.Steps.{set_by, until_look}
+use Rattle.tftp_loop.specs.Steps.PortStep.{A_datagram, A_lost_datagram, A_late_datagram, Nothing_found}
+use Rattle.tftp_loop.specs.Steps.PortStep.{A_failed_receive, A_timeout, A_missed_timeout, Work}
+use Rattle.tftp_loop.specs.Steps.LoopStep.{Waited, At_port, Request_received, No_request_found, Request_not_received}
+use Rattle.tftp_loop.specs.Steps.LoopStep.{Request_noted}
+use Rattle.tftp_loop.specs.Steps.LoopStep.{Request_answered, Request_lost, Clock_read, Store_set, Transfer_closed}
 use Rattle.tftp_loop.specs.Reported.{GoesOn, Goes_by, IsNoWait}
 use Rattle.tftp_loop.specs.Handled.{By_answer, By_loss, IsResolved}
 use Rattle.tftp_loop.specs.Sleeps.{HasItsOwnPort}
@@ -53,8 +53,8 @@ module _ {S F D : Type 0} (meaning : StoreMeaning S D) (sources : SourceMeaning 
   abbrev IsPending : Endpoint → List ℕ → LoopState S F D → LoopState S F D → Type 0
   IsPending from bytes first s = (s.pending ≡ Some (from, bytes)) ⊎ IsResolved meaning sources from bytes first s
 
-  step_pending : (from : Endpoint) (bytes : List ℕ) (first s t : LoopState S F D) → Run (Does meaning sources) first s
-      → Does meaning sources s t → s.pending ≡ Some (from, bytes) → IsPending from bytes first t
+  step_pending : (from : Endpoint) (bytes : List ℕ) (first s t : LoopState S F D) → Run (LoopStep meaning sources) first s
+      → LoopStep meaning sources s t → s.pending ≡ Some (from, bytes) → IsPending from bytes first t
   step_pending from bytes first s t run (Waited d) pending =
       inl (ap (λ (u : LoopState S F D). u.pending) d.is ∙ pending)
   step_pending from bytes first s t run (At_port d) pending =
@@ -92,7 +92,7 @@ module _ {S F D : Type 0} (meaning : StoreMeaning S D) (sources : SourceMeaning 
   step_pending from bytes first s t run (Transfer_closed d) pending =
       inl (ap (λ (u : LoopState S F D). u.pending) d.is ∙ pending)
 
-  pending_along : (from : Endpoint) (bytes : List ℕ) (first s : LoopState S F D) → Run (Does meaning sources) first s
+  pending_along : (from : Endpoint) (bytes : List ℕ) (first s : LoopState S F D) → Run (LoopStep meaning sources) first s
       → first.pending ≡ Some (from, bytes) → IsPending from bytes first s
   pending_along from bytes first s Start pending = inl pending
   pending_along from bytes first s (Then {middle} run does) pending =
@@ -109,7 +109,7 @@ module _ {S F D : Type 0} (meaning : StoreMeaning S D) (sources : SourceMeaning 
       ]
 
   pub handles_before_it_sleeps : (old received last new : LoopState S F D)
-      (receives : ReceivesRequest meaning sources old received) → Run (Does meaning sources) received last
+      (receives : ReceivesRequest meaning sources old received) → Run (LoopStep meaning sources) received last
       → (waits : Waits meaning sources last new) → 1 ≤ waits.millis
       → IsResolved meaning sources receives.from receives.bytes received last
   handles_before_it_sleeps old received last new receives run waits some =
@@ -124,11 +124,11 @@ module _ {S F D : Type 0} (meaning : StoreMeaning S D) (sources : SourceMeaning 
       ]
 
   -- ---- by the next wait
-  does_of : (s t : LoopState S F D) → Run (GoesOn meaning sources) s t → Run (Does meaning sources) s t
+  does_of : (s t : LoopState S F D) → Run (GoesOn meaning sources) s t → Run (LoopStep meaning sources) s t
   does_of s t Start = Start
   does_of s t (Then {middle} run (Goes_by does is)) = Then (does_of s middle run) does
 
-  port_untried : (r now : ℕ) (old new : PortState S F D) → AtPort meaning sources now old new
+  port_untried : (r now : ℕ) (old new : PortState S F D) → PortStep meaning sources now old new
       → (old.timer.port ≡ r → ⊥) → was_tried r old.events ≡ false → was_tried r new.events ≡ false
   port_untried r now old new (A_datagram d) apart h =
       let received = Received old.timer.port d.from d.bytes ∷ old.events in
@@ -152,7 +152,7 @@ module _ {S F D : Type 0} (meaning : StoreMeaning S D) (sources : SourceMeaning 
   Untried s = was_tried s.requests s.events ≡ false
 
   -- while the datagram is pending the request port is not read
-  step_untried : (from : Endpoint) (bytes : List ℕ) (s t : LoopState S F D) (does : Does meaning sources s t)
+  step_untried : (from : Endpoint) (bytes : List ℕ) (s t : LoopState S F D) (does : LoopStep meaning sources s t)
       → IsNoWait meaning sources does → All (λ (timer : Timer). timer.port ≢ s.requests) s.timers
       → s.pending ≡ Some (from, bytes) → Untried s → Untried t
   step_untried from bytes s t (Waited d) is own pending h = absurd is
@@ -180,7 +180,7 @@ module _ {S F D : Type 0} (meaning : StoreMeaning S D) (sources : SourceMeaning 
       ⊎ IsResolved meaning sources from bytes first s
 
   untried_along : (from : Endpoint) (bytes : List ℕ) (first woken s : LoopState S F D)
-      → Run (Does meaning sources) first woken → Untried woken → first.pending ≡ Some (from, bytes)
+      → Run (LoopStep meaning sources) first woken → Untried woken → first.pending ≡ Some (from, bytes)
       → Run (GoesOn meaning sources) woken s → HasItsOwnPort meaning sources woken s
       → Stays_pending from bytes first s
   untried_along from bytes first woken s before untried pending Start own =
@@ -211,7 +211,7 @@ module _ {S F D : Type 0} (meaning : StoreMeaning S D) (sources : SourceMeaning 
       ]
 
   pub handles_by_the_next_wait : (old received waiting woken last new : LoopState S F D)
-      (receives : ReceivesRequest meaning sources old received) → Run (Does meaning sources) received waiting
+      (receives : ReceivesRequest meaning sources old received) → Run (LoopStep meaning sources) received waiting
       → Waits meaning sources waiting woken → Run (GoesOn meaning sources) woken last
       → HasItsOwnPort meaning sources woken last → Waits meaning sources last new
       → IsResolved meaning sources receives.from receives.bytes received last
@@ -240,7 +240,7 @@ module _ {S F D : Type 0} (meaning : StoreMeaning S D) (sources : SourceMeaning 
   kept_tries : (port : ℕ) (es fs : List Event) → fs ≡ es → was_tried port es ≡ true → was_tried port fs ≡ true
   kept_tries port es fs same h = ap (was_tried port) same ∙ h
 
-  step_reads : (s t : LoopState S F D) (does : Does meaning sources s t) → IsNoWait meaning sources does → Reads s
+  step_reads : (s t : LoopState S F D) (does : LoopStep meaning sources s t) → IsNoWait meaning sources does → Reads s
       → Reads t
   step_reads s t (Waited d) is reads = absurd is
   step_reads s t (At_port d) is reads =

@@ -6,7 +6,7 @@ use Rattle.tftp_ends.specs.End.{EndState, is_complete, outcome_of}
 use Rattle.tftp_ends.specs.Step.{after_turn, timeout_turn}
 use Rattle.tftp_sockets.specs.Watch.{deadline_of}
 use Rattle.tftp_loop.specs.Expiry.{ClosesInSilence}
-use Rattle.tftp_loop.specs.Serves.{Timer, deadline_by, timer_after}
+use Rattle.tftp_loop.specs.Steps.{Timer, deadline_by, timer_after}
 use Rattle.tftp_loop.proofs.EndSteps.{timeout_spends, timeouts_left}
 use Rattle.tftp_loop.proofs.PortEnds.{By_datagram, By_late_timeout, By_nothing, By_timeout, Changes}
 

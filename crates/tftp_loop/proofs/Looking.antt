@@ -13,15 +13,15 @@ use Rattle.tftp_sockets.specs.Journal.{Event}
 use Rattle.tftp_sockets.specs.Journal.Event.{Received, Elapsed, Watched, Quiet}
 use Rattle.tftp_sockets.specs.Journal.QuietEvent.{Empty, Failed, Slept, Woke}
 use Rattle.tftp_sockets.specs.Quiet.{is_among, is_drained}
-use Rattle.tftp_loop.specs.Serves.{Timer, PortState, LoopState, AtPort, Does, answering_port, interval_at, look_after}
-use Rattle.tftp_loop.specs.Serves.{deadline_by, marked_by, next_look, port_state, restarted, set_by, started, timer_after}
-use Rattle.tftp_loop.specs.Serves.{with_timer}
-use Rattle.tftp_loop.specs.Serves.AtPort.{A_datagram, A_lost_datagram, A_late_datagram, Nothing_found}
-use Rattle.tftp_loop.specs.Serves.AtPort.{A_failed_receive, A_timeout, A_missed_timeout, Work}
-use Rattle.tftp_loop.specs.Serves.Does.{Waited, At_port, Request_received, No_request_found, Request_not_received}
-use Rattle.tftp_loop.specs.Serves.Does.{Request_noted}
-use Rattle.tftp_loop.specs.Serves.Does.{Request_answered, Request_lost, Clock_read, Store_set, Transfer_closed}
-use Rattle.tftp_loop.specs.Tended.{AreApart}
+use Rattle.tftp_loop.specs.Steps.{Timer, PortState, LoopState, PortStep, LoopStep, answering_port, interval_at, look_after}
+use Rattle.tftp_loop.specs.Steps.{deadline_by, marked_by, next_look, port_state, restarted, set_by, started, timer_after}
+use Rattle.tftp_loop.specs.Steps.{with_timer}
+use Rattle.tftp_loop.specs.Steps.PortStep.{A_datagram, A_lost_datagram, A_late_datagram, Nothing_found}
+use Rattle.tftp_loop.specs.Steps.PortStep.{A_failed_receive, A_timeout, A_missed_timeout, Work}
+use Rattle.tftp_loop.specs.Steps.LoopStep.{Waited, At_port, Request_received, No_request_found, Request_not_received}
+use Rattle.tftp_loop.specs.Steps.LoopStep.{Request_noted}
+use Rattle.tftp_loop.specs.Steps.LoopStep.{Request_answered, Request_lost, Clock_read, Store_set, Transfer_closed}
+use Rattle.tftp_loop.specs.MayWait.{AreApart}
 use Rattle.tftp_loop.proofs.Drained.{answered_drained, either_drained, other_drained, port_drained, replied_drained}
 use Rattle.tftp_loop.proofs.LoopStays.{all_appended, all_removed, all_set, other_port}
 use Rattle.tftp_loop.proofs.NoteLemmas.{note_drained}
@@ -133,7 +133,7 @@ abbrev pub AreLooked : {S F D : Type 0} → LoopState S F D → Type 0
 AreLooked s = All (IsLooked s.events s.now) s.timers
 
 module _ {S F D : Type 0} (meaning : StoreMeaning S D) (sources : SourceMeaning F) where
-  at_own : (now : ℕ) (old new : PortState S F D) → AtPort meaning sources now old new
+  at_own : (now : ℕ) (old new : PortState S F D) → PortStep meaning sources now old new
       → IsLooked old.events now old.timer → IsLooked new.events now new.timer
   at_own now old new (A_datagram d) h = subst (IsLooked new.events now) (sym d.timer)
       (after_datagram new.events now d.step.progress old.timer)
@@ -165,7 +165,7 @@ module _ {S F D : Type 0} (meaning : StoreMeaning S D) (sources : SourceMeaning 
       let timer = started now longest port from (interval_at (at port held)) in
       all_appended (IsLooked es now) timers timer h (Left (left_now now timer refl refl))
 
-  pub step_looked : (s t : LoopState S F D) → Does meaning sources s t
+  pub step_looked : (s t : LoopState S F D) → LoopStep meaning sources s t
       → All (λ (timer : Timer). timer.port ≢ s.requests) s.timers → AreApart s.timers → AreLooked s → AreLooked t
   step_looked s t (Waited d) own apart looked =
       let read = Watched d.time ∷ s.events in

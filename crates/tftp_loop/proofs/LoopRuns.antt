@@ -16,11 +16,11 @@ use Rattle.tftp_sockets.specs.Journal.{Event}
 use Rattle.tftp_loop.specs.declared.transfer_port.TransferSocket.{TransferSocket}
 use Rattle.tftp_loop.specs.Run.{Run}
 use Rattle.tftp_loop.specs.Run.Run.{Start, Then}
-use Rattle.tftp_loop.specs.Serves.{Timer, PortState, LoopState, AtPort, Does, Closes, WorksAtPort, port_state}
-use Rattle.tftp_loop.specs.Serves.AtPort.{Work}
-use Rattle.tftp_loop.specs.Serves.Does.{At_port}
+use Rattle.tftp_loop.specs.Steps.{Timer, PortState, LoopState, PortStep, LoopStep, Closes, WorksAtPort, port_state}
+use Rattle.tftp_loop.specs.Steps.PortStep.{Work}
+use Rattle.tftp_loop.specs.Steps.LoopStep.{At_port}
 use Rattle.tftp_loop.specs.declared.server_loop.ServerLoop.{ServerLoop}
-use Rattle.tftp_loop.specs.Served.{timer_of, close_printed, close_reported, loop_state, Works, Work_by}
+use Rattle.tftp_loop.specs.LoopStates.{timer_of, close_printed, close_reported, loop_state, Works, Work_by}
 use Rattle.tftp_loop.proofs.RunLemmas.{once, idle}
 use Rattle.tftp_loop.proofs.PortRuns.{here}
 use Rattle.tftp_loop.proofs.ListLemmas.{map_is, map_within, map_set, set_itself, set_again, set_is, set_within}
@@ -85,7 +85,7 @@ module _ {S F D : Type 0} (meaning : StoreMeaning S D) (sources : SourceMeaning 
   Runs = Run (Works meaning sources)
 
   -- work is a run
-  pub runs_as : {s t : LoopState S F D} → Runs s t → Run (Does meaning sources) s t
+  pub runs_as : {s t : LoopState S F D} → Runs s t → Run (LoopStep meaning sources) s t
   runs_as Start = Start
   runs_as (Then run (Work_by does is)) = Then (runs_as run) does
 
@@ -96,7 +96,7 @@ module _ {S F D : Type 0} (meaning : StoreMeaning S D) (sources : SourceMeaning 
   -- what happens at one port happens at all
   pub lifted : (s : LoopState S F D) (index : ℕ) (timer : Timer) (p : PortState S F D) → index < length s.timers →
       timer ≡ slice_index_or s.timers index timer
-      → Run (AtPort meaning sources s.now) (port_state s timer) p → Runs s (with_port s index p)
+      → Run (PortStep meaning sources s.now) (port_state s timer) p → Runs s (with_port s index p)
   lifted s index timer p within is Start =
       idle (ap (λ (ts : List Timer). record s { timers = ts }) (set_itself s.timers index timer is))
   lifted s index timer p within is (Then {middle} q d) =
@@ -117,7 +117,7 @@ module _ {S F D : Type 0} (meaning : StoreMeaning S D) (sources : SourceMeaning 
   pub at_place : (s : LoopState S F D) (ports : List (Port TransferSocket)) (index : ℕ)
       (port port' : Port TransferSocket) (server : ServerState S F D) (es : List Event)
       → s.timers ≡ map timer_of ports → index < length ports → port ≡ slice_index_or ports index port
-      → Run (AtPort meaning sources s.now) (here meaning sources s.now s.server (timer_of port) s.events)
+      → Run (PortStep meaning sources s.now) (here meaning sources s.now s.server (timer_of port) s.events)
       (here meaning sources s.now server (timer_of port') es)
       → Runs s (record s { server = server; timers = map timer_of (slice_set ports index port'); events = es })
   at_place s ports index port port' server es listed within is r =

@@ -15,13 +15,13 @@ use Rattle.tftp_sockets.specs.Journal.QuietEvent.{Empty, Failed}
 use Rattle.tftp_sockets.specs.Quiet.{was_tried}
 use Rattle.tftp_loop.specs.Run.{Run}
 use Rattle.tftp_loop.specs.Run.Run.{Start, Then}
-use Rattle.tftp_loop.specs.Serves.{Timer, PortState, LoopState, Does, answering_port, interval_at, port_state, started}
-use Rattle.tftp_loop.specs.Serves.{note_event, with_timer}
-use Rattle.tftp_loop.specs.Serves.Does.{Waited, At_port, Request_received, No_request_found, Request_not_received}
-use Rattle.tftp_loop.specs.Serves.Does.{Request_noted, Request_answered, Request_lost, Clock_read, Store_set}
-use Rattle.tftp_loop.specs.Serves.Does.{Transfer_closed}
-use Rattle.tftp_loop.specs.Served.{IsWork, Works, Work_by}
-use Rattle.tftp_loop.specs.Tended.{AreApart, AreKept, AreTried, IsHeld, IsRead, KeepsTries}
+use Rattle.tftp_loop.specs.Steps.{Timer, PortState, LoopState, LoopStep, answering_port, interval_at, port_state, started}
+use Rattle.tftp_loop.specs.Steps.{note_event, with_timer}
+use Rattle.tftp_loop.specs.Steps.LoopStep.{Waited, At_port, Request_received, No_request_found, Request_not_received}
+use Rattle.tftp_loop.specs.Steps.LoopStep.{Request_noted, Request_answered, Request_lost, Clock_read, Store_set}
+use Rattle.tftp_loop.specs.Steps.LoopStep.{Transfer_closed}
+use Rattle.tftp_loop.specs.LoopStates.{IsWork, Works, Work_by}
+use Rattle.tftp_loop.specs.MayWait.{AreApart, AreKept, AreTried, IsHeld, IsRead, KeepsTries}
 use Rattle.tftp_loop.proofs.ListLemmas.{set_long}
 use Rattle.tftp_loop.proofs.NoteLemmas.{note_tried}
 use Rattle.tftp_loop.proofs.PortStays.{StaysAt, or_right, own_receive, looks_first, replied_tries, stays_at}
@@ -286,7 +286,7 @@ module _ {S F D : Type 0} (meaning : StoreMeaning S D) (sources : SourceMeaning 
         tried = λ h m. reads s.requests ∙ own_receive s.requests (was_tried s.requests s.events);
       }
 
-  step_keeps : (s t : LoopState S F D) (does : Does meaning sources s t) → IsWork meaning sources does → Keeps s t
+  step_keeps : (s t : LoopState S F D) (does : LoopStep meaning sources s t) → IsWork meaning sources does → Keeps s t
   step_keeps s t (Waited d) work = absurd work
   step_keeps s t (Clock_read d) work = absurd work
   step_keeps s t (At_port d) work =

@@ -2,7 +2,7 @@
 use Rattle.std.proofs.Common.{◌≡◌, ℕ, Bool, List, refl}
 use Rattle.tftp_ends.specs.declared.endpoint.Endpoint.{Endpoint}
 use Rattle.tftp_sockets.specs.Quiet.{drained_by, tried_by}
-use Rattle.tftp_loop.specs.Serves.{LoopState, RequestNote, Found_no_port, Found_port, Found_no_memory, note_event}
+use Rattle.tftp_loop.specs.Steps.{LoopState, RequestNote, Found_no_port, Found_port, Found_no_memory, note_event}
 
 module _ {S F D : Type 0} {s : LoopState S F D} {from : Endpoint} {bytes : List ℕ} (port : ℕ) (before : Bool) where
   pub note_tried : (note : RequestNote s from bytes) → tried_by port (note_event note) before ≡ before

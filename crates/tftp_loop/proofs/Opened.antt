@@ -17,10 +17,10 @@ use Rattle.tftp_server.specs.Request.{Came, Left, Nothing, Error_reply, A_transf
 use Rattle.tftp_server.specs.Port.{Ask, Ignores, Refuses, Reads, Writes, Service, Silent, Refused, Sends, Takes}
 use Rattle.tftp_loop.specs.Run.{Run}
 use Rattle.tftp_loop.specs.Run.Run.{Start, Then}
-use Rattle.tftp_loop.specs.Serves.{Timer, LoopState, AnswersRequest, LosesRequest, interval_at}
-use Rattle.tftp_loop.specs.Serves.{started, with_timer}
-use Rattle.tftp_loop.specs.Tended.{AreKept, AreSettled, Concludes, IsOpen, Notes_it, Prepares, ReceivedFew}
-use Rattle.tftp_loop.specs.Tended.{Sets_store}
+use Rattle.tftp_loop.specs.Steps.{Timer, LoopState, AnswersRequest, LosesRequest, interval_at}
+use Rattle.tftp_loop.specs.Steps.{started, with_timer}
+use Rattle.tftp_loop.specs.MayWait.{AreKept, AreSettled, Concludes, IsOpen, Notes_it, Prepares, ReceivedFew}
+use Rattle.tftp_loop.specs.MayWait.{Sets_store}
 use Rattle.tftp_loop.proofs.LoopStays.{all_appended, some_none, work_keeps}
 use Rattle.tftp_loop.proofs.RequestRuns.{concludes_run}
 use Rattle.tftp_loop.proofs.Tables.{inserted_apart, inserted_own}

@@ -16,9 +16,9 @@ use Rattle.tftp_server.specs.State.{TransferState, ServerState, at, is_closed, i
 use Rattle.tftp_server.specs.Steps.{KeepsHeld, with_end}
 use Rattle.tftp_server.specs.Work.{WorksAt}
 use Rattle.tftp_sockets.specs.Watch.{deadline_of}
-use Rattle.tftp_loop.specs.Serves.{Timer, PortState, AtPort, deadline_by, marked_as, restarted, timer_after}
-use Rattle.tftp_loop.specs.Serves.AtPort.{A_datagram, A_lost_datagram, A_late_datagram, Nothing_found}
-use Rattle.tftp_loop.specs.Serves.AtPort.{A_failed_receive, A_timeout, A_missed_timeout, Work}
+use Rattle.tftp_loop.specs.Steps.{Timer, PortState, PortStep, deadline_by, marked_as, restarted, timer_after}
+use Rattle.tftp_loop.specs.Steps.PortStep.{A_datagram, A_lost_datagram, A_late_datagram, Nothing_found}
+use Rattle.tftp_loop.specs.Steps.PortStep.{A_failed_receive, A_timeout, A_missed_timeout, Work}
 use Rattle.tftp_loop.specs.Expiry.{IsIdleAt, ReceivesNoneAt}
 use Rattle.tftp_loop.proofs.EndSteps.{Moves, closed_left, datagram_left, datagram_moves, moves_limit, timeout_spends}
 use Rattle.tftp_loop.proofs.EndSteps.{timeouts_left}
@@ -123,7 +123,7 @@ closed_by false h = absurd (let e : true ≡ false = h in cc)
 
 -- ---- at the port
 module _ {S F D : Type 0} (meaning : StoreMeaning S D) (sources : SourceMeaning F) where
-  pub same_timer : (now : ℕ) (old new : PortState S F D) → AtPort meaning sources now old new
+  pub same_timer : (now : ℕ) (old new : PortState S F D) → PortStep meaning sources now old new
       → SameTimer old.timer new.timer
   same_timer now old new (A_datagram d) = same_by old.timer new.timer
       (timer_after now d.step.progress old.timer) d.timer (after_same now d.step.progress old.timer)
@@ -143,7 +143,7 @@ module _ {S F D : Type 0} (meaning : StoreMeaning S D) (sources : SourceMeaning 
       (record { port = refl; peer = refl; interval = refl; age = refl })
 
   -- the configuration never changes
-  pub same_config : (now : ℕ) (old new : PortState S F D) → AtPort meaning sources now old new
+  pub same_config : (now : ℕ) (old new : PortState S F D) → PortStep meaning sources now old new
       → new.server.config ≡ old.server.config
   same_config now old new (A_datagram d) = d.handles.config
   same_config now old new (A_lost_datagram d) = d.loses.config
@@ -170,7 +170,7 @@ module _ {S F D : Type 0} (meaning : StoreMeaning S D) (sources : SourceMeaning 
   put_next port old new transfer next found is = ap (at port) is
       ∙ set_found (is_at (nat_cmp port)) transfer next old found
 
-  pub at_transfer : (now : ℕ) (old new : PortState S F D) (does : AtPort meaning sources now old new)
+  pub at_transfer : (now : ℕ) (old new : PortState S F D) (does : PortStep meaning sources now old new)
       (transfer : TransferState F D) → at old.timer.port old.server.held ≡ Some transfer
       → AtTransfer (IsIdleAt meaning sources does) (ReceivesNoneAt meaning sources does) now old new transfer
   at_transfer now old new (A_datagram d) transfer found =

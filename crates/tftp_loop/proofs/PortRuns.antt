@@ -13,10 +13,10 @@ use Rattle.tftp_sockets.specs.Journal.QuietEvent.{Empty, Failed}
 use Rattle.tftp_sockets.specs.Quiet.{was_tried}
 use Rattle.tftp_loop.specs.Run.{Run}
 use Rattle.tftp_loop.specs.Run.Run.{Then}
-use Rattle.tftp_loop.specs.Serves.{Timer, PortState, AtPort, AnswersDatagram, LosesDatagram, WorksAtPort}
-use Rattle.tftp_loop.specs.Serves.{AnswersTimeout, marked_as, most_in_round, restarted, timer_after}
-use Rattle.tftp_loop.specs.Serves.AtPort.{A_datagram, A_lost_datagram, A_late_datagram, Nothing_found}
-use Rattle.tftp_loop.specs.Serves.AtPort.{A_failed_receive, A_timeout, A_missed_timeout, Work}
+use Rattle.tftp_loop.specs.Steps.{Timer, PortState, PortStep, AnswersDatagram, LosesDatagram, WorksAtPort}
+use Rattle.tftp_loop.specs.Steps.{AnswersTimeout, marked_as, most_in_round, restarted, timer_after}
+use Rattle.tftp_loop.specs.Steps.PortStep.{A_datagram, A_lost_datagram, A_late_datagram, Nothing_found}
+use Rattle.tftp_loop.specs.Steps.PortStep.{A_failed_receive, A_timeout, A_missed_timeout, Work}
 use Rattle.tftp_loop.proofs.RunLemmas.{once, idle, onward}
 
 module _ {S F D : Type 0} (meaning : StoreMeaning S D) (sources : SourceMeaning F) (now : ℕ) where
@@ -24,7 +24,7 @@ module _ {S F D : Type 0} (meaning : StoreMeaning S D) (sources : SourceMeaning 
   here server timer events = record { server = server; timer = timer; events = events }
 
   abbrev Runs : PortState S F D → PortState S F D → Type 0
-  Runs = Run (AtPort meaning sources now)
+  Runs = Run (PortStep meaning sources now)
 
   -- nothing was received
   pub finds_nothing : (server : ServerState S F D) (timer timer' : Timer) (es es' : List Event) →

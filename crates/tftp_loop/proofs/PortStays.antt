@@ -19,10 +19,10 @@ use Rattle.tftp_sockets.specs.Journal.QuietEvent.{Empty, Failed}
 use Rattle.tftp_sockets.specs.Quiet.{was_tried}
 use Rattle.tftp_loop.specs.Run.{Run}
 use Rattle.tftp_loop.specs.Run.Run.{Start, Then}
-use Rattle.tftp_loop.specs.Serves.{Timer, PortState, AtPort, marked_as, next_look, restarted, timer_after}
-use Rattle.tftp_loop.specs.Serves.AtPort.{A_datagram, A_lost_datagram, A_late_datagram, Nothing_found}
-use Rattle.tftp_loop.specs.Serves.AtPort.{A_failed_receive, A_timeout, A_missed_timeout, Work}
-use Rattle.tftp_loop.specs.Tended.{IsRead, KeepsTries}
+use Rattle.tftp_loop.specs.Steps.{Timer, PortState, PortStep, marked_as, next_look, restarted, timer_after}
+use Rattle.tftp_loop.specs.Steps.PortStep.{A_datagram, A_lost_datagram, A_late_datagram, Nothing_found}
+use Rattle.tftp_loop.specs.Steps.PortStep.{A_failed_receive, A_timeout, A_missed_timeout, Work}
+use Rattle.tftp_loop.specs.MayWait.{IsRead, KeepsTries}
 use Rattle.tftp_loop.proofs.Tables.{set_apart, set_there}
 
 pub or_right : (a b : Bool) → b ≡ true → (a || b) ≡ true
@@ -152,7 +152,7 @@ module _ {S F D : Type 0} (meaning : StoreMeaning S D) (sources : SourceMeaning 
         (more old.timer.port (reads old.timer.port ∙ own_receive old.timer.port (was_tried old.timer.port old.events)));
   }
 
-  pub stays_at : (now : ℕ) (old new : PortState S F D) → AtPort meaning sources now old new → StaysAt old new
+  pub stays_at : (now : ℕ) (old new : PortState S F D) → PortStep meaning sources now old new → StaysAt old new
   stays_at now old new (A_datagram d) =
       let received = Received old.timer.port d.from d.bytes in
       receives_at old new received (λ q. refl)
@@ -222,7 +222,7 @@ module _ {S F D : Type 0} (meaning : StoreMeaning S D) (sources : SourceMeaning 
     read = λ h. y.read (x.read h);
   }
 
-  pub stays_along : (now : ℕ) (old new : PortState S F D) → Run (AtPort meaning sources now) old new → StaysAt old new
+  pub stays_along : (now : ℕ) (old new : PortState S F D) → Run (PortStep meaning sources now) old new → StaysAt old new
   stays_along now old new Start = record {
     port = refl;
     held = same_held old.timer.port old.server.held old.server.held refl;

@@ -12,11 +12,11 @@ use Rattle.tftp_sockets.specs.Quiet.{was_tried}
 use Rattle.tftp_loop.specs.declared.server_loop.ServerLoop.{ServerLoop}
 use Rattle.tftp_loop.specs.declared.serving.LoopFault.{LoopFault}
 use Rattle.tftp_loop.specs.WholeRun.{EndsBy}
-use Rattle.tftp_loop.specs.Serves.{LoopState, Timer}
-use Rattle.tftp_loop.specs.Serves.Does.{No_request_found, Request_not_received}
-use Rattle.tftp_loop.specs.Served.{FailsToPrint, WorksRound, Work_by, loop_state, pending_in, state_of, timer_of}
-use Rattle.tftp_loop.specs.Tended.{AnswersPending, AreSettled, AreTried, HandlesReceived, Concluded, Kept}
-use Rattle.tftp_loop.specs.Tended.{HasFew, HasTriedRequests, IsSettled, ReceivedFew}
+use Rattle.tftp_loop.specs.Steps.{LoopState, Timer}
+use Rattle.tftp_loop.specs.Steps.LoopStep.{No_request_found, Request_not_received}
+use Rattle.tftp_loop.specs.LoopStates.{FailsToPrint, WorksRound, Work_by, loop_state, pending_in, state_of, timer_of}
+use Rattle.tftp_loop.specs.MayWait.{AnswersPending, AreSettled, AreTried, HandlesReceived, Concluded, Kept}
+use Rattle.tftp_loop.specs.MayWait.{HasFew, HasTriedRequests, IsSettled, ReceivedFew}
 use Rattle.tftp_loop.proofs.LoopRuns.{Runs, same_state}
 use Rattle.tftp_loop.proofs.LoopStays.{work_keeps}
 use Rattle.tftp_loop.proofs.Opened.{concludes_asked, concludes_few, concludes_settled}

@@ -17,16 +17,16 @@ use Rattle.tftp_sockets.specs.Quiet.{is_among, was_tried}
 use Rattle.tftp_loop.specs.Run.{Run}
 use Rattle.tftp_loop.specs.Run.Run.{Start, Then}
 use Rattle.tftp_loop.specs.declared.serving.LoopConfig.{LoopConfig}
-use Rattle.tftp_loop.specs.Serves.{Timer, PortState, LoopState, AtPort, Does, Waits, answering_port, at_start}
-use Rattle.tftp_loop.specs.Serves.{interval_at, marked_by, port_state, started, with_timer}
-use Rattle.tftp_loop.specs.Serves.{set_by}
-use Rattle.tftp_loop.specs.Serves.AtPort.{A_datagram, A_lost_datagram, A_late_datagram, Nothing_found}
-use Rattle.tftp_loop.specs.Serves.AtPort.{A_failed_receive, A_timeout, A_missed_timeout, Work}
-use Rattle.tftp_loop.specs.Serves.Does.{Waited, At_port, Request_received, No_request_found, Request_not_received}
-use Rattle.tftp_loop.specs.Serves.Does.{Request_noted, Request_answered, Request_lost, Clock_read, Store_set}
-use Rattle.tftp_loop.specs.Serves.Does.{Transfer_closed}
+use Rattle.tftp_loop.specs.Steps.{Timer, PortState, LoopState, PortStep, LoopStep, Waits, answering_port, at_start}
+use Rattle.tftp_loop.specs.Steps.{interval_at, marked_by, port_state, started, with_timer}
+use Rattle.tftp_loop.specs.Steps.{set_by}
+use Rattle.tftp_loop.specs.Steps.PortStep.{A_datagram, A_lost_datagram, A_late_datagram, Nothing_found}
+use Rattle.tftp_loop.specs.Steps.PortStep.{A_failed_receive, A_timeout, A_missed_timeout, Work}
+use Rattle.tftp_loop.specs.Steps.LoopStep.{Waited, At_port, Request_received, No_request_found, Request_not_received}
+use Rattle.tftp_loop.specs.Steps.LoopStep.{Request_noted, Request_answered, Request_lost, Clock_read, Store_set}
+use Rattle.tftp_loop.specs.Steps.LoopStep.{Transfer_closed}
 use Rattle.tftp_loop.specs.Reported.{GoesOn, Goes_by, HasTimer, IsNoWait}
-use Rattle.tftp_loop.specs.Tended.{AreApart, AreKept, KeepsTries}
+use Rattle.tftp_loop.specs.MayWait.{AreApart, AreKept, KeepsTries}
 use Rattle.tftp_loop.proofs.ListLemmas.{map_at, set_long}
 use Rattle.tftp_loop.proofs.LoopStays.{some_none}
 use Rattle.tftp_loop.proofs.NoteLemmas.{note_tried}
@@ -50,7 +50,7 @@ module _ {S F D : Type 0} (meaning : StoreMeaning S D) (sources : SourceMeaning 
   tried_at old new stays es tries tried =
       inl (subst (λ (p : ℕ). was_tried p new.events ≡ true) (sym stays.port) (tries old.timer.port tried))
 
-  due_at : (now : ℕ) (old new : PortState S F D) → AtPort meaning sources now old new → old.timer.marked ≡ true →
+  due_at : (now : ℕ) (old new : PortState S F D) → PortStep meaning sources now old new → old.timer.marked ≡ true →
       taken_of (at old.timer.port old.server.held) ≡ None → IsDueAt new
   due_at now old new (A_datagram d) marked unclosed =
       let received = Received old.timer.port d.from d.bytes ∷ old.events in
@@ -121,7 +121,7 @@ module _ {S F D : Type 0} (meaning : StoreMeaning S D) (sources : SourceMeaning 
 
   step_at : (port : ℕ) (s : LoopState S F D) (index : ℕ) (timer : Timer) (next : PortState S F D) →
       index < length s.timers → timer ≡ slice_index_or s.timers index timer
-      → AtPort meaning sources s.now (port_state s timer) next → AreApart s.timers → IsDue port s →
+      → PortStep meaning sources s.now (port_state s timer) next → AreApart s.timers → IsDue port s →
       Reads port (record s {
         server = next.server;
         timers = slice_set s.timers index next.timer;
@@ -199,7 +199,7 @@ module _ {S F D : Type 0} (meaning : StoreMeaning S D) (sources : SourceMeaning 
             ∙ due.unclosed;
       }
 
-  step_reads : (port : ℕ) (s t : LoopState S F D) (does : Does meaning sources s t) → IsNoWait meaning sources does →
+  step_reads : (port : ℕ) (s t : LoopState S F D) (does : LoopStep meaning sources s t) → IsNoWait meaning sources does →
       AreKept s.server.held s.timers → Reads port s → Reads port t
   step_reads port s t (Waited d) is kept reads = absurd is
   step_reads port s t (At_port d) is kept (inl tried) =
@@ -309,7 +309,7 @@ module _ {S F D : Type 0} (meaning : StoreMeaning S D) (sources : SourceMeaning 
 
   pub reads_what_is_reported : (config : LoopConfig) (requests : ℕ) (server : ServerState S F D) (before : List Event)
       (old woken last new : LoopState S F D)
-      → Run (Does meaning sources) (at_start config requests server before) old →
+      → Run (LoopStep meaning sources) (at_start config requests server before) old →
       (waits : Waits meaning sources old woken) → Run (GoesOn meaning sources) woken last →
       Waits meaning sources last new
       → (port : ℕ) → is_among port waits.ports ≡ true → HasTimer port old.timers → was_tried port last.events ≡ true

@@ -23,13 +23,13 @@ use Rattle.tftp_loop.specs.PortPool.{Binds, TriesInVain, TriesPorts}
 use Rattle.tftp_loop.specs.Run.{Run}
 use Rattle.tftp_loop.specs.Run.Run.{Start, Then}
 use Rattle.tftp_loop.specs.MayOpen.{MayOpen, NeedsMemory}
-use Rattle.tftp_loop.specs.Serves.{LoopState, AnswersRequest, IsSet, LosesRequest, NotesRequest, RequestLoss}
-use Rattle.tftp_loop.specs.Serves.{RequestNote, Found_no_port, Found_port, Found_no_memory, No_memory, No_port}
-use Rattle.tftp_loop.specs.Serves.{Same_port, SetsStore, after_request, is_taken, note_event, with_timer}
-use Rattle.tftp_loop.specs.Serves.{answering_port}
-use Rattle.tftp_loop.specs.Serves.Does.{Request_noted, Request_received, Request_answered, Request_lost, Store_set}
-use Rattle.tftp_loop.specs.Served.{IsAdmission, Work_by}
-use Rattle.tftp_loop.specs.Tended.{Concludes, Prepares, Notes_it, Sets_store}
+use Rattle.tftp_loop.specs.Steps.{LoopState, AnswersRequest, IsSet, LosesRequest, NotesRequest, RequestLoss}
+use Rattle.tftp_loop.specs.Steps.{RequestNote, Found_no_port, Found_port, Found_no_memory, No_memory, No_port}
+use Rattle.tftp_loop.specs.Steps.{Same_port, SetsStore, after_request, is_taken, note_event, with_timer}
+use Rattle.tftp_loop.specs.Steps.{answering_port}
+use Rattle.tftp_loop.specs.Steps.LoopStep.{Request_noted, Request_received, Request_answered, Request_lost, Store_set}
+use Rattle.tftp_loop.specs.LoopStates.{IsAdmission, Work_by}
+use Rattle.tftp_loop.specs.MayWait.{Concludes, Prepares, Notes_it, Sets_store}
 use Rattle.tftp_loop.proofs.RunLemmas.{idle, once, onward}
 use Rattle.tftp_loop.proofs.LoopRuns.{Runs}
 use Rattle.tftp_loop.proofs.Tables.{free_identifier}

@@ -3,15 +3,15 @@ use Rattle.std.proofs.Common.{arith, ◌≡◌, ◌≤◌, ◌+◌, ◌⊎◌, �
 use Rattle.tftp_file.specs.Source.{SourceMeaning}
 use Rattle.tftp_store.specs.Store.{StoreMeaning}
 use Rattle.tftp_sockets.specs.declared.watch.TheConstants.{LONGEST_WAIT}
-use Rattle.tftp_loop.specs.Serves.{LoopState, Does, Waits, round_end}
-use Rattle.tftp_loop.specs.Serves.Does.{Waited, At_port, Request_received, No_request_found, Request_not_received}
-use Rattle.tftp_loop.specs.Serves.Does.{Request_noted, Request_answered, Request_lost, Clock_read, Store_set}
-use Rattle.tftp_loop.specs.Serves.Does.{Transfer_closed}
+use Rattle.tftp_loop.specs.Steps.{LoopState, LoopStep, Waits, round_end}
+use Rattle.tftp_loop.specs.Steps.LoopStep.{Waited, At_port, Request_received, No_request_found, Request_not_received}
+use Rattle.tftp_loop.specs.Steps.LoopStep.{Request_noted, Request_answered, Request_lost, Clock_read, Store_set}
+use Rattle.tftp_loop.specs.Steps.LoopStep.{Transfer_closed}
 use Rattle.tftp_loop.specs.Reported.{IsNoWait}
 
 module _ {S F D : Type 0} (meaning : StoreMeaning S D) (sources : SourceMeaning F) where
   -- a step is a wait or not
-  pub wait_or_work : (s t : LoopState S F D) (does : Does meaning sources s t)
+  pub wait_or_work : (s t : LoopState S F D) (does : LoopStep meaning sources s t)
       → Waits meaning sources s t ⊎ IsNoWait meaning sources does
   wait_or_work s t (Waited d) = inl d
   wait_or_work s t (At_port d) = inr tt
@@ -59,7 +59,7 @@ module _ {S F D : Type 0} (meaning : StoreMeaning S D) (sources : SourceMeaning 
         from = omega (arith, now, forward);
       }
 
-  pub step_round : (since : ℕ) (s t : LoopState S F D) (does : Does meaning sources s t)
+  pub step_round : (since : ℕ) (s t : LoopState S F D) (does : LoopStep meaning sources s t)
       → IsNoWait meaning sources does → InRound since s → InRound since t
   step_round since s t (Waited d) is round = absurd is
   step_round since s t (At_port d) is round =

@@ -3,14 +3,14 @@ use Rattle.std.proofs.Common.{◌≡◌, sym, subst}
 use Rattle.tftp_loop.specs.Run.{Run}
 use Rattle.tftp_loop.specs.Run.Run.{Start, Then}
 
-module _ {A : Type 0} {Does : A → A → Type 0} where
-  pub onward : {x y z : A} → Run Does x y → Run Does y z → Run Does x z
+module _ {A : Type 0} {LoopStep : A → A → Type 0} where
+  pub onward : {x y z : A} → Run LoopStep x y → Run LoopStep y z → Run LoopStep x z
   onward r Start = r
   onward r (Then q d) = Then (onward r q) d
 
   -- nothing was done
-  pub idle : {x y : A} → y ≡ x → Run Does x y
-  idle {x} {y} e = let At : A → Type 0 = λ z. Run Does x z in subst At (sym e) Start
+  pub idle : {x y : A} → y ≡ x → Run LoopStep x y
+  idle {x} {y} e = let At : A → Type 0 = λ z. Run LoopStep x z in subst At (sym e) Start
 
-  pub once : {x y : A} → Does x y → Run Does x y
+  pub once : {x y : A} → LoopStep x y → Run LoopStep x y
   once d = Then Start d

@@ -13,14 +13,14 @@ use Rattle.tftp_sockets.specs.Quiet.{is_among, is_drained}
 use Rattle.tftp_loop.specs.Run.{Run}
 use Rattle.tftp_loop.specs.Run.Run.{Start, Then}
 use Rattle.tftp_loop.specs.declared.serving.LoopConfig.{LoopConfig}
-use Rattle.tftp_loop.specs.Serves.{Timer, LoopState, Does, Waits, at_start, is_busy, port_state, read_at, set_by}
-use Rattle.tftp_loop.specs.Serves.{until_look}
-use Rattle.tftp_loop.specs.Serves.Does.{Waited, At_port, Request_received, No_request_found, Request_not_received}
-use Rattle.tftp_loop.specs.Serves.Does.{Request_noted, Request_answered, Request_lost, Clock_read, Store_set}
-use Rattle.tftp_loop.specs.Serves.Does.{Transfer_closed}
-use Rattle.tftp_loop.specs.Served.{Work_by}
+use Rattle.tftp_loop.specs.Steps.{Timer, LoopState, LoopStep, Waits, at_start, is_busy, port_state, read_at, set_by}
+use Rattle.tftp_loop.specs.Steps.{until_look}
+use Rattle.tftp_loop.specs.Steps.LoopStep.{Waited, At_port, Request_received, No_request_found, Request_not_received}
+use Rattle.tftp_loop.specs.Steps.LoopStep.{Request_noted, Request_answered, Request_lost, Clock_read, Store_set}
+use Rattle.tftp_loop.specs.Steps.LoopStep.{Transfer_closed}
+use Rattle.tftp_loop.specs.LoopStates.{Work_by}
 use Rattle.tftp_loop.specs.Sleeps.{HasItsOwnPort, MaySleep}
-use Rattle.tftp_loop.specs.Tended.{AreKept}
+use Rattle.tftp_loop.specs.MayWait.{AreKept}
 use Rattle.tftp_loop.proofs.Drained.{port_drained, replied_drained}
 use Rattle.tftp_loop.proofs.Looking.{AreLooked, looked_at_rest, read_looked, step_looked}
 use Rattle.tftp_loop.proofs.LoopStays.{work_keeps}
@@ -44,7 +44,7 @@ module _ {S F D : Type 0} (meaning : StoreMeaning S D) (sources : SourceMeaning 
   both_false false true drained e f = not_marked e
   both_false false false drained e f = f refl
 
-  step_drained : (s t : LoopState S F D) → Does meaning sources s t →
+  step_drained : (s t : LoopState S F D) → LoopStep meaning sources s t →
       All (λ (timer : Timer). timer.port ≢ s.requests) s.timers
       → (s.marked ≡ false → is_drained s.requests s.events ≡ true) → t.marked ≡ false →
       is_drained t.requests t.events ≡ true
@@ -79,7 +79,7 @@ module _ {S F D : Type 0} (meaning : StoreMeaning S D) (sources : SourceMeaning 
   step_drained s t (Transfer_closed d) own h =
       subst (λ (u : LoopState S F D). u.marked ≡ false → is_drained u.requests u.events ≡ true) (sym d.is) h
 
-  pub step_kept : (s t : LoopState S F D) → Does meaning sources s t → AreKept s.server.held s.timers →
+  pub step_kept : (s t : LoopState S F D) → LoopStep meaning sources s t → AreKept s.server.held s.timers →
       AreKept t.server.held t.timers
   step_kept s t (Waited d) kept =
       subst (λ (u : LoopState S F D). AreKept u.server.held u.timers) (sym d.is)
@@ -103,7 +103,7 @@ module _ {S F D : Type 0} (meaning : StoreMeaning S D) (sources : SourceMeaning 
       (work_keeps meaning sources s t (Then Start (Work_by (Transfer_closed d) tt))).kept kept
 
   pub kept_along : (config : LoopConfig) (port : ℕ) (server : ServerState S F D) (before : List Event)
-      (old : LoopState S F D) → Run (Does meaning sources) (at_start config port server before) old
+      (old : LoopState S F D) → Run (LoopStep meaning sources) (at_start config port server before) old
       → AreKept old.server.held old.timers
   kept_along config port server before old Start =
       record { apart = λ j k d e hj hk h. absurd (omega (arith, hj)); each = λ k d h. absurd (omega (arith, h)) }
@@ -111,7 +111,7 @@ module _ {S F D : Type 0} (meaning : StoreMeaning S D) (sources : SourceMeaning 
       step_kept middle old does (kept_along config port server before middle run)
 
   quiet_along : (config : LoopConfig) (port : ℕ) (server : ServerState S F D) (before : List Event)
-      (old : LoopState S F D) → Run (Does meaning sources) (at_start config port server before) old
+      (old : LoopState S F D) → Run (LoopStep meaning sources) (at_start config port server before) old
       → HasItsOwnPort meaning sources (at_start config port server before) old → IsQuiet old
   quiet_along config port server before old Start own = record {
     drained = λ m. not_marked m;
@@ -170,7 +170,7 @@ look_longest now (timer ∷ timers) = let rest = look_longest now timers in omeg
 
 module _ {S F D : Type 0} (meaning : StoreMeaning S D) (sources : SourceMeaning F) where
   pub rests_before_it_sleeps : (config : LoopConfig) (port : ℕ) (server : ServerState S F D) (before : List Event)
-      (old new : LoopState S F D) → Run (Does meaning sources) (at_start config port server before) old
+      (old new : LoopState S F D) → Run (LoopStep meaning sources) (at_start config port server before) old
       → HasItsOwnPort meaning sources (at_start config port server before) old →
       (waits : Waits meaning sources old new) → 1 ≤ waits.millis →
       MaySleep meaning sources (read_at waits.time old) waits.millis

@@ -11,7 +11,7 @@ use Rattle.tftp_loop.specs.Fair.{ReceivesAtMost, received_in}
 use Rattle.tftp_loop.specs.PortTurn.{AnswersReceived, IsSameTurn, ServesTurn, at_turn}
 use Rattle.tftp_loop.specs.Run.{Run}
 use Rattle.tftp_loop.specs.Run.Run.{Start}
-use Rattle.tftp_loop.specs.Serves.{AtPort}
+use Rattle.tftp_loop.specs.Steps.{PortStep}
 use Rattle.tftp_loop.proofs.RunLemmas.{onward}
 
 -- an event that is no datagram
@@ -47,7 +47,7 @@ module _ {S F D : Type 0} where
     pub serves_onward : (m n most : ℕ) (a b c : PortTurn S F D) → m + n ≤ most → ServesTurn meaning sources m a b →
         ServesTurn meaning sources n b c → ServesTurn meaning sources most a c
     serves_onward m n most a b c fits x y =
-        let At : ℕ → Type 0 = λ now. Run (AtPort meaning sources now) (at_turn b) (at_turn c) in
+        let At : ℕ → Type 0 = λ now. Run (PortStep meaning sources now) (at_turn b) (at_turn c) in
         let before = x.received in
         let after = y.received in
         record {

@@ -15,17 +15,17 @@ use Rattle.tftp_server.specs.State.{TransferState, ServerState, at, draft_of, is
 use Rattle.tftp_server.specs.Work.{WorksAt}
 use Rattle.tftp_sockets.specs.declared.port.Port.{Port}
 use Rattle.tftp_loop.specs.declared.transfer_port.TransferSocket.{TransferSocket}
-use Rattle.tftp_loop.specs.Serves.{Timer, PortState, LoopState, Closes, WorksAtPort}
-use Rattle.tftp_loop.specs.Serves.Does.{Transfer_closed}
+use Rattle.tftp_loop.specs.Steps.{Timer, PortState, LoopState, Closes, WorksAtPort}
+use Rattle.tftp_loop.specs.Steps.LoopStep.{Transfer_closed}
 use Rattle.tftp_loop.specs.declared.server_loop.ServerLoop.{ServerLoop}
 use Rattle.tftp_loop.specs.declared.port_turn.Turn.{Turn}
 use Rattle.tftp_loop.specs.declared.port_turn.Turn.TheVariants as turns
-use Rattle.tftp_loop.specs.Served.{OnlyWorks, Work_by, close_reported, state_of, timer_of}
+use Rattle.tftp_loop.specs.LoopStates.{OnlyWorks, Work_by, close_reported, state_of, timer_of}
 use Rattle.tftp_loop.specs.declared.port_turn.TheConstants.{MOST_AT_ONCE}
-use Rattle.tftp_loop.specs.Tended.{AllBelow, AwaitTurn, ReceivedFew, before_turn}
-use Rattle.tftp_loop.specs.Tended.{AllFrom, AreKept, AreRead, AreSettled, AreTimed, Finishes, Goes, HaveTurned, Stays}
-use Rattle.tftp_loop.specs.Tended.{IsOpen, IsRead, IsSettled, IsTimed, KeepsTries, TakesTurn, leaves_by, leaves_read}
-use Rattle.tftp_loop.specs.Tended.{leaves_timed, timers_of}
+use Rattle.tftp_loop.specs.MayWait.{AllBelow, AwaitTurn, ReceivedFew, before_turn}
+use Rattle.tftp_loop.specs.MayWait.{AllFrom, AreKept, AreRead, AreSettled, AreTimed, Finishes, Goes, HaveTurned, Stays}
+use Rattle.tftp_loop.specs.MayWait.{IsOpen, IsRead, IsSettled, IsTimed, KeepsTries, TakesTurn, leaves_by, leaves_read}
+use Rattle.tftp_loop.specs.MayWait.{leaves_timed, timers_of}
 use Rattle.tftp_loop.proofs.ListLemmas.{map_is, map_removed, map_set, map_within, set_long}
 use Rattle.tftp_loop.proofs.LoopRuns.{Runs, at_place, closes, none_taken}
 use Rattle.tftp_loop.proofs.LoopStays.{all_removed, all_set, other_held, other_port, removed_held, set_kept}

@@ -20,14 +20,14 @@ use Rattle.tftp_loop.specs.declared.transfer_port.TransferSocket.{TransferSocket
 use Rattle.tftp_loop.specs.declared.server_loop.ServerLoop.{ServerLoop}
 use Rattle.tftp_loop.specs.Run.{Run}
 use Rattle.tftp_loop.specs.Run.Run.{Start, Then}
-use Rattle.tftp_loop.specs.Serves.{Timer, LoopState, Does, MayWait, IsServed, deadline_by, marked_by, most_millis}
-use Rattle.tftp_loop.specs.Serves.{read_at, round_end, set_by, until_look}
-use Rattle.tftp_loop.specs.Serves.Does.{Waited, Clock_read}
-use Rattle.tftp_loop.specs.Served.{pending_in, state_of, timer_of}
-use Rattle.tftp_loop.specs.Tended.{AreSettled, AreKept, HasRead, HasSlept, HasWoken, IsHeld, IsSettled, IsTended}
-use Rattle.tftp_loop.specs.Tended.{ReceivedFew}
-use Rattle.tftp_loop.specs.Tended.{HasFew}
-use Rattle.tftp_loop.specs.Tended.{marked_if, millis_of, set_if, timers_of}
+use Rattle.tftp_loop.specs.Steps.{Timer, LoopState, LoopStep, MayWait, IsServed, deadline_by, marked_by, most_millis}
+use Rattle.tftp_loop.specs.Steps.{read_at, round_end, set_by, until_look}
+use Rattle.tftp_loop.specs.Steps.LoopStep.{Waited, Clock_read}
+use Rattle.tftp_loop.specs.LoopStates.{pending_in, state_of, timer_of}
+use Rattle.tftp_loop.specs.MayWait.{AreSettled, AreKept, HasRead, HasSlept, HasWoken, IsHeld, IsSettled, IsTended}
+use Rattle.tftp_loop.specs.MayWait.{ReceivedFew}
+use Rattle.tftp_loop.specs.MayWait.{HasFew}
+use Rattle.tftp_loop.specs.MayWait.{marked_if, millis_of, set_if, timers_of}
 use Rattle.tftp_loop.proofs.ListLemmas.{map_at}
 use Rattle.tftp_loop.proofs.LoopRuns.{same_state}
 use Rattle.tftp_loop.proofs.Tables.{any_default}
@@ -218,7 +218,7 @@ module _ {S F D : Type 0} (meaning : StoreMeaning S D) (sources : SourceMeaning 
   pub waits_as : (buffer : List ℕ) (old read noted new : ServerLoop S F D) (millis : ℕ) (ports : List ℕ) →
       HasRead old read → MayWait (state_of buffer old) read.sockets.watch.now millis ports
       → HasSlept millis ports read noted → HasWoken ports noted new →
-      Run (Does meaning sources) (state_of buffer old) (state_of buffer new)
+      Run (LoopStep meaning sources) (state_of buffer old) (state_of buffer new)
   waits_as buffer old read noted new millis ports reads may slept woken =
       let requests = slept.requests ∙ reads.requests in
       let now = slept.now in

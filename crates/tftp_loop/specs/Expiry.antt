@@ -16,9 +16,9 @@ use Rattle.tftp_lines.specs.declared.printed.Printed.TheVariants.{Closed}
 use Rattle.tftp_sockets.specs.Journal.{Event}
 use Rattle.tftp_sockets.specs.Journal.Event.{Printed}
 use Rattle.tftp_loop.specs.Run.{Run}
-use Rattle.tftp_loop.specs.Serves.{Timer, PortState, LoopState, AtPort, Does, Waits}
-use Rattle.tftp_loop.specs.Serves.AtPort.{A_datagram, A_lost_datagram}
-use Rattle.tftp_loop.specs.Serves.Does.{At_port}
+use Rattle.tftp_loop.specs.Steps.{Timer, PortState, LoopState, PortStep, LoopStep, Waits}
+use Rattle.tftp_loop.specs.Steps.PortStep.{A_datagram, A_lost_datagram}
+use Rattle.tftp_loop.specs.Steps.LoopStep.{At_port}
 
 -- seconds as milliseconds
 abbrev pub in_millis : ℕ → ℕ
@@ -50,24 +50,24 @@ ClosesInSilence phase outcome =
 
 module _ {S F D : Type 0} (meaning : StoreMeaning S D) (sources : SourceMeaning F) where
   -- a step at a port without progress of its transfer
-  abbrev pub IsIdleAt : {now : ℕ} {old new : PortState S F D} → AtPort meaning sources now old new
+  abbrev pub IsIdleAt : {now : ℕ} {old new : PortState S F D} → PortStep meaning sources now old new
       → Type 0
   IsIdleAt (A_datagram d) = d.step.progress ≡ false
   IsIdleAt does = ⊤
 
   -- a step at a port that receives nothing, or only drops what it receives
   abbrev pub ReceivesNoneAt : {now : ℕ} {old new : PortState S F D}
-      → AtPort meaning sources now old new → Type 0
+      → PortStep meaning sources now old new → Type 0
   ReceivesNoneAt (A_datagram d) = ⊥
   ReceivesNoneAt (A_lost_datagram d) = ⊥
   ReceivesNoneAt does = ⊤
 
   -- the transfer at the port makes no progress in this step, or receives nothing
-  abbrev pub IsIdle : ℕ → {old new : LoopState S F D} → Does meaning sources old new → Type 0
+  abbrev pub IsIdle : ℕ → {old new : LoopState S F D} → LoopStep meaning sources old new → Type 0
   IsIdle port (At_port d) = d.timer.port ≡ port → IsIdleAt d.does
   IsIdle port does = ⊤
 
-  abbrev pub ReceivesNone : ℕ → {old new : LoopState S F D} → Does meaning sources old new → Type 0
+  abbrev pub ReceivesNone : ℕ → {old new : LoopState S F D} → LoopStep meaning sources old new → Type 0
   ReceivesNone port (At_port d) = d.timer.port ≡ port → ReceivesNoneAt d.does
   ReceivesNone port does = ⊤
 
@@ -75,7 +75,7 @@ module _ {S F D : Type 0} (meaning : StoreMeaning S D) (sources : SourceMeaning 
   pub data Idles (port : ℕ) (first : LoopState S F D) : LoopState S F D → Type 0 where
     At_first : Idles port first first
     After : {middle last : LoopState S F D} → Idles port first middle
-        → (does : Does meaning sources middle last) → IsIdle port does → Idles port first last
+        → (does : LoopStep meaning sources middle last) → IsIdle port does → Idles port first last
 
   -- nothing is received at the port
   abbrev pub NoneReceived : {port : ℕ} {first last : LoopState S F D} → Idles port first last
@@ -88,7 +88,7 @@ module _ {S F D : Type 0} (meaning : StoreMeaning S D) (sources : SourceMeaning 
   abbrev pub ClosesWithoutProgress : Type 0
   ClosesWithoutProgress =
       (start first last new : LoopState S F D) (timer : Timer)
-      → start.timers ≡ [] → Run (Does meaning sources) start first
+      → start.timers ≡ [] → Run (LoopStep meaning sources) start first
       → Contains first.timers timer
       → Idles timer.port first last → Waits meaning sources last new
       → closing_time (counted_from first.now timer) timer.interval first.server.config.retries
@@ -101,7 +101,7 @@ module _ {S F D : Type 0} (meaning : StoreMeaning S D) (sources : SourceMeaning 
   abbrev pub TimesOutInSilence : Type 0
   TimesOutInSilence =
       (start first last new : LoopState S F D) (timer : Timer) (transfer : TransferState F D)
-      → start.timers ≡ [] → Run (Does meaning sources) start first
+      → start.timers ≡ [] → Run (LoopStep meaning sources) start first
       → Contains first.timers timer → at timer.port first.server.held ≡ Some transfer
       → (idles : Idles timer.port first last) → NoneReceived idles
       → Waits meaning sources last new
@@ -117,10 +117,10 @@ module _ {S F D : Type 0} (meaning : StoreMeaning S D) (sources : SourceMeaning 
   abbrev pub ClosesOverAge : Type 0
   ClosesOverAge =
       (start first last new : LoopState S F D) (timer : Timer) (transfer : TransferState F D)
-      → start.timers ≡ [] → Run (Does meaning sources) start first
+      → start.timers ≡ [] → Run (LoopStep meaning sources) start first
       → Contains first.timers timer → at timer.port first.server.held ≡ Some transfer
       → timer.age_limit < first.now
-      → Run (Does meaning sources) first last → Waits meaning sources last new
+      → Run (LoopStep meaning sources) first last → Waits meaning sources last new
       → closing_time (counted_from first.now timer) timer.interval first.server.config.retries
       < last.now
       → last.now ≤ last_moment

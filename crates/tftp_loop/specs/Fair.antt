@@ -6,7 +6,7 @@ use Rattle.tftp_store.specs.Store.{StoreMeaning}
 use Rattle.tftp_sockets.specs.Journal.{Event}
 use Rattle.tftp_sockets.specs.Journal.Event.{Received, Sent, Watched, Elapsed, Printed, Quiet}
 use Rattle.tftp_loop.specs.Run.{Run}
-use Rattle.tftp_loop.specs.Serves.{Timer, PortState, LoopState, AtPort, Does, most_in_round}
+use Rattle.tftp_loop.specs.Steps.{Timer, PortState, LoopState, PortStep, LoopStep, most_in_round}
 
 -- how many datagrams were received
 abbrev pub received_in : List Event → ℕ
@@ -26,11 +26,11 @@ module _ {S F D : Type 0} (meaning : StoreMeaning S D) (sources : SourceMeaning 
   -- a timer counts each datagram that is received at its port
   abbrev pub CountsReceived : Type 0
   CountsReceived =
-      (now : ℕ) (old new : PortState S F D) → Run (AtPort meaning sources now) old new
+      (now : ℕ) (old new : PortState S F D) → Run (PortStep meaning sources now) old new
       → new.timer.received + received_in old.events ≡ old.timer.received + received_in new.events
 
   -- and at no time of a run has it counted more since the newest wait
   abbrev pub ReceivesFew : Type 0
   ReceivesFew =
-      (start now : LoopState S F D) → start.timers ≡ [] → Run (Does meaning sources) start now
+      (start now : LoopState S F D) → start.timers ≡ [] → Run (LoopStep meaning sources) start now
       → All (λ (timer : Timer). timer.received ≤ most_in_round) now.timers

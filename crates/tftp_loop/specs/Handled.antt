@@ -6,8 +6,8 @@ use Rattle.tftp_ends.specs.declared.endpoint.Endpoint.{Endpoint}
 use Rattle.tftp_store.specs.Store.{StoreMeaning}
 use Rattle.tftp_sockets.specs.Quiet.{is_among, was_tried}
 use Rattle.tftp_loop.specs.Run.{Run}
-use Rattle.tftp_loop.specs.Serves.{LoopState, Does, Waits, ReceivesRequest, AnswersRequest}
-use Rattle.tftp_loop.specs.Serves.{LosesRequest}
+use Rattle.tftp_loop.specs.Steps.{LoopState, LoopStep, Waits, ReceivesRequest, AnswersRequest}
+use Rattle.tftp_loop.specs.Steps.{LosesRequest}
 use Rattle.tftp_loop.specs.Reported.{GoesOn}
 use Rattle.tftp_loop.specs.Sleeps.{HasItsOwnPort}
 
@@ -24,9 +24,9 @@ module _ {S F D : Type 0} (meaning : StoreMeaning S D) (sources : SourceMeaning 
       : Type 0 where
     pub old : LoopState S F D
     pub new : LoopState S F D
-    pub earlier : Run (Does meaning sources) first old
+    pub earlier : Run (LoopStep meaning sources) first old
     pub resolves : Resolves from bytes old new
-    pub later : Run (Does meaning sources) new last
+    pub later : Run (LoopStep meaning sources) new last
 
   -- a datagram that was received at the request port is answered or lost before a wait that takes
   -- time
@@ -34,7 +34,7 @@ module _ {S F D : Type 0} (meaning : StoreMeaning S D) (sources : SourceMeaning 
   HandlesBeforeItSleeps =
       (old received last new : LoopState S F D)
       → (receives : ReceivesRequest meaning sources old received)
-      → Run (Does meaning sources) received last
+      → Run (LoopStep meaning sources) received last
       → (waits : Waits meaning sources last new) → 1 ≤ waits.millis
       → IsResolved receives.from receives.bytes received last
 
@@ -44,7 +44,7 @@ module _ {S F D : Type 0} (meaning : StoreMeaning S D) (sources : SourceMeaning 
   HandlesByTheNextWait =
       (old received waiting woken last new : LoopState S F D)
       → (receives : ReceivesRequest meaning sources old received)
-      → Run (Does meaning sources) received waiting → Waits meaning sources waiting woken
+      → Run (LoopStep meaning sources) received waiting → Waits meaning sources waiting woken
       → Run (GoesOn meaning sources) woken last → HasItsOwnPort meaning sources woken last
       → Waits meaning sources last new
       → IsResolved receives.from receives.bytes received last

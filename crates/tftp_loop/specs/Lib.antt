@@ -1,12 +1,12 @@
 pub mod Run
 pub mod MayOpen
-pub mod Serves
+pub mod Steps
 pub mod WholeRun
-pub mod Served
+pub mod LoopStates
 pub mod PortOrder
 pub mod PortPool
 pub mod PortTurn
-pub mod Tended
+pub mod MayWait
 pub mod Fair
 pub mod Sleeps
 pub mod Reported

@@ -12,9 +12,9 @@ use Rattle.tftp_loop.specs.declared.port_turn.PortStatus.TheVariants as statuses
 use Rattle.tftp_loop.specs.declared.port_turn.PortTurn.{PortTurn}
 use Rattle.tftp_loop.specs.Fair.{ReceivesAtMost}
 use Rattle.tftp_loop.specs.Run.{Run}
-use Rattle.tftp_loop.specs.Serves.{AtPort, PortState}
-use Rattle.tftp_loop.specs.Served.{at_port, timer_of}
-use Rattle.tftp_loop.specs.Tended.{KeepsTries, LeavesTimer}
+use Rattle.tftp_loop.specs.Steps.{PortStep, PortState}
+use Rattle.tftp_loop.specs.LoopStates.{at_port, timer_of}
+use Rattle.tftp_loop.specs.MayWait.{KeepsTries, LeavesTimer}
 
 module _ {S F D : Type 0} where
   -- the state at the port of a turn
@@ -44,7 +44,7 @@ module _ {S F D : Type 0} where
     -- a turn goes on by steps at its port, and receives at most so many datagrams
     pub record ServesTurn (most : ℕ) (old new : PortTurn S F D) : Type 0 where
       pub same : IsSameTurn old new
-      pub serves : Run (AtPort meaning sources old.now) (at_turn old) (at_turn new)
+      pub serves : Run (PortStep meaning sources old.now) (at_turn old) (at_turn new)
       pub received : ReceivesAtMost most old.journal.now.events new.journal.now.events
 
     -- a datagram that was received last is handled or lost, and its answer is sent
@@ -53,7 +53,7 @@ module _ {S F D : Type 0} where
       pub serves : (events : List Event)
           → old.journal.now.events
           ≡ Received old.port.now.socket.udp.port datagram.from datagram.bytes.now ∷ events
-          → Run (AtPort meaning sources old.now)
+          → Run (PortStep meaning sources old.now)
           (record { server = old.server.now; timer = timer_of old.port.now; events = events })
           (at_turn new)
       pub tries : KeepsTries old.journal.now.events new.journal.now.events

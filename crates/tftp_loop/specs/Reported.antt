@@ -8,8 +8,8 @@ use Rattle.tftp_sockets.specs.Journal.{Event}
 use Rattle.tftp_sockets.specs.Quiet.{is_among, was_tried}
 use Rattle.tftp_loop.specs.Run.{Run}
 use Rattle.tftp_loop.specs.declared.serving.LoopConfig.{LoopConfig}
-use Rattle.tftp_loop.specs.Serves.{Timer, LoopState, Does, Waits, at_start}
-use Rattle.tftp_loop.specs.Serves.Does.{Waited}
+use Rattle.tftp_loop.specs.Steps.{Timer, LoopState, LoopStep, Waits, at_start}
+use Rattle.tftp_loop.specs.Steps.LoopStep.{Waited}
 
 -- a timer has the port
 abbrev pub HasTimer : ℕ → List Timer → Type 0
@@ -17,19 +17,19 @@ HasTimer port timers = Contains (map (λ (timer : Timer). timer.port) timers) po
 
 module _ {S F D : Type 0} (meaning : StoreMeaning S D) (sources : SourceMeaning F) where
   -- a step that is no wait
-  abbrev pub IsNoWait : {old new : LoopState S F D} → Does meaning sources old new → Type 0
+  abbrev pub IsNoWait : {old new : LoopState S F D} → LoopStep meaning sources old new → Type 0
   IsNoWait (Waited waits) = ⊥
   IsNoWait does = ⊤
 
   pub data GoesOn (old new : LoopState S F D) : Type 0 where
-    Goes_by : (does : Does meaning sources old new) → IsNoWait does → GoesOn old new
+    Goes_by : (does : LoopStep meaning sources old new) → IsNoWait does → GoesOn old new
 
   -- a port that a wait reported, and that had a transfer then, was read by the next wait
   abbrev pub ReadsWhatIsReported : Type 0
   ReadsWhatIsReported =
       (config : LoopConfig) (requests : ℕ) (server : ServerState S F D) (before : List Event)
       (old woken last new : LoopState S F D)
-      → Run (Does meaning sources) (at_start config requests server before) old
+      → Run (LoopStep meaning sources) (at_start config requests server before) old
       → (waits : Waits meaning sources old woken) → Run GoesOn woken last
       → Waits meaning sources last new
       → (port : ℕ) → is_among port waits.ports ≡ true → HasTimer port old.timers

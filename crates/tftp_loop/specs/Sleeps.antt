@@ -8,7 +8,7 @@ use Rattle.tftp_sockets.specs.Journal.{Event}
 use Rattle.tftp_sockets.specs.Quiet.{is_drained}
 use Rattle.tftp_loop.specs.Run.{Run}
 use Rattle.tftp_loop.specs.declared.serving.LoopConfig.{LoopConfig}
-use Rattle.tftp_loop.specs.Serves.{Timer, LoopState, Does, Waits, at_start, look_after, read_at}
+use Rattle.tftp_loop.specs.Steps.{Timer, LoopState, LoopStep, Waits, at_start, look_after, read_at}
 
 -- a port of a transfer is not marked, and a wait of so long is over when it is read again, which is
 -- at its deadline at the latest; the last event of the port is that a receive found nothing there,
@@ -23,8 +23,8 @@ module _ {S F D : Type 0} (meaning : StoreMeaning S D) (sources : SourceMeaning 
   -- at each time of a run no transfer has the request port
   abbrev pub HasItsOwnPort : LoopState S F D → LoopState S F D → Type 0
   HasItsOwnPort first last =
-      (now : LoopState S F D) → Run (Does meaning sources) first now
-      → Run (Does meaning sources) now last
+      (now : LoopState S F D) → Run (LoopStep meaning sources) first now
+      → Run (LoopStep meaning sources) now last
       → All (λ (timer : Timer). timer.port ≢ now.requests) now.timers
 
   -- the server may sleep for so long
@@ -40,7 +40,7 @@ module _ {S F D : Type 0} (meaning : StoreMeaning S D) (sources : SourceMeaning 
   RestsBeforeItSleeps =
       (config : LoopConfig) (port : ℕ) (server : ServerState S F D) (before : List Event)
       (old new : LoopState S F D)
-      → Run (Does meaning sources) (at_start config port server before) old
+      → Run (LoopStep meaning sources) (at_start config port server before) old
       → HasItsOwnPort (at_start config port server before) old
       → (waits : Waits meaning sources old new) → 1 ≤ waits.millis
       → MaySleep (read_at waits.time old) waits.millis

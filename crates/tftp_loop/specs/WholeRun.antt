@@ -9,8 +9,8 @@ use Rattle.tftp_sockets.specs.Bound.{IsBoundTo}
 use Rattle.tftp_sockets.specs.Journal.{Event}
 use Rattle.tftp_sockets.specs.Journal.Event.{Printed}
 use Rattle.tftp_loop.specs.Run.{Run}
-use Rattle.tftp_loop.specs.Serves.{Does, LoopState, at_start}
-use Rattle.tftp_loop.specs.Served.{FailsToBind, StopsServing}
+use Rattle.tftp_loop.specs.Steps.{LoopStep, LoopState, at_start}
+use Rattle.tftp_loop.specs.LoopStates.{FailsToBind, StopsServing}
 use Rattle.tftp_loop.specs.declared.serving.LoopConfig.{LoopConfig}
 use Rattle.tftp_loop.specs.declared.serving.LoopFault.{LoopFault}
 
@@ -41,7 +41,7 @@ module _ {S F D A : Type 0} (meaning : StoreMeaning S D) (sources : SourceMeanin
   pub record ServesFrom (port : ℕ) (server : ServerState S F D) (result : Result A LoopFault)
       (before after : List Event) : Type 0 where
     pub last : LoopState S F D
-    pub run : Run (Does meaning sources) (at_start config port server before) last
+    pub run : Run (LoopStep meaning sources) (at_start config port server before) last
     pub noted : after ≡ last.events
     pub ends : EndsBy result last
 

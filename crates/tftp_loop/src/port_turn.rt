@@ -6,11 +6,11 @@ ghost use Rattle.tftp_server.specs.State.{at, is_open, taken_of};
 ghost use Rattle.tftp_loop.specs.Fair.{ReceivesAtMost};
 ghost use Rattle.tftp_loop.specs.PortTurn.{AnswersReceived, HasStatus, IsTried, ServesTurn};
 ghost use Rattle.tftp_loop.specs.PortTurn.{at_turn};
-ghost use Rattle.tftp_loop.specs.Serves.{AnswersDatagram, AnswersTimeout, LosesDatagram};
-ghost use Rattle.tftp_loop.specs.Serves.{Timer, WorksAtPort, most_in_round, restarted, timer_after};
-ghost use Rattle.tftp_loop.specs.Served.{OnlyServesPort, at_port, timer_of};
-ghost use Rattle.tftp_loop.specs.Tended.{IsTimed, KeepsTries, LeavesTimer, leaves_by, leaves_read};
-ghost use Rattle.tftp_loop.specs.Tended.{leaves_timed};
+ghost use Rattle.tftp_loop.specs.Steps.{AnswersDatagram, AnswersTimeout, LosesDatagram};
+ghost use Rattle.tftp_loop.specs.Steps.{Timer, WorksAtPort, most_in_round, restarted, timer_after};
+ghost use Rattle.tftp_loop.specs.LoopStates.{OnlyServesPort, at_port, timer_of};
+ghost use Rattle.tftp_loop.specs.MayWait.{IsTimed, KeepsTries, LeavesTimer, leaves_by, leaves_read};
+ghost use Rattle.tftp_loop.specs.MayWait.{leaves_timed};
 
 use crate::datagram::Datagram;
 use crate::log_entry::LogEntry;

@@ -2,7 +2,7 @@
 
 ghost use Rattle.std.specs.Prelude.{◌≡◌, IfErr, is_some, option_map, if◌then◌else◌};
 ghost use Rattle.tftp_server.specs.State.{at, taken_of, without};
-ghost use Rattle.tftp_loop.specs.Served.{FailsToPrint, close_reported};
+ghost use Rattle.tftp_loop.specs.LoopStates.{FailsToPrint, close_reported};
 
 use crate::datagram::Datagram;
 use crate::log::Log;

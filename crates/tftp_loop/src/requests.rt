@@ -11,10 +11,10 @@ ghost use Rattle.tftp_sockets.specs.Journal.Event.{Quiet};
 ghost use Rattle.tftp_sockets.specs.Journal.QuietEvent.{Out_of_memory};
 ghost use Rattle.tftp_loop.specs.PortOrder.{IsOneOf};
 ghost use Rattle.tftp_loop.specs.PortPool.{IsOfPool};
-ghost use Rattle.tftp_loop.specs.Serves.{IsSet, answering_port, interval_at, started, with_timer};
-ghost use Rattle.tftp_loop.specs.Served.{HasAnswered, IsAdmission, WorksRound, timer_of};
-ghost use Rattle.tftp_loop.specs.Tended.{AnswersPending, HandlesReceived, HasTriedRequests};
-ghost use Rattle.tftp_loop.specs.Tended.{HasFew, IsSettled};
+ghost use Rattle.tftp_loop.specs.Steps.{IsSet, answering_port, interval_at, started, with_timer};
+ghost use Rattle.tftp_loop.specs.LoopStates.{HasAnswered, IsAdmission, WorksRound, timer_of};
+ghost use Rattle.tftp_loop.specs.MayWait.{AnswersPending, HandlesReceived, HasTriedRequests};
+ghost use Rattle.tftp_loop.specs.MayWait.{HasFew, IsSettled};
 ghost use Rattle.tftp_loop.specs.declared.port_turn.TheConstants.{MOST_AT_ONCE};
 
 use crate::datagram::Datagram;

@@ -4,13 +4,13 @@ ghost use Rattle.std.specs.Prelude.{◌≡◌, ◌≤◌, ◌<◌, ◌+◌, ◌�
 ghost use Rattle.std.specs.Prelude.{IfOk, length, map, false, if◌then◌else◌};
 ghost use Rattle.std.specs.List.{list_any};
 ghost use Rattle.tftp_sockets.specs.Quiet.{is_among};
-ghost use Rattle.tftp_loop.specs.Serves.{marked_by};
-ghost use Rattle.tftp_loop.specs.Served.{FailsToPrint, OnlyWorks, OnlyServes, ServesRounds};
-ghost use Rattle.tftp_loop.specs.Served.{WorksRound};
-ghost use Rattle.tftp_loop.specs.Tended.{ClosesPort, Finishes, HasRead, HasSlept, HasWoken};
-ghost use Rattle.tftp_loop.specs.Tended.{AwaitTurn, HasFew, HaveTurned, before_turn};
-ghost use Rattle.tftp_loop.specs.Tended.{IsSettled, IsTended, TakesTurn, Visits, leaves_by};
-ghost use Rattle.tftp_loop.specs.Tended.{millis_of, timers_of};
+ghost use Rattle.tftp_loop.specs.Steps.{marked_by};
+ghost use Rattle.tftp_loop.specs.LoopStates.{FailsToPrint, OnlyWorks, OnlyServes, ServesRounds};
+ghost use Rattle.tftp_loop.specs.LoopStates.{WorksRound};
+ghost use Rattle.tftp_loop.specs.MayWait.{ClosesPort, Finishes, HasRead, HasSlept, HasWoken};
+ghost use Rattle.tftp_loop.specs.MayWait.{AwaitTurn, HasFew, HaveTurned, before_turn};
+ghost use Rattle.tftp_loop.specs.MayWait.{IsSettled, IsTended, TakesTurn, Visits, leaves_by};
+ghost use Rattle.tftp_loop.specs.MayWait.{millis_of, timers_of};
 
 use crate::log::Log;
 use crate::port_turn::{Moment, Turn, take_turn_at};

@@ -5,7 +5,7 @@ ghost use Rattle.tftp_server.specs.Port.{asks_store};
 ghost use Rattle.tftp_sockets.specs.Bound.{IsBoundTo};
 ghost use Rattle.tftp_sockets.specs.Quiet.{is_among};
 ghost use Rattle.tftp_loop.specs.PortPool.{IsOfPool, Tries};
-ghost use Rattle.tftp_loop.specs.Serves.{round_end};
+ghost use Rattle.tftp_loop.specs.Steps.{round_end};
 
 use crate::port_pool::PortPool;
 use crate::server_udp::ServerUdp;

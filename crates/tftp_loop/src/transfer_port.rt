@@ -4,10 +4,10 @@ ghost use Rattle.std.specs.Prelude.{◌≡◌, ◌<◌, true, false, map, min, �
 ghost use Rattle.tftp_sockets.specs.Journal.{replied};
 ghost use Rattle.tftp_sockets.specs.Watch.{last_moment};
 ghost use Rattle.tftp_loop.specs.Fair.{ReceivesAtMost};
-ghost use Rattle.tftp_loop.specs.Serves.{WorksAtPort, age_limit_of, look_after, marked_as};
-ghost use Rattle.tftp_loop.specs.Serves.{most_in_round, restarted, timer_after};
-ghost use Rattle.tftp_loop.specs.Served.{timer_of};
-ghost use Rattle.tftp_loop.specs.Tended.{marked_if, set_if};
+ghost use Rattle.tftp_loop.specs.Steps.{WorksAtPort, age_limit_of, look_after, marked_as};
+ghost use Rattle.tftp_loop.specs.Steps.{most_in_round, restarted, timer_after};
+ghost use Rattle.tftp_loop.specs.LoopStates.{timer_of};
+ghost use Rattle.tftp_loop.specs.MayWait.{marked_if, set_if};
 
 use crate::log_entry::LogEntry;
 use tftp_ends::{Endpoint, Step};

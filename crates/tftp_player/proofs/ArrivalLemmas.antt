@@ -17,7 +17,7 @@ use Rattle.tftp_player.specs.Arriving.{ArrivalRefuses, StageAsks, StageArrives, 
 use Rattle.tftp_player.specs.World.{WorldState, StoredFile, replied, report_of, no_report, WorldEnd, Open_end}
 use Rattle.tftp_player.specs.World.{Closed_end, end_address, world_after}
 use Rattle.tftp_player.specs.declared.datagram.Datagram.{Datagram}
-use Rattle.tftp_player.specs.WorldSteps.{Arrives, LacksPort, EventRefuses, WorldRefuses, WorldStep}
+use Rattle.tftp_player.specs.WorldSteps.{Delivery, LacksPort, EventRefuses, WorldRefuses, WorldStep}
 use Rattle.tftp_player.specs.declared.event.Event.TheVariants.{Deliver}
 use Rattle.tftp_player.specs.declared.fault.WorldFault.{WorldFault}
 use Rattle.tftp_player.specs.declared.fault.WorldFault.TheVariants.{NoSuchDatagram, NoSuchEnd, NoPort, BadRequest}
@@ -48,10 +48,10 @@ ports_from port held (p ∷ ps) (suc k) x e =
 
 -- an arrival, with the report and the world replaced by equal ones
 landed : (w v v' : WorldState) (from to : Endpoint) (bytes : List ℕ) (r r' : Report) → r' ≡ r → v' ≡ v →
-    Arrives w from to bytes r v → Arrives w from to bytes r' v'
+    Delivery w from to bytes r v → Delivery w from to bytes r' v'
 landed w v v' from to bytes r r' e f a =
-    subst (λ (q : Report). Arrives w from to bytes q v') (sym e)
-    (subst (λ (u : WorldState). Arrives w from to bytes r u) (sym f) a)
+    subst (λ (q : Report). Delivery w from to bytes q v') (sym e)
+    (subst (λ (u : WorldState). Delivery w from to bytes r u) (sym f) a)
 
 module _ (from to : Endpoint) (bytes : List ℕ) (before after : PlayedServer) (ps ps' : List Player) (effect : Effect)
     (away : to ≢ request_port) (kept : AllKept 1024 before.held ps) where
@@ -100,7 +100,7 @@ module _ (from to : Endpoint) (bytes : List ℕ) (before after : PlayedServer) (
       StageArrives from to bytes before after ps ps' effect
   step_arrives index port t sent = by_case t.end t.found t.comes where
     lands : (v : WorldState) (report : Report) → report_by sent effect ≡ report → new sent ≡ v →
-        Arrives (old sent) from to bytes report v → Arrives (old sent) from to bytes (report_by sent effect) (new sent)
+        Delivery (old sent) from to bytes report v → Delivery (old sent) from to bytes (report_by sent effect) (new sent)
     lands v report e f a = landed (old sent) v (new sent) from to bytes report (report_by sent effect) e f a
 
     by_case : (x : WorldEnd) → slice_get (ends_of before ps) index ≡ Some x →
@@ -108,19 +108,19 @@ module _ (from to : Endpoint) (bytes : List ℕ) (before after : PlayedServer) (
         ⊎ ((end_address x ≡ to)
         × EndTakes index x from to bytes before.config.overwrite before.store.files after.store.files
         (ends_of before ps) (ends_of after ps') effect) →
-        Arrives (old sent) from to bytes (report_by sent effect) (new sent)
+        Delivery (old sent) from to bytes (report_by sent effect) (new sent)
     by_case x found (inl (differs, lost)) =
         lands (old sent) no_report (lost_report sent lost) (still sent lost)
         (other_arrives (old sent) from to bytes index x (ports sent) away found port differs)
     by_case (Closed_end x) found (inr (same, lost)) =
         lands (old sent) no_report (lost_report sent lost) (still sent lost)
-        (subst (λ (a : Endpoint). Arrives (old sent) from a bytes no_report (old sent)) same
+        (subst (λ (a : Endpoint). Delivery (old sent) from a bytes no_report (old sent)) same
         (closed_arrives (old sent) index x from bytes found))
     by_case (Open_end x) found (inr (same, h)) =
         let v = world_after (old sent) index x h.turn h.held after.store.files in
         lands v (report_of (old sent) x h.turn) (report_is (old sent) x h.turn effect h.turns.effects)
         (turned_as sent index x h)
-        (subst (λ (a : Endpoint). Arrives (old sent) from a bytes (report_of (old sent) x h.turn) v) same
+        (subst (λ (a : Endpoint). Delivery (old sent) from a bytes (report_of (old sent) x h.turn) v) same
         (open_arrives (old sent) index x from bytes h.turn h.held after.store.files found h.steps h.commits))
 
   pub nobody_arrives : (count : ℕ) → count ≡ length ps → (to.port < 1024) ⊎ (1024 + count ≤ to.port) → after ≡ before →
@@ -149,18 +149,18 @@ pub arrives_reported :
     before.config ≡ config → world_of config sent before ps ≡ old →
     StageArrives from to bytes before after ps ps' effect →
     sent0 ≡ sent → sent1 ≡ sent0 ++ said_by effect.from effect.to effect.bytes → report ≡ report_by sent0 effect →
-    Arrives old from to bytes report (world_of config sent1 after ps')
+    Delivery old from to bytes report (world_of config sent1 after ps')
 arrives_reported config sent from to bytes before after ps ps' effect old sent0 sent1 report set view a same more
     reports =
-    subst (λ (w : WorldState). Arrives w from to bytes report (world_of config sent1 after ps')) view
-    (subst (λ (k : Config). Arrives (world_of k sent before ps) from to bytes report (world_of k sent1 after ps')) set
+    subst (λ (w : WorldState). Delivery w from to bytes report (world_of config sent1 after ps')) view
+    (subst (λ (k : Config). Delivery (world_of k sent before ps) from to bytes report (world_of k sent1 after ps')) set
     (subst
     (λ (r : Report).
-    Arrives (world_of before.config sent before ps) from to bytes r (world_of before.config sent1 after ps'))
+    Delivery (world_of before.config sent before ps) from to bytes r (world_of before.config sent1 after ps'))
     (sym (reports ∙ ap (λ (ds : List Datagram). report_by ds effect) same))
     (subst
     (λ (ds : List Datagram).
-    Arrives (world_of before.config sent before ps) from to bytes (report_by sent effect)
+    Delivery (world_of before.config sent before ps) from to bytes (report_by sent effect)
     (world_of before.config ds after ps'))
     (sym (more ∙ ap (λ (ds : List Datagram). ds ++ said_by effect.from effect.to effect.bytes) same)) (a sent))))
 

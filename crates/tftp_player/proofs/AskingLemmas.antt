@@ -30,7 +30,7 @@ use Rattle.tftp_player.specs.Serving.{PlayedServer, ServedKept, Transfer}
 use Rattle.tftp_player.specs.Exchange.{IsOwned, IsRising, IsStaged, ends_of, world_of}
 use Rattle.tftp_player.specs.World.{WorldState, datagram, next_port, no_report, said_in, opened_in, sent_report}
 use Rattle.tftp_player.specs.World.{WorldEnd, Open_end}
-use Rattle.tftp_player.specs.WorldSteps.{At_request_port, HasPort, Arrives}
+use Rattle.tftp_player.specs.WorldSteps.{At_request_port, HasPort, Delivery}
 use Rattle.tftp_player.specs.declared.datagram.Datagram.{Datagram}
 use Rattle.tftp_player.specs.declared.effect.Effect.{Effect}
 use Rattle.tftp_player.specs.declared.player.Player.{Player}
@@ -133,9 +133,9 @@ module _ (from : Endpoint) (bytes : List ℕ) (before : PlayedServer) (ps : List
           ∙ ap (λ (v : PlayedServer). world_of before.config (sent ++ d ∷ []) v ps) refused.new in
           subst
           (λ (r : Report).
-          Arrives (w sent) from request_port bytes r
+          Delivery (w sent) from request_port bytes r
           (world_of before.config (sent ++ said_by request_port opened.to out) after ps)) (sym report)
-          (subst (λ (v : WorldState). Arrives (w sent) from request_port bytes (sent_report (w sent)) v) (sym new)
+          (subst (λ (v : WorldState). Delivery (w sent) from request_port bytes (sent_report (w sent)) v) (sym new)
           (At_request_port refl (has sent) said.0 said.1 h.repeated (in_the_world result h sent) refused.serves))
       | inr quiet ↦
           let report : report_by sent effect ≡ no_report =
@@ -146,9 +146,9 @@ module _ (from : Endpoint) (bytes : List ℕ) (before : PlayedServer) (ps : List
           ∙ ap (λ (v : PlayedServer). world_of before.config sent v ps) quiet.new) in
           subst
           (λ (r : Report).
-          Arrives (w sent) from request_port bytes r
+          Delivery (w sent) from request_port bytes r
           (world_of before.config (sent ++ said_by request_port opened.to out) after ps)) (sym report)
-          (subst (λ (v : WorldState). Arrives (w sent) from request_port bytes no_report v) (sym new)
+          (subst (λ (v : WorldState). Delivery (w sent) from request_port bytes no_report v) (sym new)
           (At_request_port refl (has sent) said.0 said.1 h.repeated (in_the_world result h sent) quiet.serves))
     ]
 
@@ -396,7 +396,7 @@ module _ (from : Endpoint) (bytes : List ℕ) (before : PlayedServer) (ps : List
         ∙ ap (λ (xs : List WorldEnd). record (w sent) { sent = sent ++ d ∷ []; ends = xs }) (ends_now sent))))) in
         subst
         (λ (r : Report).
-        Arrives (w sent) from request_port bytes r
+        Delivery (w sent) from request_port bytes r
         (world_of before.config (sent ++ said_by here opened.to given) after ps1)) (sym report)
-        (subst (λ (v : WorldState). Arrives (w sent) from request_port bytes (sent_report (w sent)) v) (sym new)
+        (subst (λ (v : WorldState). Delivery (w sent) from request_port bytes (sent_report (w sent)) v) (sym new)
         (At_request_port refl (has sent) said.0 said.1 h.repeated (in_the_world result' h sent) (q sent).serves))

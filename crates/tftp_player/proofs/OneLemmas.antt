@@ -9,7 +9,7 @@ use Rattle.tftp_rules.specs.Machine.{Endpoint}
 use Rattle.tftp_rules.specs.OpenEnds.{OpenEnd}
 use Rattle.tftp_player.specs.OneAtMost.{AddsOneAtMost, EventsAddOneAtMost}
 use Rattle.tftp_player.specs.World.{WorldState, WorldEnd, Open_end, Closed_end, replied}
-use Rattle.tftp_player.specs.WorldSteps.{ServiceStep, Arrives, At_request_port, At_open_end, At_closed_end, At_nobody}
+use Rattle.tftp_player.specs.WorldSteps.{ServiceStep, Delivery, At_request_port, At_open_end, At_closed_end, At_nobody}
 use Rattle.tftp_player.specs.WorldSteps.{OpeningStep, Stays, Turns, TimeoutStep}
 use Rattle.tftp_player.specs.declared.event.Event.TheVariants.{Get, Put, Deliver, Timeout, RefuseStore, Stray}
 use Rattle.tftp_player.specs.declared.report.Report.{Report}
@@ -51,7 +51,7 @@ serves (Sends path mode length agreed) old new from bytes report s = opens old n
 serves (Takes path mode agreed) old new from bytes report s = opens old new _ report s
 
 arrives : (old new : WorldState) (from to : Endpoint) (bytes : List ℕ) (report : Report) →
-    Arrives old from to bytes report new → AddsOneAtMost old new
+    Delivery old from to bytes report new → AddsOneAtMost old new
 arrives old new from to bytes report (At_request_port here port decoded says repeated same served) =
     serves _ old new from bytes report served
 arrives old new from to bytes report (At_open_end k x there at takes) =

@@ -31,7 +31,7 @@ use Rattle.tftp_player.specs.Repeating.{RequestsLast}
 use Rattle.tftp_player.specs.Requests.{IsRepeated, WasAskedBy, Repeats, AnyRepeats, served, service}
 use Rattle.tftp_player.specs.World.{WorldState, WorldEnd, Open_end, Closed_end, by_outcome, standing, is_closed}
 use Rattle.tftp_player.specs.WorldKept.{Refines}
-use Rattle.tftp_player.specs.WorldSteps.{ServiceStep, Arrives, At_request_port, At_open_end, At_closed_end, At_nobody}
+use Rattle.tftp_player.specs.WorldSteps.{ServiceStep, Delivery, At_request_port, At_open_end, At_closed_end, At_nobody}
 use Rattle.tftp_player.specs.WorldSteps.{OpeningStep, Stays, Turns, TimeoutStep, armed_end, WorldStep}
 use Rattle.tftp_player.specs.declared.event.Event.{Event}
 use Rattle.tftp_player.specs.declared.event.Event.TheVariants.{Get, Put, Deliver, Timeout, RefuseStore, Stray}
@@ -73,7 +73,7 @@ module _ (old new : WorldState) (from : Endpoint) (packet : Packet) (bytes : Lis
   at_port false same s = absurd (true≢false (sym (same.1 any)))
 
   stays : (strangers : Bool) (to : Endpoint) → Refines strangers old → to ≡ request_port →
-      Arrives old from to bytes report new → Stays old report new
+      Delivery old from to bytes report new → Stays old report new
   stays strangers to ok here (At_request_port _ port decoded says repeated same s) =
       let e = says_one bytes decoded (Some packet) says spells in
       at_port repeated (subst (λ (d : Option Packet). IsRepeated repeated from d old.ends) e same)
@@ -174,7 +174,7 @@ module _ (old new : WorldState) (from : Endpoint) (bytes : List ℕ) (report : R
   turned k x turn held t =
       same (ap (λ (w : WorldState). length w.ends) t.is ∙ length-set old.ends k (standing (end_after x turn held)))
 
-  opens : (to : Endpoint) → Arrives old from to bytes report new → IsNewRequest from to bytes old new
+  opens : (to : Endpoint) → Delivery old from to bytes report new → IsNewRequest from to bytes old new
   opens to (At_request_port here port decoded says repeated same s) = port_opens to here decoded says repeated same s
   opens to (At_open_end k x there at t) = absurd (turned k x t.turn t.held t.turns)
   opens to (At_closed_end k x there at s) = absurd (still s)
@@ -254,7 +254,7 @@ module _ (from : Endpoint) (packet : Packet) where
     at_service (Sends path mode count agreed) bytes asker s = pushed _ s.2
     at_service (Takes path mode agreed) bytes asker s = pushed _ s
 
-    at_arrival : (by to : Endpoint) (bytes : List ℕ) → Arrives old by to bytes report new → Lasts z
+    at_arrival : (by to : Endpoint) (bytes : List ℕ) → Delivery old by to bytes report new → Lasts z
     at_arrival by to bytes (At_request_port asked port decoded says repeated same s) = at_service _ bytes by s
     at_arrival by to bytes (At_open_end j y there_now at t) =
         set_at j (Open_end y) (standing (end_after y t.turn t.held)) (ap (λ (w : WorldState). w.ends) t.turns.is)

@@ -17,7 +17,7 @@ use Rattle.tftp_rules.specs.Machine.{Endpoint}
 use Rattle.tftp_player.specs.Played.{records_from}
 use Rattle.tftp_player.specs.PlayedWorld.{HasSentEach}
 use Rattle.tftp_player.specs.World.{WorldState, WorldEnd, Open_end, Closed_end, standing, replied}
-use Rattle.tftp_player.specs.WorldSteps.{ServiceStep, Arrives, At_request_port, At_open_end, At_closed_end, At_nobody}
+use Rattle.tftp_player.specs.WorldSteps.{ServiceStep, Delivery, At_request_port, At_open_end, At_closed_end, At_nobody}
 use Rattle.tftp_player.specs.WorldSteps.{OpeningStep, Stays, Turns, TimeoutStep, armed_end, WorldStep}
 use Rattle.tftp_player.specs.declared.event.Event.{Event}
 use Rattle.tftp_player.specs.declared.event.Event.TheVariants.{Get, Put, Deliver, Timeout, RefuseStore, Stray}
@@ -64,7 +64,7 @@ serves (Sends path mode length agreed) old new from bytes report s h = opens old
 serves (Takes path mode agreed) old new from bytes report s h = opens old new _ report s h
 
 arrives : (old new : WorldState) (from to : Endpoint) (bytes : List ℕ) (report : Report) →
-    Arrives old from to bytes report new → HasSentEach old → HasSentEach new
+    Delivery old from to bytes report new → HasSentEach old → HasSentEach new
 arrives old new from to bytes report (At_request_port here port decoded says repeated same served) h =
     serves _ old new from bytes report served h
 arrives old new from to bytes report (At_open_end k x there at takes) h =

@@ -20,7 +20,7 @@ use Rattle.tftp_player.specs.Straight.{TookAll, AllTaken, HaveTaken, IsThrough, 
 use Rattle.tftp_player.specs.Straight.{WritesStraight, ReadsSettle, WritesSettle, read_adds, write_adds}
 use Rattle.tftp_player.specs.World.{WorldState, ClosedEnd, WorldEnd, Open_end, Closed_end, is_closed, closed_end}
 use Rattle.tftp_player.specs.World.{closed_at, by_outcome, standing}
-use Rattle.tftp_player.specs.WorldSteps.{ServiceStep, Arrives, At_request_port, At_open_end, At_closed_end, At_nobody}
+use Rattle.tftp_player.specs.WorldSteps.{ServiceStep, Delivery, At_request_port, At_open_end, At_closed_end, At_nobody}
 use Rattle.tftp_player.specs.WorldSteps.{Settles}
 use Rattle.tftp_player.specs.declared.event.Event.TheVariants.{Get, Put}
 use Rattle.tftp_player.specs.declared.report.Report.{Report}
@@ -80,7 +80,7 @@ none_closed : (w v : WorldState) (report : Report) (c : ℕ × Outcome) → repo
 none_closed w v report c none some = absurd (let e : None ≡ Some c = sym none ∙ some in cc)
 
 closing : (w v : WorldState) (from to : Endpoint) (bytes : List ℕ) (report : Report) (c : ℕ × Outcome) →
-    Arrives w from to bytes report v → report.closed ≡ Some c → ClosedAs w v c.1
+    Delivery w from to bytes report v → report.closed ≡ Some c → ClosedAs w v c.1
 closing w v from to bytes report c (At_request_port here port decoded says repeated same s) e =
     none_closed w v report c (served_closes (service w repeated bytes decoded) w v from bytes report s) e
 closing w v from to bytes report c (At_open_end k x there at h) e =
@@ -116,7 +116,7 @@ served_stays (Takes path mode agreed) w v from bytes report k x s there =
 
 -- a closed end stays
 closed_stays : (w v : WorldState) (from to : Endpoint) (bytes : List ℕ) (report : Report) (k : ℕ) (x : ClosedEnd) →
-    Arrives w from to bytes report v → slice_get w.ends k ≡ Some (Closed_end x) →
+    Delivery w from to bytes report v → slice_get w.ends k ≡ Some (Closed_end x) →
     slice_get v.ends k ≡ Some (Closed_end x)
 closed_stays w v from to bytes report k x (At_request_port here port decoded says repeated same s) there =
     served_stays (service w repeated bytes decoded) w v from bytes report k (Closed_end x) s there

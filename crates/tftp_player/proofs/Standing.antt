@@ -14,7 +14,7 @@ use Rattle.tftp_rules.specs.EndKept.{EndKept}
 use Rattle.tftp_player.specs.Requests.{is_transfer}
 use Rattle.tftp_rules.specs.Hosts.{two_hosts}
 use Rattle.tftp_rules.specs.Machine.{Message}
-use Rattle.tftp_rules.proofs.Shown.{shown_forgets}
+use Rattle.tftp_rules.proofs.Refines.{shown_forgets}
 use Rattle.tftp_rules.specs.Rules.{Rule}
 use Rattle.tftp_rules.specs.Shows.{EndView, IsInService, IsShownWithin}
 use Rattle.tftp_player.specs.World.{WorldState, WorldEnd, Open_end, Closed_end, end_record, end_address, is_closed}

@@ -18,7 +18,7 @@ use Rattle.tftp_player.specs.World.{WorldState, ClosedEnd, WorldEnd, Open_end, C
 use Rattle.tftp_player.specs.World.{file_at, in_the_way, has_committed, world_after, report_of, no_report, opened_in}
 use Rattle.tftp_player.specs.World.{sent_report}
 use Rattle.tftp_player.specs.WorldSteps.{EndStep, FilesAfter, Turns, At_open_end, At_closed_end, At_nobody, HasPort}
-use Rattle.tftp_player.specs.WorldSteps.{IsAtPort, armed_end, Arrives, WorldStep}
+use Rattle.tftp_player.specs.WorldSteps.{IsAtPort, armed_end, Delivery, WorldStep}
 use Rattle.tftp_player.specs.Openings.{reading_client, writing_client, MayGet, MayPut}
 use Rattle.tftp_player.specs.declared.event.Event.TheVariants.{Get, Put, Timeout, RefuseStore}
 use Rattle.tftp_player.proofs.ServerTurns.{files_same, timeout_after}
@@ -74,7 +74,7 @@ pub open_arrives :
     (files_of x) turn held →
     FilesAfter w.overwrite (not (is_client x.state.role.side) && has_committed x (end_after x turn held)) x.path
     (end_after x turn held).stored w.files files →
-    Arrives w from x.address bytes (report_of w x turn) (world_after w k x turn held files)
+    Delivery w from x.address bytes (report_of w x turn) (world_after w k x turn held files)
 open_arrives w k x from bytes turn held files at steps stored =
     At_open_end k x at refl
     (record {
@@ -87,13 +87,13 @@ open_arrives w k x from bytes turn held files at steps stored =
 -- at a closed end
 pub closed_arrives : (w : WorldState) (k : ℕ) (x : ClosedEnd) (from : Endpoint) (bytes : List ℕ) →
     slice_get w.ends k ≡ Some (Closed_end x) →
-    Arrives w from x.address bytes no_report w
+    Delivery w from x.address bytes no_report w
 closed_arrives w k x from bytes at = At_closed_end k x at refl (record { reports = refl; is = refl })
 
 -- if no end has the port
 pub none_arrives : (w : WorldState) (from to : Endpoint) (bytes : List ℕ) → HasPorts w → to ≢ request_port →
     (to.port < 1024) ⊎ (1024 + length w.ends ≤ to.port) →
-    Arrives w from to bytes no_report w
+    Delivery w from to bytes no_report w
 none_arrives w from to bytes ports away none = At_nobody away nobody (record { reports = refl; is = refl }) where
   outside : (k : ℕ) → k < length w.ends → to.port ≡ 1024 + k → (to.port < 1024) ⊎ (1024 + length w.ends ≤ to.port) → ⊥
   outside k within here (inl low) = omega arith
@@ -106,7 +106,7 @@ none_arrives w from to bytes ports away none = At_nobody away nobody (record { r
 -- if the end with the port is at the other host
 pub other_arrives : (w : WorldState) (from to : Endpoint) (bytes : List ℕ) (k : ℕ) (x : WorldEnd) → HasPorts w →
     to ≢ request_port → slice_get w.ends k ≡ Some x → to.port ≡ 1024 + k →
-    end_address x ≢ to → Arrives w from to bytes no_report w
+    end_address x ≢ to → Delivery w from to bytes no_report w
 other_arrives w from to bytes k x ports away there port differs =
     At_nobody away nobody (record { reports = refl; is = refl }) where
       nobody : (j : ℕ) (y : WorldEnd) → slice_get w.ends j ≡ Some y → end_address y ≢ to

@@ -29,7 +29,7 @@ use Rattle.tftp_player.specs.World.{WorldState, file_at, in_the_way, datagram, o
 use Rattle.tftp_player.specs.World.{Closed_end, end_address}
 use Rattle.tftp_player.specs.WorldKept.{HasPorts, Refines}
 use Rattle.tftp_player.specs.WorldRuns.{MayHappen}
-use Rattle.tftp_player.specs.WorldSteps.{ServiceStep, Arrives, At_request_port, At_open_end, At_closed_end, At_nobody}
+use Rattle.tftp_player.specs.WorldSteps.{ServiceStep, Delivery, At_request_port, At_open_end, At_closed_end, At_nobody}
 use Rattle.tftp_player.specs.WorldSteps.{OpeningStep, WorldStep}
 use Rattle.tftp_player.specs.declared.datagram.Datagram.{Datagram}
 use Rattle.tftp_player.specs.declared.event.Event.{Event}
@@ -91,7 +91,7 @@ module _ (w v : WorldState) (i : ℕ) (c : OpenEnd) (report : Report) (accepts :
   outside : (k : ℕ) (x : WorldEnd) → slice_get w.ends k ≡ Some x → end_address x ≡ request_port → ⊥
   outside k x there here = let a = ports k x there in let b = ap (λ (p : Endpoint). p.port) here in omega (arith, a, b)
 
-  arrived : Arrives w c.address request_port c.state.position.last_sent report v → Comes
+  arrived : Delivery w c.address request_port c.state.position.last_sent report v → Comes
   arrived (At_request_port here port decoded says repeated same serves) =
       let bytes = c.state.position.last_sent in
       let one : decoded ≡ accepted.decoded = says_one bytes decoded accepted.decoded says accepted.says in
@@ -111,7 +111,7 @@ module _ (w v : WorldState) (i : ℕ) (c : OpenEnd) (report : Report) (accepts :
   port_comes newest s =
       let d = datagram c.address request_port c.state.position.last_sent in
       let same : s.0 ≡ d = same_Some s.0 d (sym s.1 ∙ newest) in
-      arrived (subst (λ (z : Datagram). Arrives w z.from z.to z.bytes report v) same s.2)
+      arrived (subst (λ (z : Datagram). Delivery w z.from z.to z.bytes report v) same s.2)
 
 -- an end opened
 pub record HasOpened (w v : WorldState) (x : OpenEnd) : Type 0 where

@@ -45,7 +45,7 @@ use Rattle.tftp_player.specs.World.{WorldState, file_at, in_the_way, is_closed, 
 use Rattle.tftp_player.specs.World.{WorldEnd, Open_end, Closed_end, end_address}
 use Rattle.tftp_player.specs.WorldKept.{HasPorts, Refines}
 use Rattle.tftp_player.specs.WorldSafety.{IsComplete}
-use Rattle.tftp_player.specs.WorldSteps.{may_refuse_append, may_refuse_commit, EndStep, OnDatagram, Arrives}
+use Rattle.tftp_player.specs.WorldSteps.{may_refuse_append, may_refuse_commit, EndStep, OnDatagram, Delivery}
 use Rattle.tftp_player.specs.WorldSteps.{At_request_port, At_open_end, At_closed_end, At_nobody, WorldStep, world_sink}
 use Rattle.tftp_player.specs.declared.datagram.Datagram.{Datagram}
 use Rattle.tftp_player.specs.declared.event.Event.TheVariants.{Deliver}
@@ -89,7 +89,7 @@ module _ (w v : WorldState) (k : ℕ) (x : OpenEnd) (from : Endpoint) (bytes : L
     closed = ap (λ (r : Report). r.closed) h.turns.reports;
   }
 
-  arrived : Arrives w from x.address bytes report v → Handles w k x from bytes report v
+  arrived : Delivery w from x.address bytes report v → Handles w k x from bytes report v
   arrived (At_request_port here port decoded says repeated same served) =
       absurd (let a = ports k (Open_end x) there in let b = ap (λ (p : Endpoint). p.port) here in omega (arith, a, b))
   arrived (At_open_end j y at here h) =
@@ -112,7 +112,7 @@ delivered w v i k x from bytes report ports sent there s =
     let d = s.0 in
     let same : d ≡ datagram from x.address bytes = same_Some d (datagram from x.address bytes) (sym s.1 ∙ sent) in
     arrived w v k x from bytes report ports there
-    (subst (λ (z : Datagram). Arrives w z.from z.to z.bytes report v) same s.2)
+    (subst (λ (z : Datagram). Delivery w z.from z.to z.bytes report v) same s.2)
 
 -- bytes that spell a packet are decoded to it
 decoded_is : (bytes : List ℕ) (packet : Packet) (decoded : Option Packet) → Spells packet bytes →

@@ -26,13 +26,13 @@ use Rattle.tftp_player.specs.Strangers.{HasNoStranger, IsRecordedSo, StraysChang
 use Rattle.tftp_player.specs.World.{WorldState, WorldEnd, Open_end, end_record, end_address, file_at, in_the_way}
 use Rattle.tftp_player.specs.World.{standing, view_of_end}
 use Rattle.tftp_player.specs.WorldKept.{Refines}
-use Rattle.tftp_player.specs.WorldSteps.{may_refuse_commit, ServiceStep, Arrives, At_request_port, At_open_end}
+use Rattle.tftp_player.specs.WorldSteps.{may_refuse_commit, ServiceStep, Delivery, At_request_port, At_open_end}
 use Rattle.tftp_player.specs.WorldSteps.{At_closed_end, At_nobody, OpeningStep, OnDatagram, world_sink}
 use Rattle.tftp_server.specs.Port.{Service, Silent, Refused, Sends, Takes}
 use Rattle.tftp_player.specs.declared.report.Report.{Report}
 use Rattle.tftp_rules.proofs.Indices.{slice_get-set_same, slice_get-set_other, slice_get-push_old}
 use Rattle.tftp_player.proofs.WorldTurns.{view_at}
-use Rattle.tftp_rules.proofs.Shown.{shown_by}
+use Rattle.tftp_rules.proofs.Refines.{shown_by}
 use Rattle.tftp_player.proofs.Standing.{standing_record}
 
 -- a test that cannot hold
@@ -142,7 +142,7 @@ same_at_index old new k j x y z e at there same (inr away) =
 arrived :
     (strangers : Bool) (old new : WorldState) (from to : Endpoint) (bytes : List ℕ) (report : Report) (k : ℕ)
     (x : WorldEnd) → Refines strangers old → host_of from ≡ Elsewhere →
-    Arrives old from to bytes report new → slice_get old.ends k ≡ Some x → HasNoStranger x → IsRecordedSo new k x
+    Delivery old from to bytes report new → slice_get old.ends k ≡ Some x → HasNoStranger x → IsRecordedSo new k x
 arrived strangers old new from to bytes report k x ok far (At_request_port here port decoded says repeated same
     s) there home = served _ old new from bytes report k x s there
 arrived strangers old new from to bytes report k x ok far (At_open_end j y at address t) there home =

@@ -56,7 +56,7 @@ use Rattle.tftp_player.specs.WorldSteps.{Stays, ServiceStep, OpeningStep}
 use Rattle.tftp_player.specs.WorldKept.{RefinesBy, RefinesAt, RefinesWithin, WasAsked}
 use Rattle.tftp_player.specs.WorldSafety.{HasRequested}
 use Rattle.tftp_player.specs.declared.report.Report.{Report}
-use Rattle.tftp_rules.proofs.Shown.{shown_still, shown_within}
+use Rattle.tftp_rules.proofs.Refines.{shown_still, shown_within}
 use Rattle.tftp_player.proofs.UnansweredLemmas.{none_answers}
 use Rattle.tftp_player.proofs.Measured.{measured_fits}
 use Rattle.tftp_player.proofs.WorldTurns.{viewed_at, opening_keeps, opens_elsewhere, saying_keeps}

@@ -28,7 +28,7 @@ use Rattle.tftp_rules.proofs.EndTurns.{datagram_goes, timeout_goes}
 use Rattle.tftp_rules.specs.Shows.{EndView, IsShownAt, IsShownWithin, IsShown}
 use Rattle.tftp_player.specs.World.{WorldState, WorldEnd, Open_end, Closed_end, StoredFile, file_at, in_the_way}
 use Rattle.tftp_player.specs.World.{datagram, new_world, view_of_end}
-use Rattle.tftp_player.specs.WorldSteps.{may_refuse_commit, OnDatagram, Arrives, At_request_port, At_open_end}
+use Rattle.tftp_player.specs.WorldSteps.{may_refuse_commit, OnDatagram, Delivery, At_request_port, At_open_end}
 use Rattle.tftp_player.specs.WorldSteps.{At_closed_end, At_nobody, TimeoutStep, armed_end, WorldStep}
 use Rattle.tftp_player.specs.WorldKept.{HasAsker, IsKeptIn, RefinesAt, RefinesWithin, Refines}
 use Rattle.tftp_player.specs.WorldRuns.{PlaysAll, MayHappen, MayAllHappen, StepsKeep, StepsAreRules, most_rules}
@@ -39,7 +39,7 @@ use Rattle.tftp_player.specs.declared.event.Event.TheVariants.{Get, Put, Deliver
 use Rattle.tftp_player.specs.declared.report.Report.{Report}
 use Rattle.tftp_rules.proofs.Indices.{slice_get-set_cases}
 use Rattle.tftp_player.proofs.Standing.{open_is}
-use Rattle.tftp_rules.proofs.Shown.{shown_start, shown_within}
+use Rattle.tftp_rules.proofs.Refines.{shown_start, shown_within}
 use Rattle.tftp_rules.proofs.ViewSafe.{shown_at_home}
 use Rattle.tftp_rules.proofs.EndMoves.{end_armed as kept_armed}
 use Rattle.tftp_player.proofs.KnownSteps.{from_server, known_step}
@@ -119,7 +119,7 @@ module _ (first : List Rule) (strangers : Bool) (w v : WorldState) (ok : Refines
   -- a datagram that arrived keeps the world
   pub arrives_keeps : (from to : Endpoint) (bytes : List ℕ) →
       ((p : WirePacket) → Spells p bytes → Contains ok.messages (message from to (said p))) →
-      Arrives w from to bytes report v → RefinesWithin 3 first strangers v
+      Delivery w from to bytes report v → RefinesWithin 3 first strangers v
   arrives_keeps from to bytes come (At_request_port here port decoded says repeated same served) =
       let spelled = says_spelled bytes decoded says in
       serving_keeps first strangers w v from bytes report ok repeated decoded
@@ -308,7 +308,7 @@ three_or_four first strangers v ok =
 
 pub stray_keeps :
     (first : List Rule) (w v : WorldState) (ok : RefinesAt first true w) (report : Report) (from to : Endpoint)
-    (bytes : List ℕ) → host_of from ≡ Elsewhere → Arrives w from to bytes report v → RefinesWithin 4 first true v
+    (bytes : List ℕ) → host_of from ≡ Elsewhere → Delivery w from to bytes report v → RefinesWithin 4 first true v
 stray_keeps first w v ok report from to bytes far (At_request_port here port decoded says repeated same served) =
     let h = with_decoded first w ok from to bytes decoded far says in
     within_four first h.more true v h.few

@@ -27,7 +27,7 @@ use Rattle.tftp_rules.specs.Facts.{home, Holds}
 use Rattle.tftp_rules.specs.Recorded.{AreRecorded}
 use Rattle.tftp_rules.specs.Shows.{EndView, Shows, IsShownWithin}
 use Rattle.tftp_rules.specs.EndShown.{Goes, Replies, Newest}
-use Rattle.tftp_rules.proofs.Shown.{shown_by}
+use Rattle.tftp_rules.proofs.Refines.{shown_by}
 use Rattle.tftp_player.specs.World.{WorldState, WorldEnd, Open_end, Closed_end, end_address, end_path, end_file}
 use Rattle.tftp_player.specs.World.{end_stored}
 use Rattle.tftp_player.specs.World.{StoredFile, file_at, in_the_way, datagram, replied, standing, has_committed}

@@ -7,7 +7,7 @@ use Rattle.tftp_rules.specs.Machine.{Elsewhere as Far}
 use Rattle.tftp_player.specs.Serving.{PlayedServer}
 use Rattle.tftp_player.specs.Exchange.{world_of}
 use Rattle.tftp_player.specs.World.{WorldState}
-use Rattle.tftp_player.specs.WorldSteps.{Arrives, LacksPort}
+use Rattle.tftp_player.specs.WorldSteps.{Delivery, LacksPort}
 use Rattle.tftp_player.specs.declared.datagram.Datagram.{Datagram}
 use Rattle.tftp_player.specs.declared.effect.Effect.{Effect}
 use Rattle.tftp_player.specs.declared.player.Player.{Player}
@@ -27,7 +27,7 @@ abbrev pub StageAsks : Endpoint → List ℕ → PlayedServer → PlayedServer �
     → Effect → Type 0
 StageAsks from bytes before after players players' effect =
     (sent : List Datagram)
-    → Arrives (world_of before.config sent before players) from request_port bytes
+    → Delivery (world_of before.config sent before players) from request_port bytes
     (report_by sent effect)
     (world_of before.config (sent ++ said_by effect.from effect.to effect.bytes) after players')
 
@@ -36,7 +36,7 @@ abbrev pub StageArrives : Endpoint → Endpoint → List ℕ → PlayedServer �
     → List Player → Effect → Type 0
 StageArrives from to bytes before after players players' effect =
     (sent : List Datagram)
-    → Arrives (world_of before.config sent before players) from to bytes (report_by sent effect)
+    → Delivery (world_of before.config sent before players) from to bytes (report_by sent effect)
     (world_of before.config (sent ++ said_by effect.from effect.to effect.bytes) after players')
 
 -- no port is left for an end that the datagram could open

@@ -8,7 +8,7 @@ use Rattle.tftp_rules.specs.Machine.{Endpoint}
 use Rattle.tftp_player.specs.Requests.{Repeats, AnyRepeats}
 use Rattle.tftp_player.specs.World.{WorldState, WorldEnd, is_closed, no_report}
 use Rattle.tftp_player.specs.WorldKept.{Refines}
-use Rattle.tftp_player.specs.WorldSteps.{Arrives, WorldStep}
+use Rattle.tftp_player.specs.WorldSteps.{Delivery, WorldStep}
 use Rattle.tftp_player.specs.declared.event.Event.{Event}
 use Rattle.tftp_player.specs.declared.report.Report.{Report}
 
@@ -26,7 +26,7 @@ RepeatsOpenNothing =
     (report : Report) →
     Refines strangers old → AsksForTransfer packet → Spells packet bytes →
     AnyRepeats from packet old.ends →
-    Arrives old from request_port bytes report new → (report ≡ no_report) × (new ≡ old)
+    Delivery old from request_port bytes report new → (report ≡ no_report) × (new ≡ old)
 
 -- a request to the request port: it repeats that of no open end before, and that of one after
 pub record IsNewRequest (from to : Endpoint) (bytes : List ℕ) (old new : WorldState) : Type 0 where
@@ -41,7 +41,7 @@ pub record IsNewRequest (from to : Endpoint) (bytes : List ℕ) (old new : World
 abbrev pub OnlyNewRequestsOpen : Type 0
 OnlyNewRequestsOpen =
     (old new : WorldState) (from to : Endpoint) (bytes : List ℕ) (report : Report) →
-    Arrives old from to bytes report new → length old.ends < length new.ends →
+    Delivery old from to bytes report new → length old.ends < length new.ends →
     IsNewRequest from to bytes old new
 
 -- a repeat of the request of an end remains one after each event, while the end is open

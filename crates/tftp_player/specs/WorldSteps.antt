@@ -125,24 +125,24 @@ pub record OnDatagram (old : WorldState) (k : ℕ) (x : OpenEnd) (from : Endpoin
   pub turns : Turns old k x turn held report new
 
 -- the effect of a datagram at its destination
-pub data Arrives (old : WorldState) (from to : Endpoint) (bytes : List ℕ) (report : Report)
+pub data Delivery (old : WorldState) (from to : Endpoint) (bytes : List ℕ) (report : Report)
     (new : WorldState) : Type 0 where
   -- at the request port
   At_request_port : (to ≡ request_port) → HasPort old →
       (decoded : Option Packet) → Decodes bytes decoded →
       (repeated : Bool) → IsRepeated repeated from decoded old.ends →
       ServiceStep (service old repeated bytes decoded) old from bytes report new →
-      Arrives old from to bytes report new
+      Delivery old from to bytes report new
   -- at an open end
   At_open_end : (k : ℕ) (x : OpenEnd) → slice_get old.ends k ≡ Some (Open_end x) → x.address ≡ to →
-      OnDatagram old k x from bytes report new → Arrives old from to bytes report new
+      OnDatagram old k x from bytes report new → Delivery old from to bytes report new
   -- at a closed end
   At_closed_end : (k : ℕ) (x : ClosedEnd) → slice_get old.ends k ≡ Some (Closed_end x) →
-      x.address ≡ to → Stays old report new → Arrives old from to bytes report new
+      x.address ≡ to → Stays old report new → Delivery old from to bytes report new
   -- at no end
   At_nobody : (to ≢ request_port) →
       ((k : ℕ) (x : WorldEnd) → slice_get old.ends k ≡ Some x → end_address x ≢ to) →
-      Stays old report new → Arrives old from to bytes report new
+      Stays old report new → Delivery old from to bytes report new
 
 -- the effect of a timeout on the end at index k
 abbrev pub TimeoutStep : WorldState → ℕ → WorldEnd → Report → WorldState → Type 0
@@ -173,14 +173,14 @@ WorldStep old (Put name mode asked bytes) report new =
     HasPort old × MayPut name mode asked (length (wire_text mode bytes))
     × OpeningStep old (writing_client old name mode asked bytes) report new
 WorldStep old (Deliver i) report new =
-    (d : Datagram) × (slice_get old.sent i ≡ Some d) × Arrives old d.from d.to d.bytes report new
+    (d : Datagram) × (slice_get old.sent i ≡ Some d) × Delivery old d.from d.to d.bytes report new
 WorldStep old (Timeout port) report new =
     (k : ℕ) × (x : WorldEnd) × IsAtPort old port k x × TimeoutStep old k x report new
 WorldStep old (RefuseStore port) report new =
     (k : ℕ) × (x : WorldEnd) × IsAtPort old port k x
     × (report ≡ no_report) × (new ≡ record old { ends = slice_set old.ends k (armed_end x) })
 WorldStep old (Stray from to bytes) report new =
-    (host_of from ≡ Elsewhere) × Arrives old from to bytes report new
+    (host_of from ≡ Elsewhere) × Delivery old from to bytes report new
 
 -- no datagram has this index
 abbrev pub FindsNone : List Datagram → ℕ → Type 0

@@ -33,9 +33,9 @@ use Rattle.tftp_promises.specs.Programs.{ClientProgram, endpoint}
 use Rattle.tftp_promises.specs.Promises.{HasOpened, joined}
 use Rattle.tftp_promises.specs.Snapshots.{Has_asked, all_of}
 use Rattle.tftp_promises.proofs.ClientsServed.{one_there, served_by}
-use Rattle.tftp_promises.proofs.Kept.{By_run, ClientKept, GaveSo, HasFile, HasStored, IsKept, IsOpened, IsViewed}
-use Rattle.tftp_promises.proofs.Kept.{TookSo}
-use Rattle.tftp_promises.proofs.Kept.{length_of}
+use Rattle.tftp_promises.proofs.Invariant.{By_run, ClientKept, GaveSo, HasFile, HasStored, IsKept, IsOpened, IsViewed}
+use Rattle.tftp_promises.proofs.Invariant.{TookSo}
+use Rattle.tftp_promises.proofs.Invariant.{length_of}
 use Rattle.tftp_promises.proofs.KeptShown.{receiver_text, text_if, views_end}
 use Rattle.tftp_promises.proofs.KeptViews.{view_there}
 use Rattle.tftp_promises.proofs.Places.{strangers_elsewhere}

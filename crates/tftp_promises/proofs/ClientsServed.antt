@@ -25,7 +25,7 @@ use Rattle.tftp_rules.specs.Rules.{message}
 use Rattle.tftp_rules.specs.Said.{said}
 use Rattle.tftp_rules.specs.Shows.{EndView, Matches, Shows, answered_by, requested}
 use Rattle.tftp_rules.proofs.SaidLemmas.{spells_own}
-use Rattle.tftp_rules.proofs.Shown.{shown_by}
+use Rattle.tftp_rules.proofs.Refines.{shown_by}
 use Rattle.tftp_rules.proofs.Steps.{not-not, own_client}
 use Rattle.tftp_server.specs.State.{TransferState, at}
 use Rattle.tftp_promises.specs.AnyFiles.{IsEnd, ProgramEnd, Serves, client_end, peer_of, transfer_end}
@@ -35,7 +35,7 @@ use Rattle.tftp_promises.specs.Order.{Programs, requests_at}
 use Rattle.tftp_promises.specs.Programs.{ClientOpens, ClientProgram, To_read, To_write, client_at, name_of, packet_of}
 use Rattle.tftp_promises.specs.Promises.{HasOpened, joined}
 use Rattle.tftp_promises.specs.Snapshots.{Has_asked, all_of}
-use Rattle.tftp_promises.proofs.Kept.{ClientKept, How, IsKept, TransferKept}
+use Rattle.tftp_promises.proofs.Invariant.{ClientKept, How, IsKept, TransferKept}
 use Rattle.tftp_promises.proofs.KeptAsks.{says_request}
 use Rattle.tftp_promises.proofs.KeptShown.{views_end}
 use Rattle.tftp_promises.proofs.KeptViews.{view_there}

@@ -30,7 +30,7 @@ use Rattle.tftp_rules.specs.Shows.{EndView, IsShownWithin}
 use Rattle.tftp_rules.proofs.Actions.{says_error, repeats}
 use Rattle.tftp_rules.proofs.EndMoves.{error_says, from_response}
 use Rattle.tftp_rules.proofs.PhaseMoves.{if_acts}
-use Rattle.tftp_rules.proofs.Shown.{shown_still, shown_within}
+use Rattle.tftp_rules.proofs.Refines.{shown_still, shown_within}
 use Rattle.tftp_promises.proofs.WrongPeers.{wrong_peer}
 
 -- what is there already changes nothing

@@ -8,12 +8,12 @@ use Rattle.tftp_server.specs.State.{ServerState}
 use Rattle.tftp_sockets.specs.Journal.{Event, replied, answered}
 use Rattle.tftp_loop.specs.Run.{Run}
 use Rattle.tftp_loop.specs.Run.Run.{Start, Then}
-use Rattle.tftp_loop.specs.Serves.{PortState, LoopState, AtPort, Does, at_start, answering_port}
-use Rattle.tftp_loop.specs.Serves.AtPort.{A_datagram, A_lost_datagram, A_late_datagram, Nothing_found, A_failed_receive}
-use Rattle.tftp_loop.specs.Serves.AtPort.{A_timeout, A_missed_timeout, Work}
-use Rattle.tftp_loop.specs.Serves.Does.{Waited, At_port, Request_received, No_request_found, Request_not_received}
-use Rattle.tftp_loop.specs.Serves.Does.{Request_noted, Request_answered, Request_lost, Clock_read, Store_set}
-use Rattle.tftp_loop.specs.Serves.Does.{Transfer_closed}
+use Rattle.tftp_loop.specs.Steps.{PortState, LoopState, PortStep, LoopStep, at_start, answering_port}
+use Rattle.tftp_loop.specs.Steps.PortStep.{A_datagram, A_lost_datagram, A_late_datagram, Nothing_found, A_failed_receive}
+use Rattle.tftp_loop.specs.Steps.PortStep.{A_timeout, A_missed_timeout, Work}
+use Rattle.tftp_loop.specs.Steps.LoopStep.{Waited, At_port, Request_received, No_request_found, Request_not_received}
+use Rattle.tftp_loop.specs.Steps.LoopStep.{Request_noted, Request_answered, Request_lost, Clock_read, Store_set}
+use Rattle.tftp_loop.specs.Steps.LoopStep.{Transfer_closed}
 use Rattle.tftp_loop.specs.declared.serving.LoopConfig.{LoopConfig}
 use Rattle.tftp_promises.specs.Lines.{lines_of, close_lines, closed_lines}
 
@@ -29,7 +29,7 @@ no_line_replied port None bytes events = refl
 no_line_replied port (Some to) bytes events = refl
 
 module _ {S F D : Type 0} {stores : StoreMeaning S D} {sources : SourceMeaning F} where
-  no_line_at : (now : ℕ) (old new : PortState S F D) → AtPort stores sources now old new →
+  no_line_at : (now : ℕ) (old new : PortState S F D) → PortStep stores sources now old new →
       lines_of new.events ≡ lines_of old.events
   no_line_at now old new (A_datagram d) =
       ap lines_of d.handles.events ∙ no_line_answered old.timer.port d.handles.takes.takes.turn.reply _
@@ -43,7 +43,7 @@ module _ {S F D : Type 0} {stores : StoreMeaning S D} {sources : SourceMeaning F
   no_line_at now old new (A_missed_timeout d) = ap lines_of d.events
   no_line_at now old new (Work d) = ap lines_of d.events
 
-  step_lines : (old new : LoopState S F D) (does : Does stores sources old new) →
+  step_lines : (old new : LoopState S F D) (does : LoopStep stores sources old new) →
       lines_of new.events ≡ close_lines does ++ lines_of old.events
   step_lines old new (Waited d) = ap (λ (s : LoopState S F D). lines_of s.events) d.is
   step_lines old new (At_port d) =
@@ -61,7 +61,7 @@ module _ {S F D : Type 0} {stores : StoreMeaning S D} {sources : SourceMeaning F
   step_lines old new (Store_set d) = ap (λ (s : LoopState S F D). lines_of s.events) d.is
   step_lines old new (Transfer_closed d) = ap (λ (s : LoopState S F D). lines_of s.events) d.is
 
-  run_lines : {first now : LoopState S F D} (run : Run (Does stores sources) first now) →
+  run_lines : {first now : LoopState S F D} (run : Run (LoopStep stores sources) first now) →
       lines_of now.events ≡ closed_lines run ++ lines_of first.events
   run_lines Start = refl
   run_lines {first} {now} (Then {middle} run does) =
@@ -70,6 +70,6 @@ module _ {S F D : Type 0} {stores : StoreMeaning S D} {sources : SourceMeaning F
       ∙ sym (append_assoc (close_lines does) (closed_lines run) (lines_of first.events)))
 
   pub lines_are_closes : (config : LoopConfig) (port : ℕ) (first : ServerState S F D) (before : List Event)
-      (now : LoopState S F D) (run : Run (Does stores sources) (at_start config port first before) now) →
+      (now : LoopState S F D) (run : Run (LoopStep stores sources) (at_start config port first before) now) →
       lines_of now.events ≡ closed_lines run ++ lines_of before
   lines_are_closes config port first before now run = run_lines run

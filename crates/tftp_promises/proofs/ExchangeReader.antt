@@ -136,15 +136,15 @@ s2 = record {
 abbrev s3 : State
 s3 = record s2 { events = Printed (end_text (ends.Complete 1)) ∷ s2.events }
 
-abbrev Does : State → Files (List ℕ) MemSinkState → State → Files (List ℕ) MemSinkState → Type 0
-Does s files s' files' = ClientDoes memory_source memory_sink 5000 s files s' files'
+abbrev ClientSteps : State → Files (List ℕ) MemSinkState → State → Files (List ℕ) MemSinkState → Type 0
+ClientSteps s files s' files' = ClientDoes memory_source memory_sink 5000 s files s' files'
 
-pub accepts_does : Does s0 empty s1 empty
+pub accepts_does : ClientSteps s0 empty s1 empty
 accepts_does =
     Receives_one (record { not_closed = λ o. absurd (true≢false (sym o)); due = λ late. absurd (omega (arith, late)) })
     (omega arith) (Answers (λ o. absurd (true≢false (sym o))) accepts_so)
 
-pub stores_does : Does s1 empty s2 (Sink stored)
+pub stores_does : ClientSteps s1 empty s2 (Sink stored)
 stores_does =
     Receives_one (record { not_closed = λ o. absurd (true≢false (sym o)); due = λ late. absurd (omega (arith, late)) })
     (omega arith) (Answers (λ o. absurd (true≢false (sym o))) stores_so)

@@ -33,9 +33,9 @@ use Rattle.tftp_sockets.specs.Journal.{answered}
 use Rattle.tftp_sockets.specs.Journal.Event.{Received}
 use Rattle.tftp_loop.specs.Run.{Run}
 use Rattle.tftp_loop.specs.Run.Run.{Start, Then}
-use Rattle.tftp_loop.specs.Serves.{Timer, PortState, Does, most_in_round, timer_after}
-use Rattle.tftp_loop.specs.Serves.AtPort.{A_datagram}
-use Rattle.tftp_loop.specs.Serves.Does.{At_port, Clock_read, Request_received, Request_answered, Transfer_closed, Waited}
+use Rattle.tftp_loop.specs.Steps.{Timer, PortState, LoopStep, most_in_round, timer_after}
+use Rattle.tftp_loop.specs.Steps.PortStep.{A_datagram}
+use Rattle.tftp_loop.specs.Steps.LoopStep.{At_port, Clock_read, Request_received, Request_answered, Transfer_closed, Waited}
 use Rattle.tftp_promises.specs.Openings.{HasClosed, above, is_ours, our_ports}
 use Rattle.tftp_promises.specs.Order.{Programs}
 use Rattle.tftp_promises.specs.Ports.{opened_ports}
@@ -50,7 +50,7 @@ use Rattle.tftp_promises.proofs.ExchangeStates.{s6, s7, s8, t2, waited, woken}
 
 -- ---- the steps
 abbrev Step : Loop → Loop → Type 0
-Step old new = Does memory_meaning memory_source old new
+Step old new = LoopStep memory_meaning memory_source old new
 
 -- a transfer at this index of the timers handles a datagram by this turn, with this file and this store after it
 module _ (old : Loop) (index : ℕ) (timer : Timer) (transfer : Held) (from : Endpoint) (bytes : List ℕ) (turn : Turn)
@@ -306,7 +306,7 @@ opens_again = Request_answered (record {
 pub agreeable : IsBlockSize config.limits.max_block
 agreeable = search rules
 
-abbrev pub serves : Run (Does memory_meaning memory_source) s0 s8
+abbrev pub serves : Run (LoopStep memory_meaning memory_source) s0 s8
 serves =
     Then (Then (Then (Then (Then (Then (Then (Then (Then (Then Start asks_to_read) opens_read) answers_wrong_peer)
     sends_block) completes_read) closes_read) waits_again) wakes_again) asks_again) opens_again

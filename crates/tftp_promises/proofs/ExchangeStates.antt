@@ -19,7 +19,7 @@ use Rattle.tftp_server.specs.declared.config.Config.{Config}
 use Rattle.tftp_sockets.specs.Journal.Event.{Received, Sent, Watched, Printed, Quiet}
 use Rattle.tftp_sockets.specs.Journal.QuietEvent.{Slept, Woke}
 use Rattle.tftp_sockets.specs.Watch.{last_moment}
-use Rattle.tftp_loop.specs.Serves.{Timer, LoopState, at_start}
+use Rattle.tftp_loop.specs.Steps.{Timer, LoopState, at_start}
 use Rattle.tftp_loop.specs.declared.serving.LoopConfig.{LoopConfig}
 use Rattle.tftp_promises.specs.Witness.{agreed, latecomer, read_file, read_name, read_request, reader, requests}
 use Rattle.tftp_promises.specs.Witness.{stranger}

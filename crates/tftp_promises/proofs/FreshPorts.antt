@@ -11,9 +11,9 @@ use Rattle.tftp_file.specs.Source.{SourceMeaning}
 use Rattle.tftp_store.specs.Store.{StoreMeaning}
 use Rattle.tftp_loop.specs.Run.{Run}
 use Rattle.tftp_loop.specs.Run.Run.{Start, Then}
-use Rattle.tftp_loop.specs.Serves.{LoopState, Does, Waited, At_port, Request_received, No_request_found}
-use Rattle.tftp_loop.specs.Serves.{Request_not_received, Request_noted, Request_answered, Request_lost, Clock_read}
-use Rattle.tftp_loop.specs.Serves.{Store_set, Transfer_closed}
+use Rattle.tftp_loop.specs.Steps.{LoopState, LoopStep, Waited, At_port, Request_received, No_request_found}
+use Rattle.tftp_loop.specs.Steps.{Request_not_received, Request_noted, Request_answered, Request_lost, Clock_read}
+use Rattle.tftp_loop.specs.Steps.{Store_set, Transfer_closed}
 use Rattle.tftp_promises.specs.Openings.{DistinctPortsAreFresh, is_ours, our_ports, ours_by}
 use Rattle.tftp_promises.specs.Order.{Programs}
 use Rattle.tftp_promises.specs.Ports.{AreDistinct, opened_by, opened_ports}
@@ -58,8 +58,8 @@ module _ {S F D G K : Type 0} {stores : StoreMeaning S D} {sources : SourceMeani
   answered_twice false None opened ours among rest n = rest n
   answered_twice false (Some tid) opened ours among rest n = rest n.1
 
-  step_twice : {first old new : LoopState S F D} (run : Run (Does stores sources) first old)
-      (does : Does stores sources old new) → (NoneTwice (opened_ports run) → NoneTwice (our_ports programs run)) →
+  step_twice : {first old new : LoopState S F D} (run : Run (LoopStep stores sources) first old)
+      (does : LoopStep stores sources old new) → (NoneTwice (opened_ports run) → NoneTwice (our_ports programs run)) →
       NoneTwice (opened_by does ++ opened_ports run) → NoneTwice (ours_by programs does ++ our_ports programs run)
   step_twice run (Waited h) rest n = rest n
   step_twice run (At_port serves) rest n = rest n
@@ -75,7 +75,7 @@ module _ {S F D G K : Type 0} {stores : StoreMeaning S D} {sources : SourceMeani
   step_twice run (Store_set h) rest n = rest n
   step_twice run (Transfer_closed h) rest n = rest n
 
-  ours_twice : {first last : LoopState S F D} (run : Run (Does stores sources) first last) →
+  ours_twice : {first last : LoopState S F D} (run : Run (LoopStep stores sources) first last) →
       NoneTwice (opened_ports run) → NoneTwice (our_ports programs run)
   ours_twice Start n = tt
   ours_twice (Then run does) n = step_twice run does (λ m. ours_twice run m) n

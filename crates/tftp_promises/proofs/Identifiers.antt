@@ -8,7 +8,7 @@ use Rattle.std.specs.BTreeMap.{is_at}
 use Rattle.std.specs.Ordering.{nat_cmp}
 use Rattle.tftp_server.specs.State.{at, with_next, without}
 use Rattle.tftp_rules.proofs.Entries.{lookup-remove_other, lookup-set_other, lookup-set_same, numbers, same_at}
-use Rattle.tftp_promises.proofs.Kept.{AreKeyedOnce}
+use Rattle.tftp_promises.proofs.Invariant.{AreKeyedOnce}
 
 module _ {T : Type 0} where
   -- where nothing is found, neither the head nor the rest has it

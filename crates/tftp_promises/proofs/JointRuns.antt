@@ -17,7 +17,7 @@ use Rattle.tftp_sockets.specs.Journal.{Event}
 use Rattle.tftp_sockets.specs.Journal.Event.{Received, Sent}
 use Rattle.tftp_loop.specs.Run.{Run}
 use Rattle.tftp_loop.specs.Run.Run.{Start, Then}
-use Rattle.tftp_loop.specs.Serves.{LoopState, Does}
+use Rattle.tftp_loop.specs.Steps.{LoopState, LoopStep}
 use Rattle.tftp_client.specs.Converses.{State}
 use Rattle.tftp_client.specs.Runs.{begun}
 use Rattle.tftp_promises.specs.ClientRuns.{ClientDoes, ClientRun, Starts, Goes_on, client_moves, moved_in}
@@ -42,7 +42,7 @@ module _ {S F D G K : Type 0} {stores : StoreMeaning S D} {sources : SourceMeani
   Client = ClientProgram inputs outputs (requests_at programs)
 
   abbrev ServerRun : LoopState S F D → Type 0
-  ServerRun state = Run (Does stores sources) (programs.server.start) state
+  ServerRun state = Run (LoopStep stores sources) (programs.server.start) state
 
   abbrev Conversed : Client → State → Files G K → Type 0
   Conversed client s files =
@@ -57,7 +57,7 @@ module _ {S F D G K : Type 0} {stores : StoreMeaning S D} {sources : SourceMeani
     Served : {state : LoopState S F D} {run : ServerRun state} {noted : List Event} →
         state.events ≡ noted ++ programs.server.start.events → noted ≡ seen → ServerFits seen state run noted
     Serving : {old new : LoopState S F D} {run : ServerRun old} {old_noted noted : List Event} →
-        old.events ≡ old_noted ++ programs.server.start.events → (does : Does stores sources old new) →
+        old.events ≡ old_noted ++ programs.server.start.events → (does : LoopStep stores sources old new) →
         Split old.events new.events old_noted noted seen → ServerFits seen new (Then run does) noted
 
   -- what is seen may end with a wait of the next step, or in that step
@@ -149,7 +149,7 @@ module _ {S F D G K : Type 0} {stores : StoreMeaning S D} {sources : SourceMeani
   -- a silent step of the server
   server_rests : {old new : LoopState S F D} {run : ServerRun old} {noted : List Event}
       {clients : List (ClientStage G K)} → Joint programs (snap run noted clients) →
-      (does : Does stores sources old new) → new.events ≡ old.events →
+      (does : LoopStep stores sources old new) → new.events ≡ old.events →
       Joint programs (snap (Then run does) noted clients)
   server_rests joint does same =
       Server_does joint does [] same (λ port from bytes i. absurd (let l = i.1 in omega arith))
@@ -178,7 +178,7 @@ module _ {S F D G K : Type 0} {stores : StoreMeaning S D} {sources : SourceMeani
       (ih : (sn : Snapshot programs) → Fits sn earlier → Joint programs sn) where
     -- the last step of the server has noted the event
     server_steps : {old new : LoopState S F D} {run : ServerRun old} {old_noted noted : List Event} →
-        old.events ≡ old_noted ++ programs.server.start.events → (does : Does stores sources old new) →
+        old.events ≡ old_noted ++ programs.server.start.events → (does : LoopStep stores sources old new) →
         Split old.events new.events old_noted noted (e ∷ events_of 0 earlier) →
         Joint programs (snap (Then run does) noted clients)
     server_steps {old = old} {new = new} {run = run} {old_noted = old_noted} {noted = noted} is does

@@ -12,7 +12,7 @@ use Rattle.tftp_rules.specs.Machine.{Endpoint, At_server, At_client, Elsewhere, 
 use Rattle.tftp_rules.specs.Rules.{message}
 use Rattle.tftp_rules.specs.Said.{said}
 use Rattle.tftp_rules.specs.Shows.{EndView, IsShown}
-use Rattle.tftp_rules.proofs.Shown.{shown_by}
+use Rattle.tftp_rules.proofs.Refines.{shown_by}
 
 module _ (network : Network) where
   module _ (m : Machine) (holds : Holds network m) (from to : Endpoint)

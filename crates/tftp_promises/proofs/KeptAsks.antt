@@ -39,7 +39,7 @@ use Rattle.tftp_promises.specs.Programs.{To_write}
 use Rattle.tftp_promises.specs.Programs.{OpensToRead, OpensToWrite}
 use Rattle.tftp_promises.specs.Promises.{joined}
 use Rattle.tftp_promises.specs.Snapshots.{Snapshot, Unasked, Has_asked, just_asked, client_did}
-use Rattle.tftp_promises.proofs.Kept.{How, By_models, By_run, client_text, IsThere, HasFile, IsKept, IsFreshBy}
+use Rattle.tftp_promises.proofs.Invariant.{How, By_models, By_run, client_text, IsThere, HasFile, IsKept, IsFreshBy}
 use Rattle.tftp_promises.proofs.KeptClients.{ClientTurns, client_keeps, transfer_apart}
 use Rattle.tftp_promises.proofs.KeptEvents.{only_one}
 use Rattle.tftp_promises.proofs.KeptViews.{viewed_before, among_push}

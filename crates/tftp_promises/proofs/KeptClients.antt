@@ -24,9 +24,9 @@ use Rattle.tftp_promises.specs.Order.{Programs, IsStranger, requests_at}
 use Rattle.tftp_promises.specs.Programs.{endpoint, ClientProgram, client_at}
 use Rattle.tftp_promises.specs.Promises.{joined}
 use Rattle.tftp_promises.specs.Snapshots.{Snapshot, ClientStage, Unasked, Has_asked, noted_by, client_did}
-use Rattle.tftp_promises.proofs.Kept.{How, By_models, By_run, IsOpened, IsThere, IsViewed, HasStored, HasTransferBy}
-use Rattle.tftp_promises.proofs.Kept.{ClientKept, StageKept, TransferKept, ServerKept, IsOfClient, IsOfTransfer, IsKept}
-use Rattle.tftp_promises.proofs.Kept.{IsFreshBy, same_transfer}
+use Rattle.tftp_promises.proofs.Invariant.{How, By_models, By_run, IsOpened, IsThere, IsViewed, HasStored, HasTransferBy}
+use Rattle.tftp_promises.proofs.Invariant.{ClientKept, StageKept, TransferKept, ServerKept, IsOfClient, IsOfTransfer, IsKept}
+use Rattle.tftp_promises.proofs.Invariant.{IsFreshBy, same_transfer}
 use Rattle.tftp_promises.proofs.KeptViews.{arrived_still, sent_still, there_still}
 use Rattle.tftp_promises.proofs.NewPlaces.{client_apart}
 

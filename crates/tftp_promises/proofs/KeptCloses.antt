@@ -8,7 +8,7 @@ use Rattle.tftp_file.specs.Source.{SourceMeaning}
 use Rattle.tftp_store.specs.Store.{StoreMeaning, files_of}
 use Rattle.tftp_server.specs.State.{TransferState, ServerState, at, without}
 use Rattle.tftp_sockets.specs.Journal.{Event}
-use Rattle.tftp_loop.specs.Serves.{LoopState, Does, Closes, Transfer_closed}
+use Rattle.tftp_loop.specs.Steps.{LoopState, LoopStep, Closes, Transfer_closed}
 use Rattle.tftp_rules.specs.Machine.{Endpoint, Message}
 use Rattle.tftp_rules.specs.Shows.{IsShown}
 use Rattle.tftp_rules.proofs.Entries.{lookup-remove_other, numbers}
@@ -17,8 +17,8 @@ use Rattle.tftp_promises.specs.Order.{Programs, requests_at}
 use Rattle.tftp_promises.specs.Promises.{joined}
 use Rattle.tftp_promises.specs.Snapshots.{Snapshot, server_did}
 use Rattle.tftp_promises.proofs.Identifiers.{at-without_cases, once-without}
-use Rattle.tftp_promises.proofs.Kept.{How, AreKeyedOnce, HasTransferBy, TransferKept, ServerKept, IsKept}
-use Rattle.tftp_promises.proofs.Kept.{same_transfer}
+use Rattle.tftp_promises.proofs.Invariant.{How, AreKeyedOnce, HasTransferBy, TransferKept, ServerKept, IsKept}
+use Rattle.tftp_promises.proofs.Invariant.{same_transfer}
 use Rattle.tftp_promises.proofs.KeptEvents.{IsSilent}
 use Rattle.tftp_promises.proofs.KeptServer.{ServerTurns, server_keeps}
 use Rattle.tftp_promises.proofs.KeptViews.{arrived_still, viewed_still}
@@ -30,7 +30,7 @@ module _ {S F D G K : Type 0} {stores : StoreMeaning S D} {sources : SourceMeani
     (programs : Programs stores sources inputs outputs) {how : How programs} (old : Snapshot programs)
     (kept : IsKept programs how old) {new : LoopState S F D}
     (closes : Closes stores sources old.state new) (added : List Event) (silent : IsSilent added) where
-  abbrev does : Does stores sources old.state new
+  abbrev does : LoopStep stores sources old.state new
   does = Transfer_closed closes
 
   abbrev now : Snapshot programs

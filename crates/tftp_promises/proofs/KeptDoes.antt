@@ -35,7 +35,7 @@ use Rattle.tftp_promises.specs.Others.{DoesOwn, HandlesOwn, IsOtherAnswer}
 use Rattle.tftp_promises.specs.Programs.{ClientProgram, client_at}
 use Rattle.tftp_promises.specs.Promises.{joined}
 use Rattle.tftp_promises.specs.Snapshots.{Snapshot, Has_asked, client_did}
-use Rattle.tftp_promises.proofs.Kept.{How, HasArrived, IsKept, IsFreshBy}
+use Rattle.tftp_promises.proofs.Invariant.{How, HasArrived, IsKept, IsFreshBy}
 use Rattle.tftp_promises.proofs.KeptAnswers.{answer_from_server}
 use Rattle.tftp_promises.proofs.KeptEvents.{IsSilent, added_by, added_none, answered_has, answered_sends}
 use Rattle.tftp_promises.proofs.KeptEvents.{elapsed_silent}

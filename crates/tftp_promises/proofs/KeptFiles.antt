@@ -29,7 +29,7 @@ use Rattle.tftp_promises.specs.Modelled.{AreModelled}
 use Rattle.tftp_promises.specs.Moved.{Moved, step_moves}
 use Rattle.tftp_promises.specs.Order.{Programs, requests_at}
 use Rattle.tftp_promises.specs.Programs.{ClientProgram}
-use Rattle.tftp_promises.proofs.Kept.{How, By_models, By_run, HasFile}
+use Rattle.tftp_promises.proofs.Invariant.{How, By_models, By_run, HasFile}
 use Rattle.tftp_promises.proofs.MovedSends.{source_moves}
 use Rattle.tftp_promises.proofs.MovedStores.{sink_moves}
 use Rattle.tftp_promises.proofs.Texts.{pad_to}

@@ -14,7 +14,7 @@ use Rattle.tftp_file.specs.declared.files.Files.{Files}
 use Rattle.tftp_store.specs.Store.{StoreMeaning}
 use Rattle.tftp_server.specs.State.{TransferState}
 use Rattle.tftp_sockets.specs.Journal.{Event}
-use Rattle.tftp_loop.specs.Serves.{LoopState, Does}
+use Rattle.tftp_loop.specs.Steps.{LoopState, LoopStep}
 use Rattle.tftp_client.specs.Converses.{State}
 use Rattle.tftp_rules.specs.Machine.{Endpoint}
 use Rattle.tftp_rules.proofs.Indices.{slice_get-set_same, slice_get-set_other}
@@ -26,7 +26,7 @@ use Rattle.tftp_promises.specs.Ports.{AreDistinct}
 use Rattle.tftp_promises.specs.Programs.{ClientProgram}
 use Rattle.tftp_promises.specs.Snapshots.{Snapshot, ClientStage, Unasked, Has_asked, server_did, client_did, all_of}
 use Rattle.tftp_promises.proofs.RunPlaces.{placed_by, places}
-use Rattle.tftp_promises.proofs.Kept.{IsFreshBy, IsToldAt}
+use Rattle.tftp_promises.proofs.Invariant.{IsFreshBy, IsToldAt}
 use Rattle.tftp_promises.proofs.MovedSteps.{client_more, opens_none, server_more}
 use Rattle.tftp_promises.proofs.NewPlaces.{below_above, not_again}
 use Rattle.tftp_promises.proofs.Texts.{begins_itself, begins_on}
@@ -65,7 +65,7 @@ module _ {S F D G K : Type 0} {stores : StoreMeaning S D} {sources : SourceMeani
     {outputs : SinkMeaning K}
     (programs : Programs stores sources inputs outputs) where
   -- before a step of the server
-  told_before : (old : Snapshot programs) (new : LoopState S F D) (does : Does stores sources old.state new)
+  told_before : (old : Snapshot programs) (new : LoopState S F D) (does : LoopStep stores sources old.state new)
       (added : List Event) →
       IsFreshBy programs (server_did programs old does added) → (a : Endpoint) → Contains (places programs old.run) a →
       IsToldAt programs old a
@@ -82,7 +82,7 @@ module _ {S F D G K : Type 0} {stores : StoreMeaning S D} {sources : SourceMeani
             ap (λ (o : Option (TransferState F D)). or_before o (opened_at programs a old.run)) (sym none) ∙ t.opened;
       }
 
-  pub fresh_before_server : (old : Snapshot programs) (new : LoopState S F D) (does : Does stores sources old.state new)
+  pub fresh_before_server : (old : Snapshot programs) (new : LoopState S F D) (does : LoopStep stores sources old.state new)
       (added : List Event) →
       IsFreshBy programs (server_did programs old does added) → IsFreshBy programs old
   fresh_before_server old new does added h = record {

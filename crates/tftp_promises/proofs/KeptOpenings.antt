@@ -15,7 +15,7 @@ use Rattle.tftp_server.specs.Request.{A_transfer, Left, left_by}
 use Rattle.tftp_server.specs.State.{TransferState, ServerState, at, with_new}
 use Rattle.tftp_sockets.specs.Journal.{Event}
 use Rattle.tftp_sockets.specs.Journal.Event.{Sent}
-use Rattle.tftp_loop.specs.Serves.{AnswersRequest, Does, LoopState, Request_answered, after_request}
+use Rattle.tftp_loop.specs.Steps.{AnswersRequest, LoopStep, LoopState, Request_answered, after_request}
 use Rattle.tftp_rules.specs.EndOpens.{EndOpens}
 use Rattle.tftp_rules.specs.Machine.{At_server, Endpoint, Message, is_same}
 use Rattle.tftp_rules.specs.OpenEnds.{OpenEnd, open_view, peer_of}
@@ -35,9 +35,9 @@ use Rattle.tftp_promises.specs.Programs.{endpoint}
 use Rattle.tftp_promises.specs.Promises.{joined}
 use Rattle.tftp_promises.specs.Snapshots.{Snapshot, server_did}
 use Rattle.tftp_promises.proofs.RunPlaces.{placed_by, places}
-use Rattle.tftp_promises.proofs.Kept.{How, AreKeyedOnce, HasStored, HasTransferBy, IsFreshBy}
-use Rattle.tftp_promises.proofs.Kept.{IsKept, IsNamed, IsOfTransfer, IsStrangers, IsThere, ServerKept}
-use Rattle.tftp_promises.proofs.Kept.{TransferKept, same_transfer}
+use Rattle.tftp_promises.proofs.Invariant.{How, AreKeyedOnce, HasStored, HasTransferBy, IsFreshBy}
+use Rattle.tftp_promises.proofs.Invariant.{IsKept, IsNamed, IsOfTransfer, IsStrangers, IsThere, ServerKept}
+use Rattle.tftp_promises.proofs.Invariant.{TransferKept, same_transfer}
 use Rattle.tftp_promises.proofs.KeptEvents.{only_one}
 use Rattle.tftp_promises.proofs.KeptRefusals.{closed_earlier, left_is, new_is, one_sent}
 use Rattle.tftp_promises.proofs.KeptServer.{ServerTurns, server_keeps}
@@ -58,7 +58,7 @@ module _ {S F D G K : Type 0} {stores : StoreMeaning S D} {sources : SourceMeani
   abbrev server : ServerState S F D
   server = old.state.server
 
-  abbrev does : Does stores sources old.state new
+  abbrev does : LoopStep stores sources old.state new
   does = Request_answered answers
 
   abbrev now : Snapshot programs

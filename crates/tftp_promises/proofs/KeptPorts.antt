@@ -10,7 +10,7 @@ use Rattle.tftp_store.specs.Store.{StoreMeaning}
 use Rattle.tftp_server.specs.State.{TransferState, at, with_next}
 use Rattle.tftp_sockets.specs.Journal.{Event}
 use Rattle.tftp_sockets.specs.Journal.Event.{Sent}
-use Rattle.tftp_loop.specs.Serves.{LoopState, Does}
+use Rattle.tftp_loop.specs.Steps.{LoopState, LoopStep}
 use Rattle.tftp_rules.specs.EndKept.{EndKept}
 use Rattle.tftp_rules.specs.Machine.{Endpoint, Message}
 use Rattle.tftp_rules.specs.OpenEnds.{OpenEnd, open_view}
@@ -25,9 +25,9 @@ use Rattle.tftp_promises.specs.Promises.{joined}
 use Rattle.tftp_promises.specs.Snapshots.{Snapshot, server_did}
 use Rattle.tftp_promises.proofs.RunPlaces.{places}
 use Rattle.tftp_promises.proofs.Identifiers.{at-with_next_cases, once-with_next}
-use Rattle.tftp_promises.proofs.Kept.{How, AreKeyedOnce, IsThere, IsViewed, HasStored, HasTransferBy, TransferKept}
-use Rattle.tftp_promises.proofs.Kept.{ServerKept, IsOfTransfer, IsKept, IsFreshBy, IsStrangers, named_still}
-use Rattle.tftp_promises.proofs.Kept.{same_transfer}
+use Rattle.tftp_promises.proofs.Invariant.{How, AreKeyedOnce, IsThere, IsViewed, HasStored, HasTransferBy, TransferKept}
+use Rattle.tftp_promises.proofs.Invariant.{ServerKept, IsOfTransfer, IsKept, IsFreshBy, IsStrangers, named_still}
+use Rattle.tftp_promises.proofs.Invariant.{same_transfer}
 use Rattle.tftp_promises.proofs.KeptServer.{ServerTurns, server_keeps}
 use Rattle.tftp_promises.proofs.KeptViews.{arrived_still, viewed_beside, among_set}
 use Rattle.tftp_promises.proofs.MovedSteps.{MovesNone}
@@ -39,7 +39,7 @@ module _ {S F D G K : Type 0} {stores : StoreMeaning S D} {sources : SourceMeani
     (programs : Programs stores sources inputs outputs) {how : How programs} where
   -- what a step at the port did to the transfer there
   pub record PortTurns (old : Snapshot programs) (kept : IsKept programs how old) {new : LoopState S F D}
-      (does : Does stores sources old.state new) (added : List Event)
+      (does : LoopStep stores sources old.state new) (added : List Event)
       (port : ℕ) (transfer : TransferState F D) (found : at port old.state.server.held ≡ Some transfer) : Type 0 where
     pub next : TransferState F D
     pub held : new.server.held ≡ with_next port next old.state.server.held
@@ -66,7 +66,7 @@ module _ {S F D G K : Type 0} {stores : StoreMeaning S D} {sources : SourceMeani
     pub has : HasStored programs how (server_did programs old does added) end next.files
 
   module _ (old : Snapshot programs) (kept : IsKept programs how old) (fresh : IsFreshBy programs old)
-      {new : LoopState S F D} (does : Does stores sources old.state new) (stays : ServerStays programs old kept does)
+      {new : LoopState S F D} (does : LoopStep stores sources old.state new) (stays : ServerStays programs old kept does)
       (added : List Event) (port : ℕ) (transfer : TransferState F D)
       (found : at port old.state.server.held ≡ Some transfer)
       (turns : PortTurns old kept does added port transfer found) (none : (a : Endpoint) →

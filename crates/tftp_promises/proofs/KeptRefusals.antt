@@ -14,7 +14,7 @@ use Rattle.tftp_server.specs.Request.{Came, Nothing, Error_reply, Left, left_by}
 use Rattle.tftp_server.specs.State.{TransferState, ServerState}
 use Rattle.tftp_sockets.specs.Journal.{Event}
 use Rattle.tftp_sockets.specs.Journal.Event.{Sent}
-use Rattle.tftp_loop.specs.Serves.{AnswersRequest, Does, LoopState, Request_answered, after_request}
+use Rattle.tftp_loop.specs.Steps.{AnswersRequest, LoopStep, LoopState, Request_answered, after_request}
 use Rattle.tftp_rules.specs.Machine.{Endpoint, Error, Message}
 use Rattle.tftp_rules.specs.Rules.{message}
 use Rattle.tftp_rules.proofs.Actions.{says_error}
@@ -27,7 +27,7 @@ use Rattle.tftp_promises.specs.Programs.{endpoint}
 use Rattle.tftp_promises.specs.Promises.{joined}
 use Rattle.tftp_promises.specs.Snapshots.{Snapshot, server_did}
 use Rattle.tftp_promises.proofs.RunPlaces.{placed_by}
-use Rattle.tftp_promises.proofs.Kept.{How, IsKept, IsThere}
+use Rattle.tftp_promises.proofs.Invariant.{How, IsKept, IsThere}
 use Rattle.tftp_promises.proofs.KeptEvents.{IsSilent, added_none, answered_sends, none_silent, nothing_in}
 use Rattle.tftp_promises.proofs.KeptStill.{says_keeps, still_keeps}
 use Rattle.tftp_promises.proofs.PortAnswers.{IsRefused}
@@ -43,7 +43,7 @@ module _ {S F D G K : Type 0} {stores : StoreMeaning S D} {sources : SourceMeani
   abbrev server : ServerState S F D
   server = old.state.server
 
-  abbrev does : Does stores sources old.state new
+  abbrev does : LoopStep stores sources old.state new
   does = Request_answered answers
 
   -- what the port leaves after this came

@@ -23,7 +23,7 @@ use Rattle.tftp_store.specs.Store.{StoreMeaning, Stored, files_of, new_draft}
 use Rattle.tftp_server.specs.State.{TransferState, ServerState}
 use Rattle.tftp_server.specs.declared.config.Config.{Config}
 use Rattle.tftp_sockets.specs.Journal.{Event}
-use Rattle.tftp_loop.specs.Serves.{AnswersRequest, LoopState, Request_answered}
+use Rattle.tftp_loop.specs.Steps.{AnswersRequest, LoopState, Request_answered}
 use Rattle.tftp_rules.specs.EndOpens.{IsNewly, new_receiver, new_sender, sending}
 use Rattle.tftp_rules.specs.Machine.{Endpoint, Packet}
 use Rattle.tftp_rules.specs.OpenEnds.{OpenEnd}
@@ -37,9 +37,9 @@ use Rattle.tftp_promises.specs.Order.{Programs}
 use Rattle.tftp_promises.specs.Ports.{IsStored, opened_ports}
 use Rattle.tftp_promises.specs.Promises.{joined}
 use Rattle.tftp_promises.specs.Snapshots.{Snapshot, server_did}
-use Rattle.tftp_promises.proofs.Kept.{How, By_models, By_run, GaveSo, HasStored, IsFreshBy, IsKept, IsKnown, IsNamed}
-use Rattle.tftp_promises.proofs.Kept.{TookSo}
-use Rattle.tftp_promises.proofs.Kept.{length_of, place_text}
+use Rattle.tftp_promises.proofs.Invariant.{How, By_models, By_run, GaveSo, HasStored, IsFreshBy, IsKept, IsKnown, IsNamed}
+use Rattle.tftp_promises.proofs.Invariant.{TookSo}
+use Rattle.tftp_promises.proofs.Invariant.{length_of, place_text}
 use Rattle.tftp_promises.proofs.KeptAsks.{says_request}
 use Rattle.tftp_promises.proofs.KeptOpenings.{at_server, came_here, its_place, none_there, opening_keeps, store_is}
 use Rattle.tftp_promises.proofs.KeptRefusals.{refusal_keeps, silent_keeps}

@@ -4,14 +4,14 @@ use Rattle.tftp_file.specs.Sink.{SinkMeaning}
 use Rattle.tftp_file.specs.Source.{SourceMeaning}
 use Rattle.tftp_store.specs.Store.{StoreMeaning}
 use Rattle.tftp_sockets.specs.Journal.{Event}
-use Rattle.tftp_loop.specs.Serves.{LoopState, Does}
+use Rattle.tftp_loop.specs.Steps.{LoopState, LoopStep}
 use Rattle.tftp_promises.specs.ClientRuns.{client_moves}
 use Rattle.tftp_promises.specs.Joined.{AreJoined}
 use Rattle.tftp_promises.specs.Joint.{CanTake, Joint, All_begin, Server_does, Client_asks, Client_does}
 use Rattle.tftp_promises.specs.Joint.{JournalsAreJoint}
 use Rattle.tftp_promises.specs.Order.{Noted, Programs}
 use Rattle.tftp_promises.specs.Snapshots.{Snapshot, just_asked, Has_asked, server_did, all_of}
-use Rattle.tftp_promises.proofs.Kept.{How, IsKept, IsFreshBy}
+use Rattle.tftp_promises.proofs.Invariant.{How, IsKept, IsFreshBy}
 use Rattle.tftp_promises.proofs.KeptAsks.{asks_keeps}
 use Rattle.tftp_promises.proofs.KeptDoes.{does_keeps}
 use Rattle.tftp_promises.proofs.KeptFresh.{fresh_before_server, fresh_before_client, fresh_at_last, unasked_had}
@@ -23,7 +23,7 @@ module _ {S F D G K : Type 0} {stores : StoreMeaning S D} {sources : SourceMeani
   -- each step of the server keeps the invariant
   abbrev pub ServerStepsKeep : (programs : Programs stores sources inputs outputs) → How programs → Type 0
   ServerStepsKeep programs how =
-      (old : Snapshot programs) (new : LoopState S F D) (does : Does stores sources old.state new)
+      (old : Snapshot programs) (new : LoopState S F D) (does : LoopStep stores sources old.state new)
       (added : List Event) → IsKept programs how old →
       IsFreshBy programs (server_did programs old does added) → new.events ≡ added ++ old.state.events →
       CanTake programs old programs.ip added →

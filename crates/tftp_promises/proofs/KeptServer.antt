@@ -9,7 +9,7 @@ use Rattle.tftp_store.specs.Store.{StoreMeaning}
 use Rattle.tftp_server.specs.State.{TransferState}
 use Rattle.tftp_sockets.specs.Journal.{Event}
 use Rattle.tftp_sockets.specs.Journal.Event.{Sent}
-use Rattle.tftp_loop.specs.Serves.{LoopState, Does}
+use Rattle.tftp_loop.specs.Steps.{LoopState, LoopStep}
 use Rattle.tftp_rules.specs.Machine.{Endpoint, Message}
 use Rattle.tftp_rules.specs.OpenEnds.{OpenEnd}
 use Rattle.tftp_rules.specs.Shows.{EndView, IsShown}
@@ -19,8 +19,8 @@ use Rattle.tftp_promises.specs.Order.{Programs, IsStranger, requests_at}
 use Rattle.tftp_promises.specs.Programs.{endpoint, ClientProgram, client_at}
 use Rattle.tftp_promises.specs.Promises.{joined}
 use Rattle.tftp_promises.specs.Snapshots.{Snapshot, ClientStage, Unasked, Has_asked, server_did}
-use Rattle.tftp_promises.proofs.Kept.{How, IsThere, IsViewed, HasTransferBy, StageKept, TransferKept, ServerKept}
-use Rattle.tftp_promises.proofs.Kept.{IsOfClient, IsOfTransfer, IsKept}
+use Rattle.tftp_promises.proofs.Invariant.{How, IsThere, IsViewed, HasTransferBy, StageKept, TransferKept, ServerKept}
+use Rattle.tftp_promises.proofs.Invariant.{IsOfClient, IsOfTransfer, IsKept}
 use Rattle.tftp_promises.proofs.KeptViews.{sent_still, there_still}
 
 module _ {S F D G K : Type 0} {stores : StoreMeaning S D} {sources : SourceMeaning F} {inputs : SourceMeaning G}
@@ -49,7 +49,7 @@ module _ {S F D G K : Type 0} {stores : StoreMeaning S D} {sources : SourceMeani
     pub were : (a : Endpoint) → IsOfTransfer programs old a → IsOfTransfer programs now a
 
   module _ (old : Snapshot programs) (kept : IsKept programs how old) {new : LoopState S F D}
-      (does : Does stores sources old.state new) (added : List Event)
+      (does : LoopStep stores sources old.state new) (added : List Event)
       (turns : ServerTurns old kept (server_did programs old does added) added) where
     abbrev messages : List Message
     messages = kept.messages ++ turns.said_now

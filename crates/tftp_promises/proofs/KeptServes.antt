@@ -15,15 +15,15 @@ use Rattle.tftp_server.specs.State.{TransferState, ServerState}
 use Rattle.tftp_sockets.specs.Journal.{Event}
 use Rattle.tftp_sockets.specs.Journal.Event.{Received, Watched, Elapsed, Printed, Quiet}
 use Rattle.tftp_sockets.specs.Journal.QuietEvent.{Empty, Failed, Slept, Woke}
-use Rattle.tftp_loop.specs.Serves.{LoopState, Does, port_state, Waited, At_port, Request_received, No_request_found}
-use Rattle.tftp_loop.specs.Serves.{Request_not_received, Request_noted, Request_answered, Request_lost, Clock_read}
-use Rattle.tftp_loop.specs.Serves.{Store_set, Transfer_closed}
-use Rattle.tftp_loop.specs.Serves.{Waits, ServesPort, ReceivesRequest, FindsNoRequest, FailsToReceiveRequest}
-use Rattle.tftp_loop.specs.Serves.{NotesRequest, AnswersRequest, LosesRequest, ReadsClock, SetsStore, AtPort, A_datagram}
-use Rattle.tftp_loop.specs.Serves.{note_event}
-use Rattle.tftp_loop.specs.Serves.{A_lost_datagram, A_late_datagram, Nothing_found, A_failed_receive, A_timeout}
-use Rattle.tftp_loop.specs.Serves.{A_missed_timeout}
-use Rattle.tftp_loop.specs.Serves.{ReceivesAndHandles, Work}
+use Rattle.tftp_loop.specs.Steps.{LoopState, LoopStep, port_state, Waited, At_port, Request_received, No_request_found}
+use Rattle.tftp_loop.specs.Steps.{Request_not_received, Request_noted, Request_answered, Request_lost, Clock_read}
+use Rattle.tftp_loop.specs.Steps.{Store_set, Transfer_closed}
+use Rattle.tftp_loop.specs.Steps.{Waits, ServesPort, ReceivesRequest, FindsNoRequest, FailsToReceiveRequest}
+use Rattle.tftp_loop.specs.Steps.{NotesRequest, AnswersRequest, LosesRequest, ReadsClock, SetsStore, PortStep, A_datagram}
+use Rattle.tftp_loop.specs.Steps.{note_event}
+use Rattle.tftp_loop.specs.Steps.{A_lost_datagram, A_late_datagram, Nothing_found, A_failed_receive, A_timeout}
+use Rattle.tftp_loop.specs.Steps.{A_missed_timeout}
+use Rattle.tftp_loop.specs.Steps.{ReceivesAndHandles, Work}
 use Rattle.tftp_rules.specs.Machine.{Endpoint}
 use Rattle.tftp_promises.specs.Joint.{CanTake, WasSentBefore}
 use Rattle.tftp_promises.specs.Moved.{Moved, port_moves}
@@ -34,7 +34,7 @@ use Rattle.tftp_promises.specs.Programs.{endpoint}
 use Rattle.tftp_promises.specs.Promises.{joined}
 use Rattle.tftp_promises.specs.Snapshots.{Snapshot, server_did}
 use Rattle.tftp_promises.proofs.RunPlaces.{placed_by}
-use Rattle.tftp_promises.proofs.Kept.{How, HasArrived, IsThere, IsKept, IsFreshBy, IsStrangers}
+use Rattle.tftp_promises.proofs.Invariant.{How, HasArrived, IsThere, IsKept, IsFreshBy, IsStrangers}
 use Rattle.tftp_promises.proofs.KeptCloses.{closing_keeps}
 use Rattle.tftp_promises.proofs.KeptEvents.{IsSilent, IsUnsent, printed_silent, added_by, none_silent, unsent_silent}
 use Rattle.tftp_promises.proofs.KeptFresh.{fresh_before_server}
@@ -121,7 +121,7 @@ module _ {S F D G K : Type 0} {stores : StoreMeaning S D} {sources : SourceMeani
           (datagram_silent old.state.requests h.from h.bytes))
 
     -- ---- the server is as it was, and no datagram more is pending
-    same_keeps : (does : Does stores sources old.state new) → placed_by programs old.run does ≡ [] →
+    same_keeps : (does : LoopStep stores sources old.state new) → placed_by programs old.run does ≡ [] →
         ((port : ℕ) → place_at programs port (server_did programs old does []).run ≡ place_at programs port old.run) →
         ((port : ℕ) (transfer : TransferState F D) → Removes does port transfer → ⊥) →
         ((a : Endpoint) → MovesNone programs old.run does a) → {left : LoopState S F D} → new ≡ left →
@@ -228,12 +228,12 @@ module _ {S F D G K : Type 0} {stores : StoreMeaning S D} {sources : SourceMeani
       old_fresh = fresh_before_server programs old new (At_port serves) added fresh_now
 
       -- nothing moves at a step that is no datagram
-      quiet : (does : AtPort stores sources old.state.now (port_state old.state serves.timer) serves.next) →
+      quiet : (does : PortStep stores sources old.state.now (port_state old.state serves.timer) serves.next) →
           serves.does ≡ does → ((moved : Moved) → port_moves does moved ≡ moved) → (a : Endpoint) →
           MovesNone programs old.run (At_port serves) a
       quiet does is still =
           none_at_port programs old.run serves
-          (λ moved. ap (λ (d : AtPort stores sources old.state.now (port_state old.state serves.timer) serves.next).
+          (λ moved. ap (λ (d : PortStep stores sources old.state.now (port_state old.state serves.timer) serves.next).
           port_moves d moved) is ∙ still moved)
 
       -- its place
@@ -300,7 +300,7 @@ module _ {S F D G K : Type 0} {stores : StoreMeaning S D} {sources : SourceMeani
         | inr not ↦ strange_keeps h is (strange_if programs h.from not)
       ]
 
-      by_case : (does : AtPort stores sources old.state.now (port_state old.state serves.timer) serves.next) →
+      by_case : (does : PortStep stores sources old.state.now (port_state old.state serves.timer) serves.next) →
           serves.does ≡ does → IsKept programs how (server_did programs old (At_port serves) added)
       by_case (A_datagram h) is =
           let came =

@@ -27,8 +27,8 @@ use Rattle.tftp_promises.specs.Ports.{IsStored, WasStored}
 use Rattle.tftp_promises.specs.Programs.{arrived, ClientProgram, client_at}
 use Rattle.tftp_promises.specs.Promises.{joined, HasClient, HasTransfer, HasOpened, IsOfSome, AreViewed, AreShown}
 use Rattle.tftp_promises.specs.Snapshots.{ClientStage, Has_asked, all_of}
-use Rattle.tftp_promises.proofs.Kept.{By_models, HasFile, HasStored, ClientKept, TransferKept, IsOfClient, IsOfTransfer}
-use Rattle.tftp_promises.proofs.Kept.{IsKept}
+use Rattle.tftp_promises.proofs.Invariant.{By_models, HasFile, HasStored, ClientKept, TransferKept, IsOfClient, IsOfTransfer}
+use Rattle.tftp_promises.proofs.Invariant.{IsKept}
 use Rattle.tftp_promises.proofs.KeptViews.{view_there}
 
 -- closed, and not complete

@@ -8,13 +8,13 @@ use Rattle.tftp_store.specs.Store.{StoreMeaning}
 use Rattle.tftp_server.specs.State.{TransferState, at}
 use Rattle.tftp_sockets.specs.Journal.Event.{Sent}
 use Rattle.tftp_rules.specs.Machine.{Endpoint}
-use Rattle.tftp_rules.proofs.Shown.{shown_start}
+use Rattle.tftp_rules.proofs.Refines.{shown_start}
 use Rattle.tftp_promises.specs.Joint.{WasSentBefore}
 use Rattle.tftp_promises.specs.Order.{Programs, IsStranger}
 use Rattle.tftp_promises.specs.Promises.{joined}
 use Rattle.tftp_promises.specs.Snapshots.{ClientStage, Unasked, noted_by, nothing_done}
-use Rattle.tftp_promises.proofs.Kept.{How, By_models, By_run, IsKnown, IsThere, AreKeyedOnce, HasTransferBy, StageKept}
-use Rattle.tftp_promises.proofs.Kept.{IsKept}
+use Rattle.tftp_promises.proofs.Invariant.{How, By_models, By_run, IsKnown, IsThere, AreKeyedOnce, HasTransferBy, StageKept}
+use Rattle.tftp_promises.proofs.Invariant.{IsKept}
 use Rattle.tftp_promises.proofs.KeptEvents.{nothing_in}
 
 -- no client has asked

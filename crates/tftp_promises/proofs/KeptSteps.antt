@@ -3,7 +3,7 @@ use Rattle.tftp_file.specs.Sink.{SinkMeaning}
 use Rattle.tftp_file.specs.Source.{SourceMeaning}
 use Rattle.tftp_store.specs.Store.{StoreMeaning}
 use Rattle.tftp_promises.specs.Order.{Programs}
-use Rattle.tftp_promises.proofs.Kept.{How}
+use Rattle.tftp_promises.proofs.Invariant.{How}
 use Rattle.tftp_promises.proofs.KeptRequests.{request_keeps}
 use Rattle.tftp_promises.proofs.KeptRuns.{ServerStepsKeep}
 use Rattle.tftp_promises.proofs.KeptServes.{AnswersKeep, serves_keep}

@@ -9,15 +9,15 @@ use Rattle.tftp_store.specs.Store.{StoreMeaning}
 use Rattle.tftp_server.specs.State.{TransferState, at}
 use Rattle.tftp_sockets.specs.Journal.{Event}
 use Rattle.tftp_sockets.specs.Journal.Event.{Sent}
-use Rattle.tftp_loop.specs.Serves.{LoopState, Does}
+use Rattle.tftp_loop.specs.Steps.{LoopState, LoopStep}
 use Rattle.tftp_rules.specs.Machine.{Endpoint, Message}
 use Rattle.tftp_rules.specs.Shows.{IsShown}
 use Rattle.tftp_promises.specs.Order.{Programs, IsStranger, requests_at}
 use Rattle.tftp_promises.specs.Programs.{endpoint}
 use Rattle.tftp_promises.specs.Promises.{joined}
 use Rattle.tftp_promises.specs.Snapshots.{Snapshot, server_did}
-use Rattle.tftp_promises.proofs.Kept.{How, AreKeyedOnce, HasTransferBy, IsThere, TransferKept, ServerKept, IsKept}
-use Rattle.tftp_promises.proofs.Kept.{same_transfer}
+use Rattle.tftp_promises.proofs.Invariant.{How, AreKeyedOnce, HasTransferBy, IsThere, TransferKept, ServerKept, IsKept}
+use Rattle.tftp_promises.proofs.Invariant.{same_transfer}
 use Rattle.tftp_promises.proofs.KeptEvents.{IsSilent}
 use Rattle.tftp_promises.proofs.KeptServer.{ServerTurns, server_keeps}
 use Rattle.tftp_promises.proofs.KeptViews.{arrived_still, viewed_still}
@@ -27,7 +27,7 @@ use Rattle.tftp_promises.proofs.ServerStays.{ServerStays, stored_after, closed_b
 module _ {S F D G K : Type 0} {stores : StoreMeaning S D} {sources : SourceMeaning F} {inputs : SourceMeaning G}
     {outputs : SinkMeaning K}
     (programs : Programs stores sources inputs outputs) {how : How programs} (old : Snapshot programs)
-    (kept : IsKept programs how old) {new : LoopState S F D} (does : Does stores sources old.state new)
+    (kept : IsKept programs how old) {new : LoopState S F D} (does : LoopStep stores sources old.state new)
     (stays : ServerStays programs old kept does) (none : (a : Endpoint) → MovesNone programs old.run does a)
     (held : new.server.held ≡ old.state.server.held) (added : List Event) where
   abbrev now : Snapshot programs

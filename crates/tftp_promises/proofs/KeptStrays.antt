@@ -27,8 +27,8 @@ use Rattle.tftp_promises.specs.Order.{Programs, IsError, IsStranger, MayCome, re
 use Rattle.tftp_promises.specs.Programs.{ClientProgram, client_at}
 use Rattle.tftp_promises.specs.Promises.{joined}
 use Rattle.tftp_promises.specs.Snapshots.{Snapshot, ClientStage, Unasked, Has_asked}
-use Rattle.tftp_promises.proofs.Kept.{How, HasArrived, IsThere, IsKept, StageKept, TransferKept}
-use Rattle.tftp_promises.proofs.Kept.{same_transfer}
+use Rattle.tftp_promises.proofs.Invariant.{How, HasArrived, IsThere, IsKept, StageKept, TransferKept}
+use Rattle.tftp_promises.proofs.Invariant.{same_transfer}
 use Rattle.tftp_promises.proofs.KeptViews.{arrived_still, sent_still, there_says, there_still, viewed_still}
 use Rattle.tftp_promises.proofs.Places.{strangers_elsewhere}
 

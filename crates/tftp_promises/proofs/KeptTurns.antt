@@ -27,7 +27,7 @@ use Rattle.tftp_promises.specs.Order.{Programs, requests_at}
 use Rattle.tftp_promises.specs.Programs.{endpoint, ClientProgram, client_at}
 use Rattle.tftp_promises.specs.Promises.{joined}
 use Rattle.tftp_promises.specs.Snapshots.{Snapshot, Has_asked, client_did}
-use Rattle.tftp_promises.proofs.Kept.{How, IsThere, HasFile, IsViewed, ClientKept, IsKept, IsFreshBy}
+use Rattle.tftp_promises.proofs.Invariant.{How, IsThere, HasFile, IsViewed, ClientKept, IsKept, IsFreshBy}
 use Rattle.tftp_promises.proofs.KeptClients.{ClientTurns, client_keeps}
 use Rattle.tftp_promises.proofs.KeptEvents.{SendsOnly, IsSilent}
 use Rattle.tftp_promises.proofs.KeptViews.{there_still, viewed_beside, viewed_still, among_set}

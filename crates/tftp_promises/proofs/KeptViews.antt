@@ -19,7 +19,7 @@ use Rattle.tftp_rules.specs.ViewSafety.{IsAmong}
 use Rattle.tftp_rules.proofs.Indices.{slice_get-set_cases, slice_get-set_other, slice_get-push_cases}
 use Rattle.tftp_rules.proofs.Indices.{slice_get-push_old}
 use Rattle.tftp_promises.specs.Order.{Programs, IsStranger}
-use Rattle.tftp_promises.proofs.Kept.{IsThere, HasArrived, IsViewed}
+use Rattle.tftp_promises.proofs.Invariant.{IsThere, HasArrived, IsViewed}
 
 -- what was said is there still
 pub there_still : (messages more : List Message) (from to : Endpoint) (bytes : List ℕ) →

@@ -17,7 +17,7 @@ pub mod JointRuns
 pub mod Measured
 pub mod Requested
 pub mod RunPlaces
-pub mod Kept
+pub mod Invariant
 pub mod KeptViews
 pub mod NewPlaces
 pub mod WrongPeers

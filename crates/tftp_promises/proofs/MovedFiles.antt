@@ -17,7 +17,7 @@ use Rattle.tftp_rules.specs.KnownFiles.{known_source, known_sink}
 use Rattle.tftp_rules.specs.Machine.{Endpoint, Network}
 use Rattle.tftp_rules.specs.OpenEnds.{OpenEnd, files_of, end_after}
 use Rattle.tftp_promises.specs.Moved.{Moved, step_moves}
-use Rattle.tftp_promises.proofs.Kept.{GaveSo, TookSo}
+use Rattle.tftp_promises.proofs.Invariant.{GaveSo, TookSo}
 use Rattle.tftp_promises.proofs.KeptFiles.{source_is, sink_is}
 use Rattle.tftp_promises.proofs.MovedSends.{source_moves}
 use Rattle.tftp_promises.proofs.MovedStores.{sink_moves}

@@ -42,7 +42,7 @@ use Rattle.tftp_rules.specs.Machine.{Network}
 use Rattle.tftp_rules.specs.OpenEnds.{OpenEnd, end_after}
 use Rattle.tftp_rules.proofs.PhaseMoves.{if_acts}
 use Rattle.tftp_promises.specs.Moved.{Moved, acts_move, step_moves, with_more}
-use Rattle.tftp_promises.proofs.Kept.{GaveSo}
+use Rattle.tftp_promises.proofs.Invariant.{GaveSo}
 use Rattle.tftp_promises.proofs.Texts.{pad_to, pad_length, begins_padded, begins_after, begins_by_take, then_rest}
 
 -- ---- how much an action reads

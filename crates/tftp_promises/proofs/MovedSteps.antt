@@ -18,11 +18,11 @@ use Rattle.tftp_ends.specs.Step.{Turn, Acts}
 use Rattle.tftp_store.specs.Store.{StoreMeaning}
 use Rattle.tftp_server.specs.Request.{Came, Nothing, Error_reply, A_transfer, left_by}
 use Rattle.tftp_server.specs.State.{TransferState}
-use Rattle.tftp_loop.specs.Serves.{LoopState, Does, Waited, At_port, Request_received, No_request_found}
-use Rattle.tftp_loop.specs.Serves.{Request_not_received, Request_noted, Request_answered, Request_lost, Clock_read}
-use Rattle.tftp_loop.specs.Serves.{Store_set, Transfer_closed}
-use Rattle.tftp_loop.specs.Serves.{ServesPort, AnswersRequest, AtPort, A_datagram, A_lost_datagram, A_late_datagram}
-use Rattle.tftp_loop.specs.Serves.{Nothing_found, A_failed_receive, A_timeout, A_missed_timeout, Work, PortState}
+use Rattle.tftp_loop.specs.Steps.{LoopState, LoopStep, Waited, At_port, Request_received, No_request_found}
+use Rattle.tftp_loop.specs.Steps.{Request_not_received, Request_noted, Request_answered, Request_lost, Clock_read}
+use Rattle.tftp_loop.specs.Steps.{Store_set, Transfer_closed}
+use Rattle.tftp_loop.specs.Steps.{ServesPort, AnswersRequest, PortStep, A_datagram, A_lost_datagram, A_late_datagram}
+use Rattle.tftp_loop.specs.Steps.{Nothing_found, A_failed_receive, A_timeout, A_missed_timeout, Work, PortState}
 use Rattle.tftp_loop.specs.Run.{Run}
 use Rattle.tftp_loop.specs.Run.Run.{Then}
 use Rattle.tftp_client.specs.Converses.{State, HandlesReceived}
@@ -99,7 +99,7 @@ module _ {S F D : Type 0} where
   came_none false (A_transfer held store) n = refl
 
 module _ {S F D : Type 0} {stores : StoreMeaning S D} {sources : SourceMeaning F} where
-  port_more : {now : ℕ} {old new : PortState S F D} (does : AtPort stores sources now old new) (moved : Moved) →
+  port_more : {now : ℕ} {old new : PortState S F D} (does : PortStep stores sources now old new) (moved : Moved) →
       IsPrefixOf moved.bytes (port_moves does moved).bytes
   port_more (A_datagram h) moved =
       acts_more sources _ _ h.from h.bytes h.handles.takes.transfer.end _ h.handles.takes.takes.turn _
@@ -115,9 +115,9 @@ module _ {S F D : Type 0} {stores : StoreMeaning S D} {sources : SourceMeaning F
 module _ {S F D G K : Type 0} {stores : StoreMeaning S D} {sources : SourceMeaning F} {inputs : SourceMeaning G}
     {outputs : SinkMeaning K}
     (programs : Programs stores sources inputs outputs) {first old new : LoopState S F D}
-    (run : Run (Does stores sources) first old) where
+    (run : Run (LoopStep stores sources) first old) where
   -- of the server, at a place where it opens no transfer
-  pub server_more : (a : Endpoint) (does : Does stores sources old new) (moved : Moved) →
+  pub server_more : (a : Endpoint) (does : LoopStep stores sources old new) (moved : Moved) →
       opens_at programs a run does ≡ None → IsPrefixOf moved.bytes (does_move programs a run does moved).bytes
   server_more a (Waited h) moved none = begins_itself moved.bytes
   server_more a (At_port serves) moved none =
@@ -155,7 +155,7 @@ module _ {S F D G K : Type 0} {stores : StoreMeaning S D} {sources : SourceMeani
       (subst (λ (e : Endpoint). Contains (b ∷ []) e) (one_endpoint b a same) (Contains-push [] b))))
 
   -- a place where a step opens none
-  pub opens_none : (does : Does stores sources old new) (a : Endpoint) →
+  pub opens_none : (does : LoopStep stores sources old new) (a : Endpoint) →
       (Contains (placed_by programs run does) a → ⊥) → opens_at programs a run does ≡ None
   opens_none (Waited h) a n = refl
   opens_none (At_port serves) a n = refl
@@ -182,7 +182,7 @@ module _ {S F D G K : Type 0} {stores : StoreMeaning S D} {sources : SourceMeani
       (place_at programs port run)) came
 
   -- ---- a step at which nothing moves at a place
-  pub record MovesNone (does : Does stores sources old new) (a : Endpoint) : Type 0 where
+  pub record MovesNone (does : LoopStep stores sources old new) (a : Endpoint) : Type 0 where
     pub opens : opens_at programs a run does ≡ None
     pub moves : (moved : Moved) → does_move programs a run does moved ≡ moved
 

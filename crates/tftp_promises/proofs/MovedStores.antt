@@ -19,7 +19,7 @@ use Rattle.tftp_ends.specs.Step.{Done, Turn, Appended, Stores, GoesOn, Acts, Dat
 use Rattle.tftp_rules.specs.KnownFiles.{known_source, known_sink}
 use Rattle.tftp_rules.specs.OpenEnds.{OpenEnd, holding_of, end_after}
 use Rattle.tftp_promises.specs.Moved.{Moved, acts_move, commits_after, step_moves, with_more}
-use Rattle.tftp_promises.proofs.Kept.{TookSo}
+use Rattle.tftp_promises.proofs.Invariant.{TookSo}
 
 -- a fault that anything may return
 any_fault : {A E : Type 0} (answer : Result A E) (P : E → Type 0) → ((fault : E) → P fault) → IfErr answer P

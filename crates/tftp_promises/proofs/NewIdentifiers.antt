@@ -10,7 +10,7 @@ use Rattle.std.specs.declared.cmp.Ordering.{Ordering}
 use Rattle.std.specs.declared.cmp.Ordering.TheVariants.{Less, Equal, Greater}
 use Rattle.tftp_server.specs.State.{at, with_new}
 use Rattle.tftp_rules.proofs.Entries.{at_same, lookup-insert_other, lookup-insert_same, numbers}
-use Rattle.tftp_promises.proofs.Kept.{AreKeyedOnce}
+use Rattle.tftp_promises.proofs.Invariant.{AreKeyedOnce}
 
 module _ {T : Type 0} where
   -- a list with the new one, by the order of its identifier and the first one

@@ -14,9 +14,9 @@ use Rattle.tftp_server.specs.Request.{Came, Nothing, Error_reply, A_transfer, Le
 use Rattle.tftp_sockets.specs.Journal.{Event}
 use Rattle.tftp_loop.specs.Run.{Run}
 use Rattle.tftp_loop.specs.Run.Run.{Start, Then}
-use Rattle.tftp_loop.specs.Serves.{LoopState, Does, Waited, At_port, Request_received, No_request_found}
-use Rattle.tftp_loop.specs.Serves.{Request_not_received, Request_noted, Request_answered, Request_lost, Clock_read}
-use Rattle.tftp_loop.specs.Serves.{Store_set, Transfer_closed, AnswersRequest}
+use Rattle.tftp_loop.specs.Steps.{LoopState, LoopStep, Waited, At_port, Request_received, No_request_found}
+use Rattle.tftp_loop.specs.Steps.{Request_not_received, Request_noted, Request_answered, Request_lost, Clock_read}
+use Rattle.tftp_loop.specs.Steps.{Store_set, Transfer_closed, AnswersRequest}
 use Rattle.tftp_rules.specs.Machine.{At_server, Endpoint}
 use Rattle.tftp_promises.specs.Openings.{above, is_ours, our_ports, ours_by, place, total}
 use Rattle.tftp_promises.specs.Order.{Programs, requests_at}
@@ -25,7 +25,7 @@ use Rattle.tftp_promises.specs.Programs.{endpoint, client_at, ClientProgram}
 use Rattle.tftp_promises.specs.Promises.{joined}
 use Rattle.tftp_promises.specs.Snapshots.{Snapshot, server_did}
 use Rattle.tftp_promises.proofs.RunPlaces.{placed_by, places}
-use Rattle.tftp_promises.proofs.Kept.{IsFreshBy}
+use Rattle.tftp_promises.proofs.Invariant.{IsFreshBy}
 use Rattle.tftp_promises.proofs.KeptEvents.{nothing_in, only_one, first_or_more}
 use Rattle.tftp_promises.proofs.Places.{at_port}
 
@@ -103,8 +103,8 @@ module _ {S F D G K : Type 0} {stores : StoreMeaning S D} {sources : SourceMeani
   answer_place from count (Some tid) a c =
       by_ours (is_ours programs from) count tid a (only_one (place programs count from tid) a c)
 
-  placed_cases : {first old new : LoopState S F D} (run : Run (Does stores sources) first old)
-      (does : Does stores sources old new) (a : Endpoint) → Contains (placed_by programs run does) a →
+  placed_cases : {first old new : LoopState S F D} (run : Run (LoopStep stores sources) first old)
+      (does : LoopStep stores sources old new) (a : Endpoint) → Contains (placed_by programs run does) a →
       OpensOne (length (opened_ports run)) (ours_by programs does) (opened_by does) a
   placed_cases run (Waited h) a c = absurd (nothing_in a c)
   placed_cases run (At_port serves) a c = absurd (nothing_in a c)
@@ -120,7 +120,7 @@ module _ {S F D G K : Type 0} {stores : StoreMeaning S D} {sources : SourceMeani
   placed_cases run (Transfer_closed h) a c = absurd (nothing_in a c)
 
   -- of all that a run opened
-  pub place_cases : {first last : LoopState S F D} (run : Run (Does stores sources) first last) (a : Endpoint) →
+  pub place_cases : {first last : LoopState S F D} (run : Run (LoopStep stores sources) first last) (a : Endpoint) →
       Contains (places programs run) a → OursAt (our_ports programs run) a ⊎ AsideAt (length (opened_ports run)) a
   place_cases Start a c = absurd (nothing_in a c)
   place_cases (Then run does) a c =
@@ -254,7 +254,7 @@ module _ {S F D G K : Type 0} {stores : StoreMeaning S D} {sources : SourceMeani
   ours_here true ports port c = c
   ours_here false ports port c = absurd (nothing_in port c)
 
-  ours_opened : {old new : LoopState S F D} (does : Does stores sources old new) (port : ℕ) →
+  ours_opened : {old new : LoopState S F D} (does : LoopStep stores sources old new) (port : ℕ) →
       Contains (ours_by programs does) port → Contains (opened_by does) port
   ours_opened (Waited h) port c = c
   ours_opened (At_port serves) port c = c
@@ -269,7 +269,7 @@ module _ {S F D G K : Type 0} {stores : StoreMeaning S D} {sources : SourceMeani
   ours_opened (Store_set h) port c = c
   ours_opened (Transfer_closed h) port c = c
 
-  pub ours_among : {first last : LoopState S F D} (run : Run (Does stores sources) first last) (port : ℕ) →
+  pub ours_among : {first last : LoopState S F D} (run : Run (LoopStep stores sources) first last) (port : ℕ) →
       Contains (our_ports programs run) port → Contains (opened_ports run) port
   ours_among Start port c = c
   ours_among (Then run does) port c =
@@ -298,7 +298,7 @@ module _ {S F D G K : Type 0} {stores : StoreMeaning S D} {sources : SourceMeani
         (sym (only_one (place programs (length (opened_ports old.run)) answers.from tid) a now)
         ∙ ap (place programs (length (opened_ports old.run)) answers.from) own)
 
-    pub not_again : (does : Does stores sources old.state new) (added : List Event) →
+    pub not_again : (does : LoopStep stores sources old.state new) (added : List Event) →
         IsFreshBy programs (server_did programs old does added) → (a : Endpoint) →
         Contains (places programs old.run) a →
         Contains (placed_by programs old.run does) a → ⊥

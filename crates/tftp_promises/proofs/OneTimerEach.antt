@@ -17,13 +17,13 @@ use Rattle.tftp_server.specs.Work.{WorksAt}
 use Rattle.tftp_sockets.specs.Journal.{Event}
 use Rattle.tftp_loop.specs.Run.{Run}
 use Rattle.tftp_loop.specs.Run.Run.{Start, Then}
-use Rattle.tftp_loop.specs.Serves.{Timer, PortState, LoopState, AtPort, Does, at_start, marked_by, set_by, timer_after}
-use Rattle.tftp_loop.specs.Serves.{with_timer, interval_at, started}
-use Rattle.tftp_loop.specs.Serves.AtPort.{A_datagram, A_lost_datagram, A_late_datagram, Nothing_found, A_failed_receive}
-use Rattle.tftp_loop.specs.Serves.AtPort.{A_timeout, A_missed_timeout, Work}
-use Rattle.tftp_loop.specs.Serves.Does.{Waited, At_port, Request_received, No_request_found, Request_not_received}
-use Rattle.tftp_loop.specs.Serves.Does.{Request_noted, Request_answered, Request_lost, Clock_read, Store_set}
-use Rattle.tftp_loop.specs.Serves.Does.{Transfer_closed}
+use Rattle.tftp_loop.specs.Steps.{Timer, PortState, LoopState, PortStep, LoopStep, at_start, marked_by, set_by, timer_after}
+use Rattle.tftp_loop.specs.Steps.{with_timer, interval_at, started}
+use Rattle.tftp_loop.specs.Steps.PortStep.{A_datagram, A_lost_datagram, A_late_datagram, Nothing_found, A_failed_receive}
+use Rattle.tftp_loop.specs.Steps.PortStep.{A_timeout, A_missed_timeout, Work}
+use Rattle.tftp_loop.specs.Steps.LoopStep.{Waited, At_port, Request_received, No_request_found, Request_not_received}
+use Rattle.tftp_loop.specs.Steps.LoopStep.{Request_noted, Request_answered, Request_lost, Clock_read, Store_set}
+use Rattle.tftp_loop.specs.Steps.LoopStep.{Transfer_closed}
 use Rattle.tftp_loop.specs.declared.serving.LoopConfig.{LoopConfig}
 use Rattle.tftp_promises.specs.Timers.{HasOneTimerEach, timer_ports}
 use Rattle.tftp_promises.proofs.PortCounts.{hit, hit_same, hit_other, hits, hits_push, hits_map, hits_swap_removed}
@@ -119,7 +119,7 @@ module _ {S F D : Type 0} (stores : StoreMeaning S D) (sources : SourceMeaning F
     pub port : new.timer.port ≡ old.timer.port
     pub keys : (p : ℕ) → keyed p new.server.held ≡ keyed p old.server.held
 
-  stays_at : (now : ℕ) (old new : PortState S F D) → AtPort stores sources now old new → StaysAt old new
+  stays_at : (now : ℕ) (old new : PortState S F D) → PortStep stores sources now old new → StaysAt old new
   stays_at now old new (A_datagram d) = record {
     port = ap (λ (t : Timer). t.port) d.timer ∙ same_timer now d.step.progress old.timer;
     keys =
@@ -172,7 +172,7 @@ module _ {S F D : Type 0} (stores : StoreMeaning S D) (sources : SourceMeaning F
   abbrev IsMatched : LoopState S F D → Type 0
   IsMatched state = AreMatched state.timers state.server.held
 
-  step_matched : (old new : LoopState S F D) → Does stores sources old new → IsMatched old → IsMatched new
+  step_matched : (old new : LoopState S F D) → LoopStep stores sources old new → IsMatched old → IsMatched new
   step_matched old new (Waited d) matched =
       subst IsMatched (sym d.is)
       (let set = map (set_by d.time) old.timers in
@@ -205,7 +205,7 @@ module _ {S F D : Type 0} (stores : StoreMeaning S D) (sources : SourceMeaning F
       (closes_matched old.timers old.server.held d.index d.timer d.within d.is_timer
       (was_there (at d.timer.port old.server.held) d.taken d.is_taken) matched)
 
-  run_matched : {first now : LoopState S F D} → Run (Does stores sources) first now → IsMatched first → IsMatched now
+  run_matched : {first now : LoopState S F D} → Run (LoopStep stores sources) first now → IsMatched first → IsMatched now
   run_matched Start matched = matched
   run_matched {now = now} (Then {middle} run does) matched = step_matched middle now does (run_matched run matched)
 
@@ -240,6 +240,6 @@ module _ {S F D : Type 0} (stores : StoreMeaning S D) (sources : SourceMeaning F
 
   pub one_timer_each : (config : LoopConfig) (port : ℕ) (first : ServerState S F D) (before : List Event)
       (now : LoopState S F D) → first.held ≡ [] →
-      Run (Does stores sources) (at_start config port first before) now → HasOneTimerEach now
+      Run (LoopStep stores sources) (at_start config port first before) now → HasOneTimerEach now
   one_timer_each config port first before now none run =
       one_each now (run_matched run (start_matched config port first before none))

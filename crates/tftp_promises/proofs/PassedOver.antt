@@ -16,9 +16,9 @@ use Rattle.tftp_sockets.specs.Journal.{Event}
 use Rattle.tftp_sockets.specs.Journal.Event.{Received, Sent, Watched, Elapsed, Printed, Quiet}
 use Rattle.tftp_loop.specs.Run.{Run}
 use Rattle.tftp_loop.specs.Run.Run.{Start, Then}
-use Rattle.tftp_loop.specs.Serves.{LoopState, Does, Waited, At_port, Request_received, No_request_found}
-use Rattle.tftp_loop.specs.Serves.{Request_not_received, Request_noted, Request_answered, Request_lost, Clock_read}
-use Rattle.tftp_loop.specs.Serves.{Store_set, Transfer_closed}
+use Rattle.tftp_loop.specs.Steps.{LoopState, LoopStep, Waited, At_port, Request_received, No_request_found}
+use Rattle.tftp_loop.specs.Steps.{Request_not_received, Request_noted, Request_answered, Request_lost, Clock_read}
+use Rattle.tftp_loop.specs.Steps.{Store_set, Transfer_closed}
 use Rattle.tftp_promises.specs.Alone.{HasNothing, IsPassedOver, OthersHaveNothing, alone, heard_with, just_asking}
 use Rattle.tftp_promises.specs.AnyFiles.{IsEnd, IsOurs, KeepAnyFiles, ProgramEnd, client_end, has_of, peer_of}
 use Rattle.tftp_promises.specs.Joined.{AreJoined}
@@ -160,7 +160,7 @@ module _ {S F D G K : Type 0} {stores : StoreMeaning S D} {sources : SourceMeani
   order_is = order_both several all i server k client at_i found over.among
 
   -- ---- the ports
-  ours_by_same : {old new : LoopState S F D} (does : Does stores sources old new) →
+  ours_by_same : {old new : LoopState S F D} (does : LoopStep stores sources old new) →
       ours_by both does ≡ ours_by less does
   ours_by_same (Waited h) = refl
   ours_by_same (At_port serves) = refl
@@ -174,7 +174,7 @@ module _ {S F D G K : Type 0} {stores : StoreMeaning S D} {sources : SourceMeani
   ours_by_same (Store_set h) = refl
   ours_by_same (Transfer_closed h) = refl
 
-  ours_same : {first last : LoopState S F D} (run : Run (Does stores sources) first last) →
+  ours_same : {first last : LoopState S F D} (run : Run (LoopStep stores sources) first last) →
       our_ports both run ≡ our_ports less run
   ours_same Start = refl
   ours_same (Then run does) =

@@ -26,8 +26,8 @@ use Rattle.tftp_server.specs.Steps.{StepIn, TakesDatagramLent}
 use Rattle.tftp_server.specs.declared.config.Config.{Config}
 use Rattle.tftp_sockets.specs.Journal.{Event}
 use Rattle.tftp_sockets.specs.Journal.Event.{Received}
-use Rattle.tftp_loop.specs.Serves.{LoopState, ServesPort, At_port, AtPort, A_datagram, AnswersDatagram}
-use Rattle.tftp_loop.specs.Serves.{ReceivesAndHandles, port_state}
+use Rattle.tftp_loop.specs.Steps.{LoopState, ServesPort, At_port, PortStep, A_datagram, AnswersDatagram}
+use Rattle.tftp_loop.specs.Steps.{ReceivesAndHandles, port_state}
 use Rattle.tftp_rules.specs.EndShown.{Stands, IsOpenAt, Goes}
 use Rattle.tftp_rules.specs.KnownFiles.{known_source, known_sink}
 use Rattle.tftp_rules.specs.Machine.{Endpoint}
@@ -43,9 +43,9 @@ use Rattle.tftp_promises.specs.Programs.{endpoint}
 use Rattle.tftp_promises.specs.Promises.{joined}
 use Rattle.tftp_promises.specs.Snapshots.{Snapshot, server_did}
 use Rattle.tftp_promises.proofs.ClosedEnds.{ClosedAnswers, closed_datagram_goes, wrong_datagram_goes}
-use Rattle.tftp_promises.proofs.Kept.{How, By_models, By_run, GaveSo, TookSo, IsKnown, IsOpened, IsToldAt, length_of}
-use Rattle.tftp_promises.proofs.Kept.{place_text, HasArrived, HasStored, IsThere, TransferKept, IsKept, IsFreshBy}
-use Rattle.tftp_promises.proofs.Kept.{IsStrangers}
+use Rattle.tftp_promises.proofs.Invariant.{How, By_models, By_run, GaveSo, TookSo, IsKnown, IsOpened, IsToldAt, length_of}
+use Rattle.tftp_promises.proofs.Invariant.{place_text, HasArrived, HasStored, IsThere, TransferKept, IsKept, IsFreshBy}
+use Rattle.tftp_promises.proofs.Invariant.{IsStrangers}
 use Rattle.tftp_promises.proofs.MovedFiles.{GotSo, MovesOver, files_move}
 use Rattle.tftp_promises.proofs.MovedSteps.{moves_here, none_at_port, none_beside}
 use Rattle.tftp_promises.proofs.Places.{not_ours}
@@ -177,7 +177,7 @@ module _ {S F D G K : Type 0} {stores : StoreMeaning S D} {sources : SourceMeani
         let says : datagram_action taken.transfer.end from bytes taken.takes.steps.decoded ≡ Respond answer.response =
         subst (λ (e : EndState). datagram_action e from bytes taken.takes.steps.decoded ≡ Respond answer.response)
         was.state answer.is in
-        ap (λ (d : AtPort stores sources old.state.now (port_state old.state serves.timer) serves.next). port_moves d
+        ap (λ (d : PortStep stores sources old.state.now (port_state old.state serves.timer) serves.next). port_moves d
         moved) is ∙ acts_quiet taken.transfer.end taken.takes.steps answer.response says moved
 
     rests_keeps : IsKept programs how now
@@ -380,7 +380,7 @@ module _ {S F D G K : Type 0} {stores : StoreMeaning S D} {sources : SourceMeani
     moved_now : moved_at programs place now.run ≡ moved_then
     moved_now =
         moves_here programs old.run serves before
-        ∙ ap (λ (d : AtPort stores sources old.state.now (port_state old.state serves.timer) serves.next). port_moves d
+        ∙ ap (λ (d : PortStep stores sources old.state.now (port_state old.state serves.timer) serves.next). port_moves d
         before) is
 
     x_place : x.address ≡ place

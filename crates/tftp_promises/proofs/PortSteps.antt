@@ -11,13 +11,13 @@ use Rattle.tftp_store.specs.Store.{StoreMeaning}
 use Rattle.tftp_server.specs.State.{ServerState}
 use Rattle.tftp_sockets.specs.Journal.{Event, answered}
 use Rattle.tftp_sockets.specs.Journal.Event.{Received, Sent}
-use Rattle.tftp_loop.specs.Serves.{LoopState, ServesPort, At_port}
+use Rattle.tftp_loop.specs.Steps.{LoopState, ServesPort, At_port}
 use Rattle.tftp_rules.specs.Machine.{Endpoint}
 use Rattle.tftp_promises.specs.Joint.{CanTake, WasSentBefore}
 use Rattle.tftp_promises.specs.Order.{Programs, MayCome}
 use Rattle.tftp_promises.specs.Programs.{endpoint}
 use Rattle.tftp_promises.specs.Snapshots.{Snapshot}
-use Rattle.tftp_promises.proofs.Kept.{How, IsKnown, IsKept}
+use Rattle.tftp_promises.proofs.Invariant.{How, IsKnown, IsKept}
 use Rattle.tftp_promises.proofs.KeptEvents.{IsSilent, SendsOnly, only_one, added_by, answered_has, answered_sends}
 use Rattle.tftp_promises.proofs.ServerStays.{FilesStay, ServerStays}
 

@@ -20,7 +20,7 @@ use Rattle.tftp_server.specs.State.{TransferState, ServerState, with_next}
 use Rattle.tftp_server.specs.Steps.{TimesOutLent, with_end}
 use Rattle.tftp_sockets.specs.Journal.{Event}
 use Rattle.tftp_sockets.specs.Journal.Event.{Elapsed}
-use Rattle.tftp_loop.specs.Serves.{LoopState, ServesPort, At_port, AnswersTimeout}
+use Rattle.tftp_loop.specs.Steps.{LoopState, ServesPort, At_port, AnswersTimeout}
 use Rattle.tftp_rules.specs.EndShown.{Stands, Goes}
 use Rattle.tftp_rules.specs.KnownFiles.{HasLeft}
 use Rattle.tftp_rules.specs.Machine.{Endpoint}
@@ -34,8 +34,8 @@ use Rattle.tftp_promises.specs.Programs.{endpoint}
 use Rattle.tftp_promises.specs.Promises.{joined}
 use Rattle.tftp_promises.specs.Snapshots.{Snapshot, server_did}
 use Rattle.tftp_promises.proofs.ClosedEnds.{closed_timeout_goes}
-use Rattle.tftp_promises.proofs.Kept.{How, By_models, By_run, HasStored, IsOpened, TransferKept, IsKept, IsFreshBy}
-use Rattle.tftp_promises.proofs.Kept.{IsStrangers}
+use Rattle.tftp_promises.proofs.Invariant.{How, By_models, By_run, HasStored, IsOpened, TransferKept, IsKept, IsFreshBy}
+use Rattle.tftp_promises.proofs.Invariant.{IsStrangers}
 use Rattle.tftp_promises.proofs.KeptEvents.{SendsOnly, elapsed_silent}
 use Rattle.tftp_promises.proofs.KeptFiles.{left_is, now_is, sink_is, sink_no_source, source_is}
 use Rattle.tftp_promises.proofs.MovedSteps.{MovesNone}

@@ -16,7 +16,7 @@ use Rattle.tftp_server.specs.Steps.{KeepsHeld}
 use Rattle.tftp_server.specs.Work.{FilesWork, WorksAt}
 use Rattle.tftp_sockets.specs.Journal.{Event}
 use Rattle.tftp_sockets.specs.Journal.Event.{Received}
-use Rattle.tftp_loop.specs.Serves.{LoopState, Does, ServesPort, At_port, LosesDatagram, WorksAtPort}
+use Rattle.tftp_loop.specs.Steps.{LoopState, LoopStep, ServesPort, At_port, LosesDatagram, WorksAtPort}
 use Rattle.tftp_rules.specs.KnownFiles.{HasLeft}
 use Rattle.tftp_rules.specs.Machine.{Endpoint, Message}
 use Rattle.tftp_rules.specs.OpenEnds.{OpenEnd, holding_of, open_view}
@@ -29,7 +29,7 @@ use Rattle.tftp_promises.specs.Promises.{joined}
 use Rattle.tftp_promises.specs.Snapshots.{Snapshot, server_did}
 use Rattle.tftp_promises.proofs.ClosedEnds.{set_same}
 use Rattle.tftp_promises.proofs.DraftSteps.{are_held}
-use Rattle.tftp_promises.proofs.Kept.{How, By_models, By_run, IsKnown, HasStored, TransferKept, IsKept, IsFreshBy}
+use Rattle.tftp_promises.proofs.Invariant.{How, By_models, By_run, IsKnown, HasStored, TransferKept, IsKept, IsFreshBy}
 use Rattle.tftp_promises.proofs.KeptEvents.{IsSilent, IsUnsent, none_silent, unsent_silent}
 use Rattle.tftp_promises.proofs.KeptPorts.{PortTurns, port_keeps}
 use Rattle.tftp_promises.proofs.KeptStill.{still_keeps}
@@ -50,7 +50,7 @@ module _ {S F D G K : Type 0} {stores : StoreMeaning S D} {sources : SourceMeani
   its_end port transfer found = kept.transfers port transfer (place_at programs port old.run) (inl (found, refl))
 
   -- the end of a held transfer as it was
-  module _ {new : LoopState S F D} (does : Does stores sources old.state new)
+  module _ {new : LoopState S F D} (does : LoopStep stores sources old.state new)
       (stays : ServerStays programs old kept does) (added : List Event) (silent : IsSilent added)
       (port : ℕ) (transfer next : TransferState F D) (found : at port old.state.server.held ≡ Some transfer)
       (held : new.server.held ≡ with_next port next old.state.server.held)
@@ -95,7 +95,7 @@ module _ {S F D G K : Type 0} {stores : StoreMeaning S D} {sources : SourceMeani
 
   -- ---- what is known of its file, by the models
   module _ (models : AreModelled programs) (known : IsSome (stores.stored old.state.server.store))
-      {new : LoopState S F D} (does : Does stores sources old.state new) (added : List Event) (store' : S)
+      {new : LoopState S F D} (does : LoopStep stores sources old.state new) (added : List Event) (store' : S)
       (store_is : new.server.store ≡ store') (x : OpenEnd) where
     -- the files of the store are the same
     files_stay : stored_files (stores.stored store') ≡ stored_files (stores.stored old.state.server.store) →

@@ -6,7 +6,7 @@ use Rattle.tftp_store.specs.Store.{StoreMeaning}
 use Rattle.tftp_promises.specs.Joined.{ProgramsAreShown, ProgramsKeepAnyFiles, ProgramsKeepPromises}
 use Rattle.tftp_promises.proofs.JointRuns.{journals_joint}
 use Rattle.tftp_promises.proofs.AnyKept.{any_kept}
-use Rattle.tftp_promises.proofs.Kept.{By_models, By_run}
+use Rattle.tftp_promises.proofs.Invariant.{By_models, By_run}
 use Rattle.tftp_promises.proofs.KeptRuns.{kept_at_last}
 use Rattle.tftp_promises.proofs.KeptShown.{kept_shown}
 use Rattle.tftp_promises.proofs.KeptSteps.{server_steps_keep}

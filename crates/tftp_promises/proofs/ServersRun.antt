@@ -5,13 +5,13 @@ use Rattle.tftp_store.specs.Store.{StoreMeaning}
 use Rattle.tftp_sockets.specs.Journal.{Event}
 use Rattle.tftp_loop.specs.Run.{Run}
 use Rattle.tftp_loop.specs.Run.Run.{Start, Then}
-use Rattle.tftp_loop.specs.Serves.{LoopState, Does}
+use Rattle.tftp_loop.specs.Steps.{LoopState, LoopStep}
 use Rattle.tftp_promises.specs.Programs.{ServersAreRuns}
 use Rattle.tftp_promises.proofs.StepEvents.{Silent, Notes, server_adds}
 
 -- what it noted
 pub server_noted : {S F D : Type 0} {stores : StoreMeaning S D} {sources : SourceMeaning F}
-    {start last : LoopState S F D} → Run (Does stores sources) start last →
+    {start last : LoopState S F D} → Run (LoopStep stores sources) start last →
     (noted : List Event) × (last.events ≡ noted ++ start.events)
 server_noted Start = ([], refl)
 server_noted {start = start} (Then run does) = elim (server_adds does) [

@@ -10,11 +10,11 @@ use Rattle.tftp_store.specs.Store.{StoreMeaning}
 use Rattle.tftp_sockets.specs.Journal.{Event, answered, replied}
 use Rattle.tftp_sockets.specs.Journal.Event.{Received, Sent, Watched, Elapsed, Printed, Quiet}
 use Rattle.tftp_sockets.specs.Journal.QuietEvent.{Empty, Failed, Slept, Woke}
-use Rattle.tftp_loop.specs.Serves.{LoopState, PortState, Does, AtPort, A_datagram, A_lost_datagram}
-use Rattle.tftp_loop.specs.Serves.{A_late_datagram, Nothing_found, A_failed_receive, A_timeout, A_missed_timeout, Work, Waited, At_port}
-use Rattle.tftp_loop.specs.Serves.{Request_received, No_request_found, Request_not_received, Request_noted}
-use Rattle.tftp_loop.specs.Serves.{Request_answered, Request_lost, Clock_read, Store_set, Transfer_closed}
-use Rattle.tftp_loop.specs.Serves.{answering_port, note_event}
+use Rattle.tftp_loop.specs.Steps.{LoopState, PortState, LoopStep, PortStep, A_datagram, A_lost_datagram}
+use Rattle.tftp_loop.specs.Steps.{A_late_datagram, Nothing_found, A_failed_receive, A_timeout, A_missed_timeout, Work, Waited, At_port}
+use Rattle.tftp_loop.specs.Steps.{Request_received, No_request_found, Request_not_received, Request_noted}
+use Rattle.tftp_loop.specs.Steps.{Request_answered, Request_lost, Clock_read, Store_set, Transfer_closed}
+use Rattle.tftp_loop.specs.Steps.{answering_port, note_event}
 use Rattle.tftp_client.specs.Converses.{State, HandlesReceived, MayElapse, wait_at}
 use Rattle.tftp_client.specs.Converses.HandlesReceived.{Answers, Loses}
 use Rattle.tftp_client.specs.Converses.MayElapse.{Stays, Elapses}
@@ -76,7 +76,7 @@ reply_adds port None bytes is = Silent is
 reply_adds port (Some to) bytes is = Notes (Sent port to bytes) [] tt is
 
 module _ {S F D : Type 0} {stores : StoreMeaning S D} {sources : SourceMeaning F} where
-  port_adds : {now : ℕ} {old new : PortState S F D} → AtPort stores sources now old new → Adds old.events new.events
+  port_adds : {now : ℕ} {old new : PortState S F D} → PortStep stores sources now old new → Adds old.events new.events
   port_adds {old = old} (A_datagram r) =
       answer_adds old.timer.port r.handles.takes.takes.turn.reply (Received old.timer.port r.from r.bytes) [] tt
       r.handles.events
@@ -91,7 +91,7 @@ module _ {S F D : Type 0} {stores : StoreMeaning S D} {sources : SourceMeaning F
   port_adds (Work r) = Silent r.events
 
   -- a step of the server
-  pub server_adds : {old new : LoopState S F D} → Does stores sources old new → Adds old.events new.events
+  pub server_adds : {old new : LoopState S F D} → LoopStep stores sources old new → Adds old.events new.events
   server_adds (Waited r) =
       Notes (Quiet (Woke r.ports)) (Quiet (Slept r.millis) ∷ Watched r.time ∷ []) (tt, (tt, tt))
       (ap (λ (s : LoopState S F D). s.events) r.is)

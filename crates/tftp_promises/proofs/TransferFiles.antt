@@ -13,7 +13,7 @@ use Rattle.tftp_store.specs.Store.{holding_of as held_by}
 use Rattle.tftp_server.specs.Draft.{Drafting, files_in, drafting_sink, KeepsStore}
 use Rattle.tftp_server.specs.Steps.{StepIn}
 use Rattle.tftp_sockets.specs.Journal.{Event}
-use Rattle.tftp_loop.specs.Serves.{LoopState, Does}
+use Rattle.tftp_loop.specs.Steps.{LoopState, LoopStep}
 use Rattle.tftp_rules.specs.EndShown.{Goes}
 use Rattle.tftp_rules.specs.EndKept.{EndKept}
 use Rattle.tftp_rules.specs.KnownFiles.{HaveContent}
@@ -28,7 +28,7 @@ use Rattle.tftp_promises.specs.Ports.{IsStored, WasStored}
 use Rattle.tftp_promises.specs.Promises.{joined}
 use Rattle.tftp_promises.specs.Snapshots.{Snapshot, server_did}
 use Rattle.tftp_promises.proofs.DraftSteps.{are_held, Leaves, HasPut, step_leaves}
-use Rattle.tftp_promises.proofs.Kept.{By_models, HasStored}
+use Rattle.tftp_promises.proofs.Invariant.{By_models, HasStored}
 use Rattle.tftp_promises.proofs.ServerStays.{FilesStay}
 use Rattle.tftp_promises.proofs.StoredFiles.{IsIn, AllStay, same_stay, put_stays, put_is_in}
 
@@ -67,7 +67,7 @@ module _ {S F D G K : Type 0} {stores : StoreMeaning S D} {sources : SourceMeani
       (if b then Source x.left else Sink (holding_of (armed stored.refuses x)))
       in subst P (sym h.receiver) (draft_held x store stored stored_is draft h.drafted)
 
-  module _ {new : LoopState S F D} (does : Does stores sources old.state new) (added : List Event) where
+  module _ {new : LoopState S F D} (does : LoopStep stores sources old.state new) (added : List Event) where
     -- what a step left
     pub record FilesLeft (y : OpenEnd) (files' : Files F D) : Type 0 where
       pub has : HasStored programs (By_models models) (server_did programs old does added) y files'

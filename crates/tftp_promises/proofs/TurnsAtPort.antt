@@ -10,7 +10,7 @@ use Rattle.tftp_store.specs.Store.{StoreMeaning}
 use Rattle.tftp_server.specs.State.{TransferState, at, with_next}
 use Rattle.tftp_sockets.specs.Journal.{Event}
 use Rattle.tftp_sockets.specs.Journal.Event.{Sent}
-use Rattle.tftp_loop.specs.Serves.{LoopState, Does}
+use Rattle.tftp_loop.specs.Steps.{LoopState, LoopStep}
 use Rattle.tftp_rules.specs.EndShown.{Goes}
 use Rattle.tftp_rules.specs.Machine.{Endpoint}
 use Rattle.tftp_rules.specs.OpenEnds.{OpenEnd}
@@ -19,7 +19,7 @@ use Rattle.tftp_promises.specs.Order.{Programs, IsStranger}
 use Rattle.tftp_promises.specs.Programs.{endpoint}
 use Rattle.tftp_promises.specs.Promises.{joined}
 use Rattle.tftp_promises.specs.Snapshots.{Snapshot, server_did}
-use Rattle.tftp_promises.proofs.Kept.{How, IsThere, HasStored, TransferKept, IsKept, IsFreshBy, IsStrangers}
+use Rattle.tftp_promises.proofs.Invariant.{How, IsThere, HasStored, TransferKept, IsKept, IsFreshBy, IsStrangers}
 use Rattle.tftp_promises.proofs.KeptEvents.{SendsOnly}
 use Rattle.tftp_promises.proofs.KeptPorts.{PortTurns, port_keeps}
 use Rattle.tftp_promises.proofs.KeptTurns.{reply_there, newest_there}
@@ -30,7 +30,7 @@ use Rattle.tftp_promises.proofs.ServerStays.{ServerStays}
 module _ {S F D G K : Type 0} {stores : StoreMeaning S D} {sources : SourceMeaning F} {inputs : SourceMeaning G}
     {outputs : SinkMeaning K}
     (programs : Programs stores sources inputs outputs) {how : How programs} (old : Snapshot programs)
-    (kept : IsKept programs how old) {new : LoopState S F D} (does : Does stores sources old.state new)
+    (kept : IsKept programs how old) {new : LoopState S F D} (does : LoopStep stores sources old.state new)
     (added : List Event)
     (port : ℕ) (transfer : TransferState F D) (found : at port old.state.server.held ≡ Some transfer) where
   -- its place, and the end before

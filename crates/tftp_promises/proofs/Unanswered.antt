@@ -18,9 +18,9 @@ use Rattle.tftp_store.specs.Store.{StoreMeaning}
 use Rattle.tftp_server.specs.State.{AnyRepeats, TransferState, IsRepeated, Repeats, at, draft_of, is_closed, taken_of}
 use Rattle.tftp_loop.specs.Run.{Run}
 use Rattle.tftp_loop.specs.Run.Run.{Start, Then}
-use Rattle.tftp_loop.specs.Serves.{Does, LoopState, Waited, At_port, Request_received, No_request_found}
-use Rattle.tftp_loop.specs.Serves.{Request_not_received, Request_noted, Request_answered, Request_lost, Clock_read}
-use Rattle.tftp_loop.specs.Serves.{Store_set, Transfer_closed}
+use Rattle.tftp_loop.specs.Steps.{LoopStep, LoopState, Waited, At_port, Request_received, No_request_found}
+use Rattle.tftp_loop.specs.Steps.{Request_not_received, Request_noted, Request_answered, Request_lost, Clock_read}
+use Rattle.tftp_loop.specs.Steps.{Store_set, Transfer_closed}
 use Rattle.tftp_rules.specs.Machine.{Endpoint}
 use Rattle.tftp_rules.specs.OpenEnds.{OpenEnd, has_failed, open_view, peer_of}
 use Rattle.tftp_rules.specs.Shows.{EndView, IsAnswering, IsInService, NoneAnswers}
@@ -30,7 +30,7 @@ use Rattle.tftp_promises.specs.Order.{Programs}
 use Rattle.tftp_promises.specs.Ports.{Removes}
 use Rattle.tftp_promises.specs.Promises.{joined}
 use Rattle.tftp_promises.specs.Snapshots.{Snapshot, Has_asked}
-use Rattle.tftp_promises.proofs.Kept.{How, HasTransferBy, IsKept}
+use Rattle.tftp_promises.proofs.Invariant.{How, HasTransferBy, IsKept}
 use Rattle.tftp_promises.proofs.KeptViews.{view_there}
 
 -- ---- the transfers that a server holds
@@ -74,7 +74,7 @@ module _ {F D : Type 0} where
 
 -- a transfer that was removed had closed
 module _ {S F D : Type 0} {stores : StoreMeaning S D} {sources : SourceMeaning F} where
-  removed_closed : {old new : LoopState S F D} (does : Does stores sources old new) (port : ℕ) (t : TransferState F D) →
+  removed_closed : {old new : LoopState S F D} (does : LoopStep stores sources old new) (port : ℕ) (t : TransferState F D) →
       Removes does port t → is_closed t ≡ true
   removed_closed (Waited x) port t removes = absurd removes
   removed_closed (At_port x) port t removes = absurd removes
@@ -107,7 +107,7 @@ module _ {S F D G K : Type 0} {stores : StoreMeaning S D} {sources : SourceMeani
     (programs : Programs stores sources inputs outputs) {how : How programs} (old : Snapshot programs)
     (kept : IsKept programs how old) (from : Endpoint) (packet : WirePacket) where
   -- a transfer that was removed had closed
-  has_closed : {first last : LoopState S F D} (run : Run (Does stores sources) first last) (port : ℕ)
+  has_closed : {first last : LoopState S F D} (run : Run (LoopStep stores sources) first last) (port : ℕ)
       (t : TransferState F D) (b : Endpoint) → HasClosed programs run port t b → is_closed t ≡ true
   has_closed Start port t b h = absurd h
   has_closed (Then run does) port t b (inl removes) = removed_closed does port t removes.0

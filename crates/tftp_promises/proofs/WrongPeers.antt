@@ -41,7 +41,7 @@ use Rattle.tftp_rules.specs.Machine.{Endpoint}
 use Rattle.tftp_rules.specs.OpenEnds.{peer_of}
 use Rattle.tftp_rules.proofs.PhaseMoves.{if_acts, same_endpoints}
 use Rattle.tftp_promises.specs.Order.{Programs, IsStranger}
-use Rattle.tftp_promises.proofs.Kept.{IsStrangers}
+use Rattle.tftp_promises.proofs.Invariant.{IsStrangers}
 
 -- the peer that had this peer, and sent its last datagram there, keeps it in the turn; its answer goes to `from`
 pub record PeerStays (from : Endpoint) (peer : Option Endpoint) (last : Endpoint) (turn : Turn) : Type 0 where

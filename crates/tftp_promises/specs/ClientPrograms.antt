@@ -11,7 +11,7 @@ use Rattle.tftp_rules.specs.Machine.{Endpoint}
 use Rattle.tftp_sockets.specs.Journal.{Event}
 use Rattle.tftp_client.specs.Converses.{Converses, State}
 use Rattle.tftp_client.specs.Moved.{Moved, nothing_moved, run_moves}
-use Rattle.tftp_client.specs.Runs.{StaysOn, begun, printed}
+use Rattle.tftp_client.specs.Runs.{Dallies, begun, printed}
 use Rattle.tftp_promises.specs.ClientRuns.{moved_in}
 use Rattle.tftp_promises.specs.Programs.{ClientOpens, ClientProgram, name_of}
 
@@ -48,7 +48,7 @@ module _ {G K : Type 0} (inputs : SourceMeaning G) (outputs : SinkMeaning K) {to
       (run : Converses inputs outputs port (begun port first before) file s files) : Type 0 where
     pub runs_so : IsClientRun ip opens before s (run_moves run nothing_moved)
     pub stays_so : (count : ℕ) (after : List Event)
-        (stays : StaysOn inputs outputs port (printed count s) files after)
+        (stays : Dallies inputs outputs port (printed count s) files after)
         → IsClientRun ip opens before stays.last
         (run_moves stays.converses (run_moves run nothing_moved))
 

@@ -11,7 +11,7 @@ use Rattle.tftp_sockets.specs.Journal.Event.{Printed}
 use Rattle.tftp_sockets.specs.Journal.QuietEvent.{Empty, Failed}
 use Rattle.tftp_client.specs.Converses.{State, HandlesReceived, MayElapse, MayWait, WorksOnFile}
 use Rattle.tftp_client.specs.Converses.{received, renewed, waited}
-use Rattle.tftp_client.specs.Runs.{Runs, StaysOn, begun, printed}
+use Rattle.tftp_client.specs.Runs.{Runs, Dallies, begun, printed}
 use Rattle.tftp_promises.specs.Moved.{Moved, nothing_moved, handling_moves}
 
 -- a client that has printed this line
@@ -77,7 +77,7 @@ module _ {G K : Type 0} (inputs : SourceMeaning G) (outputs : SinkMeaning K) whe
       (files : Files G K) (runs : Runs inputs outputs port end before s files) : Type 0 where
     pub runs_so : ClientRun inputs outputs port (begun port end before) runs.file s files
     pub stays_so : (count : ℕ) (after : List Event)
-        → StaysOn inputs outputs port (printed count s) files after
+        → Dallies inputs outputs port (printed count s) files after
         → (last : State) × (files' : Files G K)
         × ClientRun inputs outputs port (begun port end before) runs.file last files'
         × (last.events ≡ after)

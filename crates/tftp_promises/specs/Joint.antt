@@ -9,7 +9,7 @@ use Rattle.tftp_store.specs.Store.{StoreMeaning}
 use Rattle.tftp_rules.specs.Machine.{Endpoint}
 use Rattle.tftp_sockets.specs.Journal.{Event}
 use Rattle.tftp_sockets.specs.Journal.Event.{Received, Sent}
-use Rattle.tftp_loop.specs.Serves.{LoopState, Does}
+use Rattle.tftp_loop.specs.Steps.{LoopState, LoopStep}
 use Rattle.tftp_client.specs.Converses.{State}
 use Rattle.tftp_promises.specs.Joined.{AreJoined}
 use Rattle.tftp_promises.specs.Moved.{Moved}
@@ -60,7 +60,7 @@ module _ {S F D G K : Type 0} {stores : StoreMeaning S D} {sources : SourceMeani
     All_begin : Joint (nothing_done programs)
     -- a step of the server
     Server_does : {old : Snapshot programs} {new : LoopState S F D}
-        → Joint old → (does : Does stores sources old.state new) (added : List Event)
+        → Joint old → (does : LoopStep stores sources old.state new) (added : List Event)
         → new.events ≡ added ++ old.state.events → CanTake old programs.ip added
         → Joint (server_did programs old does added)
     -- a client sends its request

@@ -9,7 +9,7 @@ use Rattle.tftp_sockets.specs.Journal.{Event}
 use Rattle.tftp_sockets.specs.Journal.Event.{Printed}
 use Rattle.tftp_loop.specs.Run.{Run}
 use Rattle.tftp_loop.specs.Run.Run.{Start, Then}
-use Rattle.tftp_loop.specs.Serves.{LoopState, Does, Transfer_closed, at_start}
+use Rattle.tftp_loop.specs.Steps.{LoopState, LoopStep, Transfer_closed, at_start}
 use Rattle.tftp_loop.specs.declared.serving.LoopConfig.{LoopConfig}
 
 -- the printed lines of a journal, the newest first
@@ -21,14 +21,14 @@ lines_of (event ∷ events) = lines_of events
 module _ {S F D : Type 0} {stores : StoreMeaning S D} {sources : SourceMeaning F} where
   -- the line of the transfer that a step removes, with its port, the port of its timer's peer and
   -- its outcome
-  abbrev pub close_lines : {old new : LoopState S F D} → Does stores sources old new
+  abbrev pub close_lines : {old new : LoopState S F D} → LoopStep stores sources old new
       → List (List ℕ)
   close_lines (Transfer_closed closes) =
       line_text (Closed closes.timer.port closes.timer.peer.port closes.outcome) ∷ []
   close_lines does = []
 
   -- the line of each transfer that a run removed, the newest first
-  abbrev pub closed_lines : {first last : LoopState S F D} → Run (Does stores sources) first last
+  abbrev pub closed_lines : {first last : LoopState S F D} → Run (LoopStep stores sources) first last
       → List (List ℕ)
   closed_lines Start = []
   closed_lines (Then run does) = close_lines does ++ closed_lines run
@@ -39,5 +39,5 @@ module _ {S F D : Type 0} where
   EachLineIsAClose stores sources =
       (config : LoopConfig) (port : ℕ) (first : ServerState S F D) (before : List Event)
       (now : LoopState S F D)
-      (run : Run (Does stores sources) (at_start config port first before) now)
+      (run : Run (LoopStep stores sources) (at_start config port first before) now)
       → lines_of now.events ≡ closed_lines run ++ lines_of before

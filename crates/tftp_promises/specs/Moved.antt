@@ -8,7 +8,7 @@ use Rattle.tftp_store.specs.Store.{StoreMeaning}
 use Rattle.tftp_server.specs.Draft.{files_in, drafting_sink}
 use Rattle.tftp_server.specs.Request.{Came, Nothing, Error_reply, A_transfer}
 use Rattle.tftp_server.specs.State.{TransferState}
-use Rattle.tftp_loop.specs.Serves.{PortState, AtPort, A_datagram}
+use Rattle.tftp_loop.specs.Steps.{PortState, PortStep, A_datagram}
 pub use Rattle.tftp_client.specs.Moved.{Moved, nothing_moved, with_more, commits_after, acts_move}
 pub use Rattle.tftp_client.specs.Moved.{step_moves, handling_moves}
 
@@ -46,7 +46,7 @@ module _ {F D : Type 0} where
 module _ {S F D : Type 0} {stores : StoreMeaning S D} {sources : SourceMeaning F} where
   -- what has moved after a step at the port of a transfer
   abbrev pub port_moves : {now : ℕ} {old new : PortState S F D}
-      → AtPort stores sources now old new → Moved → Moved
+      → PortStep stores sources now old new → Moved → Moved
   port_moves {old = old} {new = new} (A_datagram h) moved =
       let taken = h.handles.takes in
       step_moves sources (drafting_sink stores) h.from h.bytes taken.transfer.end

@@ -11,7 +11,7 @@ use Rattle.tftp_rules.specs.Machine.{Endpoint, is_same}
 use Rattle.tftp_server.specs.State.{TransferState}
 use Rattle.tftp_loop.specs.Run.{Run}
 use Rattle.tftp_loop.specs.Run.Run.{Start, Then}
-use Rattle.tftp_loop.specs.Serves.{LoopState, Does, At_port, Request_answered}
+use Rattle.tftp_loop.specs.Steps.{LoopState, LoopStep, At_port, Request_answered}
 use Rattle.tftp_promises.specs.Moved.{Moved, nothing_moved, came_if, opening_moves, or_before}
 use Rattle.tftp_promises.specs.Moved.{port_moves}
 use Rattle.tftp_promises.specs.Order.{Programs, requests_at}
@@ -53,19 +53,19 @@ module _ {S F D G K : Type 0} {stores : StoreMeaning S D} {sources : SourceMeani
 
   -- where the transfer is that the run opened last at the port
   abbrev pub placed_at : ℕ → {first old new : LoopState S F D}
-      → Run (Does stores sources) first old → Does stores sources old new → Option Endpoint
+      → Run (LoopStep stores sources) first old → LoopStep stores sources old new → Option Endpoint
   placed_at port run (Request_answered answers) =
       option_map (λ held. place (length (opened_ports run)) answers.from port)
       (came_if (answers.tid == port) answers.steps.came)
   placed_at port run does = None
 
-  abbrev pub place_at : ℕ → {first last : LoopState S F D} → Run (Does stores sources) first last
+  abbrev pub place_at : ℕ → {first last : LoopState S F D} → Run (LoopStep stores sources) first last
       → Endpoint
   place_at port Start = endpoint programs.ip port
   place_at port (Then run does) = or_place (placed_at port run does) (place_at port run)
 
   -- a step of the run removed this transfer, which had closed and was at this place
-  abbrev pub HasClosed : {first last : LoopState S F D} → Run (Does stores sources) first last → ℕ
+  abbrev pub HasClosed : {first last : LoopState S F D} → Run (LoopStep stores sources) first last → ℕ
       → TransferState F D → Endpoint → Type 0
   HasClosed Start port transfer a = ⊥
   HasClosed (Then run does) port transfer a =
@@ -74,7 +74,7 @@ module _ {S F D G K : Type 0} {stores : StoreMeaning S D} {sources : SourceMeani
   -- ---- the transfer at a place
   -- the transfer that a step opens there, as it opens
   abbrev pub opens_at : Endpoint → {first old new : LoopState S F D}
-      → Run (Does stores sources) first old → Does stores sources old new
+      → Run (LoopStep stores sources) first old → LoopStep stores sources old new
       → Option (TransferState F D)
   opens_at a run (Request_answered answers) =
       came_if (is_same (place (length (opened_ports run)) answers.from answers.tid) a)
@@ -83,13 +83,13 @@ module _ {S F D G K : Type 0} {stores : StoreMeaning S D} {sources : SourceMeani
 
   -- the transfer that the run opened there
   abbrev pub opened_at : Endpoint → {first last : LoopState S F D}
-      → Run (Does stores sources) first last → Option (TransferState F D)
+      → Run (LoopStep stores sources) first last → Option (TransferState F D)
   opened_at a Start = None
   opened_at a (Then run does) = or_before (opens_at a run does) (opened_at a run)
 
   -- what has moved at it after a step
   abbrev pub does_move : Endpoint → {first old new : LoopState S F D}
-      → Run (Does stores sources) first old → Does stores sources old new → Moved → Moved
+      → Run (LoopStep stores sources) first old → LoopStep stores sources old new → Moved → Moved
   does_move a run (At_port serves) moved =
       if is_same (place_at serves.timer.port run) a then port_moves serves.does moved else moved
   does_move a run (Request_answered answers) moved =
@@ -100,18 +100,18 @@ module _ {S F D G K : Type 0} {stores : StoreMeaning S D} {sources : SourceMeani
 
   -- what has moved at it
   abbrev pub moved_at : Endpoint → {first last : LoopState S F D}
-      → Run (Does stores sources) first last → Moved
+      → Run (LoopStep stores sources) first last → Moved
   moved_at a Start = nothing_moved
   moved_at a (Then run does) = does_move a run does (moved_at a run)
 
   -- ---- the premise
   -- the ports of the transfers that a run opened for clients of the network
-  abbrev pub ours_by : {old new : LoopState S F D} → Does stores sources old new → List ℕ
+  abbrev pub ours_by : {old new : LoopState S F D} → LoopStep stores sources old new → List ℕ
   ours_by (Request_answered answers) =
       if is_ours answers.from then option_to_list answers.left.opened.tid else []
   ours_by does = []
 
-  abbrev pub our_ports : {first last : LoopState S F D} → Run (Does stores sources) first last
+  abbrev pub our_ports : {first last : LoopState S F D} → Run (LoopStep stores sources) first last
       → List ℕ
   our_ports Start = []
   our_ports (Then run does) = ours_by does ++ our_ports run

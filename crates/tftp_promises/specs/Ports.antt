@@ -7,7 +7,7 @@ use Rattle.tftp_store.specs.Store.{StoreMeaning, FileList, file_at, files_of}
 use Rattle.tftp_server.specs.State.{TransferState, at}
 use Rattle.tftp_loop.specs.Run.{Run}
 use Rattle.tftp_loop.specs.Run.Run.{Start, Then}
-use Rattle.tftp_loop.specs.Serves.{LoopState, Does, Request_answered, Transfer_closed}
+use Rattle.tftp_loop.specs.Steps.{LoopState, LoopStep, Request_answered, Transfer_closed}
 
 -- the file is under the path in the server's store
 abbrev pub IsStored : {S F D : Type 0} → StoreMeaning S D → LoopState S F D → List ℕ → List ℕ
@@ -18,25 +18,25 @@ IsStored stores state path file =
 
 module _ {S F D : Type 0} {stores : StoreMeaning S D} {sources : SourceMeaning F} where
   -- the port of the transfer that a step opens
-  abbrev pub opened_by : {old new : LoopState S F D} → Does stores sources old new → List ℕ
+  abbrev pub opened_by : {old new : LoopState S F D} → LoopStep stores sources old new → List ℕ
   opened_by (Request_answered answers) = option_to_list answers.left.opened.tid
   opened_by does = []
 
   -- the ports of all transfers that a run opened
-  abbrev pub opened_ports : {first last : LoopState S F D} → Run (Does stores sources) first last
+  abbrev pub opened_ports : {first last : LoopState S F D} → Run (LoopStep stores sources) first last
       → List ℕ
   opened_ports Start = []
   opened_ports (Then run does) = opened_by does ++ opened_ports run
 
   -- the step removes this transfer, which has closed
-  abbrev pub Removes : {old new : LoopState S F D} → Does stores sources old new → ℕ
+  abbrev pub Removes : {old new : LoopState S F D} → LoopStep stores sources old new → ℕ
       → TransferState F D → Type 0
   Removes {old} (Transfer_closed closes) port transfer =
       (port ≡ closes.timer.port) × (at port old.server.held ≡ Some transfer)
   Removes does port transfer = ⊥
 
   -- the file was under the path at some time of the run
-  abbrev pub WasStored : {first last : LoopState S F D} → Run (Does stores sources) first last
+  abbrev pub WasStored : {first last : LoopState S F D} → Run (LoopStep stores sources) first last
       → List ℕ → List ℕ → Type 0
   WasStored {first} Start path file = IsStored stores first path file
   WasStored {first} {last} (Then run does) path file =

@@ -18,7 +18,7 @@ use Rattle.tftp_rules.specs.Machine.{Endpoint, is_same, is_same_ip, At_server, A
 use Rattle.tftp_rules.specs.Machine.{Elsewhere, Network}
 use Rattle.tftp_sockets.specs.Journal.{Event}
 use Rattle.tftp_loop.specs.Run.{Run}
-use Rattle.tftp_loop.specs.Serves.{LoopState, Does}
+use Rattle.tftp_loop.specs.Steps.{LoopState, LoopStep}
 use Rattle.tftp_client.specs.Converses.{State}
 use Rattle.tftp_client.specs.Runs.{begun}
 use Rattle.tftp_promises.specs.ClientRuns.{ClientRun}
@@ -33,7 +33,7 @@ module _ {S F D : Type 0} (stores : StoreMeaning S D) (sources : SourceMeaning F
     -- it runs from its start, or from a later time, to its end state
     pub start : LoopState S F D
     pub last : LoopState S F D
-    pub run : Run (Does stores sources) start last
+    pub run : Run (LoopStep stores sources) start last
     -- the events of the run, the newest first
     pub noted : List Event
     pub is_noted : last.events ≡ noted ++ start.events
@@ -56,7 +56,7 @@ module _ {S F D : Type 0} (stores : StoreMeaning S D) (sources : SourceMeaning F
 
   abbrev pub ServersAreRuns : Type 0
   ServersAreRuns =
-      (to : Endpoint) (start last : LoopState S F D) → Run (Does stores sources) start last
+      (to : Endpoint) (start last : LoopState S F D) → Run (LoopStep stores sources) start last
       → start.requests ≡ to.port → start.server.held ≡ [] → start.pending ≡ None
       → IsBlockSize start.server.config.limits.max_block → IsServerRun to start last
 

@@ -11,7 +11,7 @@ use Rattle.tftp_sockets.specs.Journal.{Event}
 use Rattle.tftp_sockets.specs.Journal.Event.{Sent}
 use Rattle.tftp_loop.specs.Run.{Run}
 use Rattle.tftp_loop.specs.Run.Run.{Start, Then}
-use Rattle.tftp_loop.specs.Serves.{LoopState, Does, Request_answered}
+use Rattle.tftp_loop.specs.Steps.{LoopState, LoopStep, Request_answered}
 use Rattle.tftp_promises.specs.Order.{Noted, IsHonestOf, IsStrangerTo, events_of}
 use Rattle.tftp_promises.specs.Programs.{endpoint, has_port, ServerProgram, ClientProgram}
 use Rattle.tftp_promises.specs.Programs.{client_at}
@@ -30,14 +30,14 @@ apart_from own (port ∷ ports) =
 
 module _ {S F D : Type 0} {stores : StoreMeaning S D} {sources : SourceMeaning F} where
   -- the ports of the transfers that a run opened for the client at this endpoint
-  abbrev pub opened_for : Endpoint → {old new : LoopState S F D} → Does stores sources old new
+  abbrev pub opened_for : Endpoint → {old new : LoopState S F D} → LoopStep stores sources old new
       → List ℕ
   opened_for a (Request_answered answers) =
       if is_same answers.from a then option_to_list answers.left.opened.tid else []
   opened_for a does = []
 
   abbrev pub ports_for : Endpoint → {first last : LoopState S F D}
-      → Run (Does stores sources) first last → List ℕ
+      → Run (LoopStep stores sources) first last → List ℕ
   ports_for a Start = []
   ports_for a (Then run does) = opened_for a does ++ ports_for a run
 

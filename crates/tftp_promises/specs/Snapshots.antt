@@ -9,7 +9,7 @@ use Rattle.tftp_sockets.specs.Journal.{Event}
 use Rattle.tftp_sockets.specs.Journal.Event.{Sent}
 use Rattle.tftp_loop.specs.Run.{Run}
 use Rattle.tftp_loop.specs.Run.Run.{Start, Then}
-use Rattle.tftp_loop.specs.Serves.{LoopState, Does}
+use Rattle.tftp_loop.specs.Steps.{LoopState, LoopStep}
 use Rattle.tftp_client.specs.Converses.{State}
 use Rattle.tftp_client.specs.Runs.{begun}
 use Rattle.tftp_promises.specs.ClientRuns.{moved_in}
@@ -45,7 +45,7 @@ module _ {S F D G K : Type 0} {stores : StoreMeaning S D} {sources : SourceMeani
   pub record Snapshot : Type 0 where
     -- the server, and its run so far
     pub state : LoopState S F D
-    pub run : Run (Does stores sources)
+    pub run : Run (LoopStep stores sources)
         programs.server.start state
     -- the events of that run, the newest first
     pub noted : List Event
@@ -64,7 +64,7 @@ module _ {S F D G K : Type 0} {stores : StoreMeaning S D} {sources : SourceMeani
 
   -- the server has made this step, and noted these events
   abbrev pub server_did : (old : Snapshot) {new : LoopState S F D}
-      → Does stores sources old.state new → List Event → Snapshot
+      → LoopStep stores sources old.state new → List Event → Snapshot
   server_did old {new} does added =
       record {
         state = new;

@@ -8,7 +8,7 @@ use Rattle.tftp_store.specs.Store.{StoreMeaning}
 use Rattle.tftp_server.specs.State.{ServerState, at}
 use Rattle.tftp_sockets.specs.Journal.{Event}
 use Rattle.tftp_loop.specs.Run.{Run}
-use Rattle.tftp_loop.specs.Serves.{Timer, LoopState, Does, at_start}
+use Rattle.tftp_loop.specs.Steps.{Timer, LoopState, LoopStep, at_start}
 use Rattle.tftp_loop.specs.declared.serving.LoopConfig.{LoopConfig}
 use Rattle.tftp_promises.specs.Ports.{AreDistinct}
 
@@ -32,5 +32,5 @@ module _ {S F D : Type 0} where
   EachHasOneTimer stores sources =
       (config : LoopConfig) (port : ℕ) (first : ServerState S F D) (before : List Event)
       (now : LoopState S F D)
-      → first.held ≡ [] → Run (Does stores sources) (at_start config port first before) now
+      → first.held ≡ [] → Run (LoopStep stores sources) (at_start config port first before) now
       → HasOneTimerEach now

@@ -18,7 +18,7 @@ use Rattle.tftp_rules.specs.Shows.{NoneAt, EndView, party_of, view_of, Matches, 
 use Rattle.tftp_rules.specs.Shows.{ActInTurn, party_then, sent_by, NoneAnswers}
 use Rattle.tftp_rules.specs.EndShown.{Stands}
 use Rattle.tftp_rules.proofs.Acting.{stays_open}
-use Rattle.tftp_rules.proofs.Shown.{shown_acts, shown_opens, shown_speaks, shown_within}
+use Rattle.tftp_rules.proofs.Refines.{shown_acts, shown_opens, shown_speaks, shown_within}
 
 -- the number that a client begins with, once it has a peer
 abbrev begins : Bool → ℕ

@@ -11,7 +11,7 @@ pub mod RecordedKept
 pub mod Indices
 pub mod Entries
 pub mod Acting
-pub mod Shown
+pub mod Refines
 pub mod ViewSafe
 pub mod HostLemmas
 pub mod SaidLemmas

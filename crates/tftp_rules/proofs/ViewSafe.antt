@@ -12,7 +12,7 @@ use Rattle.tftp_rules.specs.MachineSafety.{party_view}
 use Rattle.tftp_rules.specs.Safety.{IsSenderAt}
 use Rattle.tftp_rules.specs.ViewSafety.{IsAmong, safety_view, IsSafeViews, PeersAtHome}
 use Rattle.tftp_rules.proofs.Steps.{own_server}
-use Rattle.tftp_rules.proofs.Shown.{shown_by}
+use Rattle.tftp_rules.proofs.Refines.{shown_by}
 use Rattle.tftp_rules.proofs.Runs.{IsSafeMachine-holds}
 
 pub IsPrefixOf-trans : PrefixesJoin

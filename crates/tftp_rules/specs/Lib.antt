@@ -7,7 +7,7 @@ pub mod MachineSafety
 pub mod Facts
 pub mod Recorded
 pub mod Shows
-pub mod Kept
+pub mod Refines
 pub mod ViewSafety
 pub mod Texts
 pub mod Said

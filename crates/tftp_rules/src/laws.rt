@@ -5,7 +5,7 @@ ghost use Rattle.std.specs.Prelude.{List, []};
 ghost use Rattle.tftp_rules.specs.EndOpens.{AnswersAreGranted, ReadsOpen, WritesOpen};
 ghost use Rattle.tftp_rules.specs.EndShown.{DatagramTurnsAreShown, TimeoutTurnsAreShown};
 ghost use Rattle.tftp_rules.specs.Facts.{Holds};
-ghost use Rattle.tftp_rules.specs.Kept.{EndsGoOn, EndsOpen, DatagramsAreAdded};
+ghost use Rattle.tftp_rules.specs.Refines.{EndsGoOn, EndsOpen, DatagramsAreAdded};
 ghost use Rattle.tftp_rules.specs.Hosts.{two_hosts};
 ghost use Rattle.tftp_rules.specs.Machine.{Endpoint, Message, Network};
 ghost use Rattle.tftp_rules.specs.MachineSafety.{IsSafeMachine, IsCompleted};

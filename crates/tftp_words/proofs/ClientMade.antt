@@ -20,7 +20,7 @@ use Rattle.tftp_client.specs.Converses.{State, most_waits}
 use Rattle.tftp_client.specs.Moved.{Moved, nothing_moved, run_moves}
 use Rattle.tftp_client.specs.Ordered.{RunsOrder, RunsWords}
 use Rattle.tftp_client.specs.Runs.{Completes, FailsBy, FailsTransfer, IsCountOf, IsFileOf, IsWhole, MayOpen, RunsAs}
-use Rattle.tftp_client.specs.Runs.{StaysOn, Transfers, measured, moved_by, opens, plain, printed}
+use Rattle.tftp_client.specs.Runs.{Dallies, Transfers, measured, moved_by, opens, plain, printed}
 use Rattle.tftp_client.specs.Words.{WordsName}
 use Rattle.tftp_promises.specs.ClientPrograms.{ClientsArePrograms, IsClientRun, IsCounted, Mode, Netascii, Octet}
 use Rattle.tftp_promises.specs.Programs.{ClientOpens, ClientProgram, To_read, To_write, name_of}
@@ -172,7 +172,7 @@ module _ {G K : Type 0} {inputs : SourceMeaning G} {outputs : SinkMeaning K}
       -- it is complete, and stayed
       module _ {port count : ℕ} {before after : List Event} {last : State} {files : Files G K}
           (runs : RunsAs inputs outputs port tried.kind tried before last files count)
-          (stays : StaysOn inputs outputs port (printed count last) files after)
+          (stays : Dallies inputs outputs port (printed count last) files after)
           (stayed : is_complete stays.last.end.position.phase ≡ true)
           (still : (moved : Moved) → run_moves stays.converses moved ≡ moved)
           (file : IsFileOf inputs outputs tried.kind files) where

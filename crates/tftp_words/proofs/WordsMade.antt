@@ -9,7 +9,7 @@ use Rattle.tftp_store.specs.Store.{StoreMeaning}
 use Rattle.tftp_server.specs.State.{ServerState}
 use Rattle.tftp_server.specs.declared.config.Config.{Config}
 use Rattle.tftp_sockets.specs.Bound.{IsBoundTo}
-use Rattle.tftp_loop.specs.Serves.{LoopState, at_start}
+use Rattle.tftp_loop.specs.Steps.{LoopState, at_start}
 use Rattle.tftp_loop.specs.WholeRun.{Serves, ServesFrom, Unbound, Bound, listening}
 use Rattle.tftp_loop.specs.declared.serving.LoopFault.{LoopFault}
 use Rattle.tftp_folder.specs.declared.folder_store.FolderStore.{FolderStore}

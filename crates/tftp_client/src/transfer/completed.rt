@@ -30,7 +30,7 @@ pub(crate) struct Completed<R: FileSystem + Drop> {
 
 impl<R: FileSystem + Drop> Completed<R> {
     ghost use Rattle.tftp_client.specs.Conversation.{state_of};
-    ghost use Rattle.tftp_client.specs.Runs.{StaysOn};
+    ghost use Rattle.tftp_client.specs.Runs.{Dallies};
 
     /// How the program ends.
     pub(crate) fn client_end(&self) -> ClientOutcome
@@ -42,7 +42,7 @@ impl<R: FileSystem + Drop> Completed<R> {
     /// Waits until the end is closed, but so many times at most: a receiver's end after two
     /// timeouts, a sender's at once.
     pub(crate) fn dally<C: Clock>(self, clock: &C, waits: u32, journal: &mut Journal)
-        ensures stays { StaysOn ⟦<LocalSource<R::File> as Source>⟧.meaning
+        ensures stays { Dallies ⟦<LocalSource<R::File> as Source>⟧.meaning
             ⟦<LocalFile<R> as Sink>⟧.meaning self.conversation.socket.port
             (state_of self.conversation journal.old.events) self.files journal.new.events }
         ensures waits { waits_in journal.new.events ≤ waits + waits_in journal.old.events }

@@ -4,7 +4,7 @@ ghost use Rattle.std.specs.Prelude.{◌≡◌, IfOk, IfErr, OnErr};
 ghost use Rattle.tftp_rules.specs.Hosts.{host_of};
 ghost use Rattle.tftp_rules.specs.Machine.{Elsewhere};
 ghost use Rattle.tftp_player.specs.Arriving.{ArrivalRefuses};
-ghost use Rattle.tftp_player.specs.WorldSteps.{Arrives, WorldRefuses, WorldStep};
+ghost use Rattle.tftp_player.specs.WorldSteps.{Delivery, WorldRefuses, WorldStep};
 ghost use Rattle.tftp_player.specs.declared.event.Event.TheVariants.{Deliver, Stray};
 
 use crate::effect::write_down;
@@ -62,7 +62,7 @@ impl Exchange {
         bytes: &[u8],
     ) -> Result<Report, WorldFault>
         ensures arrives { IfOk result (λ report.
-            Arrives self.old from to bytes.now report self.new) }
+            Delivery self.old from to bytes.now report self.new) }
         ensures refused { IfErr result (ArrivalRefuses self.old to) }
         ensures err { OnErr result (self.new ≡ self.old) }
     {

@@ -5,7 +5,7 @@ use Rattle.tftp_lines.specs.declared.printed.Printed.TheVariants.{Listening}
 use Rattle.tftp_sockets.specs.Journal.{Event}
 use Rattle.tftp_sockets.specs.Journal.Event.{Printed}
 use Rattle.tftp_loop.specs.Run.Run.{Start}
-use Rattle.tftp_loop.specs.Serves.{at_start}
+use Rattle.tftp_loop.specs.Steps.{at_start}
 use Rattle.tftp_loop.specs.WholeRun.{ServesFrom, listening}
 use Rattle.tftp_loop.proofs.serving.listen.Goals as goal
 

@@ -3,8 +3,8 @@ use Rattle.tftp_ends.specs.declared.endpoint.Endpoint.{Endpoint}
 use Rattle.tftp_sockets.specs.declared.journal.Journal.{Journal}
 use Rattle.tftp_loop.specs.Run.Run.{Start}
 use Rattle.tftp_loop.specs.declared.sockets.Sockets.{Sockets}
-use Rattle.tftp_loop.specs.Serves.{at_start}
-use Rattle.tftp_loop.specs.Served.{pending_in, state_of, timer_of}
+use Rattle.tftp_loop.specs.Steps.{at_start}
+use Rattle.tftp_loop.specs.LoopStates.{pending_in, state_of, timer_of}
 use Rattle.tftp_loop.proofs.RunLemmas.{onward, idle}
 use Rattle.tftp_loop.proofs.LoopRuns.{same_state}
 use Rattle.tftp_loop.proofs.Receipts.{ends_by, starts_few, starts_settled}

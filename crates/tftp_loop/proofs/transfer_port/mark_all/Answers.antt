@@ -1,5 +1,5 @@
 use Rattle.std.proofs.Common.{arith}
-use Rattle.tftp_loop.specs.Tended.{marked_if}
+use Rattle.tftp_loop.specs.MayWait.{marked_if}
 use Rattle.tftp_loop.proofs.Waits.{changed_more}
 use Rattle.tftp_loop.proofs.transfer_port.mark_all.Goals as goal
 

@@ -1,5 +1,5 @@
 use Rattle.std.proofs.Common.{◌≡◌, ◌++◌, map, take, drop}
-use Rattle.tftp_loop.specs.Tended.{marked_if}
+use Rattle.tftp_loop.specs.MayWait.{marked_if}
 use Rattle.tftp_loop.proofs.transfer_port.mark_all.Given as goal
 
 abbrev pub invariant-loop-port : goal.invariant-loop-port

@@ -1,5 +1,5 @@
 use Rattle.std.proofs.Common.{arith}
-use Rattle.tftp_loop.specs.Tended.{set_if}
+use Rattle.tftp_loop.specs.MayWait.{set_if}
 use Rattle.tftp_loop.proofs.Waits.{changed_more}
 use Rattle.tftp_loop.proofs.transfer_port.set_all.Goals as goal
 

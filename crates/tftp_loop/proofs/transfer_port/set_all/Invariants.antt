@@ -1,5 +1,5 @@
 use Rattle.std.proofs.Common.{◌≡◌, ◌++◌, map, take, drop}
-use Rattle.tftp_loop.specs.Tended.{set_if}
+use Rattle.tftp_loop.specs.MayWait.{set_if}
 use Rattle.tftp_loop.proofs.transfer_port.set_all.Given as goal
 
 abbrev pub invariant-loop-port : goal.invariant-loop-port

@@ -1,5 +1,5 @@
 -- The lemma that is the law.
-use Rattle.tftp_rules.proofs.Shown.{shown_speaks}
+use Rattle.tftp_rules.proofs.Refines.{shown_speaks}
 use Rattle.tftp_rules.proofs.laws.a_datagram_is_added.Goals as goal
 
 pub returns : goal.returns

@@ -1,5 +1,5 @@
 -- The lemma that is the law.
-use Rattle.tftp_rules.proofs.Shown.{shown_acts}
+use Rattle.tftp_rules.proofs.Refines.{shown_acts}
 use Rattle.tftp_rules.proofs.laws.an_end_goes_on.Goals as goal
 
 pub returns : goal.returns

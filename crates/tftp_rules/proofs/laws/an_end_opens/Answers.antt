@@ -1,5 +1,5 @@
 -- The lemma that is the law.
-use Rattle.tftp_rules.proofs.Shown.{shown_opens}
+use Rattle.tftp_rules.proofs.Refines.{shown_opens}
 use Rattle.tftp_rules.proofs.laws.an_end_opens.Goals as goal
 
 pub returns : goal.returns

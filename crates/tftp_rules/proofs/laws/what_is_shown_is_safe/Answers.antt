@@ -1,5 +1,5 @@
 -- The lemmas that are the law.
-use Rattle.tftp_rules.proofs.Shown.{shown_start}
+use Rattle.tftp_rules.proofs.Refines.{shown_start}
 use Rattle.tftp_rules.proofs.ViewSafe.{shown_apart, shown_safe, shown_at_home}
 use Rattle.tftp_rules.proofs.laws.what_is_shown_is_safe.Goals as goal
 

@@ -1,6 +1,6 @@
 use Rattle.std.proofs.Common.{arith, refl, ap}
-use Rattle.tftp_loop.specs.Serves.{Timer}
-use Rattle.tftp_loop.specs.Served.{timer_of}
+use Rattle.tftp_loop.specs.Steps.{Timer}
+use Rattle.tftp_loop.specs.LoopStates.{timer_of}
 use Rattle.tftp_loop.proofs.PortRuns.{receives_late}
 use Rattle.tftp_loop.proofs.port_turn.PortTurn.answer_in_time.Goals as goal
 

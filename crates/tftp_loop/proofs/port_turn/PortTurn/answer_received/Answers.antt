@@ -1,6 +1,6 @@
 use Rattle.std.proofs.Common.{refl, ap, ◌∙◌}
-use Rattle.tftp_loop.specs.Serves.{Timer}
-use Rattle.tftp_loop.specs.Served.{timer_of}
+use Rattle.tftp_loop.specs.Steps.{Timer}
+use Rattle.tftp_loop.specs.LoopStates.{timer_of}
 use Rattle.tftp_loop.proofs.PortRuns.{here, receives, receives_lost, then_works}
 use Rattle.tftp_loop.proofs.PortStays.{after_received}
 use Rattle.tftp_loop.proofs.port_turn.PortTurn.answer_received.Goals as goal

@@ -1,7 +1,7 @@
 use Rattle.std.proofs.Common.{ℕ, sym, subst}
 use Rattle.tftp_loop.specs.declared.port_turn.Turn.{Turn}
 use Rattle.tftp_loop.specs.PortTurn.{at_turn}
-use Rattle.tftp_loop.specs.Tended.{leaves_by, leaves_timed}
+use Rattle.tftp_loop.specs.MayWait.{leaves_by, leaves_timed}
 use Rattle.tftp_loop.proofs.port_turn.PortTurn.take.Goals as goal
 
 pub returns-in-Due-clause-leaves : goal.returns-in-Due-clause-leaves

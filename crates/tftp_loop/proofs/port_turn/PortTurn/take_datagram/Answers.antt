@@ -2,8 +2,8 @@ use Rattle.std.proofs.Common.{arith, ◌≡◌, true, ℕ, refl, sym, ap, subst}
 use Rattle.std.specs.Prelude.{take}
 use Rattle.tftp_sockets.specs.Journal.QuietEvent.{Empty, Failed}
 use Rattle.tftp_sockets.specs.Quiet.{was_tried}
-use Rattle.tftp_loop.specs.Serves.{Timer}
-use Rattle.tftp_loop.specs.Served.{timer_of}
+use Rattle.tftp_loop.specs.Steps.{Timer}
+use Rattle.tftp_loop.specs.LoopStates.{timer_of}
 use Rattle.tftp_loop.proofs.PortRuns.{finds_nothing, fails_to_receive}
 use Rattle.tftp_loop.proofs.PortStays.{received_tried, stays_along}
 use Rattle.tftp_loop.proofs.TurnLemmas.{receives_none, serves_received}

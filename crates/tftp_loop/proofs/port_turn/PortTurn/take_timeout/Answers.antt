@@ -1,6 +1,6 @@
 use Rattle.std.proofs.Common.{refl, ap, ◌∙◌}
-use Rattle.tftp_loop.specs.Serves.{Timer}
-use Rattle.tftp_loop.specs.Served.{timer_of}
+use Rattle.tftp_loop.specs.Steps.{Timer}
+use Rattle.tftp_loop.specs.LoopStates.{timer_of}
 use Rattle.tftp_loop.proofs.PortRuns.{elapses_either}
 use Rattle.tftp_loop.proofs.TurnLemmas.{elapses_none}
 use Rattle.tftp_loop.proofs.port_turn.PortTurn.take_timeout.Goals as goal

@@ -1,7 +1,7 @@
 use Rattle.std.proofs.Common.{refl, ap, inl}
 use Rattle.std.specs.Prelude.{Some}
 use Rattle.tftp_loop.specs.declared.server_loop.ServerLoop.{ServerLoop}
-use Rattle.tftp_loop.specs.Served.{loop_state}
+use Rattle.tftp_loop.specs.LoopStates.{loop_state}
 use Rattle.tftp_loop.proofs.LoopRuns.{noted_state}
 use Rattle.tftp_loop.proofs.RequestRuns.{loses_for_memory}
 use Rattle.tftp_loop.proofs.server_loop.ServerLoop.answer_pending.Goals as goal

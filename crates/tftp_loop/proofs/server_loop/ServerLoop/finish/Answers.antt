@@ -2,7 +2,7 @@ use Rattle.std.proofs.Common.{◌≡◌, ◌-◌, not, refl, sym, ap, subst, ◌
 use Rattle.tftp_sockets.specs.declared.port.Port.{Port}
 use Rattle.tftp_loop.specs.declared.transfer_port.TransferSocket.{TransferSocket}
 use Rattle.tftp_loop.specs.declared.server_loop.ServerLoop.{ServerLoop}
-use Rattle.tftp_loop.specs.Tended.{Finishes}
+use Rattle.tftp_loop.specs.MayWait.{Finishes}
 use Rattle.tftp_loop.proofs.ListLemmas.{one_at}
 use Rattle.tftp_loop.proofs.Visits.{stays_by, goes_by}
 use Rattle.tftp_loop.proofs.server_loop.ServerLoop.finish.Goals as goal

@@ -1,7 +1,7 @@
 use Rattle.std.proofs.Common.{map, ap, ◌∙◌, rules}
 use Rattle.std.proofs.lemmas.List.{with_items_is, places}
-use Rattle.tftp_loop.specs.Served.{timer_of}
-use Rattle.tftp_loop.specs.Tended.{marked_if}
+use Rattle.tftp_loop.specs.LoopStates.{timer_of}
+use Rattle.tftp_loop.specs.MayWait.{marked_if}
 use Rattle.tftp_loop.proofs.Waits.{timers_marked}
 use Rattle.tftp_loop.proofs.server_loop.ServerLoop.mark.Goals as goal
 

@@ -3,7 +3,7 @@ use Rattle.tftp_server.specs.State.{at}
 use Rattle.tftp_loop.specs.declared.server_loop.ServerLoop.{ServerLoop}
 use Rattle.tftp_loop.specs.declared.sockets.Sockets.{Sockets}
 use Rattle.std.specs.Prelude.{Some, None}
-use Rattle.tftp_loop.specs.Served.{loop_state, timer_of}
+use Rattle.tftp_loop.specs.LoopStates.{loop_state, timer_of}
 use Rattle.tftp_loop.proofs.LoopRuns.{same_state}
 use Rattle.tftp_loop.proofs.RequestRuns.{may_open, sets_and_answers, sets_and_loses, is_free, ok-err}
 use Rattle.tftp_loop.proofs.server_loop.ServerLoop.open_at.Goals as goal

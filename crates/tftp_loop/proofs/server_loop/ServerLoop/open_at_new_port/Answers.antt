@@ -2,9 +2,9 @@ use Rattle.std.proofs.Common.{◌≡◌, ◌==◌, true, refl, sym, ap, subst, �
 use Rattle.std.specs.Prelude.{None, Some, ◌||◌, is_some}
 use Rattle.tftp_server.specs.State.{at}
 use Rattle.tftp_loop.specs.declared.sockets.Sockets.{Sockets}
-use Rattle.tftp_loop.specs.Serves.{LoopState, is_taken}
-use Rattle.tftp_loop.specs.Served.{loop_state}
-use Rattle.tftp_loop.specs.Tended.{Concludes}
+use Rattle.tftp_loop.specs.Steps.{LoopState, is_taken}
+use Rattle.tftp_loop.specs.LoopStates.{loop_state}
+use Rattle.tftp_loop.specs.MayWait.{Concludes}
 use Rattle.tftp_loop.proofs.LoopRuns.{same_state}
 use Rattle.tftp_loop.proofs.RequestRuns.{binds_in_vain, bound_as, may_open, prepares_first, tries_in_vain}
 use Rattle.tftp_loop.proofs.server_loop.ServerLoop.open_at_new_port.Goals as goal

@@ -2,9 +2,9 @@ use Rattle.std.proofs.Common.{map, refl, ap, subst, inr, ◌∙◌}
 use Rattle.std.specs.Prelude.{None, Some}
 use Rattle.tftp_loop.specs.declared.server_loop.ServerLoop.{ServerLoop}
 use Rattle.tftp_loop.specs.declared.sockets.Sockets.{Sockets}
-use Rattle.tftp_loop.specs.Serves.{LoopState}
-use Rattle.tftp_loop.specs.Served.{loop_state, timer_of}
-use Rattle.tftp_loop.specs.Tended.{Concludes}
+use Rattle.tftp_loop.specs.Steps.{LoopState}
+use Rattle.tftp_loop.specs.LoopStates.{loop_state, timer_of}
+use Rattle.tftp_loop.specs.MayWait.{Concludes}
 use Rattle.tftp_loop.proofs.LoopRuns.{same_state}
 use Rattle.tftp_loop.proofs.RequestRuns.{loses_for_memory, may_open}
 use Rattle.tftp_loop.proofs.server_loop.ServerLoop.open_request.Goals as goal

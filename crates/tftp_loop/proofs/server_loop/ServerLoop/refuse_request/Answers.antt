@@ -4,7 +4,7 @@ use Rattle.tftp_ends.specs.declared.endpoint.Endpoint.{Endpoint}
 use Rattle.tftp_ends.specs.declared.error_reply.ErrorReply.{ErrorReply}
 use Rattle.tftp_server.specs.Request.{Admits}
 use Rattle.tftp_sockets.specs.Journal.{replied}
-use Rattle.tftp_loop.specs.Served.{loop_state}
+use Rattle.tftp_loop.specs.LoopStates.{loop_state}
 use Rattle.tftp_loop.proofs.LoopRuns.{same_state}
 use Rattle.tftp_loop.proofs.RequestRuns.{refuses_as, refused_to, refused_bytes}
 use Rattle.tftp_loop.proofs.server_loop.ServerLoop.refuse_request.Goals as goal

@@ -1,9 +1,9 @@
 use Rattle.std.proofs.Common.{arith, map, refl, sym, ap, ◌∙◌, rules, ℕ, ◌∷◌}
 use Rattle.std.proofs.lemmas.List.{with_items_is, places}
 use Rattle.tftp_sockets.specs.Journal.Event.{Watched}
-use Rattle.tftp_loop.specs.Serves.{set_by}
-use Rattle.tftp_loop.specs.Served.{timer_of}
-use Rattle.tftp_loop.specs.Tended.{set_if}
+use Rattle.tftp_loop.specs.Steps.{set_by}
+use Rattle.tftp_loop.specs.LoopStates.{timer_of}
+use Rattle.tftp_loop.specs.MayWait.{set_if}
 use Rattle.tftp_loop.proofs.Waits.{timers_set}
 use Rattle.tftp_loop.proofs.server_loop.ServerLoop.set_deadlines.Goals as goal
 

@@ -1,5 +1,5 @@
 use Rattle.std.proofs.Common.{arith, inr, refl}
-use Rattle.tftp_loop.specs.Tended.{HasRead}
+use Rattle.tftp_loop.specs.MayWait.{HasRead}
 use Rattle.tftp_loop.proofs.LoopRuns.{runs_as}
 use Rattle.tftp_loop.proofs.RunLemmas.{onward}
 use Rattle.tftp_loop.proofs.Waits.{may_wait, read_settled, waits_as, woken_few, woken_settled}

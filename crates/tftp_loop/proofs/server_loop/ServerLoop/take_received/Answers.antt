@@ -1,9 +1,9 @@
 use Rattle.std.proofs.Common.{arith, take, refl, ap, inl, ◌∙◌}
 use Rattle.std.specs.Prelude.{Some}
 use Rattle.tftp_loop.specs.declared.server_loop.ServerLoop.{ServerLoop}
-use Rattle.tftp_loop.specs.Serves.{No_answer}
-use Rattle.tftp_loop.specs.Served.{loop_state}
-use Rattle.tftp_loop.specs.Tended.{Concluded}
+use Rattle.tftp_loop.specs.Steps.{No_answer}
+use Rattle.tftp_loop.specs.LoopStates.{loop_state}
+use Rattle.tftp_loop.specs.MayWait.{Concluded}
 use Rattle.tftp_loop.proofs.LoopRuns.{noted_state}
 use Rattle.tftp_loop.proofs.RequestRuns.{loses_as, loses_for_memory}
 use Rattle.tftp_loop.proofs.server_loop.ServerLoop.take_received.Goals as goal

@@ -1,6 +1,6 @@
 use Rattle.std.proofs.Common.{◌≤◌}
-use Rattle.tftp_loop.specs.Served.{ServesRounds}
-use Rattle.tftp_loop.specs.Tended.{IsTended}
+use Rattle.tftp_loop.specs.LoopStates.{ServesRounds}
+use Rattle.tftp_loop.specs.MayWait.{IsTended}
 use Rattle.tftp_loop.proofs.server_loop.ServerLoop.take_rounds.Given as goal
 
 -- the run so far, and that a wait may follow

@@ -1,6 +1,6 @@
 use Rattle.std.proofs.Common.{arith, sym, subst}
-use Rattle.tftp_loop.specs.Served.{timer_of}
-use Rattle.tftp_loop.specs.Tended.{IsHeld, ReceivedFew, before_turn}
+use Rattle.tftp_loop.specs.LoopStates.{timer_of}
+use Rattle.tftp_loop.specs.MayWait.{IsHeld, ReceivedFew, before_turn}
 use Rattle.tftp_loop.proofs.ListLemmas.{map_is, map_within}
 use Rattle.tftp_loop.proofs.Visits.{few_before}
 use Rattle.tftp_loop.proofs.server_loop.ServerLoop.take_turn.Goals as goal

@@ -1,6 +1,6 @@
 use Rattle.std.proofs.Common.{◌≡◌}
-use Rattle.tftp_loop.specs.Served.{OnlyWorks}
-use Rattle.tftp_loop.specs.Tended.{AwaitTurn, HaveTurned, IsSettled}
+use Rattle.tftp_loop.specs.LoopStates.{OnlyWorks}
+use Rattle.tftp_loop.specs.MayWait.{AwaitTurn, HaveTurned, IsSettled}
 use Rattle.tftp_loop.proofs.server_loop.ServerLoop.take_turns.Given as goal
 
 -- the ports from the index on had their turn

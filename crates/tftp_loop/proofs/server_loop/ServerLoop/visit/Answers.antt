@@ -1,6 +1,6 @@
 use Rattle.std.proofs.Common.{arith}
 use Rattle.tftp_loop.specs.Run.Run.{Start}
-use Rattle.tftp_loop.specs.Tended.{ReceivedFew, before_turn}
+use Rattle.tftp_loop.specs.MayWait.{ReceivedFew, before_turn}
 use Rattle.tftp_loop.proofs.Visits.{before, visit_settled, works_after, turned_after}
 use Rattle.tftp_loop.proofs.server_loop.ServerLoop.visit.Goals as goal
 

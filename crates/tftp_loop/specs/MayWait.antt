@@ -24,11 +24,11 @@ use Rattle.tftp_loop.specs.declared.port_turn.PortStatus.TheVariants as statuses
 use Rattle.tftp_loop.specs.declared.transfer_port.TransferSocket.{TransferSocket}
 use Rattle.tftp_loop.specs.Fair.{ReceivesAtMost}
 use Rattle.tftp_loop.specs.Run.{Run}
-use Rattle.tftp_loop.specs.Serves.{Timer, PortState, LoopState, AnswersRequest, Closes}
-use Rattle.tftp_loop.specs.Serves.{LosesRequest}
-use Rattle.tftp_loop.specs.Serves.{NotesRequest, SetsStore, deadline_by, next_look, marked_by}
-use Rattle.tftp_loop.specs.Serves.{round_end, set_by}
-use Rattle.tftp_loop.specs.Served.{OnlyServesPort, close_reported, loop_state, state_of, timer_of}
+use Rattle.tftp_loop.specs.Steps.{Timer, PortState, LoopState, AnswersRequest, Closes}
+use Rattle.tftp_loop.specs.Steps.{LosesRequest}
+use Rattle.tftp_loop.specs.Steps.{NotesRequest, SetsStore, deadline_by, next_look, marked_by}
+use Rattle.tftp_loop.specs.Steps.{round_end, set_by}
+use Rattle.tftp_loop.specs.LoopStates.{OnlyServesPort, close_reported, loop_state, state_of, timer_of}
 
 -- ---- timers
 

@@ -21,9 +21,9 @@ use Rattle.tftp_loop.specs.Run.{Run}
 use Rattle.tftp_loop.specs.declared.server_loop.ServerLoop.{ServerLoop}
 use Rattle.tftp_loop.specs.declared.serving.LoopFault.{LoopFault}
 use Rattle.tftp_loop.specs.declared.serving.LoopFault.TheVariants as faults
-use Rattle.tftp_loop.specs.Serves.{Timer, PortState, AtPort, LoopState, Does}
-use Rattle.tftp_loop.specs.Serves.{answering_port, with_timer}
-use Rattle.tftp_loop.specs.Serves.Does.{Waited, Clock_read}
+use Rattle.tftp_loop.specs.Steps.{Timer, PortState, PortStep, LoopState, LoopStep}
+use Rattle.tftp_loop.specs.Steps.{answering_port, with_timer}
+use Rattle.tftp_loop.specs.Steps.LoopStep.{Waited, Clock_read}
 
 -- the timer of a port
 abbrev pub timer_of : Port TransferSocket → Timer
@@ -51,7 +51,7 @@ module _ {S F D : Type 0} where
       → ServerState S F D → Port TransferSocket → Journal
       → ServerState S F D → Port TransferSocket → Journal → Type 0
   OnlyServesPort meaning sources now old port before new port' after =
-      Run (AtPort meaning sources now) (at_port old port before) (at_port new port' after)
+      Run (PortStep meaning sources now) (at_port old port before) (at_port new port' after)
 
 -- the journal after the close of a transfer with this outcome, if it has one
 abbrev pub close_printed : ℕ → Endpoint → Option Outcome → List Event → List Event
@@ -112,18 +112,18 @@ module _ {S F D : Type 0} where
 
   module _ (meaning : StoreMeaning S D) (sources : SourceMeaning F) where
     -- a step that is no wait and does not read the clock
-    abbrev pub IsWork : {old new : LoopState S F D} → Does meaning sources old new → Type 0
+    abbrev pub IsWork : {old new : LoopState S F D} → LoopStep meaning sources old new → Type 0
     IsWork (Waited waits) = ⊥
     IsWork (Clock_read reads) = ⊥
     IsWork does = ⊤
 
     pub data Works (old new : LoopState S F D) : Type 0 where
-      Work_by : (does : Does meaning sources old new) → IsWork does → Works old new
+      Work_by : (does : LoopStep meaning sources old new) → IsWork does → Works old new
 
     -- from one state of a daemon to another, whatever its buffer has
     abbrev pub OnlyServes : ServerLoop S F D → ServerLoop S F D → Type 0
     OnlyServes old new =
-        (buffer : List ℕ) → Run (Does meaning sources) (state_of buffer old) (state_of buffer new)
+        (buffer : List ℕ) → Run (LoopStep meaning sources) (state_of buffer old) (state_of buffer new)
 
     -- the same, without a wait
     abbrev pub OnlyWorks : ServerLoop S F D → ServerLoop S F D → Type 0
@@ -132,7 +132,7 @@ module _ {S F D : Type 0} where
     -- from one state of a daemon and its buffer to another
     abbrev pub ServesRounds : List ℕ → ServerLoop S F D → List ℕ → ServerLoop S F D → Type 0
     ServesRounds before old after new =
-        Run (Does meaning sources) (state_of before old) (state_of after new)
+        Run (LoopStep meaning sources) (state_of before old) (state_of after new)
 
     -- the same, without a wait
     abbrev pub WorksRound : List ℕ → ServerLoop S F D → List ℕ → ServerLoop S F D → Type 0

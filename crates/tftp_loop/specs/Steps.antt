@@ -290,15 +290,15 @@ module _ {S F D : Type 0} (meaning : StoreMeaning S D) (sources : SourceMeaning 
       pub events : new.events ≡ old.events
 
     -- what happens at the port of a transfer
-    pub data AtPort : Type 0 where
-      A_datagram : ReceivesAndHandles → AtPort
-      A_lost_datagram : ReceivesAndLoses → AtPort
-      A_late_datagram : ReceivesLate → AtPort
-      Nothing_found : FindsNothing → AtPort
-      A_failed_receive : FailsToReceive → AtPort
-      A_timeout : DeliversTimeout → AtPort
-      A_missed_timeout : MissesTimeout → AtPort
-      Work : FileWorks → AtPort
+    pub data PortStep : Type 0 where
+      A_datagram : ReceivesAndHandles → PortStep
+      A_lost_datagram : ReceivesAndLoses → PortStep
+      A_late_datagram : ReceivesLate → PortStep
+      Nothing_found : FindsNothing → PortStep
+      A_failed_receive : FailsToReceive → PortStep
+      A_timeout : DeliversTimeout → PortStep
+      A_missed_timeout : MissesTimeout → PortStep
+      Work : FileWorks → PortStep
 
 -- ---- at all ports
 
@@ -479,7 +479,7 @@ module _ {S F D : Type 0} (meaning : StoreMeaning S D) (sources : SourceMeaning 
     pub within : index < length old.timers
     pub is_timer : timer ≡ slice_index_or old.timers index timer
     pub next : PortState S F D
-    pub does : AtPort meaning sources old.now (port_state old timer) next
+    pub does : PortStep meaning sources old.now (port_state old timer) next
     pub is : new ≡ record old {
       server = next.server;
       timers = slice_set old.timers index next.timer;
@@ -580,18 +580,18 @@ module _ {S F D : Type 0} (meaning : StoreMeaning S D) (sources : SourceMeaning 
     }
 
   -- the steps of the loop
-  pub data Does : Type 0 where
-    Waited : Waits → Does
-    At_port : ServesPort → Does
-    Request_received : ReceivesRequest → Does
-    No_request_found : FindsNoRequest → Does
-    Request_not_received : FailsToReceiveRequest → Does
-    Request_noted : NotesRequest old new → Does
-    Request_answered : AnswersRequest → Does
-    Request_lost : LosesRequest → Does
-    Clock_read : ReadsClock → Does
-    Store_set : SetsStore → Does
-    Transfer_closed : Closes → Does
+  pub data LoopStep : Type 0 where
+    Waited : Waits → LoopStep
+    At_port : ServesPort → LoopStep
+    Request_received : ReceivesRequest → LoopStep
+    No_request_found : FindsNoRequest → LoopStep
+    Request_not_received : FailsToReceiveRequest → LoopStep
+    Request_noted : NotesRequest old new → LoopStep
+    Request_answered : AnswersRequest → LoopStep
+    Request_lost : LosesRequest → LoopStep
+    Clock_read : ReadsClock → LoopStep
+    Store_set : SetsStore → LoopStep
+    Transfer_closed : Closes → LoopStep
 
 -- a server of this configuration with a bound request port that has received nothing: its transfers
 -- have ports of the range, if there is one, and it ends after so many closed transfers or waits

@@ -5,7 +5,7 @@ use Rattle.tftp_file.specs.Source.{SourceMeaning}
 use Rattle.tftp_server.specs.State.{TransferState, draft_of}
 use Rattle.tftp_store.specs.Store.{StoreMeaning}
 use Rattle.tftp_loop.specs.Run.{Run}
-use Rattle.tftp_loop.specs.Serves.{Does, LoopState}
+use Rattle.tftp_loop.specs.Steps.{LoopStep, LoopState}
 use Rattle.tftp_folder.specs.Settings.{SameSettings}
 use Rattle.tftp_folder.specs.Uploads.{IsBelow}
 use Rattle.tftp_folder.specs.declared.folder_store.FolderStore.{FolderStore}
@@ -15,7 +15,7 @@ module _ {S F D : Type 0} (Same : S → S → Type 0) (meaning : StoreMeaning S 
   -- a run leaves the store so
   abbrev pub RunLeaves : Type 0
   RunLeaves =
-      (old new : LoopState S F D) → Run (Does meaning sources) old new
+      (old new : LoopState S F D) → Run (LoopStep meaning sources) old new
       → Same old.server.store new.server.store
 
 -- a run leaves the settings of its store
@@ -39,7 +39,7 @@ module _ {S F D : Type 0} (Admits : S → Type 0) (meaning : StoreMeaning S D)
   -- what a run keeps of its transfers, over a store that is so at its beginning
   abbrev pub RunKeepsHeld : (List (ℕ × TransferState F D) → Type 0) → Type 0
   RunKeepsHeld Holds =
-      (old new : LoopState S F D) → Run (Does meaning sources) old new
+      (old new : LoopState S F D) → Run (LoopStep meaning sources) old new
       → Admits old.server.store → Holds old.server.held → Holds new.server.held
 
 -- a run over a store that refuses writes never has a transfer that stores, if it began with none

@@ -26,7 +26,7 @@ use Rattle.tftp_rules.specs.ViewSafety.{IsAmong}
 use Rattle.tftp_server.specs.State.{TransferState, at}
 use Rattle.tftp_sockets.specs.Journal.{Event}
 use Rattle.tftp_client.specs.Converses.{State}
-use Rattle.tftp_loop.specs.Serves.{LoopState}
+use Rattle.tftp_loop.specs.Steps.{LoopState}
 use Rattle.tftp_promises.specs.ClientRuns.{moved_in}
 use Rattle.tftp_promises.specs.Joint.{WasSentBefore}
 use Rattle.tftp_promises.specs.Modelled.{AreModelled}
