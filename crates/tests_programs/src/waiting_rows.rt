@@ -46,10 +46,10 @@ fn a_transfer_is_due(rt: HostRuntime) {
     expect(&rt, is_due(1_700, 1_700), "at the time");
 }
 
-fn port(tid: u16, due: u64) -> Port<()> {
+fn port(tid: u16, look_at: u64) -> Port<()> {
     Port {
         tid,
-        due,
+        look_at,
         is_ready: false,
         socket: (),
     }

@@ -51,13 +51,13 @@ replies port (Some reply) {to} {bytes} {events} sent goes lends noted =
 -- a state with these fields is that state
 pub state_is : {e e' : EndState} {now now' due due' : ℕ} {events events' : List Event} → e ≡ e' → now ≡ now'
     → due ≡ due' → events ≡ events'
-    → ◌≡◌ {A = State} (record { end = e; now = now; due = due; events = events })
-    (record { end = e'; now = now'; due = due'; events = events' })
+    → ◌≡◌ {A = State} (record { end = e; now = now; deadline = due; events = events })
+    (record { end = e'; now = now'; deadline = due'; events = events' })
 state_is {e} {e'} {now} {now'} {due} {due'} {events} {events'} p q r t =
-    let at_end : EndState → State = λ x. record { end = x; now = now; due = due; events = events } in
-    let at_now : ℕ → State = λ x. record { end = e'; now = x; due = due; events = events } in
-    let at_due : ℕ → State = λ x. record { end = e'; now = now'; due = x; events = events } in
-    let at_events : List Event → State = λ x. record { end = e'; now = now'; due = due'; events = x } in
+    let at_end : EndState → State = λ x. record { end = x; now = now; deadline = due; events = events } in
+    let at_now : ℕ → State = λ x. record { end = e'; now = x; deadline = due; events = events } in
+    let at_due : ℕ → State = λ x. record { end = e'; now = now'; deadline = x; events = events } in
+    let at_events : List Event → State = λ x. record { end = e'; now = now'; deadline = due'; events = x } in
     ap at_end p ∙ (ap at_now q ∙ (ap at_due r ∙ ap at_events t))
 
 -- a call that succeeded was not refused
@@ -131,8 +131,8 @@ pub begun_open : {s : State} (port : ℕ) (e : EndState) (before : List Event) �
 begun_open port e before is is_open = let Of : State → Type 0 = λ t. IsOpen t.end in subst Of (sym is) is_open
 
 pub begun_ready : {s : State} (port : ℕ) (e : EndState) (before : List Event) → s ≡ begun port e before
-    → s.due ≡ deadline_at s.now s.end
-begun_ready port e before is = let Of : State → Type 0 = λ t. t.due ≡ deadline_at t.now t.end in subst Of (sym is) refl
+    → s.deadline ≡ deadline_at s.now s.end
+begun_ready port e before is = let Of : State → Type 0 = λ t. t.deadline ≡ deadline_at t.now t.end in subst Of (sym is) refl
 
 -- a timeout that was refused: the end is closed
 pub is_closed : {R P : Type 0} (fault : EndFault) → (IsErrOf {T = R} (Err fault) Closed ↔ P)

@@ -39,8 +39,8 @@ record Unanswered (most : ℕ) (s : State) : Type 0 where
   asked : Asked
   limit : ℕ
   waiting : s.end.position.phase ≡ Waiting asked limit
-  near : s.due ≤ s.now + 1000
-  early : s.now < s.due → waits s.events + s.end.position.retries_left ≤ most
+  near : s.deadline ≤ s.now + 1000
+  early : s.now < s.deadline → waits s.events + s.end.position.retries_left ≤ most
   few : waits s.events + s.end.position.retries_left ≤ most + 1
 
 -- a silent client has timed out, or its request is not answered
@@ -91,10 +91,10 @@ after_wait : (most : ℕ) {port : ℕ} (s : State) (event : QuietEvent) (time : 
     → (event ≡ Empty port) ⊎ (event ≡ Failed port)
     → s.now + wait_at s ≤ time → time < last_moment → Unanswered most (waited event time s)
 after_wait most s event time h may quiet lasts ends =
-    let length : wait_at s ≡ max (min (s.due - s.now) 1000) 1 = refl in
-    let before : s.now < s.due = lt_of_not-le (λ late. let is = may.due late
+    let length : wait_at s ≡ max (min (s.deadline - s.now) 1000) 1 = refl in
+    let before : s.now < s.deadline = lt_of_not-le (λ late. let is = may.due late
     ∙ second s.now s.end h.asked h.limit h.waiting in absurd (omega (arith, is, late, lasts, ends))) in
-    let due : s.due ≤ time = omega (arith, length, before, h.near, lasts) in
+    let due : s.deadline ≤ time = omega (arith, length, before, h.near, lasts) in
     let none = no_wait event quiet in
     let early = h.early before in
     record {
@@ -107,7 +107,7 @@ after_wait most s event time h may quiet lasts ends =
     }
 
 -- after a timeout the request was sent again, and another wait begins
-after_elapsed : (most port : ℕ) (s : State) → Unanswered most s → s.due ≤ s.now → IsOpen s.end → s.now < last_moment
+after_elapsed : (most port : ℕ) (s : State) → Unanswered most s → s.deadline ≤ s.now → IsOpen s.end → s.now < last_moment
     → Silent most (elapsed port s)
 after_elapsed most port s h due is_open ends = elim (times_out s.end h.asked h.limit h.waiting) [
   | inl closed ↦ inl closed

@@ -14,7 +14,7 @@ state_of conversation events =
     record {
       end = conversation.end;
       now = conversation.watch.now;
-      due = conversation.due;
+      deadline = conversation.deadline;
       events = events;
     }
 
@@ -22,5 +22,5 @@ state_of conversation events =
 -- one began at this moment
 abbrev pub IsReady : Conversation → Type 0
 IsReady conversation =
-    IsOpen conversation.end → conversation.due ≤ conversation.watch.now
-    → conversation.due ≡ deadline_at conversation.watch.now conversation.end
+    IsOpen conversation.end → conversation.deadline ≤ conversation.watch.now
+    → conversation.deadline ≡ deadline_at conversation.watch.now conversation.end

@@ -28,7 +28,7 @@ pub record State : Type 0 where
   -- the time of the watch, in milliseconds
   pub now : ℕ
   -- when the end is due for a timeout
-  pub due : ℕ
+  pub deadline : ℕ
   pub events : List Event
 
 -- the end is not closed
@@ -52,19 +52,19 @@ abbrev pub deadline_at : ℕ → EndState → ℕ
 deadline_at now end = deadline_of now (interval_of (terms_of end.position.phase))
 
 -- the deadline after a step: progress begins another wait
-abbrev pub due_after : Bool → ℕ → ℕ → ℕ → ℕ
-due_after progress now seconds due = if progress then deadline_of now seconds else due
+abbrev pub deadline_after : Bool → ℕ → ℕ → ℕ → ℕ
+deadline_after progress now seconds current = if progress then deadline_of now seconds else current
 
 -- how long a client waits for a datagram, in milliseconds: until it is due for a timeout, at most a
 -- second
 abbrev pub wait_at : State → ℕ
-wait_at s = max (min (s.due - s.now) LONGEST_WAIT) 1
+wait_at s = max (min (s.deadline - s.now) LONGEST_WAIT) 1
 
 -- a client waits only while its end is open, and when it is not due for a timeout, unless its wait
 -- for one began at this moment
 pub record MayWait (s : State) : Type 0 where
   pub not_closed : IsOpen s.end
-  pub due : s.due ≤ s.now → s.due ≡ deadline_at s.now s.end
+  pub due : s.deadline ≤ s.now → s.deadline ≡ deadline_at s.now s.end
 
 -- a wait without a datagram was over, by this event, and then the clock was read
 abbrev pub waited : QuietEvent → ℕ → State → State
@@ -89,7 +89,7 @@ turned port turn s =
     record {
       end = after_turn s.end turn;
       now = s.now;
-      due = s.due;
+      deadline = s.deadline;
       events = answered port turn.reply s.events;
     }
 
@@ -100,7 +100,7 @@ renewed progress time s =
     record {
       end = s.end;
       now = time;
-      due = due_after progress time (interval_of (terms_of s.end.position.phase)) s.due;
+      deadline = deadline_after progress time (interval_of (terms_of s.end.position.phase)) s.deadline;
       events = Watched time ∷ s.events;
     }
 
@@ -110,15 +110,15 @@ elapsed port s =
     record {
       end = after_turn s.end (timeout_turn s.end);
       now = s.now;
-      due = deadline_at s.now s.end;
+      deadline = deadline_at s.now s.end;
       events = answered port (timeout_turn s.end).reply (Elapsed port s.now ∷ s.events);
     }
 
 -- what a client does when a timeout may be due: nothing, if it is not due or the end is closed; or
 -- else the timeout's step
 pub data MayElapse (port : ℕ) (s : State) : State → Type 0 where
-  Stays : (s.now < s.due) ⊎ IsSome (outcome_of s.end.position.phase) → MayElapse port s s
-  Elapses : s.due ≤ s.now → IsOpen s.end → MayElapse port s (elapsed port s)
+  Stays : (s.now < s.deadline) ⊎ IsSome (outcome_of s.end.position.phase) → MayElapse port s s
+  Elapses : s.deadline ≤ s.now → IsOpen s.end → MayElapse port s (elapsed port s)
 
 -- a datagram has no step: the end is closed, or handling it needs memory, and there is none
 abbrev pub IsLost : Endpoint → List ℕ → EndState → Type 0

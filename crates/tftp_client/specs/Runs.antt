@@ -32,7 +32,7 @@ use Rattle.tftp_client.specs.Taken.{nothing}
 -- a client whose end opened, once its request was sent from the port (RFC 1350, section 4)
 abbrev pub sent_from : ℕ → EndState → Endpoint → List ℕ → List Event → State
 sent_from port end to bytes before =
-    record { end = end; now = 0; due = deadline_at 0 end; events = Sent port to bytes ∷ before }
+    record { end = end; now = 0; deadline = deadline_at 0 end; events = Sent port to bytes ∷ before }
 
 abbrev pub begun : ℕ → EndState → List Event → State
 begun port end before = sent_from port end end.position.last_sent_to end.position.last_sent before

@@ -43,9 +43,9 @@ any_mapped [] = refl
 any_mapped (port ∷ ports) = ap (λ (b : Bool). port.is_ready || b) (any_mapped ports)
 
 looks_mapped : (now : ℕ) (ports : List (Port TransferSocket)) →
-    until_look now (map timer_of ports) ≡ wait_of now (map (λ (port : Port TransferSocket). port.due) ports)
+    until_look now (map timer_of ports) ≡ wait_of now (map (λ (port : Port TransferSocket). port.look_at) ports)
 looks_mapped now [] = refl
-looks_mapped now (port ∷ ports) = ap (λ (n : ℕ). min (port.due - now) n) (looks_mapped now ports)
+looks_mapped now (port ∷ ports) = ap (λ (n : ℕ). min (port.look_at - now) n) (looks_mapped now ports)
 
 pub pending_same : (pending : Option (Endpoint × ℕ)) (buffer : List ℕ) →
     is_some (pending_in pending buffer) ≡ is_some pending

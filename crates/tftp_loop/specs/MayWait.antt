@@ -162,7 +162,7 @@ module _ {S F D : Type 0} where
       then 0
       else
       wait_of d.sockets.watch.now
-      (map (λ (port : Port TransferSocket). port.due) d.ports.items)
+      (map (λ (port : Port TransferSocket). port.look_at) d.ports.items)
 
 -- the port after a wait that reported these
 abbrev pub marked_if : List ℕ → Port TransferSocket → Port TransferSocket
@@ -177,7 +177,7 @@ abbrev pub set_if : ℕ → Port TransferSocket → Port TransferSocket
 set_if time port =
     record port {
       socket = record port.socket {
-        times_out_at = deadline_by time port.socket.is_provisional (timer_of port);
+        deadline = deadline_by time port.socket.is_provisional (timer_of port);
         is_provisional = false;
       };
     }

@@ -71,7 +71,7 @@ pub(crate) fn take_turn_at<S: Store>(
     turn: Turn,
     buffer: &mut [u8],
 )
-    requires due { port.old.due ≤ port.old.socket.times_out_at }
+    requires due { port.old.look_at ≤ port.old.socket.deadline }
     requires few { port.old.socket.received ≤ MOST_AT_ONCE }
     ensures serves { OnlyServesPort S.meaning S.Source.meaning moment.now server.old port.old
         journal.old server.new port.new journal.new }
@@ -103,7 +103,7 @@ struct PortTurn<'a, S: Store> {
 impl<S: Store> PortTurn<'_, S> {
     /// Takes the turn.
     fn take(&mut self, turn: Turn, buffer: &mut [u8])
-        requires due { self.old.port.now.due ≤ self.old.port.now.socket.times_out_at }
+        requires due { self.old.port.now.look_at ≤ self.old.port.now.socket.deadline }
         requires few { self.old.port.now.socket.received ≤ MOST_AT_ONCE }
         ensures serves { ServesTurn S.meaning S.Source.meaning MOST_AT_ONCE self.old self.new }
         ensures leaves { leaves_by turn (at_turn self.new) self.old.now }
@@ -128,12 +128,12 @@ impl<S: Store> PortTurn<'_, S> {
     /// Handles the datagrams at the port, if it is due. Without progress, delivers the timeout if
     /// that is due.
     fn take_due(&mut self, buffer: &mut [u8])
-        requires due { self.old.port.now.due ≤ self.old.port.now.socket.times_out_at }
+        requires due { self.old.port.now.look_at ≤ self.old.port.now.socket.deadline }
         requires few { self.old.port.now.socket.received ≤ MOST_AT_ONCE }
         ensures serves { ServesTurn S.meaning S.Source.meaning MOST_AT_ONCE self.old self.new }
         ensures timed { leaves_timed (at_turn self.new) self.new.now }
     {
-        if !is_due(self.now, self.port.due) {
+        if !is_due(self.now, self.port.look_at) {
             return;
         }
         let status = self.take_datagrams(buffer);
@@ -236,20 +236,20 @@ impl<S: Store> PortTurn<'_, S> {
     /// Delivers the timeout, if it is due.
     fn time_out_if_due(&mut self)
         requires tried { IsTried self.old }
-        requires look { self.old.port.now.due ≡ self.old.port.now.socket.times_out_at }
+        requires look { self.old.port.now.look_at ≡ self.old.port.now.socket.deadline }
         ensures serves { ServesTurn S.meaning S.Source.meaning 0 self.old self.new }
         ensures timed { IsTimed self.new.now (timer_of self.new.port.now) }
     {
-        if is_due(self.now, self.port.socket.times_out_at) {
+        if is_due(self.now, self.port.socket.deadline) {
             self.take_timeout();
         }
     }
 
     /// Delivers the timeout, and sends the datagram of its step.
     fn take_timeout(&mut self)
-        requires due { self.old.port.now.socket.times_out_at ≤ self.old.now }
+        requires due { self.old.port.now.socket.deadline ≤ self.old.now }
         requires tried { IsTried self.old }
-        requires look { self.old.port.now.due ≡ self.old.port.now.socket.times_out_at }
+        requires look { self.old.port.now.look_at ≡ self.old.port.now.socket.deadline }
         ensures serves { ServesTurn S.meaning S.Source.meaning 0 self.old self.new }
         ensures timer { timer_of self.new.port.now
             ≡ restarted self.new.now (timer_of self.old.port.now) }

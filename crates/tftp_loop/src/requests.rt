@@ -388,13 +388,13 @@ impl<S: ServedStore<Reason> + Drop> ServerLoop<S> {
         let times_out_at = deadline(self.sockets.watch.now, interval);
         Port {
             tid,
-            due: times_out_at.min(next_look(self.sockets.watch.now)),
+            look_at: times_out_at.min(next_look(self.sockets.watch.now)),
             is_ready: false,
             socket: TransferSocket {
                 udp,
                 peer,
                 interval,
-                times_out_at,
+                deadline: times_out_at,
                 is_provisional: true,
                 moved_at: self.sockets.watch.now,
                 received: 0,

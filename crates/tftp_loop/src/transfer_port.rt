@@ -32,7 +32,7 @@ pub(crate) struct TransferSocket {
     /// The seconds without progress before a timeout.
     pub(crate) interval: u8,
     /// When the transfer times out, in milliseconds. The port may be due earlier, to be read again.
-    pub(crate) times_out_at: u64,
+    pub(crate) deadline: u64,
     /// Whether the deadline counts from a time that was read before the newest opening, progress or
     /// timeout: the next reading of the clock sets it.
     pub(crate) is_provisional: bool,
@@ -101,10 +101,10 @@ fn note_progress(port: &mut TransferPort, now: u64)
     let deadline = deadline(now, port.socket.interval);
     port.socket.received += 1;
     port.socket.moved_at = now;
-    port.socket.times_out_at = deadline;
+    port.socket.deadline = deadline;
     port.socket.is_provisional = true;
     port.is_ready = false;
-    port.due = deadline.min(next_look(now));
+    port.look_at = deadline.min(next_look(now));
 }
 
 /// Counts a datagram that made no progress. More may be at the port.
@@ -114,7 +114,7 @@ pub(crate) fn note_received(port: &mut TransferPort)
 {
     port.socket.received += 1;
     port.is_ready = true;
-    port.due = port.socket.times_out_at;
+    port.look_at = port.socket.deadline;
 }
 
 /// When a port is read again, if its transfer opens or advances at `now` and does not expire
@@ -141,7 +141,7 @@ pub(crate) fn mark_ready(port: &mut TransferPort)
     ensures { timer_of port.new ≡ marked_as true (timer_of port.old) }
 {
     port.is_ready = true;
-    port.due = port.socket.times_out_at;
+    port.look_at = port.socket.deadline;
 }
 
 /// Removes the mark of a transfer's port, since no datagram is there. The port is read when a wait
@@ -150,7 +150,7 @@ pub(crate) fn mark_empty(port: &mut TransferPort)
     ensures { timer_of port.new ≡ marked_as false (timer_of port.old) }
 {
     port.is_ready = false;
-    port.due = port.socket.times_out_at;
+    port.look_at = port.socket.deadline;
 }
 
 /// Marks the ports that a wait reported, and counts anew what is received at each.
@@ -185,8 +185,8 @@ pub(crate) fn work_at<S: Store>(server: &mut Server<S>, port: &TransferPort)
 pub(crate) fn restart(port: &mut TransferPort, now: u64)
     ensures { timer_of port.new ≡ restarted now (timer_of port.old) }
 {
-    port.due = deadline(now, port.socket.interval);
-    port.socket.times_out_at = port.due;
+    port.look_at = deadline(now, port.socket.interval);
+    port.socket.deadline = port.look_at;
     port.socket.is_provisional = true;
 }
 
@@ -207,6 +207,6 @@ fn set_deadline(port: &mut TransferPort, time: u64)
         return;
     }
     let latest = deadline(time, port.socket.interval);
-    port.socket.times_out_at = port.socket.times_out_at.max(latest);
+    port.socket.deadline = port.socket.deadline.max(latest);
     port.socket.is_provisional = false;
 }

@@ -117,7 +117,7 @@ abbrev s1 : State
 s1 = record {
   end = receiving;
   now = 10;
-  due = 1000;
+  deadline = 1000;
   events =
       Sent 5000 read_port (ack_bytes 0) ∷ Watched 10 ∷ Received 5000 read_port (oack_bytes agreed) ∷ Quiet
       (Slept 1000) ∷ s0.events;
@@ -127,7 +127,7 @@ abbrev s2 : State
 s2 = record {
   end = dallying;
   now = 20;
-  due = 1000;
+  deadline = 1000;
   events =
       Sent 5000 read_port (ack_bytes 1) ∷ Watched 20 ∷ Received 5000 read_port (data_bytes 1 read_file) ∷ Quiet
       (Slept 990) ∷ s1.events;

@@ -12,7 +12,7 @@ pub struct Port<S> {
     /// The identifier of the transfer: the number of its UDP port.
     pub tid: u16,
     /// The deadline of the transfer's next timeout, in milliseconds.
-    pub due: u64,
+    pub look_at: u64,
     /// Whether a datagram may have arrived that is not yet received.
     pub is_ready: bool,
     /// The socket that is bound to the port.
@@ -21,13 +21,13 @@ pub struct Port<S> {
 
 /// How long to wait, in milliseconds: until the nearest deadline, at most a second.
 pub fn wait_for<S>(now: u64, ports: &[Port<S>]) -> u64
-    ensures value { result ≡ wait_of now (map (λ port. port.due) ports.now) }
+    ensures value { result ≡ wait_of now (map (λ port. port.look_at) ports.now) }
     ensures longest { result ≤ LONGEST_WAIT }
-    ensures nearest { All (λ port. result ≤ port.due - now) ports.now }
+    ensures nearest { All (λ port. result ≤ port.look_at - now) ports.now }
 {
     match ports {
         [] => LONGEST_WAIT,
-        [first, others @ ..] => first.due.saturating_sub(now).min(wait_for(now, others)),
+        [first, others @ ..] => first.look_at.saturating_sub(now).min(wait_for(now, others)),
     }
 }
 

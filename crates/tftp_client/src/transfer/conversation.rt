@@ -14,7 +14,7 @@ ghost use Rattle.tftp_sockets.specs.Quiet.{waits as waits_in};
 ghost use Rattle.tftp_sockets.specs.Receipt.{Fits, receive_event};
 ghost use Rattle.tftp_client.specs.Converses.{Converses, MayElapse, WorksOnFile, renewed};
 ghost use Rattle.tftp_client.specs.Converses.{AnswersReceived, HandlesAs};
-ghost use Rattle.tftp_client.specs.Converses.{EndsBy, IsOpen, deadline_at, due_after};
+ghost use Rattle.tftp_client.specs.Converses.{EndsBy, IsOpen, deadline_at, deadline_after};
 
 use crate::cause::Cause;
 use std::alloc::{AllocError, Global};
@@ -58,7 +58,7 @@ pub(crate) struct Conversation {
     pub(crate) socket: ClientSocket,
     end: End,
     watch: Watch,
-    due: u64,
+    deadline: u64,
     /// The time of the last progress, in milliseconds.
     advanced_at: u64,
     buffer: Vec<u8>,
@@ -89,7 +89,7 @@ impl Conversation {
     ) -> Result<Conversation, AllocError>
         ensures { IfOk result (λ conversation. (conversation.end ≡ end)
             × (conversation.socket.port ≡ socket.port) × (conversation.watch.now ≡ 0)
-            × (conversation.due ≡ deadline_at 0 end)) }
+            × (conversation.deadline ≡ deadline_at 0 end)) }
     {
         let watch = Watch::new(read_clock(clock, 0));
         let due = deadline(0, end.interval());
@@ -99,7 +99,7 @@ impl Conversation {
             socket,
             end,
             watch,
-            due,
+            deadline: due,
             advanced_at: watch.now,
             buffer: Vec::from_elem(alloc, 0u8, DATAGRAM_BUFFER)?,
             lines: match progress {
@@ -222,14 +222,14 @@ impl Conversation {
         ensures port { self.new.socket.port ≡ self.old.socket.port }
         ensures files { AreFilesOf self.new.end.role.side files.new }
         ensures advanced { result.progress ≡ true
-            → self.new.due ≡ deadline_at self.new.watch.now self.new.end }
+            → self.new.deadline ≡ deadline_at self.new.watch.now self.new.end }
         ensures waits { waits_in journal.new.events ≡ 1 + waits_in journal.old.events }
     {
         let received = receive_until(
             &mut self.socket,
             journal,
             self.watch.now,
-            self.due,
+            self.deadline,
             self.buffer.as_mut_slice(),
         );
         read_watch(clock, journal, &mut self.watch);
@@ -261,7 +261,7 @@ impl Conversation {
         ensures port { self.new.socket.port ≡ self.old.socket.port }
         ensures files { AreFilesOf self.new.end.role.side files.new }
         ensures advanced { result.progress ≡ true
-            → self.new.due ≡ deadline_at self.new.watch.now self.new.end }
+            → self.new.deadline ≡ deadline_at self.new.watch.now self.new.end }
     {
         let step = self.take_datagram(journal, files, from, count);
         self.renew(clock, journal, &step);
@@ -277,10 +277,10 @@ impl Conversation {
         ensures port { self.new.socket.port ≡ self.old.socket.port }
         ensures end { self.new.end ≡ self.old.end }
         ensures advanced { step.now.progress ≡ true
-            → self.new.due ≡ deadline_at self.new.watch.now self.new.end }
+            → self.new.deadline ≡ deadline_at self.new.watch.now self.new.end }
     {
         let now = read_watch(clock, journal, &mut self.watch);
-        self.due = due_after(step, now, self.end.interval(), self.due);
+        self.deadline = deadline_after(step, now, self.end.interval(), self.deadline);
     }
 
     /// Handles the datagram in the buffer, and sends the answer. Out of memory, it loses the
@@ -332,7 +332,7 @@ impl Conversation {
         ensures side { self.new.end.role.side ≡ self.old.end.role.side }
         ensures ready { IsReady self.new }
     {
-        if !is_due(self.watch.now, self.due) {
+        if !is_due(self.watch.now, self.deadline) {
             return;
         }
         self.deliver_timeout(journal);
@@ -340,7 +340,7 @@ impl Conversation {
 
     /// Delivers a timeout, and sends the answer.
     fn deliver_timeout(&mut self, journal: &mut Journal)
-        requires { self.old.due ≤ self.old.watch.now }
+        requires { self.old.deadline ≤ self.old.watch.now }
         ensures elapses { MayElapse self.old.socket.port
             (state_of self.old journal.old.events) (state_of self.new journal.new.events) }
         ensures port { self.new.socket.port ≡ self.old.socket.port }
@@ -352,7 +352,7 @@ impl Conversation {
         let Ok((step, outgoing)) = self.end.handle_timeout() else {
             return;
         };
-        self.due = deadline(now, seconds);
+        self.deadline = deadline(now, seconds);
         journal.elapsed(self.socket.port(), now);
         let sent = reply(&self.socket, journal, step.to, self.end.bytes_of(outgoing));
         note_sent(&mut self.unsent, &step, sent);
@@ -376,7 +376,7 @@ impl Conversation {
     fn show<E: Eprint>(&mut self, rt: &E)
         ensures end { self.new.end ≡ self.old.end }
         ensures now { self.new.watch.now ≡ self.old.watch.now }
-        ensures due { self.new.due ≡ self.old.due }
+        ensures deadline { self.new.deadline ≡ self.old.deadline }
         ensures port { self.new.socket.port ≡ self.old.socket.port }
     {
         let Some(lines) = &mut self.lines else {
@@ -441,22 +441,22 @@ fn ended(end: &End) -> Option<Result<(), Outcome>>
     record.outcome.map(Err)
 }
 
-/// Waits for a datagram until `due`, at most a second. The buffer has room for the longest one, so
-/// that none is cut.
+/// Waits for a datagram until `deadline`, at most a second. The buffer has room for the longest
+/// one, so that none is cut.
 fn receive_until(
     socket: &mut ClientSocket,
     journal: &mut Journal,
     now: u64,
-    due: u64,
+    deadline: u64,
     buffer: &mut [u8],
 ) -> Receipt
     requires room { DATAGRAM_BUFFER ≤ length buffer.old }
     ensures port { socket.new.port ≡ socket.old.port }
     ensures noted { journal.new.events ≡ receive_event socket.old.port buffer.new result
-        ∷ Quiet (Slept (max (min (due - now) LONGEST_WAIT) 1)) ∷ journal.old.events }
+        ∷ Quiet (Slept (max (min (deadline - now) LONGEST_WAIT) 1)) ∷ journal.old.events }
     ensures fits { Fits buffer.new result }
 {
-    let wait = due.saturating_sub(now).min(LONGEST_WAIT);
+    let wait = deadline.saturating_sub(now).min(LONGEST_WAIT);
     socket.receive(journal, wait, buffer)
 }
 
@@ -486,13 +486,13 @@ fn reply(
 
 /// The deadline after a step at `now`, in milliseconds: progress restarts the timeout of `seconds`
 /// (RFC 2349, "Timeout Interval Option Specification").
-fn due_after(step: &Step, now: u64, seconds: u8, due: u64) -> u64
-    ensures { result ≡ due_after step.now.progress now seconds due }
+fn deadline_after(step: &Step, now: u64, seconds: u8, current: u64) -> u64
+    ensures { result ≡ deadline_after step.now.progress now seconds current }
 {
     if step.progress {
         deadline(now, seconds)
     } else {
-        due
+        current
     }
 }
 

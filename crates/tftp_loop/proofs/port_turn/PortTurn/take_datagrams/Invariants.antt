@@ -7,4 +7,4 @@ abbrev pub invariant-loop-turn : goal.invariant-loop-turn
 invariant-loop-turn g l =
     ServesTurn g.S.Store.meaning g.S.Source.Source.meaning l.turn l.initial.self l.self
     × (l.self.port.now.socket.received ≤ l.initial.self.port.now.socket.received + l.turn)
-    × ((l.turn ≡ 0) ⊎ (IsTried l.self × (l.self.port.now.due ≡ l.self.port.now.socket.times_out_at)))
+    × ((l.turn ≡ 0) ⊎ (IsTried l.self × (l.self.port.now.look_at ≡ l.self.port.now.socket.deadline)))

@@ -52,8 +52,8 @@ loop-made-preserved g c =
     let Fit : EndState → Type 0 = λ e. AreFilesOf e.role.side c.turn.new.files in
     let At : State → Type 0 = λ t. Converses g.S.Source.meaning g.K.Sink.meaning c.args.self.now.socket.port first
     c.args.files.now t c.turn.new.files in
-    let Ready : State → Type 0 = λ t. IsOpen t.end → t.due ≤ t.now → t.due ≡ deadline_at t.now t.end in
-    let same = state_is (sym c.show.ensures.end) (sym c.show.ensures.now) (sym c.show.ensures.due) refl in
+    let Ready : State → Type 0 = λ t. IsOpen t.end → t.deadline ≤ t.now → t.deadline ≡ deadline_at t.now t.end in
+    let same = state_is (sym c.show.ensures.end) (sym c.show.ensures.now) (sym c.show.ensures.deadline) refl in
     record {
       fit = subst Fit (sym c.show.ensures.end) c.turn.ensures.files;
       port = c.show.ensures.port ∙ (c.turn.ensures.port ∙ c.loop-made.invariant.port);

@@ -23,7 +23,7 @@ returns-in-Datagram-clause-converses g c =
     let t : State = record {
       end = s.end;
       now = c.read_watch.new.watch.now;
-      due = s.due;
+      deadline = s.deadline;
       events = c.read_watch.new.journal.events;
     } in
     let At : State → Type 0 = λ t. handles c.receive_until-received.new.buffer port t in
