@@ -71,10 +71,11 @@ pub(crate) enum AtCommit {
 }
 
 impl AtCommit {
-    fn refuses(self) -> bool {
+    /// An empty sink whose commit goes so.
+    fn sink(self, alloc: Global) -> MemSink {
         match self {
-            AtCommit::Succeeds => false,
-            AtCommit::Refuses => true,
+            AtCommit::Succeeds => MemSink::new(alloc, ROOM),
+            AtCommit::Refuses => MemSink::refusing_commits(alloc, ROOM),
         }
     }
 }
@@ -115,7 +116,7 @@ pub(crate) fn reader(
     );
     OpenEnd {
         end,
-        files: Files::Sink(MemSink::new(alloc, ROOM, false)),
+        files: Files::Sink(MemSink::new(alloc, ROOM)),
         step,
         sent,
     }
@@ -292,7 +293,7 @@ pub(crate) fn storer(
     let (end, step) = opened.expect(rt, "it serves a write");
     OpenEnd {
         end,
-        files: Files::Sink(MemSink::new(alloc, ROOM, at_commit.refuses())),
+        files: Files::Sink(at_commit.sink(alloc)),
         step,
         sent,
     }

@@ -32,6 +32,18 @@ pub record SinkMeaning (K : Type 0) : Type 1 where
   -- the same, of a commit
   pub after_commit : K → K → Option StoreFault → Type 0
 
+-- the model of sinks of which nothing is known: each call may be refused, with any fault
+abbrev pub unknown_sink : {K : Type 0} → SinkMeaning K
+unknown_sink =
+    record {
+      held = λ k. None;
+      may_refuse_append = λ k bytes fault. ⊤;
+      may_refuse_commit = λ k fault. ⊤;
+      becomes = λ k l committed. ⊤;
+      after_append = λ k bytes l fault. ⊤;
+      after_commit = λ k l fault. ⊤;
+    }
+
 -- the model of a value that contains a sink
 abbrev pub sink_through : {K L : Type 0} → SinkMeaning L → (K → L) → SinkMeaning K
 sink_through meaning seen =

@@ -14,6 +14,10 @@ pub record SourceMeaning (S : Type 0) : Type 1 where
   -- a fill of this many bytes returns Read
   pub fails : S → ℕ → Type 0
 
+-- the model of sources of which nothing is known: each fill may fail, and none must
+abbrev pub unknown_source : {S : Type 0} → SourceMeaning S
+unknown_source = record { left = λ s. None; may_fail = λ s want. ⊤; fails = λ s want. ⊥ }
+
 -- the model of a value that contains a source
 abbrev pub source_through : {S T : Type 0} → SourceMeaning T → (S → T) → SourceMeaning S
 source_through meaning seen =

@@ -56,6 +56,25 @@ pub record StoreMeaning (S D : Type 0) : Type 1 where
   -- a commit under the path, to replace a file or not, may return this fault
   pub may_refuse_commit : S → List ℕ → D → Bool → StoreFault → Type 0
 
+-- the model of stores of which nothing is known: each call may be refused, with any fault that the
+-- trait allows, and none must
+abbrev pub unknown_store : {S D : Type 0} → StoreMeaning S D
+unknown_store =
+    record {
+      stored = λ s. None;
+      drafted = λ d. None;
+      may_refuse_open = λ s path fault. ⊤;
+      may_refuse_begin = λ s path replace fault. ⊤;
+      must_refuse_open = λ s path fault. ⊥;
+      must_fail = λ s path want. ⊥;
+      begun = λ path before after fault. ⊤;
+      after_append = λ before after fault. ⊤;
+      after_commit = λ before after fault. ⊤;
+      after_write_behind = λ before after. ⊤;
+      may_refuse_append = λ s d bytes fault. ⊤;
+      may_refuse_commit = λ s path d replace fault. ⊤;
+    }
+
 -- a call that must return one of these faults returns it
 abbrev pub RefusedIf : {A : Type 0} → (StoreFault → Type 0) → Result A StoreFault → Type 0
 RefusedIf must_refuse result = (fault : StoreFault) → must_refuse fault → result ≡ Err fault
