@@ -1,11 +1,13 @@
 //! The calls of an end that lend the datagram to send instead of appending it.
 
 use crate::expect::expect_equal;
-use crate::open_end::{OpenEnd, SERVER, reader};
+use crate::open_end::{CONFIG, EIGHT, OpenEnd, SERVER, reader};
 use std::alloc::Global;
 use std::net::{Ipv4Addr, SocketAddrV4};
 use std::process::Abort;
-use tftp_ends::{EndConfig, EndFault, Endpoint, ErrorReply, Outcome, Outgoing, decode_packet};
+use tftp_ends::{
+    End, EndConfig, EndFault, Endpoint, ErrorReply, Outcome, Outgoing, decode_packet,
+};
 use tftp_file::MemSource;
 use tftp_negotiate::{Asked, Limits};
 use tftp_wire::Mode;
@@ -53,6 +55,22 @@ fn the_last_datagram_is_lent(rt: HostRuntime) {
     let unknown = Outgoing::Error(ErrorReply::UnknownTransferId);
     lends(&rt, &client, unknown, UNKNOWN_ID);
     client.finish();
+}
+
+const WRQ_A: &[u8] = b"\x00\x02a\x00octet\x00blksize\x008\x00";
+
+/// A client opens without a buffer, and lends its request.
+#[test]
+fn a_request_is_lent(rt: HostRuntime) {
+    let (alloc, mode) = (rt.alloc(), Mode::Octet);
+    let reader = End::open_get(alloc, SERVER, b"a", mode, &Asked::default(), &CONFIG);
+    let reader = reader.expect(&rt, "it asks to read");
+    let found = reader.bytes_of(Outgoing::LastSent);
+    expect_equal(&rt, &found, &RRQ_A, "a read request");
+    let writer = End::open_put(alloc, SERVER, b"a", mode, &EIGHT, 10, &CONFIG);
+    let writer = writer.expect(&rt, "it asks to write");
+    let found = writer.bytes_of(Outgoing::LastSent);
+    expect_equal(&rt, &found, &WRQ_A, "a write request");
 }
 
 #[test]

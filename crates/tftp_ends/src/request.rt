@@ -16,8 +16,9 @@ use tftp_wire::{HEADER, MAX_REQUEST, Mode, append_read, append_write, is_text};
 
 /// The length of the request in bytes, or the greatest `usize` if it is more.
 fn request_len(name: &[u8], mode: Mode, asked: &Asked) -> usize
-    ensures { result
+    ensures len { result
         ≡ min (length (canonical (Read (request_of name.now mode asked.now)))) (2 ^ 64 - 1) }
+    ensures room { HEADER ≤ result }
 {
     // The opcode has two bytes, and a zero byte follows the name and the mode.
     options_len(asked.options(mode).as_slice())
@@ -53,6 +54,7 @@ pub(crate) fn may_ask_put(name: &[u8], mode: Mode, asked: &Asked, length: u64) -
     asked.is_for(Kind::Write, mode, length) && is_packet(name, mode, asked)
 }
 
+/// The bytes of a read request, in one allocation.
 pub(crate) fn read_request(
     alloc: Global,
     name: &[u8],
@@ -63,23 +65,26 @@ pub(crate) fn read_request(
         canonical (Read (request_of name.now mode asked.now))) }
     ensures room { IfOk result (λ v. HEADER ≤ vec_capacity v) }
 {
-    let mut bytes = Vec::with_capacity(alloc, HEADER)?;
+    let mut bytes = Vec::with_capacity(alloc, request_len(name, mode, asked))?;
     append_read(&mut bytes, name, mode)?;
     append_options(&mut bytes, asked.options(mode).as_slice())?;
     Ok(bytes)
 }
 
+/// The bytes of a write request, in one allocation that has room for `longest` bytes.
 pub(crate) fn write_request(
     alloc: Global,
     name: &[u8],
     mode: Mode,
     asked: &Asked,
+    longest: usize,
 ) -> Result<Vec<u8>, AllocError>
     ensures ok { IfOk result (λ v. v.items ≡
         canonical (Write (request_of name.now mode asked.now))) }
     ensures room { IfOk result (λ v. HEADER ≤ vec_capacity v) }
 {
-    let mut bytes = Vec::with_capacity(alloc, HEADER)?;
+    let room = request_len(name, mode, asked).max(longest);
+    let mut bytes = Vec::with_capacity(alloc, room)?;
     append_write(&mut bytes, name, mode)?;
     append_options(&mut bytes, asked.options(mode).as_slice())?;
     Ok(bytes)

@@ -12,8 +12,10 @@ ghost use Rattle.tftp_ends.specs.Fits.{SentFits};
 
 use crate::config::EndConfig;
 use crate::end::End;
+use crate::end::sending::block_length;
 use crate::endpoint::Endpoint;
 use crate::fault::OpenFault;
+use crate::outgoing::Outgoing;
 use crate::phase::Phase;
 use crate::record::Step;
 use crate::request::{may_ask_put, may_get, read_request, write_request};
@@ -66,6 +68,44 @@ impl End {
         }
     }
 
+    /// Opens a client that reads, and lends its request, for `to`, by [`End::bytes_of`].
+    ///
+    /// It is the end of [`End::get`], and fails as that does. Its only allocation is the buffer of
+    /// the request.
+    pub fn open_get(
+        alloc: Global,
+        to: Endpoint,
+        name: &[u8],
+        mode: Mode,
+        asked: &Asked,
+        config: &EndConfig,
+    ) -> Result<End, OpenFault>
+        ensures end { IfOk result (λ end. end ≡ getting to name.now mode asked.now
+            config.now.limits.max_file config.now.retries) }
+        ensures ok { OnOk result (MayGet name.now mode asked.now) }
+        ensures bad_request { IsErrOf result OpenFault.BadRequest
+            → MayGet name.now mode asked.now → ⊥ }
+        ensures memory { IsErrOf result OpenFault.Memory → MayGet name.now mode asked.now }
+        ensures err { IfErr result (λ fault.
+            (fault ≡ OpenFault.BadRequest) ⊎ (fault ≡ OpenFault.Memory)) }
+    {
+        if !may_get(name, mode, asked) {
+            return Err(OpenFault::BadRequest);
+        }
+        let last_sent = read_request(alloc, name, mode, asked)?;
+        let phase = Phase::Waiting {
+            asked: *asked,
+            limit: config.limits.max_file,
+        };
+        let role = Role {
+            side: Side::ClientRead,
+            mode,
+            length: 0,
+            retries: config.retries,
+        };
+        Ok(End::opened(role, phase, to, last_sent, Vec::new(alloc)))
+    }
+
     /// Opens a client that reads: its request is appended to `out`, for `to`.
     ///
     /// It retries `config.retries` times. It refuses an OACK with a file length (`tsize`) of more
@@ -94,23 +134,57 @@ impl End {
             ((fault ≡ OpenFault.BadRequest) ⊎ (fault ≡ OpenFault.Memory))
             × (out.new.items ≡ out.old.items)) }
     {
-        if !may_get(name, mode, asked) {
+        let end = End::open_get(alloc, to, name, mode, asked, config)?;
+        out.extend_from_slice(end.bytes_of(Outgoing::LastSent))?;
+        Ok((end, opening_step(to)))
+    }
+
+    /// Opens a client that writes a file of `length` bytes of wire text, and lends its request, for
+    /// `to`, by [`End::bytes_of`].
+    ///
+    /// It is the end of [`End::put`], and fails as that does. Its only allocations are two buffers,
+    /// with room for the first block, so that no block allocates.
+    pub fn open_put(
+        alloc: Global,
+        to: Endpoint,
+        name: &[u8],
+        mode: Mode,
+        asked: &Asked,
+        length: u64,
+        config: &EndConfig,
+    ) -> Result<End, OpenFault>
+        ensures end { IfOk result (λ end. end ≡ putting to name.now mode asked.now length
+            config.now.limits.max_file config.now.retries) }
+        ensures ok { OnOk result (MayPut name.now mode asked.now length) }
+        ensures bad_request { IsErrOf result OpenFault.BadRequest
+            → MayAskPut name.now mode asked.now length → ⊥ }
+        ensures too_large { IsErrOf result OpenFault.TooLarge
+            → PutsTooLarge name.now mode asked.now length }
+        ensures memory { IsErrOf result OpenFault.Memory → MayPut name.now mode asked.now length }
+        ensures never { IsErrOf result OpenFault.SourceFault → ⊥ }
+    {
+        if !may_ask_put(name, mode, asked, length) {
             return Err(OpenFault::BadRequest);
         }
-        let last_sent = read_request(alloc, name, mode, asked)?;
-        out.extend_from_slice(&last_sent)?;
+        let size = asked.blksize.unwrap_or(DEFAULT_BLOCK);
+        if !can_be_numbered(length, size) {
+            return Err(OpenFault::TooLarge);
+        }
+        // A server that ignores the options is sent blocks of 512 bytes.
+        let longest = HEADER + block_length(length, size.max(DEFAULT_BLOCK), 1);
+        let last_sent = write_request(alloc, name, mode, asked, longest)?;
+        let spare = Vec::with_capacity(alloc, last_sent.len().max(longest))?;
         let phase = Phase::Waiting {
             asked: *asked,
             limit: config.limits.max_file,
         };
         let role = Role {
-            side: Side::ClientRead,
+            side: Side::ClientWrite,
             mode,
-            length: 0,
+            length,
             retries: config.retries,
         };
-        let end = End::opened(role, phase, to, last_sent, Vec::new(alloc));
-        Ok((end, opening_step(to)))
+        Ok(End::opened(role, phase, to, last_sent, spare))
     }
 
     /// Opens a client that writes a file of `length` bytes of wire text: its request is appended to
@@ -145,26 +219,8 @@ impl End {
         ensures never { IsErrOf result OpenFault.SourceFault → ⊥ }
         ensures err { OnErr result (out.new.items ≡ out.old.items) }
     {
-        if !may_ask_put(name, mode, asked, length) {
-            return Err(OpenFault::BadRequest);
-        }
-        if !can_be_numbered(length, asked.blksize.unwrap_or(DEFAULT_BLOCK)) {
-            return Err(OpenFault::TooLarge);
-        }
-        let last_sent = write_request(alloc, name, mode, asked)?;
-        let spare = Vec::with_capacity(alloc, last_sent.len())?;
-        out.extend_from_slice(&last_sent)?;
-        let phase = Phase::Waiting {
-            asked: *asked,
-            limit: config.limits.max_file,
-        };
-        let role = Role {
-            side: Side::ClientWrite,
-            mode,
-            length,
-            retries: config.retries,
-        };
-        let end = End::opened(role, phase, to, last_sent, spare);
+        let end = End::open_put(alloc, to, name, mode, asked, length, config)?;
+        out.extend_from_slice(end.bytes_of(Outgoing::LastSent))?;
         Ok((end, opening_step(to)))
     }
 }

@@ -16,7 +16,7 @@ use crate::end::opening::opening_step;
 use crate::end::sending::{BlockRead, block_length, read_data};
 use crate::endpoint::Endpoint;
 use crate::fault::OpenFault;
-use crate::options::append_options;
+use crate::options::{append_options, options_len};
 use crate::phase::{Phase, Terms};
 use crate::record::Step;
 use crate::role::Role;
@@ -44,9 +44,12 @@ fn oack(alloc: Global, agreed: &Agreed) -> Result<Vec<u8>, AllocError>
     ensures short { IfOk result (λ v. length v.items ≤ MAX_REQUEST) }
     ensures room { IfOk result (λ v. HEADER ≤ vec_capacity v) }
 {
-    let mut bytes = Vec::with_capacity(alloc, HEADER)?;
+    let options = agreed.as_slice();
+    // The opcode has two bytes.
+    let room = options_len(options).saturating_add(2).max(HEADER);
+    let mut bytes = Vec::with_capacity(alloc, room)?;
     append_oack_header(&mut bytes)?;
-    append_options(&mut bytes, agreed.as_slice())?;
+    append_options(&mut bytes, options)?;
     // At most three options are agreed.
     laws::agreements();
     Ok(bytes)
