@@ -1,0 +1,174 @@
+//! A get in memory: a client's end and a server hand each other their datagrams, without a socket and
+//! without a clock. It is a proved loop over an end, for readers who write one of their own.
+#![tactic(auto)]
+
+ghost use Rattle.std.specs.Prelude.{◌≡◌, true, false, OnOk};
+ghost use Rattle.tftp_ends.specs.End.{is_complete, is_sender};
+
+use std::alloc::Global;
+use std::process::ExitCode;
+use tftp_ends::{End, EndConfig, Endpoint};
+use tftp_file::{MemSink, Path, path_of};
+use tftp_negotiate::{Asked, Limits};
+use tftp_server::{Config, MemStore, Server};
+use tftp_wire::Mode;
+
+/// The name of the file, and its text: four blocks of 16 bytes, the last of them short.
+const NAME: &[u8] = b"greeting";
+
+const TEXT: &str = "This text was sent in four blocks of sixteen bytes.\n";
+
+/// The request port, and the identifier of the transfer, which is its port (RFC 1350, section 4).
+const REQUESTS: Endpoint = Endpoint {
+    ip: [127, 0, 0, 1],
+    port: 69,
+};
+
+const TRANSFER: Endpoint = Endpoint {
+    ip: [127, 0, 0, 1],
+    port: 1024,
+};
+
+const CLIENT: Endpoint = Endpoint {
+    ip: [127, 0, 0, 1],
+    port: 5000,
+};
+
+/// The most datagrams that each side sends. A get without loss takes one a block and one for its
+/// options.
+const MOST: usize = 16;
+
+/// Why the file was not fetched.
+#[derive(Clone, Copy)]
+enum Fault {
+    /// The request is not valid, or the server refuses it.
+    Refused,
+    /// An end has closed, or is out of memory.
+    Stopped,
+    /// The transfer is not complete after [`MOST`] datagrams.
+    Incomplete,
+}
+
+impl Fault {
+    fn text(self) -> &'static str {
+        match self {
+            Fault::Refused => "fetch_memory: refused",
+            Fault::Stopped => "fetch_memory: stopped",
+            Fault::Incomplete => "fetch_memory: not complete",
+        }
+    }
+}
+
+fn main(rt: HostRuntime) -> ExitCode {
+    match run(&rt) {
+        Ok(()) => ExitCode::SUCCESS,
+        Err(fault) => {
+            let _ = rt.eprintln(fault.text());
+            ExitCode::FAILURE
+        }
+    }
+}
+
+/// Gets the text, and prints it.
+fn run(rt: &HostRuntime) -> Result<(), Fault> {
+    let Ok(mut server) = server_of_text(rt.alloc()) else {
+        return Err(Fault::Refused);
+    };
+    let mut sink = MemSink::new(rt.alloc(), 1_000);
+    fetch(rt.alloc(), &mut server, &mut sink)?;
+    let Ok(text) = std::str::from_utf8(sink.as_bytes()) else {
+        return Err(Fault::Incomplete);
+    };
+    let _ = rt.print(text);
+    Ok(())
+}
+
+/// A server of the text under its name.
+fn server_of_text(alloc: Global) -> Result<Server<MemStore>, Fault> {
+    let Ok(path) = path_of(alloc, NAME) else {
+        return Err(Fault::Refused);
+    };
+    let mut text = Vec::new(alloc);
+    let mut files: Vec<(Path, Vec<u8>)> = Vec::new(alloc);
+    if text.extend_from_slice(TEXT.as_bytes()).is_err() || files.push((path, text)).is_err() {
+        return Err(Fault::Stopped);
+    }
+    let Ok(store) = MemStore::new(alloc, files) else {
+        return Err(Fault::Stopped);
+    };
+    match Server::new(alloc, Config::default(), store) {
+        Ok(server) => Ok(server),
+        Err(_) => Err(Fault::Stopped),
+    }
+}
+
+/// Asks the server for the file in blocks of 16 bytes, and stores it in the sink.
+fn fetch(alloc: Global, server: &mut Server<MemStore>, sink: &mut MemSink) -> Result<(), Fault> {
+    let asked = Asked {
+        blksize: Some(16),
+        timeout: None,
+        tsize: None,
+    };
+    let config = EndConfig {
+        limits: Limits {
+            max_block: 512,
+            max_file: 1_000,
+        },
+        retries: 0,
+    };
+    let mut sent = Vec::new(alloc);
+    let Ok((mut end, _)) = End::get(
+        alloc,
+        REQUESTS,
+        NAME,
+        Mode::Octet,
+        &asked,
+        &config,
+        &mut sent,
+    ) else {
+        return Err(Fault::Refused);
+    };
+    let mut answer = Vec::new(alloc);
+    match server.on_request(CLIENT, TRANSFER.port, sent.as_slice(), &mut answer) {
+        Ok(opened) if opened.tid.is_some() => {}
+        _ => return Err(Fault::Refused),
+    }
+    converse(&mut end, sink, server, sent, answer)
+}
+
+/// Hands the client's end what the server answers, and the server what the end sends, until the
+/// client has stored and committed the whole file. The two buffers are those of the datagrams.
+///
+/// A call over a receiver's file requires that the end receives, and ensures it again: that is the
+/// loop's invariant.
+fn converse(
+    end: &mut End,
+    sink: &mut MemSink,
+    server: &mut Server<MemStore>,
+    mut sent: Vec<u8>,
+    mut answer: Vec<u8>,
+) -> Result<(), Fault>
+    requires { is_sender end.old.role.side ≡ false }
+    ensures complete { OnOk result (is_complete end.new.position.phase ≡ true) }
+{
+    for _ in 0..MOST {
+        sent.clear();
+        if end
+            .on_datagram_as_receiver(sink, TRANSFER, answer.as_slice(), &mut sent)
+            .is_err()
+        {
+            return Err(Fault::Stopped);
+        }
+        if end.record().complete {
+            return Ok(());
+        }
+        answer.clear();
+        if server
+            .on_datagram(TRANSFER.port, CLIENT, sent.as_slice(), &mut answer)
+            .is_err()
+        {
+            return Err(Fault::Stopped);
+        }
+    }
+    Err(Fault::Incomplete)
+}
