@@ -9,7 +9,7 @@ use Rattle.tftp_wire.specs.Datagram.{datagram_shown}
 use Rattle.tftp_wire.specs.Line.{line}
 use Rattle.tftp_wire.specs.Reading.{first_fault}
 use Rattle.tftp_wire.specs.declared.packet.Packet.TheVariants.{Data}
-use Rattle.tftp_show.specs.Data.{IsShownAs}
+use Rattle.tftp_show.specs.Data.{IsShownAs, data_line}
 use Rattle.tftp_show.specs.Digits.{bytes_of, pair_value}
 use Rattle.tftp_show.specs.Show.{decoded_shown, spells_packet}
 use Rattle.tftp_show.proofs.DigitsLemmas.{bytes_length, decodes}
@@ -27,31 +27,30 @@ no_fault high low bytes some fits =
     ) refl
 
 -- its line has the number and the length alone
-same_line : (block other : ℕ) (bytes shown : List ℕ) → block ≡ other → length bytes ≡ length shown →
-    line (Data block bytes) ≡ line (Data other shown)
-same_line block other bytes shown e l = rw (e, l) refl
+same_line : (block other len : ℕ) (bytes : List ℕ) → block ≡ other → length bytes ≡ len →
+    line (Data block bytes) ≡ data_line other len
+same_line block other len bytes e l = rw (e, l) refl
 
--- the DATA of digits with its opcode before is shown as another of its number and its length
-pub data_shown : (digits rest shown : List ℕ) (block : ℕ) → is_ok (decode_of digits) ≡ true →
+-- the DATA of digits with its opcode before has the line of its number and its length
+pub data_shown : (digits rest : List ℕ) (block len : ℕ) → is_ok (decode_of digits) ≡ true →
     digits ≡ 48 ∷ 48 ∷ 48 ∷ 51 ∷ rest → 4 ≤ length rest →
     block ≡ pair_value (get_or rest 0 0) (get_or rest 1 0) * 256 + pair_value (get_or rest 2 0) (get_or rest 3 0) →
-    0 < block → length shown ≡ (length rest - 4) / 2 → (length rest - 4) / 2 ≤ 65464 →
-    IsShownAs digits (Data block shown)
-data_shown digits [] shown block h e l b some len fits = absurd (omega arith)
-data_shown digits (x ∷ []) shown block h e l b some len fits = absurd (omega arith)
-data_shown digits (x ∷ y ∷ []) shown block h e l b some len fits = absurd (omega arith)
-data_shown digits (x ∷ y ∷ z ∷ []) shown block h e l b some len fits = absurd (omega arith)
-data_shown digits (x ∷ y ∷ z ∷ w ∷ rest) shown block h e l b some len fits =
+    0 < block → len ≡ (length rest - 4) / 2 → len ≤ 65464 → IsShownAs digits block len
+data_shown digits [] block len h e l b some half fits = absurd (omega arith)
+data_shown digits (x ∷ []) block len h e l b some half fits = absurd (omega arith)
+data_shown digits (x ∷ y ∷ []) block len h e l b some half fits = absurd (omega arith)
+data_shown digits (x ∷ y ∷ z ∷ []) block len h e l b some half fits = absurd (omega arith)
+data_shown digits (x ∷ y ∷ z ∷ w ∷ rest) block len h e l b some half fits =
     let high = pair_value x y in
     let low = pair_value z w in
     let bytes = bytes_of rest in
     let all = 0 ∷ 3 ∷ high ∷ low ∷ bytes in
     let as_bytes = decodes digits h ∙ ap (λ d. Ok (bytes_of d)) e in
-    let none = no_fault high low bytes (omega (arith, b, some)) (omega (arith, bytes_length rest, fits)) in (
+    let none = no_fault high low bytes (omega (arith, b, some)) (omega (arith, bytes_length rest, half, fits)) in (
       ap spells_packet as_bytes ∙ ap is_none none,
       ap decoded_shown as_bytes ∙ ap (datagram_shown all) none
-          ∙ same_line (high * 256 + (low * 1 + 0)) block bytes shown (omega (arith, b))
-          (omega (arith, bytes_length rest, len)),
+          ∙ same_line (high * 256 + (low * 1 + 0)) block len bytes (omega (arith, b))
+          (omega (arith, bytes_length rest, half)),
     )
 
 -- digits that begin with the opcode
@@ -61,9 +60,7 @@ with_opcode digits rest o r =
     sym (take-append-drop 4 digits) ∙ ap (λ l. l ++ drop 4 digits) o ∙ ap (λ l. 48 ∷ 48 ∷ 48 ∷ 51 ∷ l) (sym r)
 
 -- half of the digits after the number
-pub half_length : (rest digits : List ℕ) → 4 ≤ length rest → digits ≡ take (length rest - 4) (drop 4 rest) →
-    (length digits ≡ length rest - 4) × (length (take (length digits / 2) digits) ≡ (length rest - 4) / 2)
-half_length rest digits l e =
-    let all : length digits ≡ length rest - 4 =
-    ap length e ∙ length-take-le (length rest - 4) (drop 4 rest) (omega (arith, length-drop 4 rest)) in
-    (all, length-take-le (length digits / 2) digits (omega arith) ∙ ap (λ n. n / 2) all)
+pub half_length : (rest : List ℕ) → 4 ≤ length rest →
+    length (take (length rest - 4) (drop 4 rest)) / 2 ≡ (length rest - 4) / 2
+half_length rest long =
+    ap (λ n. n / 2) (length-take-le (length rest - 4) (drop 4 rest) (omega (arith, length-drop 4 rest)))

@@ -13,13 +13,13 @@ ghost use Rattle.hex.specs.Hex.{decode_of};
 ghost use Rattle.tftp_show.specs.Show.{line_shown, spells_packet, are_packets, input_shown};
 ghost use Rattle.tftp_show.specs.Show.{status_of};
 
-use crate::show::data::shown_data;
+use crate::show::data::DataLine;
 use crate::show::digits::{decode_digits, is_hex};
 pub use fault::ShowFault;
 pub(crate) use lines::read_line;
 use std::alloc::{AllocError, Global};
 use std::io::{self, BufRead, BufReader, BufWriter, Read, Write};
-use tftp_wire::{show_datagram, show_ref};
+use tftp_wire::show_datagram;
 
 /// The digits of the longest datagram, and a line end: what UDP carries over IPv4 is at most 65507
 /// bytes (RFC 768, RFC 791).
@@ -134,8 +134,8 @@ fn show_line(digits: &[u8], bytes: &mut Vec<u8>, text: &mut String) -> Result<bo
         text.push_str("not hex")?;
         return Ok(false);
     }
-    if let Some(packet) = shown_data(digits) {
-        show_ref(&packet, text).map_err(|_| AllocError)?;
+    if let Some(line) = DataLine::of(digits) {
+        line.append_to(text)?;
         return Ok(true);
     }
     decode_digits(digits, bytes)?;

@@ -10,22 +10,22 @@ use Rattle.tftp_show.proofs.ShowLemmas.{kept_ok}
 use Rattle.tftp_show.proofs.show.show_line.Goals as goal
 
 -- the digits decode to the bytes
-decodes : (c : goal.After-map_err-2) → decode_of c.args.digits.now ≡ Ok c.as_slice.result.now
+decodes : (c : goal.After-map_err) → decode_of c.args.digits.now ≡ Ok c.as_slice.result.now
 decodes c = c.in_ok-decode_digits.ensures ∙ ap Ok (sym c.as_slice.ensures.value)
 
 pub returns-clause-is_packet : goal.returns-clause-is_packet
 returns-clause-is_packet c =
-    kept_ok {E = PacketFault} {D = AllocError} c.show_datagram.result c.map_err-2.result _
+    kept_ok {E = PacketFault} {D = AllocError} c.show_datagram.result c.map_err.result _
     (λ b. b ≡ spells_packet (decode_of c.args.digits.now))
-    c.map_err-2.ensures.cases
+    c.map_err.ensures.cases
     (subst (λ d. IfOk c.show_datagram.result (λ b. b ≡ spells_packet d)) (sym (decodes c))
     c.show_datagram.ensures.is_packet)
 
 pub returns-clause-appended : goal.returns-clause-appended
 returns-clause-appended c =
-    kept_ok {E = PacketFault} {D = AllocError} c.show_datagram.result c.map_err-2.result _
+    kept_ok {E = PacketFault} {D = AllocError} c.show_datagram.result c.map_err.result _
     (λ b. string_bytes c.show_datagram.new.out ≡ string_bytes c.args.text.now
     ++ decoded_shown (decode_of c.args.digits.now))
-    c.map_err-2.ensures.cases
+    c.map_err.ensures.cases
     (subst (λ d. OnOk c.show_datagram.result (string_bytes c.show_datagram.new.out ≡ string_bytes c.args.text.now
     ++ decoded_shown d)) (sym (decodes c)) c.show_datagram.ensures.appended)
