@@ -11,9 +11,9 @@ use Rattle.tftp_rules.specs.OpenEnds.{OpenEnd}
 use Rattle.tftp_player.specs.WorldKept.{HasPorts}
 use Rattle.tftp_player.specs.Effect.{no_effect, said_by, report_by}
 use Rattle.tftp_player.specs.Played.{ends_from, end_at, address_of, AllKept}
-use Rattle.tftp_player.specs.Serving.{PlayedServer, Transfer}
-use Rattle.tftp_player.specs.Exchange.{ends_of, world_of, StageDatagramStep, DatagramAt, LostAt, EndTakes}
-use Rattle.tftp_player.specs.Arriving.{ArrivalRefuses, StageAsks, StageArrives, StageRefuses}
+use Rattle.tftp_player.specs.ServerEnd.{PlayedServer, Transfer}
+use Rattle.tftp_player.specs.Simulation.{ends_of, world_of, EndsDatagramStep, DatagramAt, LostAt, EndTakes}
+use Rattle.tftp_player.specs.Arriving.{ArrivalRefuses, EndsAsk, EndsDelivery, EndsRefuse}
 use Rattle.tftp_player.specs.World.{WorldState, StoredFile, replied, report_of, no_report, WorldEnd, Open_end}
 use Rattle.tftp_player.specs.World.{Closed_end, end_address, world_after}
 use Rattle.tftp_player.specs.declared.datagram.Datagram.{Datagram}
@@ -96,8 +96,8 @@ module _ (from to : Endpoint) (bytes : List ℕ) (before after : PlayedServer) (
       }) h.turns.next)
 
   pub step_arrives : (index : ℕ) → to.port ≡ 1024 + index →
-      StageDatagramStep index from to bytes before after ps ps' effect →
-      StageArrives from to bytes before after ps ps' effect
+      EndsDatagramStep index from to bytes before after ps ps' effect →
+      EndsDelivery from to bytes before after ps ps' effect
   step_arrives index port t sent = by_case t.end t.found t.comes where
     lands : (v : WorldState) (report : Report) → report_by sent effect ≡ report → new sent ≡ v →
         Delivery (old sent) from to bytes report v → Delivery (old sent) from to bytes (report_by sent effect) (new sent)
@@ -124,7 +124,7 @@ module _ (from to : Endpoint) (bytes : List ℕ) (before after : PlayedServer) (
         (open_arrives (old sent) index x from bytes h.turn h.held after.store.files found h.steps h.commits))
 
   pub nobody_arrives : (count : ℕ) → count ≡ length ps → (to.port < 1024) ⊎ (1024 + count ≤ to.port) → after ≡ before →
-      ps' ≡ ps → effect ≡ no_effect to → StageArrives from to bytes before after ps ps' effect
+      ps' ≡ ps → effect ≡ no_effect to → EndsDelivery from to bytes before after ps ps' effect
   nobody_arrives count counts none e f nothing sent =
       let lost : Lost = record {
         effects = nothing;
@@ -137,17 +137,17 @@ module _ (from to : Endpoint) (bytes : List ℕ) (before after : PlayedServer) (
 
 pub asks_arrive :
     (from to : Endpoint) (bytes : List ℕ) (before after : PlayedServer) (ps ps' : List Player) (effect : Effect) →
-    to ≡ request_port → StageAsks from bytes before after ps ps' effect →
-    StageArrives from to bytes before after ps ps' effect
+    to ≡ request_port → EndsAsk from bytes before after ps ps' effect →
+    EndsDelivery from to bytes before after ps ps' effect
 asks_arrive from to bytes before after ps ps' effect e a =
-    subst (λ (there : Endpoint). StageArrives from there bytes before after ps ps' effect) (sym e) a
+    subst (λ (there : Endpoint). EndsDelivery from there bytes before after ps ps' effect) (sym e) a
 
 -- the same, with what was sent given by equations
 pub arrives_reported :
     (config : Config) (sent : List Datagram) (from to : Endpoint) (bytes : List ℕ) (before after : PlayedServer)
     (ps ps' : List Player) (effect : Effect) (old : WorldState) (sent0 sent1 : List Datagram) (report : Report) →
     before.config ≡ config → world_of config sent before ps ≡ old →
-    StageArrives from to bytes before after ps ps' effect →
+    EndsDelivery from to bytes before after ps ps' effect →
     sent0 ≡ sent → sent1 ≡ sent0 ++ said_by effect.from effect.to effect.bytes → report ≡ report_by sent0 effect →
     Delivery old from to bytes report (world_of config sent1 after ps')
 arrives_reported config sent from to bytes before after ps ps' effect old sent0 sent1 report set view a same more
@@ -168,7 +168,7 @@ pub delivers_reported :
     (config : Config) (sent : List Datagram) (i : ℕ) (d : Datagram) (bytes : List ℕ) (before after : PlayedServer)
     (ps ps' : List Player) (effect : Effect) (old : WorldState) (sent0 sent1 : List Datagram) (report : Report) →
     i < length sent0 → d ≡ slice_index_or sent0 i d → bytes ≡ d.bytes → before.config ≡ config →
-    world_of config sent before ps ≡ old → StageArrives d.from d.to bytes before after ps ps' effect →
+    world_of config sent before ps ≡ old → EndsDelivery d.from d.to bytes before after ps ps' effect →
     sent0 ≡ sent → sent1 ≡ sent0 ++ said_by effect.from effect.to effect.bytes → report ≡ report_by sent0 effect →
     WorldStep old (Deliver i) report (world_of config sent1 after ps')
 delivers_reported config sent i d bytes before after ps ps' effect old sent0 sent1 report within reads own set view a
@@ -178,17 +178,17 @@ delivers_reported config sent i d bytes before after ps ps' effect old sent0 sen
     (subst (λ (ds : List Datagram). slice_get ds i ≡ Some d) same (list_get sent0 i d within reads)) in
     let l =
     arrives_reported config sent d.from d.to d.bytes before after ps ps' effect old sent0 sent1 report set view
-    (subst (λ (bs : List ℕ). StageArrives d.from d.to bs before after ps ps' effect) own a) same more reports in
+    (subst (λ (bs : List ℕ). EndsDelivery d.from d.to bs before after ps ps' effect) own a) same more reports in
     (d, there, l)
 
 -- and why an arrival is refused
 pub arrival_refused :
     (config : Config) (sent : List Datagram) (to : Endpoint) (before : PlayedServer) (ps : List Player)
-    (old : WorldState) (fault : WorldFault) → world_of config sent before ps ≡ old → StageRefuses to ps fault →
+    (old : WorldState) (fault : WorldFault) → world_of config sent before ps ≡ old → EndsRefuse to ps fault →
     ArrivalRefuses old to fault
 arrival_refused config sent to before ps old fault view r =
     subst (λ (w : WorldState). ArrivalRefuses w to fault) view (by_fault fault r) where
-      by_fault : (f : WorldFault) → StageRefuses to ps f → ArrivalRefuses (world_of config sent before ps) to f
+      by_fault : (f : WorldFault) → EndsRefuse to ps f → ArrivalRefuses (world_of config sent before ps) to f
       by_fault NoPort h = let n = ends_length before.held ps in let m = h.1 in
           (h.0, (let l : 65535 < 1024 + length (ends_of before ps) = omega (arith, n, m) in l))
       by_fault Memory h = λ lacks. let n = ends_length before.held ps in let m = lacks.1 in
@@ -218,7 +218,7 @@ pub delivery_fault :
     (config : Config) (sent sent0 : List Datagram) (i : ℕ) (d : Datagram) (before : PlayedServer) (ps : List Player)
     (old : WorldState) (fault : WorldFault) →
     i < length sent0 → d ≡ slice_index_or sent0 i d → sent0 ≡ sent → world_of config sent before ps ≡ old →
-    StageRefuses d.to ps fault → WorldRefuses old (Deliver i) fault
+    EndsRefuse d.to ps fault → WorldRefuses old (Deliver i) fault
 delivery_fault config sent sent0 i d before ps old fault within reads same view r =
     delivery_refused old i d fault
     (subst (λ (w : WorldState). slice_get w.sent i ≡ Some d) view

@@ -18,16 +18,16 @@ use Rattle.tftp_server.specs.State.{at, draft_of}
 use Rattle.tftp_server.specs.State as server
 use Rattle.tftp_store.specs.Store.{Stored}
 use Rattle.tftp_rules.specs.OpenEnds.{OpenEnd}
-use Rattle.tftp_player.specs.Arriving.{StageAsks}
+use Rattle.tftp_player.specs.Arriving.{EndsAsk}
 use Rattle.tftp_player.specs.Clients.{server_at, left_in}
 use Rattle.tftp_player.specs.Effect.{said_by, report_by}
 use Rattle.tftp_rules.specs.Hosts.{request_port}
 use Rattle.tftp_rules.specs.Machine.{Endpoint}
-use Rattle.tftp_player.specs.Played.{PlayerKept, end_at, ends_from, records_from, served_as, served_end}
-use Rattle.tftp_player.specs.Requested.{IsRequested, OpensNone, IsAdmitted, new_served, requested_by}
+use Rattle.tftp_player.specs.Played.{PlayerKept, end_at, ends_from, records_from, open_server_end, server_end}
+use Rattle.tftp_player.specs.Requested.{IsRequested, OpensNone, IsAdmitted, new_server_end, requested_by}
 use Rattle.tftp_player.specs.Requests.{is_transfer, IsRepeated, open_transfers, served, service}
-use Rattle.tftp_player.specs.Serving.{PlayedServer, ServedKept, Transfer}
-use Rattle.tftp_player.specs.Exchange.{IsOwned, IsRising, IsStaged, ends_of, world_of}
+use Rattle.tftp_player.specs.ServerEnd.{PlayedServer, ServerEndKept, Transfer}
+use Rattle.tftp_player.specs.Simulation.{IsOwned, IsRising, ArePartsConsistent, ends_of, world_of}
 use Rattle.tftp_player.specs.World.{WorldState, datagram, next_port, no_report, said_in, opened_in, sent_report}
 use Rattle.tftp_player.specs.World.{WorldEnd, Open_end}
 use Rattle.tftp_player.specs.WorldSteps.{At_request_port, HasPort, Delivery}
@@ -36,7 +36,7 @@ use Rattle.tftp_player.specs.declared.effect.Effect.{Effect}
 use Rattle.tftp_player.specs.declared.player.Player.{Player}
 use Rattle.tftp_player.specs.declared.player.Player.TheVariants.{Server}
 use Rattle.tftp_player.specs.declared.report.Report.{Report}
-use Rattle.tftp_player.specs.declared.served.Served.{Served}
+use Rattle.tftp_player.specs.declared.server_end.ServerEnd.{ServerEnd}
 use Rattle.tftp_player.proofs.HeldLemmas.{AreBelow, AreBelow-with_new, AllKeys-with_new, IsRising-with_new}
 use Rattle.tftp_player.proofs.HeldLemmas.{with_new-last}
 use Rattle.tftp_player.proofs.OpenedLemmas.{ends_push, records_push}
@@ -50,7 +50,7 @@ use Rattle.tftp_player.proofs.PortLemmas.{port_not_opened, service_opens}
 use Rattle.tftp_player.proofs.RepeatedLemmas.{repeated_is}
 use Rattle.tftp_player.proofs.ServerLemmas.{says_something, says_one, IsServerOf, PortAsking, PortLeft, PortDid}
 use Rattle.tftp_player.proofs.ServerLemmas.{request_did}
-use Rattle.tftp_player.proofs.ExchangeLemmas.{by_port, kept_by_port}
+use Rattle.tftp_player.proofs.SimulationLemmas.{by_port, kept_by_port}
 
 -- two answers to whether it repeats a request are one
 both_or_none : {P : Type 0} (a b : Bool) → (IsTrue a ↔ P) → (IsTrue b ↔ P) → a ≡ b
@@ -65,7 +65,7 @@ same_repeated from None held a b f g = f ∙ sym g
 same_repeated from (Some packet) held a b f g = both_or_none a b f g
 
 module _ (from : Endpoint) (bytes : List ℕ) (before : PlayedServer) (ps : List Player) (records : List (ℕ × Record))
-    (count port : ℕ) (staged : IsStaged before ps records)
+    (count port : ℕ) (consistent : ArePartsConsistent before ps records)
     (max : IsBlockSize before.config.limits.max_block) (counts : count ≡ length ps) (is : port ≡ 1024 + count)
     (fits : port < 65536) (range : (k : ℕ) → get_or bytes k 0 < 256) where
   abbrev w : List Datagram → WorldState
@@ -84,7 +84,7 @@ module _ (from : Endpoint) (bytes : List ℕ) (before : PlayedServer) (ps : List
 
   is_server : (sent : List Datagram) → IsServerOf (w sent) before
   is_server sent =
-      record { files = refl; limits = refl; retries = refl; cap = refl; overwrite = refl; count = staged.count }
+      record { files = refl; limits = refl; retries = refl; cap = refl; overwrite = refl; count = consistent.count }
 
   said : (decoded : Option Packet) × Decodes bytes decoded
   said = says_something bytes range
@@ -102,7 +102,7 @@ module _ (from : Endpoint) (bytes : List ℕ) (before : PlayedServer) (ps : List
         (says_one bytes h.decoded said.0 h.says said.1) h.repeats
 
     in_the_world : (sent : List Datagram) → IsRepeated h.repeated from said.0 (w sent).ends
-    in_the_world sent = repeated_is before ps records h.repeated from said.0 staged repeats
+    in_the_world sent = repeated_is before ps records h.repeated from said.0 consistent repeats
 
   -- ---- no end opens
   module _ (after : PlayedServer) (opened : Opened) (out : List ℕ)
@@ -121,7 +121,7 @@ module _ (from : Endpoint) (bytes : List ℕ) (before : PlayedServer) (ps : List
     abbrev effect : Effect
     effect = record { from = request_port; to = opened.to; bytes = out; closed = None }
 
-    pub not_opened_asks : StageAsks from bytes before after ps ps effect
+    pub not_opened_asks : EndsAsk from bytes before after ps ps effect
     not_opened_asks sent = elim (seen sent) [
       | inl refused ↦
           let d = datagram request_port from out in
@@ -154,30 +154,30 @@ module _ (from : Endpoint) (bytes : List ℕ) (before : PlayedServer) (ps : List
 
     -- the same, by equations
     pub quietly : (ps0 : List Player) (start given : List ℕ) → ps0 ≡ ps → start ≡ [] → given ≡ start ++ out →
-        StageAsks from bytes before after ps ps0
+        EndsAsk from bytes before after ps ps0
         (record { from = request_port; to = opened.to; bytes = given; closed = None })
     quietly ps0 start given same empty is_out =
         let own : given ≡ out = is_out ∙ ap (λ (s : List ℕ). s ++ out) empty in
         subst
         (λ (b : List ℕ).
-        StageAsks from bytes before after ps ps0
+        EndsAsk from bytes before after ps ps0
         (record { from = request_port; to = opened.to; bytes = b; closed = None })) (sym own)
         (subst
         (λ (qs : List Player).
-        StageAsks from bytes before after ps qs
+        EndsAsk from bytes before after ps qs
         (record { from = request_port; to = opened.to; bytes = out; closed = None })) (sym same) not_opened_asks)
 
-    pub quietly_staged : (ps0 : List Player) (records0 : List (ℕ × Record)) → ps0 ≡ ps → records0 ≡ records →
-        IsStaged after ps0 records0
-    quietly_staged ps0 records0 a b =
-        subst (λ (v : PlayedServer). IsStaged v ps0 records0) (sym not_opened_same)
-        (subst (λ (qs : List Player). IsStaged before qs records0) (sym a)
-        (subst (λ (rs : List (ℕ × Record)). IsStaged before ps rs) (sym b) staged))
+    pub quietly_consistent : (ps0 : List Player) (records0 : List (ℕ × Record)) → ps0 ≡ ps → records0 ≡ records →
+        ArePartsConsistent after ps0 records0
+    quietly_consistent ps0 records0 a b =
+        subst (λ (v : PlayedServer). ArePartsConsistent v ps0 records0) (sym not_opened_same)
+        (subst (λ (qs : List Player). ArePartsConsistent before qs records0) (sym a)
+        (subst (λ (rs : List (ℕ × Record)). ArePartsConsistent before ps rs) (sym b) consistent))
 
   -- ---- an end opens
   module _ (after : PlayedServer) (opened : Opened) (out : List ℕ)
       (h : Step (record { new = after; opened = opened; sent = out }))
-      (t : ℕ) (tid_is : opened.tid ≡ Some t) (o : Option Served) (admitted : IsAdmitted before from bytes o) where
+      (t : ℕ) (tid_is : opened.tid ≡ Some t) (o : Option ServerEnd) (admitted : IsAdmitted before from bytes o) where
     abbrev result' : PortLeft
     result' = record { new = after; opened = opened; sent = out }
 
@@ -187,8 +187,8 @@ module _ (from : Endpoint) (bytes : List ℕ) (before : PlayedServer) (ps : List
     abbrev x : List Datagram → OpenEnd
     x sent = (q sent).end
 
-    abbrev own : List Datagram → Served
-    own sent = new_served (q sent).mode (q sent).path (q sent).file
+    abbrev own : List Datagram → ServerEnd
+    own sent = new_server_end (q sent).mode (q sent).path (q sent).file
 
     abbrev transfer : List Datagram → Transfer
     transfer sent = (q sent).transfer
@@ -211,7 +211,7 @@ module _ (from : Endpoint) (bytes : List ℕ) (before : PlayedServer) (ps : List
         subst
         (λ (n : ℕ).
         OpensFor (w []) (q []).mode (q []).path (q []).file
-        (served (w []) (asks before.config.cap n h.repeated before.config.limits bytes said.0))) (sym staged.count)
+        (served (w []) (asks before.config.cap n h.repeated before.config.limits bytes said.0))) (sym consistent.count)
         (q []).opens in
         true≢false (sym (opens_asks (w []) (q []).mode (q []).path (q []).file ask opens) ∙ shut)
 
@@ -234,7 +234,7 @@ module _ (from : Endpoint) (bytes : List ℕ) (before : PlayedServer) (ps : List
     port_world sent = port_next ∙ ap (λ (n : ℕ). 1024 + n) (sym (ends_length before.held ps))
 
     below : AreBelow port before.held
-    below = subst (λ (n : ℕ). AreBelow n before.held) (sym port_next) staged.below
+    below = subst (λ (n : ℕ). AreBelow n before.held) (sym port_next) consistent.below
 
     found : (sent : List Datagram) → at port after.held ≡ Some (transfer sent)
     found sent =
@@ -258,9 +258,9 @@ module _ (from : Endpoint) (bytes : List ℕ) (before : PlayedServer) (ps : List
     end_is : (sent : List Datagram) → end_at port after.held (Server (own sent)) ≡ Open_end (x sent)
     end_is sent =
         let g = transfer sent in
-        ap (λ (u : Option Transfer). served_end port (own sent) None u) (found sent)
+        ap (λ (u : Option Transfer). server_end port (own sent) None u) (found sent)
         ∙ ap Open_end
-        (ap (λ (n : ℕ). served_as n (own sent) g.end (left_in g.files) (draft_of g.files) g.request) (port_world sent)
+        (ap (λ (n : ℕ). open_server_end n (own sent) g.end (left_in g.files) (draft_of g.files) g.request) (port_world sent)
         ∙ (q sent).is_new.end)
 
     others : (other : ℕ) → 1024 ≤ other → other < 1024 + length ps → at other after.held ≡ at other before.held
@@ -269,7 +269,7 @@ module _ (from : Endpoint) (bytes : List ℕ) (before : PlayedServer) (ps : List
         ap (λ (s : PlayedServer). at other s.held) (q []).new
         ∙ lookup-insert_other numbers port other (transfer []) before.held n
 
-    new_kept : ServedKept port (own []) after.held
+    new_kept : ServerEndKept port (own []) after.held
     new_kept =
         let new = (q []).is_new in
         record {
@@ -303,7 +303,7 @@ module _ (from : Endpoint) (bytes : List ℕ) (before : PlayedServer) (ps : List
     owned_now =
         subst (AllOwned (ps ++ Server (own []) ∷ [])) (sym (ap (λ (s : PlayedServer). s.held) (q []).new))
         (AllKeys-with_new (IsOwned (ps ++ Server (own []) ∷ [])) port (transfer []) before.held below
-        (pushed_owned ps (Server (own [])) before.held staged.owned)
+        (pushed_owned ps (Server (own [])) before.held consistent.owned)
         (record {
           index = length ps;
           is = port_next;
@@ -312,15 +312,15 @@ module _ (from : Endpoint) (bytes : List ℕ) (before : PlayedServer) (ps : List
           lives = refl;
         }))
 
-    staged_now : IsStaged after (ps ++ Server (own []) ∷ []) (records ++ (port, record_of (x []).state) ∷ [])
-    staged_now = record {
+    consistent_now : ArePartsConsistent after (ps ++ Server (own []) ∷ []) (records ++ (port, record_of (x []).state) ∷ [])
+    consistent_now = record {
       kept =
           from_kept 1024 after.held (ps ++ Server (own []) ∷ [])
           (kept-push PlayerKept kept_by_port 1024 before.held after.held ps (Server (own [])) others
-          (to_kept 1024 before.held ps staged.kept)
+          (to_kept 1024 before.held ps consistent.kept)
           (subst (λ (n : ℕ). PlayerKept n after.held (Server (own []))) port_next new_kept));
       recorded =
-          ap (λ (rs : List (ℕ × Record)). rs ++ (port, record_of (x []).state) ∷ []) staged.recorded
+          ap (λ (rs : List (ℕ × Record)). rs ++ (port, record_of (x []).state) ∷ []) consistent.recorded
           ∙ (ap (λ (n : ℕ). records_from 1024 (ends_of before ps) ++ (n, record_of (x []).state) ∷ []) (port_world [])
           ∙ (sym (records_push 1024 (ends_of before ps) (Open_end (x [])))
           ∙ ap (records_from 1024) (sym (ends_now []))));
@@ -333,39 +333,39 @@ module _ (from : Endpoint) (bytes : List ℕ) (before : PlayedServer) (ps : List
       count =
           let a : length after.held ≡ length (before.held ++ (port, transfer []) ∷ []) = ap length held_now in
           let b = transfers-push (ends_of before ps) (Open_end (x [])) (is_one []) in
-          let e = staged.count in
+          let e = consistent.count in
           let n : length after.held ≡ open_transfers (ends_of before ps ++ Open_end (x []) ∷ []) =
           omega (arith, a, length-append before.held ((port, transfer []) ∷ []), b, e) in
           n ∙ ap open_transfers (sym (ends_now []));
       owned = owned_now;
       rising =
           subst IsRising (sym (ap (λ (s : PlayedServer). s.held) (q []).new))
-          (IsRising-with_new port (transfer []) before.held below staged.rising);
-      quiet = ap (λ (s : PlayedServer). s.store.refuses) (q []).new ∙ staged.quiet;
+          (IsRising-with_new port (transfer []) before.held below consistent.rising);
+      quiet = ap (λ (s : PlayedServer). s.store.refuses) (q []).new ∙ consistent.quiet;
     }
 
-    same_served : (kept : Served) (sent : List Datagram) → o ≡ Some kept → kept ≡ own sent
+    same_served : (kept : ServerEnd) (sent : List Datagram) → o ≡ Some kept → kept ≡ own sent
     same_served kept sent e = let f : Some kept ≡ Some (own sent) = sym e ∙ requested_own sent in cc
 
-    pub opened_staged : (kept : Served) (r : Record) (ps0 ps1 : List Player) (records0 records1 : List (ℕ × Record)) →
+    pub opened_consistent : (kept : ServerEnd) (r : Record) (ps0 ps1 : List Player) (records0 records1 : List (ℕ × Record)) →
         o ≡ Some kept → Some r ≡ option_map (λ (g : Transfer). record_of g.end) (at port after.held) →
         ps0 ≡ ps → ps1 ≡ ps0 ++ Server kept ∷ [] → records0 ≡ records → records1 ≡ records0 ++ (port, r) ∷ [] →
-        IsStaged after ps1 records1
-    opened_staged kept r ps0 ps1 records0 records1 e f a b g k =
+        ArePartsConsistent after ps1 records1
+    opened_consistent kept r ps0 ps1 records0 records1 e f a b g k =
         let action : Some r ≡ Some (record_of (x []).state) = f ∙ recorded [] in
         let same : r ≡ record_of (x []).state = cc in
-        subst (λ (qs : List Player). IsStaged after qs records1)
+        subst (λ (qs : List Player). ArePartsConsistent after qs records1)
         (sym
         (b ∙ (ap (λ (qs : List Player). qs ++ Server kept ∷ []) a
-        ∙ ap (λ (s : Served). ps ++ Server s ∷ []) (same_served kept [] e))))
-        (subst (λ (rs : List (ℕ × Record)). IsStaged after (ps ++ Server (own []) ∷ []) rs)
+        ∙ ap (λ (s : ServerEnd). ps ++ Server s ∷ []) (same_served kept [] e))))
+        (subst (λ (rs : List (ℕ × Record)). ArePartsConsistent after (ps ++ Server (own []) ∷ []) rs)
         (sym
         (k ∙ (ap (λ (rs : List (ℕ × Record)). rs ++ (port, r) ∷ []) g
-        ∙ ap (λ (u : Record). records ++ (port, u) ∷ []) same))) staged_now)
+        ∙ ap (λ (u : Record). records ++ (port, u) ∷ []) same))) consistent_now)
 
-    pub opened_asks : (kept : Served) (here : Endpoint) (ps0 ps1 : List Player) (start given : List ℕ) → o ≡ Some kept →
+    pub opened_asks : (kept : ServerEnd) (here : Endpoint) (ps0 ps1 : List Player) (start given : List ℕ) → o ≡ Some kept →
         here ≡ server_at port → ps0 ≡ ps → ps1 ≡ ps0 ++ Server kept ∷ [] → start ≡ [] → given ≡ start ++ out →
-        StageAsks from bytes before after ps ps1 (record { from = here; to = opened.to; bytes = given; closed = None })
+        EndsAsk from bytes before after ps ps1 (record { from = here; to = opened.to; bytes = given; closed = None })
     opened_asks kept here ps0 ps1 start given e at_here a b empty is_out sent =
         let new_end = (q sent).is_new in
         let d = datagram (x sent).address (x sent).state.position.last_sent_to (x sent).state.position.last_sent in
@@ -376,7 +376,7 @@ module _ (from : Endpoint) (bytes : List ℕ) (before : PlayedServer) (ps : List
         (q sent).to ∙ ap (λ (p : Endpoint). Some p) (sym new_end.to) in
         let players : ps1 ≡ ps ++ Server (own sent) ∷ [] =
         b ∙ (ap (λ (qs : List Player). qs ++ Server kept ∷ []) a
-        ∙ ap (λ (s : Served). ps ++ Server s ∷ []) (same_served kept sent e)) in
+        ∙ ap (λ (s : ServerEnd). ps ++ Server s ∷ []) (same_served kept sent e)) in
         let report : report_by sent (record { from = here; to = opened.to; bytes = given; closed = None })
         ≡ sent_report (w sent) =
         ap (λ (p : Option Endpoint). report_by sent (record { from = here; to = p; bytes = given; closed = None }))

@@ -20,23 +20,23 @@ use Rattle.tftp_player.specs.Clients.{ClientDatagramStep}
 use Rattle.tftp_player.specs.Effect.{no_effect}
 use Rattle.tftp_player.specs.PlayedClient.{PlayedClient}
 use Rattle.tftp_player.specs.Played.{client_end, end_at, PlayerKept, PlayerDatagramStep, has_ended, address_of}
-use Rattle.tftp_player.specs.Serving.{PlayedServer, Transfer, CommitsLast, ServedKept, ServedDatagramStep}
-use Rattle.tftp_player.specs.Exchange.{ends_of, IsStaged, LostAt, StageDatagramStep, record_closed, EndTakes}
+use Rattle.tftp_player.specs.ServerEnd.{PlayedServer, Transfer, CommitsLast, ServerEndKept, ServerEndDatagramStep}
+use Rattle.tftp_player.specs.Simulation.{ends_of, ArePartsConsistent, LostAt, EndsDatagramStep, record_closed, EndTakes}
 use Rattle.tftp_player.specs.World.{file_at, in_the_way, is_closed, has_committed, WorldEnd, Open_end, Closed_end}
 use Rattle.tftp_player.specs.World.{end_address}
 use Rattle.tftp_player.specs.WorldSteps.{EndStep, FilesAfter}
 use Rattle.tftp_player.specs.declared.effect.Effect.{Effect}
 use Rattle.tftp_player.specs.declared.player.Player.{Player}
 use Rattle.tftp_player.specs.declared.player.Player.TheVariants.{Client, Server}
-use Rattle.tftp_player.specs.declared.served.Served.{Served}
-use Rattle.tftp_player.proofs.DraftLemmas.{ServedLeaves, served_leaves}
+use Rattle.tftp_player.specs.declared.server_end.ServerEnd.{ServerEnd}
+use Rattle.tftp_player.proofs.DraftLemmas.{ServerEndLeaves, served_leaves}
 use Rattle.tftp_player.proofs.ServerTurns.{end_step}
 use Rattle.tftp_player.proofs.TermsKept.{step_has, still_known}
-use Rattle.tftp_player.proofs.ExchangeLemmas.{Stepped, client_files, client_open, held_end, held_files, served_files}
-use Rattle.tftp_player.proofs.ExchangeLemmas.{served_kept, served_steps, same_transfer, keeps_armed}
+use Rattle.tftp_player.proofs.SimulationLemmas.{Stepped, client_files, client_open, held_end, held_files, served_files}
+use Rattle.tftp_player.proofs.SimulationLemmas.{served_kept, served_steps, same_transfer, keeps_armed}
 use Rattle.tftp_player.proofs.StepLemmas.{client_files as client_commits}
 use Rattle.tftp_player.proofs.EndsByPort.{ends_get, kept_at}
-use Rattle.tftp_player.proofs.PlayLemmas.{list_get, turn_ends, turn_staged, closed_is, has_not_ended}
+use Rattle.tftp_player.proofs.PlayLemmas.{list_get, turn_ends, turn_consistent, closed_is, has_not_ended}
 use Rattle.tftp_player.proofs.PlayLemmas.{address_is}
 
 -- the open end at this port handled a datagram
@@ -83,10 +83,10 @@ client_stepped port c c' server from bytes effect r kept open_now t =
       stepped = client_open port c c' server t.turn c'.files effect r kept open_now t.turns t.kind;
     }
 
-module _ (port : ℕ) (s s' : Served) (before after : PlayedServer) (from : Endpoint) (bytes : List ℕ) (effect : Effect)
+module _ (port : ℕ) (s s' : ServerEnd) (before after : PlayedServer) (from : Endpoint) (bytes : List ℕ) (effect : Effect)
     (r : Record)
     (kept : PlayerKept port before.held (Server s)) (open_now : is_some s.ended ≡ false)
-    (t : ServedDatagramStep port from bytes s s' before after effect r) where
+    (t : ServerEndDatagramStep port from bytes s s' before after effect r) where
   abbrev h : Transfer
   h = t.transfer
 
@@ -99,7 +99,7 @@ module _ (port : ℕ) (s s' : Served) (before after : PlayedServer) (from : Endp
   abbrev held_now : Files (List ℕ) Holding
   held_now = held_files t.store.refuses t.next.files
 
-  kept_here : ServedKept port s before.held
+  kept_here : ServerEndKept port s before.held
   kept_here = served_kept port s before.held open_now kept
 
   is_kept : h ≡ kept_here.transfer
@@ -147,7 +147,7 @@ module _ (port : ℕ) (s s' : Served) (before after : PlayedServer) (from : Endp
       (subst (λ (b : Bool). EndStep b in_way from bytes h.end (held_files s.refuses h.files) t.turn held_now)
       (sym server_side) steps_end)
 
-  leaves : ServedLeaves x0 t.turn held_now t.next.files before.config.overwrite before.store.files t.store.files
+  leaves : ServerEndLeaves x0 t.turn held_now t.next.files before.config.overwrite before.store.files t.store.files
   leaves =
       served_leaves port s from bytes h.end h.request (with_armed before.store s.refuses) t.store t.next.path
       before.config.overwrite t.turn h.files t.next.files steps_so t.stays t.kind commits_last
@@ -202,7 +202,7 @@ player_stepped port (Server s) (Client c') before after from bytes effect r kept
 -- of the player at an index that is read
 module _ (server : PlayedServer) (ps : List Player) (records : List (ℕ × Record)) (index : ℕ) (from to : Endpoint)
     (bytes : List ℕ) (p : Player)
-    (staged : IsStaged server ps records) (at_index : (index < length ps) × (to.port ≡ 1024 + index))
+    (consistent : ArePartsConsistent server ps records) (at_index : (index < length ps) × (to.port ≡ 1024 + index))
     (reads : p ≡ slice_index_or ps index p) where
   abbrev x : WorldEnd
   x = end_at (1024 + index) server.held p
@@ -218,14 +218,14 @@ module _ (server : PlayedServer) (ps : List Player) (records : List (ℕ × Reco
       address_is (1024 + index) server.held p ∙ (ap (λ (n : ℕ). address_of n p) (sym at_index.1) ∙ sym is)
 
   closed_here : (b c : Bool) → b ≡ record_closed (slice_get records index) → b ≡ c → is_closed x ≡ c
-  closed_here b c record_is is = sym (closed_is server ps records index p staged there) ∙ (sym record_is ∙ is)
+  closed_here b c record_is is = sym (closed_is server ps records index p consistent there) ∙ (sym record_is ∙ is)
 
   lost : (effect : Effect) → effect ≡ no_effect to →
       LostAt to server.store.files server.store.files (ends_of server ps) (ends_of server (slice_set ps index p)) effect
   lost effect e = record { effects = e; next = ap (ends_of server) same_list; stays = refl }
 
   pub step_away : (here : Endpoint) (effect : Effect) → here ≡ address_of to.port p → here ≢ to →
-      effect ≡ no_effect to → StageDatagramStep index from to bytes server server ps (slice_set ps index p) effect
+      effect ≡ no_effect to → EndsDatagramStep index from to bytes server server ps (slice_set ps index p) effect
   step_away here effect is differs e = record {
     end = x;
     found = ends_get server.held ps index p there;
@@ -243,7 +243,7 @@ module _ (server : PlayedServer) (ps : List Player) (records : List (ℕ × Reco
 
   pub step_closed : (here : Endpoint) (b : Bool) (effect : Effect) → here ≡ address_of to.port p → here ≡ to →
       b ≡ record_closed (slice_get records index) → b ≡ true → effect ≡ no_effect to →
-      StageDatagramStep index from to bytes server server ps (slice_set ps index p) effect
+      EndsDatagramStep index from to bytes server server ps (slice_set ps index p) effect
   step_closed here b effect is same record_is closed e = record {
     end = x;
     found = ends_get server.held ps index p there;
@@ -258,14 +258,14 @@ module _ (server : PlayedServer) (ps : List Player) (records : List (ℕ × Reco
       PlayerStepped (1024 + index) p p' server after from bytes effect r
   decoded_here b p' after effect r record_is is t =
       player_stepped (1024 + index) p p' server after from bytes effect r
-      (kept_at server.held ps index p staged.kept there)
+      (kept_at server.held ps index p consistent.kept there)
       (has_not_ended (1024 + index) server.held p (closed_here b false record_is is))
       (subst (λ (n : ℕ). PlayerDatagramStep n from bytes p p' server after effect r) at_index.1 t)
 
   pub step_open : (here : Endpoint) (b : Bool) (p' : Player) (after : PlayedServer) (effect : Effect) (r : Record) →
       here ≡ address_of to.port p → here ≡ to → b ≡ record_closed (slice_get records index) → b ≡ false →
       PlayerDatagramStep to.port from bytes p p' server after effect r →
-      StageDatagramStep index from to bytes server after ps (slice_set ps index p') effect
+      EndsDatagramStep index from to bytes server after ps (slice_set ps index p') effect
   step_open here b p' after effect r is same record_is open_now t =
       let g = decoded_here b p' after effect r record_is open_now t in
       record {
@@ -291,8 +291,8 @@ module _ (server : PlayedServer) (ps : List Player) (records : List (ℕ × Reco
   pub step_keeps_stage : (b : Bool) (p' : Player) (after : PlayedServer) (effect : Effect) (r : Record) →
       b ≡ record_closed (slice_get records index) → b ≡ false →
       PlayerDatagramStep to.port from bytes p p' server after effect r →
-      IsStaged after (slice_set ps index p') (slice_set records index (to.port, r))
+      ArePartsConsistent after (slice_set ps index p') (slice_set records index (to.port, r))
   step_keeps_stage b p' after effect r record_is open_now t =
       let g = decoded_here b p' after effect r record_is open_now t in
-      subst (λ (n : ℕ). IsStaged after (slice_set ps index p') (slice_set records index (n, r))) (sym at_index.1)
-      (turn_staged index server after ps p g.end p' g.turn g.held effect r g.stepped records there staged)
+      subst (λ (n : ℕ). ArePartsConsistent after (slice_set ps index p') (slice_set records index (n, r))) (sym at_index.1)
+      (turn_consistent index server after ps p g.end p' g.turn g.held effect r g.stepped records there consistent)

@@ -34,14 +34,14 @@ use Rattle.tftp_rules.specs.OpenEnds.{OpenEnd, end_after}
 use Rattle.tftp_rules.proofs.SinkMoves.{Kept_all, kept_by, none_committed, now_committed, same_bytes, still_committed}
 use Rattle.tftp_rules.proofs.SinkMoves.{took_armed}
 use Rattle.tftp_player.specs.Clients.{left_in}
-use Rattle.tftp_player.specs.Played.{served_as}
-use Rattle.tftp_player.specs.Serving.{CommitsLast}
+use Rattle.tftp_player.specs.Played.{open_server_end}
+use Rattle.tftp_player.specs.ServerEnd.{CommitsLast}
 use Rattle.tftp_player.specs.World.{StoredFile, has_committed}
 use Rattle.tftp_player.specs.WorldSteps.{IsStored, FilesAfter}
-use Rattle.tftp_player.specs.declared.served.Served.{Served}
+use Rattle.tftp_player.specs.declared.server_end.ServerEnd.{ServerEnd}
 use Rattle.tftp_player.proofs.FileLemmas.{stored_so}
 use Rattle.tftp_player.proofs.ServerTurns.{Drafts, seen}
-use Rattle.tftp_player.proofs.ExchangeLemmas.{held_files}
+use Rattle.tftp_player.proofs.SimulationLemmas.{held_files}
 
 -- ---- a complete end does nothing more: it answers at most
 record Rests (action : Action) (from : Endpoint) (e : EndState) : Type 0 where
@@ -229,20 +229,20 @@ module _ (from : Endpoint) (bytes : List ℕ) (e : EndState) (turn : Turn) (d d'
   leaves_by decoded false c commits h = acts_leaves (datagram_action e from bytes decoded) (commits c) h
 
 -- of the end in the world whose transfer this is
-pub record ServedLeaves (x : OpenEnd) (turn : Turn) (held : Files (List ℕ) Holding) (next : Files (List ℕ) Drafted)
+pub record ServerEndLeaves (x : OpenEnd) (turn : Turn) (held : Files (List ℕ) Holding) (next : Files (List ℕ) Drafted)
     (overwrite : Bool) (files files' : List StoredFile) : Type 0 where
   pub files_after :
       FilesAfter overwrite (has_committed x (end_after x turn held)) x.path (end_after x turn held).stored files files'
   pub commits : CommitsLast next turn.position.phase
 
-module _ (port : ℕ) (s : Served) (from : Endpoint) (bytes : List ℕ) (e : EndState) (request : List ℕ)
+module _ (port : ℕ) (s : ServerEnd) (from : Endpoint) (bytes : List ℕ) (e : EndState) (request : List ℕ)
     (store store' : Stored) (path' : List ℕ) (replace : Bool) (turn : Turn) where
   pub served_leaves : (files files' : Files (List ℕ) Drafted) →
       StepIn memory_meaning memory_source from bytes e (files_in store s.path replace files) turn
       (files_in store' path' replace files') →
       KeepsStore files store store' → AreSame (λ (a b : List ℕ). ⊤) (λ (a b : Drafted). ⊤) files files' →
       CommitsLast files e.position.phase →
-      ServedLeaves (served_as port s e (left_in files) (draft_of files) request) turn (held_files store'.refuses files')
+      ServerEndLeaves (open_server_end port s e (left_in files) (draft_of files) request) turn (held_files store'.refuses files')
       files' replace store.files store'.files
   served_leaves (Source left) (Source left') h stays kind k =
       record { files_after = ap (λ (st : Stored). st.files) stays; commits = tt }

@@ -10,7 +10,7 @@ use Rattle.tftp_player.specs.World.{WorldEnd, end_record}
 use Rattle.tftp_player.specs.Requests.{is_transfer, open_transfers}
 use Rattle.tftp_ends.specs.declared.record.Record.{Record}
 use Rattle.tftp_player.specs.Played.{end_at, ends_from, records_from, PlayerKept, AllKept}
-use Rattle.tftp_player.specs.Serving.{Transfer}
+use Rattle.tftp_player.specs.ServerEnd.{Transfer}
 use Rattle.tftp_player.specs.declared.player.Player.{Player}
 
 -- `mapped_from port held ps` is the list of the values of the ends, in order, from this port on

@@ -12,7 +12,7 @@ use Rattle.std.specs.declared.cmp.Ordering.{Ordering}
 use Rattle.std.specs.declared.cmp.Ordering.TheVariants.{Greater}
 use Rattle.tftp_server.specs.State.{at, with_new, with_next, without}
 use Rattle.tftp_rules.proofs.Entries.{at_other, at_same, numbers, same_at}
-use Rattle.tftp_player.specs.Exchange.{IsRising}
+use Rattle.tftp_player.specs.Simulation.{IsRising}
 
 module _ {T : Type 0} where
   -- each identifier is below this one, or above it

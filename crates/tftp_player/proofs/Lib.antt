@@ -24,8 +24,8 @@ pub mod WorldKeeps
 pub mod WorldRuns
 pub mod WorldSafe
 pub mod RoomLemmas
-pub mod ServingLemmas
-pub mod ExchangeLemmas
+pub mod ServerEndLemmas
+pub mod SimulationLemmas
 pub mod PlayLemmas
 pub mod DatagramLemmas
 pub mod OpenedLemmas

@@ -22,8 +22,8 @@ use Rattle.tftp_player.specs.Effect.{said_by, report_by}
 use Rattle.tftp_player.specs.PlayedClient.{PlayedClient}
 use Rattle.tftp_player.specs.Played.{client_end, end_at, ends_from, records_from, PlayerKept}
 use Rattle.tftp_player.specs.Requests.{open_transfers}
-use Rattle.tftp_player.specs.Serving.{PlayedServer}
-use Rattle.tftp_player.specs.Exchange.{ends_of, IsStaged, IsSetup, Enters, world_of}
+use Rattle.tftp_player.specs.ServerEnd.{PlayedServer}
+use Rattle.tftp_player.specs.Simulation.{ends_of, ArePartsConsistent, IsSetup, Enters, world_of}
 use Rattle.tftp_player.specs.World.{WorldState, next_port, sent_report, opened_in, WorldEnd, Open_end, end_record}
 use Rattle.tftp_player.specs.World.{standing}
 use Rattle.tftp_player.specs.WorldSteps.{WorldStep, HasPort}
@@ -42,7 +42,7 @@ use Rattle.tftp_player.proofs.OwnedLemmas.{pushed_owned}
 use Rattle.tftp_player.proofs.EndsByPort.{mapped-push, kept-push, transfers-push_other}
 use Rattle.tftp_player.proofs.EndsByPort.{ends_length, to_kept, from_kept}
 use Rattle.tftp_player.proofs.Standing.{standing_record}
-use Rattle.tftp_player.proofs.ExchangeLemmas.{kept_by_port, no_transfer}
+use Rattle.tftp_player.proofs.SimulationLemmas.{kept_by_port, no_transfer}
 use Rattle.tftp_player.proofs.StepLemmas.{get_step, put_step}
 
 pub ends_push : (server : PlayedServer) (ps : List Player) (p : Player) →
@@ -61,13 +61,13 @@ length_push : (ps : List Player) (p : Player) → length (ps ++ p ∷ []) ≡ su
 length_push ps p = omega (arith, length-append ps (p ∷ []))
 
 -- another client
-pub client_staged :
+pub client_consistent :
     (server : PlayedServer) (ps : List Player) (records : List (ℕ × Record)) (c : PlayedClient) (port : ℕ)
     (r : Record) →
-    IsStaged server ps records → port ≡ 1024 + length ps → r ≡ record_of c.end → is_client c.end.role.side ≡ true →
+    ArePartsConsistent server ps records → port ≡ 1024 + length ps → r ≡ record_of c.end → is_client c.end.role.side ≡ true →
     AreFilesOf c.end.role.side c.files →
-    IsStaged server (ps ++ Client c ∷ []) (records ++ (port, r) ∷ [])
-client_staged server ps records c port r staged is record_is client fits =
+    ArePartsConsistent server (ps ++ Client c ∷ []) (records ++ (port, r) ∷ [])
+client_consistent server ps records c port r consistent is record_is client fits =
     let x = end_at (1024 + length ps) server.held (Client c) in
     let more : 1024 + length ps < 1024 + suc (length ps) = omega arith in
     let action : (port, r) ≡ (1024 + length (ends_of server ps), end_record x) =
@@ -78,37 +78,37 @@ client_staged server ps records c port r staged is record_is client fits =
       kept =
           from_kept 1024 server.held (ps ++ Client c ∷ [])
           (kept-push PlayerKept kept_by_port 1024 server.held server.held ps (Client c) (λ other l u. refl)
-          (to_kept 1024 server.held ps staged.kept) (client, fits));
+          (to_kept 1024 server.held ps consistent.kept) (client, fits));
       recorded =
-          ap (λ (rs : List (ℕ × Record)). rs ++ (port, r) ∷ []) staged.recorded
+          ap (λ (rs : List (ℕ × Record)). rs ++ (port, r) ∷ []) consistent.recorded
           ∙ (ap (λ (e : ℕ × Record). records_from 1024 (ends_of server ps) ++ e ∷ []) action
           ∙ (sym (records_push 1024 (ends_of server ps) x)
           ∙ ap (records_from 1024) (sym (ends_push server ps (Client c)))));
       below =
           subst (λ (n : ℕ). AreBelow (1024 + n) server.held) (sym (length_push ps (Client c)))
-          (AreBelow-more (1024 + length ps) (1024 + suc (length ps)) server.held more staged.below);
-      count = staged.count
+          (AreBelow-more (1024 + length ps) (1024 + suc (length ps)) server.held more consistent.below);
+      count = consistent.count
           ∙ (sym (transfers-push_other (ends_of server ps) x (no_transfer (client_end (1024 + length ps) c) client))
           ∙ ap open_transfers (sym (ends_push server ps (Client c))));
-      owned = pushed_owned ps (Client c) server.held staged.owned;
-      rising = staged.rising;
-      quiet = staged.quiet;
+      owned = pushed_owned ps (Client c) server.held consistent.owned;
+      rising = consistent.rising;
+      quiet = consistent.quiet;
     }
 
 -- the same, by equations
 pub client_entered :
     (server : PlayedServer) (ps ps0 ps1 : List Player) (records records0 records1 : List (ℕ × Record))
     (c : PlayedClient) (port : ℕ) (r : Record) →
-    IsStaged server ps records → port ≡ 1024 + length (ends_of server ps) → is_client c.end.role.side ≡ true →
+    ArePartsConsistent server ps records → port ≡ 1024 + length (ends_of server ps) → is_client c.end.role.side ≡ true →
     AreFilesOf c.end.role.side c.files → r ≡ record_of c.end →
     ps0 ≡ ps → ps1 ≡ ps0 ++ Client c ∷ [] → records0 ≡ records → records1 ≡ records0 ++ (port, r) ∷ [] →
-    IsStaged server ps1 records1
-client_entered server ps ps0 ps1 records records0 records1 c port r staged is client fits record_is a b d e =
-    subst (λ (qs : List Player). IsStaged server qs records1)
+    ArePartsConsistent server ps1 records1
+client_entered server ps ps0 ps1 records records0 records1 c port r consistent is client fits record_is a b d e =
+    subst (λ (qs : List Player). ArePartsConsistent server qs records1)
     (sym (b ∙ ap (λ (qs : List Player). qs ++ Client c ∷ []) a))
-    (subst (λ (rs : List (ℕ × Record)). IsStaged server (ps ++ Client c ∷ []) rs)
+    (subst (λ (rs : List (ℕ × Record)). ArePartsConsistent server (ps ++ Client c ∷ []) rs)
     (sym (e ∙ ap (λ (rs : List (ℕ × Record)). rs ++ (port, r) ∷ []) d))
-    (client_staged server ps records c port r staged (is ∙ ap (λ (n : ℕ). 1024 + n) (ends_length server.held ps))
+    (client_consistent server ps records c port r consistent (is ∙ ap (λ (n : ℕ). 1024 + n) (ends_length server.held ps))
     record_is client fits))
 
 -- the world that a client entered

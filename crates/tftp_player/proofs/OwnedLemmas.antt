@@ -8,11 +8,11 @@ use Rattle.std.specs.List.{AllByRecursion}
 use Rattle.std.specs.Ordering.{nat_cmp}
 use Rattle.tftp_server.specs.State.{without}
 use Rattle.tftp_player.specs.PlayedClient.{PlayedClient}
-use Rattle.tftp_player.specs.Serving.{Transfer}
-use Rattle.tftp_player.specs.Exchange.{IsOwned, IsRising}
+use Rattle.tftp_player.specs.ServerEnd.{Transfer}
+use Rattle.tftp_player.specs.Simulation.{IsOwned, IsRising}
 use Rattle.tftp_player.specs.declared.player.Player.{Player}
 use Rattle.tftp_player.specs.declared.player.Player.TheVariants.{Client, Server}
-use Rattle.tftp_player.specs.declared.served.Served.{Served}
+use Rattle.tftp_player.specs.declared.server_end.ServerEnd.{ServerEnd}
 use Rattle.tftp_player.proofs.HeldLemmas.{AllKeys-without, AllKeys-weaker, all_both, gone-without}
 use Rattle.tftp_rules.proofs.Entries.{at_same, numbers, same_at}
 use Rattle.tftp_rules.proofs.Indices.{slice_get-set_same, slice_get-set_other, slice_get-push_old}
@@ -33,7 +33,7 @@ owned_elsewhere ps index p' k n o = record {
 }
 
 -- and that at this index, if it is the server's and open
-owned_here : (ps : List Player) (index : ℕ) (p : Player) (s' : Served) (k : ℕ) → slice_get ps index ≡ Some p →
+owned_here : (ps : List Player) (index : ℕ) (p : Player) (s' : ServerEnd) (k : ℕ) → slice_get ps index ≡ Some p →
     s'.ended ≡ None → k ≡ 1024 + index →
     IsOwned (slice_set ps index (Server s')) k
 owned_here ps index p s' k there lives is = record {
@@ -60,7 +60,7 @@ client_owned ps index c p' held there all =
     (λ k o. owned_elsewhere ps index p' k (not_a_client ps index c k there o) o) all
 
 -- an end of the server that is still open
-pub server_owned : (ps : List Player) (index : ℕ) (p : Player) (s' : Served) (held : List (ℕ × Transfer)) →
+pub server_owned : (ps : List Player) (index : ℕ) (p : Player) (s' : ServerEnd) (held : List (ℕ × Transfer)) →
     slice_get ps index ≡ Some p → s'.ended ≡ None → AllOwned ps held →
     AllOwned (slice_set ps index (Server s')) held
 server_owned ps index p s' held there lives all =
@@ -73,14 +73,14 @@ server_owned ps index p s' held there lives all =
           owned_elsewhere ps index (Server s') k (λ e. true≢false (sym (at_same numbers (1024 + index) k e) ∙ t)) o
 
 -- an end of the server replaced by another with the same record
-same_end : (ps : List Player) (index : ℕ) (s : Served) (k : ℕ) → slice_get ps index ≡ Some (Server s) →
+same_end : (ps : List Player) (index : ℕ) (s : ServerEnd) (k : ℕ) → slice_get ps index ≡ Some (Server s) →
     k ≡ 1024 + index → (o : IsOwned ps k) → o.served ≡ s
 same_end ps index s k there e o =
     let same : o.index ≡ index = let a = o.is in omega (arith, a, e) in
     let both : Some (Server o.served) ≡ Some (Server s) = sym o.there ∙ (ap (slice_get ps) same ∙ there) in
     cc
 
-pub same_owned : (ps : List Player) (index : ℕ) (s s' : Served) (held : List (ℕ × Transfer)) →
+pub same_owned : (ps : List Player) (index : ℕ) (s s' : ServerEnd) (held : List (ℕ × Transfer)) →
     slice_get ps index ≡ Some (Server s) → s'.ended ≡ s.ended → AllOwned ps held →
     AllOwned (slice_set ps index (Server s')) held
 same_owned ps index s s' held there e all =
@@ -91,7 +91,7 @@ same_owned ps index s s' held there e all =
       by k o true t =
           let is = same_at numbers (1024 + index) k t in
           owned_here ps index (Server s) s' k there
-          (e ∙ (ap (λ (q : Served). q.ended) (sym (same_end ps index s k there is o)) ∙ o.lives)) is
+          (e ∙ (ap (λ (q : ServerEnd). q.ended) (sym (same_end ps index s k there is o)) ∙ o.lives)) is
       by k o false t =
           owned_elsewhere ps index (Server s') k (λ f. true≢false (sym (at_same numbers (1024 + index) k f) ∙ t)) o
 

@@ -24,11 +24,12 @@ use Rattle.tftp_server.specs.declared.config.Config.{Config}
 use Rattle.tftp_rules.specs.Machine.{Endpoint}
 use Rattle.tftp_player.specs.Clients.{server_at}
 use Rattle.tftp_player.specs.Effect.{effect_of, no_effect, said_by, index_after, report_by}
-use Rattle.tftp_player.specs.Played.{served_end, end_at, ends_from, records_from, PlayerKept, IsServed}
+use Rattle.tftp_player.specs.Played.{server_end, end_at, ends_from, records_from, PlayerKept, IsServerEndAt}
 use Rattle.tftp_player.specs.Played.{PlayerTimeoutStep, has_ended, address_of, client_end}
-use Rattle.tftp_player.specs.Serving.{PlayedServer, Transfer, CommitsLast}
-use Rattle.tftp_player.specs.Exchange.{ends_of, IsStaged, SameStore, EndTimesOut, StageTimeoutStep, record_closed}
-use Rattle.tftp_player.specs.Exchange.{world_of}
+use Rattle.tftp_player.specs.ServerEnd.{PlayedServer, Transfer, CommitsLast}
+use Rattle.tftp_player.specs.Simulation.{ends_of, ArePartsConsistent, SameStore, EndTimesOut, EndsTimeoutStep}
+use Rattle.tftp_player.specs.Simulation.{record_closed}
+use Rattle.tftp_player.specs.Simulation.{world_of}
 use Rattle.tftp_player.specs.World.{WorldState, WorldEnd, Open_end, Closed_end, end_record, end_address, is_closed}
 use Rattle.tftp_player.specs.World.{standing, replied, added_at, closed_at, world_after, report_of, no_report}
 use Rattle.tftp_player.specs.WorldSteps.{WorldStep, IsAtPort, NoneAt, EventRefuses, WorldRefuses}
@@ -40,7 +41,7 @@ use Rattle.tftp_player.specs.declared.effect.Effect.{Effect}
 use Rattle.tftp_player.specs.declared.event.Event.TheVariants.{Timeout}
 use Rattle.tftp_player.specs.declared.player.Player.{Player}
 use Rattle.tftp_player.specs.declared.player.Player.TheVariants.{Client, Server}
-use Rattle.tftp_player.specs.declared.served.Served.{Served}
+use Rattle.tftp_player.specs.declared.server_end.ServerEnd.{ServerEnd}
 use Rattle.tftp_server.specs.Steps.{with_end}
 use Rattle.tftp_store.specs.Store.{Stored, Drafted}
 use Rattle.tftp_player.specs.declared.report.Report.{Report}
@@ -48,9 +49,9 @@ use Rattle.tftp_player.proofs.EndsByPort.{ends_length, ends_get, to_kept, from_k
 use Rattle.tftp_player.proofs.EndsByPort.{mapped-set, kept-set}
 use Rattle.tftp_player.proofs.EndsByPort.{transfers-set, transfers-close}
 use Rattle.tftp_player.proofs.Standing.{standing_record, standing_address, standing_closed}
-use Rattle.tftp_player.proofs.ExchangeLemmas.{by_port, kept_by_port, Stepped, same_kind, client_files, client_steps}
-use Rattle.tftp_player.proofs.ExchangeLemmas.{held_end, served_steps, served_kept, served_files, same_transfer}
-use Rattle.tftp_player.proofs.ExchangeLemmas.{same_draft_kind, same_armed}
+use Rattle.tftp_player.proofs.SimulationLemmas.{by_port, kept_by_port, Stepped, same_kind, client_files, client_steps}
+use Rattle.tftp_player.proofs.SimulationLemmas.{held_end, served_steps, served_kept, served_files, same_transfer}
+use Rattle.tftp_player.proofs.SimulationLemmas.{same_draft_kind, same_armed}
 use Rattle.tftp_player.proofs.StepLemmas.{timeout_step, timeout_stays}
 use Rattle.tftp_player.proofs.TermsKept.{still_known, timeout_has}
 
@@ -68,25 +69,25 @@ module _ (index : ℕ) (before after : PlayedServer) (ps : List Player) (p : Pla
       ≡ slice_set (ends_of before ps) index (standing (end_after x turn held))
   turn_ends = set_ends ∙ ap (λ (y : WorldEnd). slice_set (ends_of before ps) index y) t.end
 
-  pub turn_staged : (records : List (ℕ × Record)) → slice_get ps index ≡ Some p → IsStaged before ps records →
-      IsStaged after (slice_set ps index p') (slice_set records index (1024 + index, r))
-  turn_staged records there staged = record {
+  pub turn_consistent : (records : List (ℕ × Record)) → slice_get ps index ≡ Some p → ArePartsConsistent before ps records →
+      ArePartsConsistent after (slice_set ps index p') (slice_set records index (1024 + index, r))
+  turn_consistent records there consistent = record {
     kept =
         from_kept 1024 after.held (slice_set ps index p')
         (kept-set PlayerKept kept_by_port 1024 before.held after.held ps index p' t.others
-        (to_kept 1024 before.held ps staged.kept) t.kept);
+        (to_kept 1024 before.held ps consistent.kept) t.kept);
     recorded =
-        ap (λ (rs : List (ℕ × Record)). slice_set rs index (1024 + index, r)) staged.recorded
+        ap (λ (rs : List (ℕ × Record)). slice_set rs index (1024 + index, r)) consistent.recorded
         ∙ (ap (λ (q : Record). slice_set (records_from 1024 (ends_of before ps)) index (1024 + index, q)) t.recorded
         ∙ (sym (records_set 1024 (ends_of before ps) index (end_at (1024 + index) after.held p'))
         ∙ ap (records_from 1024) (sym set_ends)));
     below =
         subst (λ (n : ℕ). AllByRecursion (λ (e : ℕ × Transfer). e.0 < 1024 + n) after.held)
-        (sym (length-set ps index p')) (t.below (1024 + length ps) staged.below);
+        (sym (length-set ps index p')) (t.below (1024 + length ps) consistent.below);
     count = counted_still t.counted ∙ ap open_transfers (sym set_ends);
-    owned = t.owned index ps refl there staged.rising staged.owned;
-    rising = t.rising staged.rising;
-    quiet = t.quiet staged.quiet;
+    owned = t.owned index ps refl there consistent.rising consistent.owned;
+    rising = t.rising consistent.rising;
+    quiet = t.quiet consistent.quiet;
   } where
     counted_still :
         ((is_transfer (end_at (1024 + index) after.held p') ≡ is_transfer (Open_end x))
@@ -96,7 +97,7 @@ module _ (index : ℕ) (before after : PlayedServer) (ps : List Player) (p : Pla
         length after.held ≡ open_transfers (slice_set (ends_of before ps) index (end_at (1024 + index) after.held p'))
     counted_still (inl same) =
         same.1
-        ∙ (staged.count
+        ∙ (consistent.count
         ∙ sym
         (transfers-set (ends_of before ps) index (end_at (1024 + index) before.held p)
         (end_at (1024 + index) after.held p') (ends_get before.held ps index p there)
@@ -106,7 +107,7 @@ module _ (index : ℕ) (before after : PlayedServer) (ps : List Player) (p : Pla
         transfers-close (ends_of before ps) index (end_at (1024 + index) before.held p)
         (end_at (1024 + index) after.held p') (ends_get before.held ps index p there) (ap is_transfer t.was ∙ closed.0)
         closed.1 in
-        let m = staged.count in
+        let m = consistent.count in
         let k = closed.2 in
         omega (arith, n, m, k)
 
@@ -188,8 +189,8 @@ keeps_store port (Client c) (Server s') before after effect r t = absurd t
 keeps_store port (Server s) (Client c') before after effect r t = absurd t
 
 -- an end that is open in the world is open as it is played
-ended_by : (port : ℕ) (s : Served) (o : Option Record) (h : Option Transfer) →
-    is_closed (served_end port s o h) ≡ false → is_some o ≡ false
+ended_by : (port : ℕ) (s : ServerEnd) (o : Option Record) (h : Option Transfer) →
+    is_closed (server_end port s o h) ≡ false → is_some o ≡ false
 ended_by port s None h e = refl
 ended_by port s (Some r) h e = absurd (true≢false e)
 
@@ -199,13 +200,13 @@ has_not_ended port held (Client c) e = sym (standing_closed (client_end port c))
 has_not_ended port held (Server s) e = ended_by port s s.ended (at port held) e
 
 -- what is recorded says whether it is closed
-served_shows : (port : ℕ) (s : Served) (o : Option Record) (held : List (ℕ × Transfer)) → IsServed port s o held →
-    is_some (end_record (served_end port s o (at port held))).outcome ≡ is_closed (served_end port s o (at port held))
+served_shows : (port : ℕ) (s : ServerEnd) (o : Option Record) (held : List (ℕ × Transfer)) → IsServerEndAt port s o held →
+    is_some (end_record (server_end port s o (at port held))).outcome ≡ is_closed (server_end port s o (at port held))
 served_shows port s (Some r) held k = k.closed
 served_shows port s None held k =
     subst
-    (λ (h : Option Transfer). is_some (end_record (served_end port s None h)).outcome
-    ≡ is_closed (served_end port s None h)) (sym k.found) k.is_open
+    (λ (h : Option Transfer). is_some (end_record (server_end port s None h)).outcome
+    ≡ is_closed (server_end port s None h)) (sym k.found) k.is_open
 
 record_shows : (port : ℕ) (held : List (ℕ × Transfer)) (p : Player) → PlayerKept port held p →
     is_some (end_record (end_at port held p)).outcome ≡ is_closed (end_at port held p)
@@ -215,20 +216,20 @@ record_shows port held (Client c) k =
 record_shows port held (Server s) k = served_shows port s s.ended held k
 
 pub closed_is : (server : PlayedServer) (ps : List Player) (records : List (ℕ × Record)) (k : ℕ) (p : Player) →
-    IsStaged server ps records → slice_get ps k ≡ Some p →
+    ArePartsConsistent server ps records → slice_get ps k ≡ Some p →
     record_closed (slice_get records k) ≡ is_closed (end_at (1024 + k) server.held p)
-closed_is server ps records k p staged e =
-    ap (λ (rs : List (ℕ × Record)). record_closed (slice_get rs k)) staged.recorded
+closed_is server ps records k p consistent e =
+    ap (λ (rs : List (ℕ × Record)). record_closed (slice_get rs k)) consistent.recorded
     ∙ (ap record_closed
     (records_get 1024 (ends_of server ps) k (end_at (1024 + k) server.held p) (ends_get server.held ps k p e))
-    ∙ record_shows (1024 + k) server.held p (kept_at server.held ps k p staged.kept e))
+    ∙ record_shows (1024 + k) server.held p (kept_at server.held ps k p consistent.kept e))
 
-pub stage_times_out :
+pub ends_time_out :
     (index : ℕ) (before after : PlayedServer) (ps : List Player) (p p' : Player) (effect : Effect) (r : Record) →
     slice_get ps index ≡ Some p →
     TimedOut (1024 + index) p p' before after effect r → SameStore before after →
-    StageTimeoutStep index before after ps (slice_set ps index p') effect
-stage_times_out index before after ps p p' effect r e t same =
+    EndsTimeoutStep index before after ps (slice_set ps index p') effect
+ends_time_out index before after ps p p' effect r e t same =
     let x = t.end in
     record {
       end = Open_end x;
@@ -246,11 +247,11 @@ stays_by : (index : ℕ) (x : WorldEnd) (ends : List WorldEnd) (effect : Effect)
 stays_by index (Open_end x) ends effect closed is = absurd (true≢false (sym closed))
 stays_by index (Closed_end x) ends effect closed is = record { effects = is; next = refl }
 
-pub stage_stays : (index : ℕ) (server : PlayedServer) (ps : List Player) (p : Player) (effect : Effect) →
+pub ends_stay : (index : ℕ) (server : PlayedServer) (ps : List Player) (p : Player) (effect : Effect) →
     slice_get ps index ≡ Some p → is_closed (end_at (1024 + index) server.held p) ≡ true →
     effect ≡ no_effect (end_address (end_at (1024 + index) server.held p)) →
-    StageTimeoutStep index server server ps ps effect
-stage_stays index server ps p effect e closed is =
+    EndsTimeoutStep index server server ps ps effect
+ends_stay index server ps p effect e closed is =
     let x = end_at (1024 + index) server.held p in
     record {
       end = x;
@@ -322,7 +323,7 @@ timed_by config sent index before after ps ps' effect port (Open_end x) at store
 pub world_timed_out :
     (config : Config) (sent : List Datagram) (index : ℕ) (before after : PlayedServer) (ps ps' : List Player)
     (effect : Effect) (port : ℕ) → port ≡ 1024 + index →
-    StageTimeoutStep index before after ps ps' effect →
+    EndsTimeoutStep index before after ps ps' effect →
     WorldStep (world_of config sent before ps) (Timeout port) (report_by sent effect)
     (world_of config (sent ++ said_by effect.from effect.to effect.bytes) after ps')
 world_timed_out config sent index before after ps ps' effect port is t =
@@ -338,8 +339,8 @@ records_length : (port : ℕ) (ends : List WorldEnd) → length (records_from po
 records_length port [] = refl
 records_length port (x ∷ ends) = ap suc (records_length (port + 1) ends)
 
-served_address : (port : ℕ) (s : Served) (o : Option Record) (h : Option Transfer) →
-    end_address (served_end port s o h) ≡ server_at port
+served_address : (port : ℕ) (s : ServerEnd) (o : Option Record) (h : Option Transfer) →
+    end_address (server_end port s o h) ≡ server_at port
 served_address port s (Some r) h = refl
 served_address port s None (Some h) = refl
 served_address port s None None = refl
@@ -351,7 +352,7 @@ address_is port held (Server s) = served_address port s s.ended (at port held)
 
 -- what is known of the player at an index that is read
 module _ (server : PlayedServer) (ps : List Player) (records : List (ℕ × Record)) (index port : ℕ) (p : Player)
-    (staged : IsStaged server ps records) (at_index : (index < length ps) × (port ≡ 1024 + index))
+    (consistent : ArePartsConsistent server ps records) (at_index : (index < length ps) × (port ≡ 1024 + index))
     (reads : p ≡ slice_index_or ps index p) where
   is_there : slice_get ps index ≡ Some p
   is_there = list_get ps index p at_index.0 reads
@@ -362,11 +363,11 @@ module _ (server : PlayedServer) (ps : List Player) (records : List (ℕ × Reco
   pub read_kept : PlayerKept port server.held p
   read_kept =
       subst (λ (n : ℕ). PlayerKept n server.held p) (sym at_index.1)
-      (kept_at server.held ps index p staged.kept is_there)
+      (kept_at server.held ps index p consistent.kept is_there)
 
   recorded_as : (b c : Bool) → b ≡ record_closed (slice_get records index) → b ≡ c →
       is_closed (end_at (1024 + index) server.held p) ≡ c
-  recorded_as b c record_is is = sym (closed_is server ps records index p staged is_there) ∙ (sym record_is ∙ is)
+  recorded_as b c record_is is = sym (closed_is server ps records index p consistent is_there) ∙ (sym record_is ∙ is)
 
   pub read_open : (b : Bool) → b ≡ record_closed (slice_get records index) → b ≡ false → has_ended p ≡ false
   read_open b record_is is = has_not_ended (1024 + index) server.held p (recorded_as b false record_is is)
@@ -374,16 +375,16 @@ module _ (server : PlayedServer) (ps : List Player) (records : List (ℕ × Reco
   pub records_within : index < length records
   records_within =
       let n : length records ≡ length ps =
-      ap length staged.recorded ∙ (records_length 1024 (ends_of server ps) ∙ ends_length server.held ps) in
+      ap length consistent.recorded ∙ (records_length 1024 (ends_of server ps) ∙ ends_length server.held ps) in
       let w = at_index.0 in
       omega (arith, n)
 
-  pub stays_staged : (b : Bool) (here : Endpoint) (effect : Effect) → b ≡ record_closed (slice_get records index) →
+  pub stays_consistent : (b : Bool) (here : Endpoint) (effect : Effect) → b ≡ record_closed (slice_get records index) →
       b ≡ true → here ≡ address_of port p → effect ≡ no_effect here →
-      StageTimeoutStep index server server ps (slice_set ps index p) effect
-  stays_staged b here effect record_is is address effects =
-      subst (λ (qs : List Player). StageTimeoutStep index server server ps qs effect) (sym read_back)
-      (stage_stays index server ps p effect is_there (recorded_as b true record_is is)
+      EndsTimeoutStep index server server ps (slice_set ps index p) effect
+  stays_consistent b here effect record_is is address effects =
+      subst (λ (qs : List Player). EndsTimeoutStep index server server ps qs effect) (sym read_back)
+      (ends_stay index server ps p effect is_there (recorded_as b true record_is is)
       (effects
       ∙ ap no_effect
       (address ∙ (ap (λ (n : ℕ). address_of n p) at_index.1 ∙ sym (address_is (1024 + index) server.held p)))))
@@ -393,33 +394,33 @@ module _ (server : PlayedServer) (ps : List Player) (records : List (ℕ × Reco
       PlayerTimeoutStep port p p' server after effect r →
       TimedOut (1024 + index) p p' server after effect r
   stepped_here b p' after effect r record_is is t =
-      player_times_out (1024 + index) p p' server after effect r (kept_at server.held ps index p staged.kept is_there)
+      player_times_out (1024 + index) p p' server after effect r (kept_at server.held ps index p consistent.kept is_there)
       (read_open b record_is is)
       (subst (λ (n : ℕ). PlayerTimeoutStep n p p' server after effect r) at_index.1 t)
 
-  pub times_out_staged : (b : Bool) (p' : Player) (after : PlayedServer) (effect : Effect) (r : Record) →
+  pub times_out_consistent : (b : Bool) (p' : Player) (after : PlayedServer) (effect : Effect) (r : Record) →
       b ≡ record_closed (slice_get records index) → b ≡ false →
       PlayerTimeoutStep port p p' server after effect r →
-      StageTimeoutStep index server after ps (slice_set ps index p') effect
-  times_out_staged b p' after effect r record_is is t =
-      stage_times_out index server after ps p p' effect r is_there (stepped_here b p' after effect r record_is is t)
+      EndsTimeoutStep index server after ps (slice_set ps index p') effect
+  times_out_consistent b p' after effect r record_is is t =
+      ends_time_out index server after ps p p' effect r is_there (stepped_here b p' after effect r record_is is t)
       (keeps_store port p p' server after effect r t)
 
   pub times_out_keeps : (b : Bool) (p' : Player) (after : PlayedServer) (effect : Effect) (r : Record) →
       b ≡ record_closed (slice_get records index) → b ≡ false →
       PlayerTimeoutStep port p p' server after effect r →
-      IsStaged after (slice_set ps index p') (slice_set records index (port, r))
+      ArePartsConsistent after (slice_set ps index p') (slice_set records index (port, r))
   times_out_keeps b p' after effect r record_is is t =
       let h = stepped_here b p' after effect r record_is is t in
-      subst (λ (n : ℕ). IsStaged after (slice_set ps index p') (slice_set records index (n, r))) (sym at_index.1)
-      (turn_staged index server after ps p h.end p' (timeout_turn h.end.state) (files_of h.end) effect r h.stepped
-      records is_there staged)
+      subst (λ (n : ℕ). ArePartsConsistent after (slice_set ps index p') (slice_set records index (n, r))) (sym at_index.1)
+      (turn_consistent index server after ps p h.end p' (timeout_turn h.end.state) (files_of h.end) effect r h.stepped
+      records is_there consistent)
 
 -- the same, with what was sent given by equations
 pub timeout_result :
     (config : Config) (sent : List Datagram) (index : ℕ) (before after : PlayedServer) (ps ps' : List Player)
     (effect : Effect) (port : ℕ) (old : WorldState) (sent0 sent1 : List Datagram) (report : Report) →
-    world_of config sent before ps ≡ old → port ≡ 1024 + index → StageTimeoutStep index before after ps ps' effect →
+    world_of config sent before ps ≡ old → port ≡ 1024 + index → EndsTimeoutStep index before after ps ps' effect →
     sent0 ≡ sent → sent1 ≡ sent0 ++ said_by effect.from effect.to effect.bytes → report ≡ report_by sent0 effect →
     WorldStep old (Timeout port) report (world_of config sent1 after ps')
 timeout_result config sent index before after ps ps' effect port old sent0 sent1 report view is t same more reports =

@@ -27,14 +27,14 @@ use Rattle.tftp_player.specs.Clients.{server_at, left_in}
 use Rattle.tftp_rules.specs.Hosts.{request_port}
 use Rattle.tftp_rules.specs.Machine.{Endpoint}
 use Rattle.tftp_player.specs.Openings.{sending_end, receiving_end}
-use Rattle.tftp_player.specs.Played.{served_as}
-use Rattle.tftp_player.specs.Requested.{new_served, receiver_at, requested_by, sender_at}
+use Rattle.tftp_player.specs.Played.{open_server_end}
+use Rattle.tftp_player.specs.Requested.{new_server_end, receiver_at, requested_by, sender_at}
 use Rattle.tftp_player.specs.Requests.{begun_of, open_transfers, opened_of, served, service}
-use Rattle.tftp_player.specs.Serving.{Transfer, CommitsLast}
+use Rattle.tftp_player.specs.ServerEnd.{Transfer, CommitsLast}
 use Rattle.tftp_player.specs.World.{WorldState, file_at, in_the_way, next_port, datagram, no_report, opened_in, said_in}
 use Rattle.tftp_player.specs.World.{sent_report}
 use Rattle.tftp_player.specs.WorldSteps.{ServiceStep}
-use Rattle.tftp_player.specs.declared.served.Served.{Served}
+use Rattle.tftp_player.specs.declared.server_end.ServerEnd.{ServerEnd}
 use Rattle.tftp_player.proofs.ServerLemmas.{PortAsking, PortLeft, PortDid, held_sender, held_receiver}
 
 -- ---- the request of an end that opens
@@ -49,8 +49,8 @@ module _ (w : WorldState) (mode : Mode) (path file : List ℕ) where
   abbrev Is_asked : Ask → Type 0
   Is_asked ask = OpensFor w mode path file (served w ask)
 
-  abbrev AskedFor : Option Served → Type 0
-  AskedFor o = o ≡ Some (new_served mode path file)
+  abbrev AskedFor : Option ServerEnd → Type 0
+  AskedFor o = o ≡ Some (new_server_end mode path file)
 
   -- the other way of a test opens no end
   other_way : (b : Bool) (this that : Ask) → (Is_asked this → ⊥) → Is_asked (if b then this else that) → Is_asked that
@@ -97,7 +97,7 @@ module _ (w : WorldState) (mode : Mode) (path file : List ℕ) where
       (λ f. f) h) in
       ap (λ (q : List ℕ). sender_at w.files request.mode (Ok q)) b.0
       ∙ (ap (λ (m : Mode). sender_at w.files m (Ok path)) b.1
-      ∙ ap (λ (f : Option (List ℕ)). option_map (λ (g : List ℕ). new_served mode path g) f) b.2)
+      ∙ ap (λ (f : Option (List ℕ)). option_map (λ (g : List ℕ). new_server_end mode path g) f) b.2)
 
   write_named : (request : Request) (name : Result (List ℕ) PathFault) →
       Is_asked
@@ -112,7 +112,7 @@ module _ (w : WorldState) (mode : Mode) (path file : List ℕ) where
       (other_way (nat_le w.cap (open_transfers w.ends)) (Refuses ServerBusy) (by_options p request.mode accepted)
       (λ f. f) h) in
       ap (λ (q : List ℕ). receiver_at request.mode (Ok q)) b.0
-      ∙ (ap (λ (m : Mode). receiver_at m (Ok path)) b.1 ∙ ap (λ (f : List ℕ). Some (new_served mode path f)) (sym b.2))
+      ∙ (ap (λ (m : Mode). receiver_at m (Ok path)) b.1 ∙ ap (λ (f : List ℕ). Some (new_server_end mode path f)) (sym b.2))
 
   by_asked : (repeated : Bool) (decoded : Option Packet) →
       Is_asked (by_packet w.cap (open_transfers w.ends) repeated w.limits decoded) →
@@ -137,7 +137,7 @@ module _ (w : WorldState) (mode : Mode) (path file : List ℕ) where
   -- the end that opens is the one that the packet asks for
   pub service_opens : (repeated : Bool) (bytes : List ℕ) (decoded : Option Packet) →
       OpensFor w mode path file (service w repeated bytes decoded) →
-      requested_by w.files decoded ≡ Some (new_served mode path file)
+      requested_by w.files decoded ≡ Some (new_server_end mode path file)
   service_opens repeated bytes decoded h =
       by_asked repeated decoded
       (other_way (has_error_opcode bytes) Ignores (by_packet w.cap (open_transfers w.ends) repeated w.limits decoded)
@@ -152,9 +152,9 @@ module _ (w : WorldState) (mode : Mode) (path file : List ℕ) where
 
 -- ---- an end of the server as it opens
 -- it is consistent with what the server holds
-pub record IsNewEnd (w : WorldState) (from : Endpoint) (s : Served) (transfer : Transfer) (x : OpenEnd) : Type 0 where
+pub record IsNewEnd (w : WorldState) (from : Endpoint) (s : ServerEnd) (transfer : Transfer) (x : OpenEnd) : Type 0 where
   pub state : transfer.end ≡ x.state
-  pub end : served_as (next_port w) s transfer.end (left_in transfer.files) (draft_of transfer.files) transfer.request
+  pub end : open_server_end (next_port w) s transfer.end (left_in transfer.files) (draft_of transfer.files) transfer.request
       ≡ x
   pub address : x.address ≡ server_at (next_port w)
   pub still : outcome_of x.state.position.phase ≡ None
@@ -169,14 +169,14 @@ pub record IsNewEnd (w : WorldState) (from : Endpoint) (s : Served) (transfer : 
 
 pub new_sender :
     (w : WorldState) (from : Endpoint) (bytes : List ℕ) (mode : Mode) (path file : List ℕ) (agreed : List Known) →
-    IsNewEnd w from (new_served mode path file) (held_sender (sending_end w from bytes mode path file agreed))
+    IsNewEnd w from (new_server_end mode path file) (held_sender (sending_end w from bytes mode path file agreed))
     (sending_end w from bytes mode path file agreed)
 new_sender w from bytes mode path file [] = search rules
 new_sender w from bytes mode path file (known ∷ agreed) = search rules
 
 pub new_receiver :
     (w : WorldState) (from : Endpoint) (bytes : List ℕ) (mode : Mode) (path : List ℕ) (agreed : List Known) →
-    IsNewEnd w from (new_served mode path []) (held_receiver (receiving_end w from bytes mode path agreed))
+    IsNewEnd w from (new_server_end mode path []) (held_receiver (receiving_end w from bytes mode path agreed))
     (receiving_end w from bytes mode path agreed)
 new_receiver w from bytes mode path [] = search rules
 new_receiver w from bytes mode path (known ∷ agreed) = search rules
@@ -191,7 +191,7 @@ module _ (w : WorldState) (asking : PortAsking) (result : PortLeft) where
     pub transfer : Transfer
     pub end : OpenEnd
     pub opens : OpensFor w mode path file what
-    pub is_new : IsNewEnd w asking.from (new_served mode path file) transfer end
+    pub is_new : IsNewEnd w asking.from (new_server_end mode path file) transfer end
     pub tid : result.opened.tid ≡ Some asking.tid
     pub to : result.opened.to ≡ Some asking.from
     pub sent : result.sent ≡ end.state.position.last_sent

@@ -18,12 +18,13 @@ use Rattle.tftp_store.specs.Store.{Drafted}
 use Rattle.tftp_server.specs.declared.config.Config.{Config}
 use Rattle.tftp_rules.specs.OpenEnds.{OpenEnd}
 use Rattle.tftp_player.specs.Clients.{left_in, armed_files}
-use Rattle.tftp_player.specs.Played.{client_end, served_as, served_end, end_at, ends_from, records_from, PlayerKept}
-use Rattle.tftp_player.specs.Played.{IsServed, armed_by, armed_served, armed_served_end, armed_player}
+use Rattle.tftp_player.specs.Played.{client_end, open_server_end, server_end, end_at, ends_from, records_from}
+use Rattle.tftp_player.specs.Played.{PlayerKept}
+use Rattle.tftp_player.specs.Played.{IsServerEndAt, armed_by, armed_server_end, armed_server_end_in, armed_player}
 use Rattle.tftp_player.specs.PlayedClient.{PlayedClient}
 use Rattle.tftp_player.specs.Requests.{is_transfer, open_transfers}
-use Rattle.tftp_player.specs.Serving.{PlayedServer, Transfer, ServedKept}
-use Rattle.tftp_player.specs.Exchange.{ends_of, IsStaged, world_of}
+use Rattle.tftp_player.specs.ServerEnd.{PlayedServer, Transfer, ServerEndKept}
+use Rattle.tftp_player.specs.Simulation.{ends_of, ArePartsConsistent, world_of}
 use Rattle.tftp_player.specs.World.{WorldState, is_closed, no_report, WorldEnd, Open_end, Closed_end, end_record}
 use Rattle.tftp_player.specs.World.{standing}
 use Rattle.tftp_player.specs.WorldSteps.{WorldStep, armed_to_refuse, armed_end}
@@ -31,13 +32,13 @@ use Rattle.tftp_player.specs.declared.datagram.Datagram.{Datagram}
 use Rattle.tftp_player.specs.declared.event.Event.TheVariants.{RefuseStore}
 use Rattle.tftp_player.specs.declared.player.Player.{Player}
 use Rattle.tftp_player.specs.declared.player.Player.TheVariants.{Client, Server}
-use Rattle.tftp_player.specs.declared.served.Served.{Served}
+use Rattle.tftp_player.specs.declared.server_end.ServerEnd.{ServerEnd}
 use Rattle.tftp_player.proofs.OwnedLemmas.{AllOwned, client_owned, same_owned}
 use Rattle.tftp_player.proofs.EndsByPort.{mapped-set, kept-set, transfers-set}
 use Rattle.tftp_player.proofs.EndsByPort.{ends_get, kept_at, to_kept, from_kept, records_get, records_set}
 use Rattle.tftp_player.proofs.PlayLemmas.{list_get}
 use Rattle.tftp_player.proofs.Standing.{standing_open, standing_closed}
-use Rattle.tftp_player.proofs.ExchangeLemmas.{by_port, kept_by_port}
+use Rattle.tftp_player.proofs.SimulationLemmas.{by_port, kept_by_port}
 use Rattle.tftp_player.proofs.StepLemmas.{refuse_step}
 
 -- a sender is not set to refuse
@@ -83,25 +84,25 @@ kept_armed c true k = (k.0, k.1)
 kept_armed c false k = (k.0, fits_armed c.end.role.side c.files k.1)
 
 -- an end of the server, by the file that it is held with
-transfer_armed : (port : ℕ) (s : Served) (e : EndState) (files : Files (List ℕ) Drafted) (request : List ℕ) →
+transfer_armed : (port : ℕ) (s : ServerEnd) (e : EndState) (files : Files (List ℕ) Drafted) (request : List ℕ) →
     AreFilesOf e.role.side files →
-    served_as port (armed_served (draft_of files) s) e (left_in files) (draft_of files) request
-    ≡ armed_to_refuse (served_as port s e (left_in files) (draft_of files) request)
-transfer_armed port s e (Source left) request fits = sym (armed_sender (served_as port s e left None request) fits)
+    open_server_end port (armed_server_end (draft_of files) s) e (left_in files) (draft_of files) request
+    ≡ armed_to_refuse (open_server_end port s e (left_in files) (draft_of files) request)
+transfer_armed port s e (Source left) request fits = sym (armed_sender (open_server_end port s e left None request) fits)
 transfer_armed port s e (Sink draft) request fits =
-    sym (armed_receiver (served_as port s e [] (Some draft) request) fits)
+    sym (armed_receiver (open_server_end port s e [] (Some draft) request) fits)
 
 -- by how it ended
-served_armed : (port : ℕ) (s : Served) (o : Option Record) (held : List (ℕ × Transfer)) → IsServed port s o held →
-    served_end port (armed_by o (at port held) s) o (at port held) ≡ armed_end (served_end port s o (at port held))
+served_armed : (port : ℕ) (s : ServerEnd) (o : Option Record) (held : List (ℕ × Transfer)) → IsServerEndAt port s o held →
+    server_end port (armed_by o (at port held) s) o (at port held) ≡ armed_end (server_end port s o (at port held))
 served_armed port s (Some r) held k = refl
 served_armed port s None held k =
-    subst (λ (h : Option Transfer). served_end port (armed_by None h s) None h ≡ armed_end (served_end port s None h))
+    subst (λ (h : Option Transfer). server_end port (armed_by None h s) None h ≡ armed_end (server_end port s None h))
     (sym k.found)
     (ap Open_end (transfer_armed port s k.transfer.end k.transfer.files k.transfer.request k.files))
 
-armed_kept : (port : ℕ) (s : Served) (draft : Option Drafted) (held : List (ℕ × Transfer)) → ServedKept port s held →
-    ServedKept port (armed_served draft s) held
+armed_kept : (port : ℕ) (s : ServerEnd) (draft : Option Drafted) (held : List (ℕ × Transfer)) → ServerEndKept port s held →
+    ServerEndKept port (armed_server_end draft s) held
 armed_kept port s None held k = k
 armed_kept port s (Some draft) held k = record {
   transfer = k.transfer;
@@ -115,17 +116,17 @@ armed_kept port s (Some draft) held k = record {
   path = k.path;
 }
 
-served_armed_kept : (port : ℕ) (s : Served) (o : Option Record) (held : List (ℕ × Transfer)) → IsServed port s o held →
-    IsServed port (armed_by o (at port held) s) o held
+served_armed_kept : (port : ℕ) (s : ServerEnd) (o : Option Record) (held : List (ℕ × Transfer)) → IsServerEndAt port s o held →
+    IsServerEndAt port (armed_by o (at port held) s) o held
 served_armed_kept port s (Some r) held k = k
 served_armed_kept port s None held k = armed_kept port s (draft_at (at port held)) held k
 
 -- its record is unchanged
-drafts_ended : (draft : Option Drafted) (s : Served) → (armed_served draft s).ended ≡ s.ended
+drafts_ended : (draft : Option Drafted) (s : ServerEnd) → (armed_server_end draft s).ended ≡ s.ended
 drafts_ended None s = refl
 drafts_ended (Some draft) s = refl
 
-armed_ended : (o : Option Record) (h : Option Transfer) (s : Served) → (armed_by o h s).ended ≡ s.ended
+armed_ended : (o : Option Record) (h : Option Transfer) (s : ServerEnd) → (armed_by o h s).ended ≡ s.ended
 armed_ended (Some r) h s = refl
 armed_ended None h s = drafts_ended (draft_at h) s
 
@@ -137,10 +138,10 @@ player_armed port held (Client c) k = (
   kept_armed c (is_some (outcome_of c.end.position.phase)) (k.0, k.1),
 )
 player_armed port held (Server s) k =
-    let t = armed_served_end port held s in
+    let t = armed_server_end_in port held s in
     let same : t.ended ≡ s.ended = armed_ended s.ended (at port held) s in (
-      ap (λ (o : Option Record). served_end port t o (at port held)) same ∙ served_armed port s s.ended held k,
-      subst (λ (o : Option Record). IsServed port t o held) (sym same) (served_armed_kept port s s.ended held k),
+      ap (λ (o : Option Record). server_end port t o (at port held)) same ∙ served_armed port s s.ended held k,
+      subst (λ (o : Option Record). IsServerEndAt port t o held) (sym same) (served_armed_kept port s s.ended held k),
     )
 
 -- and it owns the same transfers
@@ -149,7 +150,7 @@ armed_owned : (port index : ℕ) (held : List (ℕ × Transfer)) (ps : List Play
 armed_owned port index held ps (Client c) there all =
     client_owned ps index c (armed_player port held (Client c)) held there all
 armed_owned port index held ps (Server s) there all =
-    same_owned ps index s (armed_served_end port held s) held there (armed_ended s.ended (at port held) s) all
+    same_owned ps index s (armed_server_end_in port held s) held there (armed_ended s.ended (at port held) s) all
 
 -- only the flag changed
 flag_only : (b : Bool) (x : OpenEnd) →
@@ -164,7 +165,7 @@ same_armed (Closed_end x) = (refl, refl)
 
 module _ (config : Config) (sent : List Datagram) (server : PlayedServer) (ps : List Player)
     (records : List (ℕ × Record)) (old : WorldState) (view : world_of config sent server ps ≡ old)
-    (staged : IsStaged server ps records)
+    (consistent : ArePartsConsistent server ps records)
     (port index : ℕ) (p : Player) (within : index < length ps) (is : port ≡ 1024 + index)
     (reads : p ≡ slice_index_or ps index p) where
   abbrev x : WorldEnd
@@ -182,7 +183,7 @@ module _ (config : Config) (sent : List Datagram) (server : PlayedServer) (ps : 
       subst
       (λ (n : ℕ). (end_at (1024 + index) server.held (armed_player n server.held p) ≡ armed_end x)
       × PlayerKept (1024 + index) server.held (armed_player n server.held p)) (sym is)
-      (player_armed (1024 + index) server.held p (kept_at server.held ps index p staged.kept there))
+      (player_armed (1024 + index) server.held p (kept_at server.held ps index p consistent.kept there))
 
   same_flags : (end_record (armed_end x) ≡ end_record x) × (is_transfer (armed_end x) ≡ is_transfer x)
   same_flags = same_armed x
@@ -193,24 +194,24 @@ module _ (config : Config) (sent : List Datagram) (server : PlayedServer) (ps : 
       (λ other n. refl)
       ∙ ap (λ (y : WorldEnd). slice_set (ends_of server ps) index y) armed.0
 
-  pub refused_staged : IsStaged server (slice_set ps index q) records
-  refused_staged = record {
+  pub refused_consistent : ArePartsConsistent server (slice_set ps index q) records
+  refused_consistent = record {
     kept =
         from_kept 1024 server.held (slice_set ps index q)
         (kept-set PlayerKept kept_by_port 1024 server.held server.held ps index q (λ other n. refl)
-        (to_kept 1024 server.held ps staged.kept) armed.1);
-    recorded = staged.recorded ∙ (sym same_records ∙ ap (records_from 1024) (sym new_ends));
+        (to_kept 1024 server.held ps consistent.kept) armed.1);
+    recorded = consistent.recorded ∙ (sym same_records ∙ ap (records_from 1024) (sym new_ends));
     below =
         subst (λ (n : ℕ). AllByRecursion (λ (e : ℕ × Transfer). e.0 < 1024 + n) server.held)
-        (sym (length-set ps index q)) staged.below;
+        (sym (length-set ps index q)) consistent.below;
     count =
-        staged.count
+        consistent.count
         ∙ (sym
         (transfers-set (ends_of server ps) index x (armed_end x) (ends_get server.held ps index p there) same_flags.1)
         ∙ ap open_transfers (sym new_ends));
-    owned = armed_owned port index server.held ps p there staged.owned;
-    rising = staged.rising;
-    quiet = staged.quiet;
+    owned = armed_owned port index server.held ps p there consistent.owned;
+    rising = consistent.rising;
+    quiet = consistent.quiet;
   } where
     action : ℕ × Record
     action = (1024 + index, end_record x)

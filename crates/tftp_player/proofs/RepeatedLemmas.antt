@@ -14,16 +14,16 @@ use Rattle.tftp_ends.specs.End.{is_client, outcome_of}
 use Rattle.tftp_server.specs.State.{at}
 use Rattle.tftp_server.specs.State as server
 use Rattle.tftp_rules.specs.Machine.{Endpoint}
-use Rattle.tftp_player.specs.Played.{AllKept, IsServed, PlayerKept, client_end, end_at, ends_from, served_as}
-use Rattle.tftp_player.specs.Played.{served_end}
+use Rattle.tftp_player.specs.Played.{AllKept, IsServerEndAt, PlayerKept, client_end, end_at, ends_from, open_server_end}
+use Rattle.tftp_player.specs.Played.{server_end}
 use Rattle.tftp_player.specs.Clients.{left_in}
 use Rattle.tftp_player.specs.Requests.{IsRepeated, Repeats, AnyRepeats}
-use Rattle.tftp_player.specs.Serving.{PlayedServer, Transfer}
-use Rattle.tftp_player.specs.Exchange.{IsOwned, IsStaged, ends_of}
+use Rattle.tftp_player.specs.ServerEnd.{PlayedServer, Transfer}
+use Rattle.tftp_player.specs.Simulation.{IsOwned, ArePartsConsistent, ends_of}
 use Rattle.tftp_player.specs.World.{Open_end, by_outcome}
 use Rattle.tftp_player.specs.declared.player.Player.{Player}
 use Rattle.tftp_player.specs.declared.player.Player.TheVariants.{Client, Server}
-use Rattle.tftp_player.specs.declared.served.Served.{Served}
+use Rattle.tftp_player.specs.declared.server_end.ServerEnd.{ServerEnd}
 use Rattle.tftp_player.proofs.UnansweredLemmas.{any_at}
 use Rattle.tftp_player.proofs.HeldLemmas.{all_both, each_found}
 use Rattle.tftp_player.proofs.EndsByPort.{ends_get, kept_at}
@@ -48,16 +48,16 @@ module _ (from : Endpoint) (packet : Packet) where
 
   module _ (held : List (ℕ × Transfer)) where
     -- an open end of the server, by what is held of it
-    served_here : (port : ℕ) (s : Served) (ended : Option Record) (t : Transfer) → ended ≡ None →
+    served_here : (port : ℕ) (s : ServerEnd) (ended : Option Record) (t : Transfer) → ended ≡ None →
         at port held ≡ Some t →
-        served_end port s ended (at port held)
-        ≡ Open_end (served_as port s t.end (left_in t.files) (server.draft_of t.files) t.request)
+        server_end port s ended (at port held)
+        ≡ Open_end (open_server_end port s t.end (left_in t.files) (server.draft_of t.files) t.request)
     served_here port s ended t lives found =
-        ap (λ (o : Option Record). served_end port s o (at port held)) lives
-        ∙ ap (λ (o : Option Transfer). served_end port s None o) found
+        ap (λ (o : Option Record). server_end port s o (at port held)) lives
+        ∙ ap (λ (o : Option Transfer). server_end port s None o) found
 
-    served_side : (port : ℕ) (s : Served) (ended : Option Record) (t : Transfer) → ended ≡ None →
-        at port held ≡ Some t → IsServed port s ended held → is_client t.end.role.side ≡ false
+    served_side : (port : ℕ) (s : ServerEnd) (ended : Option Record) (t : Transfer) → ended ≡ None →
+        at port held ≡ Some t → IsServerEndAt port s ended held → is_client t.end.role.side ≡ false
     served_side port s (Some r) t lives found kept = absurd (let f : Some r ≡ None = lives in cc)
     served_side port s None t lives found kept =
         ap (λ (u : Transfer). is_client u.end.role.side) (same_Some t kept.transfer (sym found ∙ kept.found))
@@ -75,7 +75,7 @@ module _ (from : Endpoint) (packet : Packet) where
           let port = 1024 + own.index in
           let found : at port held ≡ Some e.1 = ap (λ (n : ℕ). at n held) (sym own.is) ∙ h.1 in
           let here : end_at port held (Server own.served)
-          ≡ Open_end (served_as port own.served e.1.end (left_in e.1.files) (server.draft_of e.1.files) e.1.request) =
+          ≡ Open_end (open_server_end port own.served e.1.end (left_in e.1.files) (server.draft_of e.1.files) e.1.request) =
           served_here port own.served own.served.ended e.1 own.lives found in
           let side =
           served_side port own.served own.served.ended e.1 own.lives found
@@ -91,8 +91,8 @@ module _ (from : Endpoint) (packet : Packet) where
       any_owned (e ∷ es) owned (inr r) = any_owned es owned.1 r
 
     -- what repeats an end repeats the transfer that is held of it
-    served_repeats : (port : ℕ) (s : Served) (ended : Option Record) → IsServed port s ended held →
-        Repeats from packet (served_end port s ended (at port held)) → server.AnyRepeats from packet held
+    served_repeats : (port : ℕ) (s : ServerEnd) (ended : Option Record) → IsServerEndAt port s ended held →
+        Repeats from packet (server_end port s ended (at port held)) → server.AnyRepeats from packet held
     served_repeats port s (Some q) kept r = absurd r
     served_repeats port s None kept r =
         let t = kept.transfer in
@@ -116,14 +116,14 @@ module _ (from : Endpoint) (packet : Packet) where
 -- whether it repeats a request is the same of the server and of its world
 pub repeated_is :
     (played : PlayedServer) (ps : List Player) (records : List (ℕ × Record)) (repeated : Bool) (from : Endpoint)
-    (decoded : Option Packet) → IsStaged played ps records →
+    (decoded : Option Packet) → ArePartsConsistent played ps records →
     server.IsRepeated repeated from decoded played.held → IsRepeated repeated from decoded (ends_of played ps)
-repeated_is played ps records repeated from None staged h = h
-repeated_is played ps records repeated from (Some packet) staged h =
+repeated_is played ps records repeated from None consistent h = h
+repeated_is played ps records repeated from (Some packet) consistent h =
     let owned =
     all_both (λ e. IsOwned ps e.0) (λ e. at e.0 played.held ≡ Some e.1)
-    (λ e. IsOwned ps e.0 × (at e.0 played.held ≡ Some e.1)) played.held (λ e own found. (own, found)) staged.owned
-    (each_found played.held staged.rising) in (
-      λ is. any_owned from packet played.held ps staged.kept played.held owned (h.0 is),
-      λ any. h.1 (any_end from packet played.held 1024 ps staged.kept any),
+    (λ e. IsOwned ps e.0 × (at e.0 played.held ≡ Some e.1)) played.held (λ e own found. (own, found)) consistent.owned
+    (each_found played.held consistent.rising) in (
+      λ is. any_owned from packet played.held ps consistent.kept played.held owned (h.0 is),
+      λ any. h.1 (any_end from packet played.held 1024 ps consistent.kept any),
     )

@@ -48,7 +48,7 @@ use Rattle.tftp_player.specs.Openings.{sending_end, receiving_end}
 use Rattle.tftp_server.specs.Port.{Ask, Ignores, Refuses, Reads, Writes, Service, Silent, Refused, Sends, Takes}
 use Rattle.tftp_server.specs.Port.{accept_reply, asks, by_draft, by_file, by_length}
 use Rattle.tftp_player.specs.Requests.{begun_of, open_transfers, opened_of, served, service}
-use Rattle.tftp_player.specs.Serving.{PlayedServer, Transfer}
+use Rattle.tftp_player.specs.ServerEnd.{PlayedServer, Transfer}
 use Rattle.tftp_player.proofs.WorldKeeps.{answered_values}
 use Rattle.tftp_player.proofs.Measured.{measured_whole}
 

@@ -21,7 +21,7 @@ use Rattle.tftp_rules.specs.OpenEnds.{OpenEnd, holding_of, files_of, with_files,
 use Rattle.tftp_player.specs.World.{StoredFile, file_at, in_the_way}
 use Rattle.tftp_player.specs.WorldSteps.{EndStep, may_refuse_append, may_refuse_commit, FilesAfter, world_sink}
 use Rattle.tftp_player.proofs.FileLemmas.{not_taken, is_in_the_way}
-use Rattle.tftp_player.proofs.ExchangeLemmas.{held_files}
+use Rattle.tftp_player.proofs.SimulationLemmas.{held_files}
 
 -- ---- an end that commits nothing changes no file
 none_new : (b : Bool) → (not b && b) ≡ false

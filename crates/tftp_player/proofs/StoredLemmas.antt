@@ -16,20 +16,22 @@ use Rattle.tftp_server.specs.State.{at, draft_of}
 use Rattle.tftp_store.specs.Store.{Drafted}
 use Rattle.tftp_server.specs.declared.config.Config.{Config}
 use Rattle.tftp_player.specs.Clients.{stored_by, holding_in}
-use Rattle.tftp_player.specs.Played.{client_end, draft_or_new, served_end, end_at, PlayerKept, IsServed, served_draft}
+use Rattle.tftp_player.specs.Played.{client_end, draft_or_new, server_end, end_at, PlayerKept, IsServerEndAt}
+use Rattle.tftp_player.specs.Played.{server_end_draft}
 use Rattle.tftp_player.specs.Played.{stored_of, committed_of}
 use Rattle.tftp_player.specs.PlayedClient.{PlayedClient}
-use Rattle.tftp_player.specs.Serving.{PlayedServer, Transfer}
-use Rattle.tftp_player.specs.Exchange.{ends_of, IsStaged, world_of, opened_at, stored_in, stored_at, committed_at}
+use Rattle.tftp_player.specs.ServerEnd.{PlayedServer, Transfer}
+use Rattle.tftp_player.specs.Simulation.{ends_of, ArePartsConsistent, world_of, opened_at, stored_in, stored_at}
+use Rattle.tftp_player.specs.Simulation.{committed_at}
 use Rattle.tftp_player.specs.World.{WorldState, WorldEnd, end_committed}
 use Rattle.tftp_player.specs.declared.datagram.Datagram.{Datagram}
 use Rattle.tftp_player.specs.declared.player.Player.{Player}
 use Rattle.tftp_player.specs.declared.player.Player.TheVariants.{Client, Server}
-use Rattle.tftp_player.specs.declared.served.Served.{Served}
+use Rattle.tftp_player.specs.declared.server_end.ServerEnd.{ServerEnd}
 use Rattle.tftp_player.proofs.EndsByPort.{ends_length, ends_get, kept_at}
 use Rattle.tftp_player.proofs.PlayLemmas.{list_get}
 use Rattle.tftp_player.proofs.Standing.{stands_as}
-use Rattle.tftp_player.proofs.ExchangeLemmas.{has_draft}
+use Rattle.tftp_player.proofs.SimulationLemmas.{has_draft}
 
 client_stores : (c : PlayedClient) (b : Bool) (files : Files (List ℕ) Holding) → AreFilesOf c.end.role.side files →
     is_sender c.end.role.side ≡ b →
@@ -47,19 +49,19 @@ draft_stores None false e = absurd (true≢false (sym e))
 draft_stores (Some draft) true e = absurd (true≢false e)
 draft_stores (Some draft) false e = refl
 
-served_stores : (port : ℕ) (s : Served) (o : Option Record) (held : List (ℕ × Transfer)) → IsServed port s o held →
-    option_map (λ (d : Drafted). d.bytes) (served_draft s o (at port held))
-    ≡ stored_in (served_end port s o (at port held))
+served_stores : (port : ℕ) (s : ServerEnd) (o : Option Record) (held : List (ℕ × Transfer)) → IsServerEndAt port s o held →
+    option_map (λ (d : Drafted). d.bytes) (server_end_draft s o (at port held))
+    ≡ stored_in (server_end port s o (at port held))
 served_stores port s (Some r) held k = draft_stores s.draft (is_sender r.side) k.draft
 served_stores port s None held k =
     subst
-    (λ (h : Option Transfer). option_map (λ (d : Drafted). d.bytes) (served_draft s None h)
-    ≡ stored_in (served_end port s None h)) (sym k.found)
+    (λ (h : Option Transfer). option_map (λ (d : Drafted). d.bytes) (server_end_draft s None h)
+    ≡ stored_in (server_end port s None h)) (sym k.found)
     (draft_stores (draft_of k.transfer.files) (is_sender k.transfer.end.role.side)
     (has_draft k.transfer.end.role.side k.transfer.files k.files))
 
-served_commits : (port : ℕ) (s : Served) (o : Option Record) (h : Option Transfer) →
-    (draft_or_new (served_draft s o h)).committed ≡ end_committed (served_end port s o h)
+served_commits : (port : ℕ) (s : ServerEnd) (o : Option Record) (h : Option Transfer) →
+    (draft_or_new (server_end_draft s o h)).committed ≡ end_committed (server_end port s o h)
 served_commits port s (Some r) h = refl
 served_commits port s None (Some h) = refl
 served_commits port s None None = refl
@@ -97,7 +99,7 @@ none_is ends port (inr high) =
 
 module _ (config : Config) (sent : List Datagram) (server : PlayedServer) (ps : List Player)
     (records : List (ℕ × Record)) (old : WorldState) (view : world_of config sent server ps ≡ old)
-    (staged : IsStaged server ps records) (port : ℕ) where
+    (consistent : ArePartsConsistent server ps records) (port : ℕ) where
   -- what is returned if there is an end
   module _ (index : ℕ) (p : Player) (within : index < length ps) (is : port ≡ 1024 + index)
       (reads : p ≡ slice_index_or ps index p) where
@@ -110,7 +112,7 @@ module _ (config : Config) (sent : List Datagram) (server : PlayedServer) (ps : 
     pub stored_here : stored_of port server.held p ≡ stored_at old.ends port
     stored_here =
         ap (λ (n : ℕ). stored_of n server.held p) is
-        ∙ (stores_is (1024 + index) server.held p (kept_at server.held ps index p staged.kept here)
+        ∙ (stores_is (1024 + index) server.held p (kept_at server.held ps index p consistent.kept here)
         ∙ (sym (ap (option_and_then stored_in) found) ∙ ap (λ (w : WorldState). stored_at w.ends port) view))
 
     pub committed_here : committed_of port server.held p ≡ committed_at old.ends port

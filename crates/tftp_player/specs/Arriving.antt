@@ -4,8 +4,8 @@ use Rattle.tftp_player.specs.Effect.{said_by, report_by}
 use Rattle.tftp_rules.specs.Hosts.{host_of, request_port}
 use Rattle.tftp_rules.specs.Machine.{Endpoint}
 use Rattle.tftp_rules.specs.Machine.{Elsewhere as Far}
-use Rattle.tftp_player.specs.Serving.{PlayedServer}
-use Rattle.tftp_player.specs.Exchange.{world_of}
+use Rattle.tftp_player.specs.ServerEnd.{PlayedServer}
+use Rattle.tftp_player.specs.Simulation.{world_of}
 use Rattle.tftp_player.specs.World.{WorldState}
 use Rattle.tftp_player.specs.WorldSteps.{Delivery, LacksPort}
 use Rattle.tftp_player.specs.declared.datagram.Datagram.{Datagram}
@@ -23,31 +23,31 @@ ArrivalRefuses w to Memory = LacksPort w to → ⊥
 ArrivalRefuses w to fault = ⊥
 
 -- the result of a datagram at the request port, for every list of sent datagrams
-abbrev pub StageAsks : Endpoint → List ℕ → PlayedServer → PlayedServer → List Player → List Player
+abbrev pub EndsAsk : Endpoint → List ℕ → PlayedServer → PlayedServer → List Player → List Player
     → Effect → Type 0
-StageAsks from bytes before after players players' effect =
+EndsAsk from bytes before after players players' effect =
     (sent : List Datagram)
     → Delivery (world_of before.config sent before players) from request_port bytes
     (report_by sent effect)
     (world_of before.config (sent ++ said_by effect.from effect.to effect.bytes) after players')
 
 -- the result of a datagram, for every list of sent datagrams
-abbrev pub StageArrives : Endpoint → Endpoint → List ℕ → PlayedServer → PlayedServer → List Player
+abbrev pub EndsDelivery : Endpoint → Endpoint → List ℕ → PlayedServer → PlayedServer → List Player
     → List Player → Effect → Type 0
-StageArrives from to bytes before after players players' effect =
+EndsDelivery from to bytes before after players players' effect =
     (sent : List Datagram)
     → Delivery (world_of before.config sent before players) from to bytes (report_by sent effect)
     (world_of before.config (sent ++ said_by effect.from effect.to effect.bytes) after players')
 
 -- no port is left for an end that the datagram could open
-abbrev pub StageLacksPort : Endpoint → List Player → Type 0
-StageLacksPort to players = (to ≡ request_port) × (65535 < 1024 + length players)
+abbrev pub EndsLackPort : Endpoint → List Player → Type 0
+EndsLackPort to players = (to ≡ request_port) × (65535 < 1024 + length players)
 
 -- why it is refused
-abbrev pub StageRefuses : Endpoint → List Player → WorldFault → Type 0
-StageRefuses to players NoPort = StageLacksPort to players
-StageRefuses to players Memory = StageLacksPort to players → ⊥
-StageRefuses to players fault = ⊥
+abbrev pub EndsRefuse : Endpoint → List Player → WorldFault → Type 0
+EndsRefuse to players NoPort = EndsLackPort to players
+EndsRefuse to players Memory = EndsLackPort to players → ⊥
+EndsRefuse to players fault = ⊥
 
 -- the event can be played: the sender of a stray is at neither host
 abbrev pub IsPlayable : Event → Type 0

@@ -11,10 +11,10 @@ pub mod PlayedWorld
 pub mod Effect
 pub mod Room
 pub mod Clients
-pub mod Serving
+pub mod ServerEnd
 pub mod Requested
 pub mod Played
-pub mod Exchange
+pub mod Simulation
 pub mod Arriving
 pub mod Settling
 pub mod Strangers

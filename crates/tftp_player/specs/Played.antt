@@ -16,14 +16,14 @@ use Rattle.tftp_rules.specs.OpenEnds.{OpenEnd}
 use Rattle.tftp_player.specs.Clients.{client_at, server_at, left_in, holding_in, ClientTurns}
 use Rattle.tftp_player.specs.Clients.{ClientDatagramStep, stored_by, armed_client}
 use Rattle.tftp_player.specs.PlayedClient.{PlayedClient}
-use Rattle.tftp_player.specs.Serving.{PlayedServer, Transfer, ServedKept, ServedTimeoutStep}
-use Rattle.tftp_player.specs.Serving.{ServedDatagramStep}
+use Rattle.tftp_player.specs.ServerEnd.{PlayedServer, Transfer, ServerEndKept, ServerEndTimeoutStep}
+use Rattle.tftp_player.specs.ServerEnd.{ServerEndDatagramStep}
 use Rattle.tftp_player.specs.World.{ClosedEnd, WorldEnd, Open_end, Closed_end, end_record}
 use Rattle.tftp_player.specs.World.{standing}
 use Rattle.tftp_player.specs.declared.effect.Effect.{Effect}
 use Rattle.tftp_player.specs.declared.player.Player.{Player}
 use Rattle.tftp_player.specs.declared.player.Player.TheVariants.{Client, Server}
-use Rattle.tftp_player.specs.declared.served.Served.{Served}
+use Rattle.tftp_player.specs.declared.server_end.ServerEnd.{ServerEnd}
 
 -- the end of a client
 abbrev pub client_end : ℕ → PlayedClient → OpenEnd
@@ -47,8 +47,8 @@ draft_or_new None = new_draft
 draft_or_new (Some draft) = draft
 
 -- an end of the server in this state, with its text left or its draft
-abbrev pub served_as : ℕ → Served → EndState → List ℕ → Option Drafted → List ℕ → OpenEnd
-served_as port s state left draft request =
+abbrev pub open_server_end : ℕ → ServerEnd → EndState → List ℕ → Option Drafted → List ℕ → OpenEnd
+open_server_end port s state left draft request =
     record {
       address = server_at port;
       state = state;
@@ -76,8 +76,8 @@ unheld =
     }
 
 -- a closed end of the server, with this draft and this record
-abbrev pub served_closed : ℕ → Served → Option Drafted → Record → ClosedEnd
-served_closed port s draft r =
+abbrev pub closed_server_end : ℕ → ServerEnd → Option Drafted → Record → ClosedEnd
+closed_server_end port s draft r =
     record {
       address = server_at port;
       mode = s.mode;
@@ -90,16 +90,16 @@ served_closed port s draft r =
     }
 
 -- the end of the server: closed if it has a record, else as the server holds it
-abbrev pub served_end : ℕ → Served → Option Record → Option Transfer → WorldEnd
-served_end port s (Some r) held = Closed_end (served_closed port s s.draft r)
-served_end port s None (Some h) =
-    Open_end (served_as port s h.end (left_in h.files) (draft_of h.files) h.request)
-served_end port s None None = Closed_end (served_closed port s None unheld)
+abbrev pub server_end : ℕ → ServerEnd → Option Record → Option Transfer → WorldEnd
+server_end port s (Some r) held = Closed_end (closed_server_end port s s.draft r)
+server_end port s None (Some h) =
+    Open_end (open_server_end port s h.end (left_in h.files) (draft_of h.files) h.request)
+server_end port s None None = Closed_end (closed_server_end port s None unheld)
 
 -- the end at this port
 abbrev pub end_at : ℕ → List (ℕ × Transfer) → Player → WorldEnd
 end_at port held (Client c) = standing (client_end port c)
-end_at port held (Server s) = served_end port s s.ended (at port held)
+end_at port held (Server s) = server_end port s s.ended (at port held)
 
 -- the ends from this port on
 abbrev pub ends_from : ℕ → List (ℕ × Transfer) → List Player → List WorldEnd
@@ -112,21 +112,21 @@ records_from port [] = []
 records_from port (x ∷ ends) = (port, end_record x) ∷ records_from (port + 1) ends
 
 -- a closed end of the server: a receiver has its draft
-pub record ServedEnded (s : Served) (r : Record) : Type 0 where
+pub record ServerEndEnded (s : ServerEnd) (r : Record) : Type 0 where
   pub closed : is_some r.outcome ≡ true
   pub side : is_client r.side ≡ false
   pub draft : is_some s.draft ≡ not (is_sender r.side)
 
 -- what holds of an end of the server, closed or open
-abbrev pub IsServed : ℕ → Served → Option Record → List (ℕ × Transfer) → Type 0
-IsServed port s (Some r) held = ServedEnded s r
-IsServed port s None held = ServedKept port s held
+abbrev pub IsServerEndAt : ℕ → ServerEnd → Option Record → List (ℕ × Transfer) → Type 0
+IsServerEndAt port s (Some r) held = ServerEndEnded s r
+IsServerEndAt port s None held = ServerEndKept port s held
 
 -- what holds of an end
 abbrev pub PlayerKept : ℕ → List (ℕ × Transfer) → Player → Type 0
 PlayerKept port held (Client c) =
     (is_client c.end.role.side ≡ true) × AreFilesOf c.end.role.side c.files
-PlayerKept port held (Server s) = IsServed port s s.ended held
+PlayerKept port held (Server s) = IsServerEndAt port s s.ended held
 
 -- of each end
 abbrev pub AllKept : ℕ → List (ℕ × Transfer) → List Player → Type 0
@@ -139,7 +139,7 @@ abbrev pub PlayerTimeoutStep : ℕ → Player → Player → PlayedServer → Pl
 PlayerTimeoutStep port (Client c) (Client c') before after effect r =
     ClientTurns port c c' (timeout_turn c.end) c.files effect r × (after ≡ before)
 PlayerTimeoutStep port (Server s) (Server s') before after effect r =
-    ServedTimeoutStep port s s' before after effect r
+    ServerEndTimeoutStep port s s' before after effect r
 PlayerTimeoutStep port _ _ before after effect r = ⊥
 
 -- the step of a datagram
@@ -148,7 +148,7 @@ abbrev pub PlayerDatagramStep : ℕ → Endpoint → List ℕ → Player → Pla
 PlayerDatagramStep port from bytes (Client c) (Client c') before after effect r =
     ClientDatagramStep port from bytes c c' effect r × (after ≡ before)
 PlayerDatagramStep port from bytes (Server s) (Server s') before after effect r =
-    ServedDatagramStep port from bytes s s' before after effect r
+    ServerEndDatagramStep port from bytes s s' before after effect r
 PlayerDatagramStep port from bytes _ _ before after effect r = ⊥
 
 -- the end is closed
@@ -162,35 +162,36 @@ address_of port (Client c) = client_at port
 address_of port (Server s) = server_at port
 
 -- the end of the server, set to refuse its next append or commit if it is an open receiver
-abbrev pub armed_served : Option Drafted → Served → Served
-armed_served None s = s
-armed_served (Some draft) s = record s { refuses = true }
+abbrev pub armed_server_end : Option Drafted → ServerEnd → ServerEnd
+armed_server_end None s = s
+armed_server_end (Some draft) s = record s { refuses = true }
 
 -- the same, by its record or by what the server holds
-abbrev pub armed_by : Option Record → Option Transfer → Served → Served
+abbrev pub armed_by : Option Record → Option Transfer → ServerEnd → ServerEnd
 armed_by (Some r) held s = s
-armed_by None held s = armed_served (draft_at held) s
+armed_by None held s = armed_server_end (draft_at held) s
 
-abbrev pub armed_served_end : ℕ → List (ℕ × Transfer) → Served → Served
-armed_served_end port held s = armed_by s.ended (at port held) s
+abbrev pub armed_server_end_in : ℕ → List (ℕ × Transfer) → ServerEnd → ServerEnd
+armed_server_end_in port held s = armed_by s.ended (at port held) s
 
 -- the end, set to refuse
 abbrev pub armed_player : ℕ → List (ℕ × Transfer) → Player → Player
 armed_player port held (Client c) = Client (armed_client c)
-armed_player port held (Server s) = Server (armed_served_end port held s)
+armed_player port held (Server s) = Server (armed_server_end_in port held s)
 
 -- the draft of an end of the server: its own if it is closed, else the server's
-abbrev pub served_draft : Served → Option Record → Option Transfer → Option Drafted
-served_draft s (Some r) held = s.draft
-served_draft s None held = draft_at held
+abbrev pub server_end_draft : ServerEnd → Option Record → Option Transfer → Option Drafted
+server_end_draft s (Some r) held = s.draft
+server_end_draft s None held = draft_at held
 
 -- what a receiver has stored
 abbrev pub stored_of : ℕ → List (ℕ × Transfer) → Player → Option (List ℕ)
 stored_of port held (Client c) = stored_by c.files
 stored_of port held (Server s) =
-    option_map (λ (d : Drafted). d.bytes) (served_draft s s.ended (at port held))
+    option_map (λ (d : Drafted). d.bytes) (server_end_draft s s.ended (at port held))
 
 -- whether it is committed
 abbrev pub committed_of : ℕ → List (ℕ × Transfer) → Player → Bool
 committed_of port held (Client c) = (holding_in c.files).committed
-committed_of port held (Server s) = (draft_or_new (served_draft s s.ended (at port held))).committed
+committed_of port held (Server s) =
+    (draft_or_new (server_end_draft s s.ended (at port held))).committed

@@ -32,7 +32,7 @@ pub(crate) struct ClientSetup {
     pub(crate) config: EndConfig,
 }
 
-/// A client, with its source if it sends and its shelf if it receives.
+/// A client, with its source if it sends and its sink if it receives.
 #[derive(Drop)]
 pub(crate) struct Client {
     end: End,
@@ -211,8 +211,8 @@ impl Client {
         if self.end.record().outcome.is_some() {
             return;
         }
-        if let Files::Sink(shelf) = &mut self.files {
-            shelf.refuse_next();
+        if let Files::Sink(sink) = &mut self.files {
+            sink.refuse_next();
         }
     }
 
@@ -222,7 +222,7 @@ impl Client {
     {
         match &self.files {
             Files::Source(_) => None,
-            Files::Sink(shelf) => Some(shelf.as_bytes()),
+            Files::Sink(sink) => Some(sink.as_bytes()),
         }
     }
 
@@ -232,7 +232,7 @@ impl Client {
     {
         match &self.files {
             Files::Source(_) => false,
-            Files::Sink(shelf) => shelf.is_committed(),
+            Files::Sink(sink) => sink.is_committed(),
         }
     }
 }

@@ -5,8 +5,9 @@ mod arriving;
 ghost use Rattle.std.specs.Prelude.{◌≡◌, ◌<◌, ◌+◌, ◌++◌, ◌∷◌, [], true, length, slice_get, ◌≤◌};
 ghost use Rattle.std.specs.Prelude.{◌⊎◌, IfSome, IfNone, IfOk, IfErr, OnOk, OnErr};
 ghost use Rattle.tftp_ends.specs.End.{is_client};
-ghost use Rattle.tftp_player.specs.Exchange.{AreConsistent, AreAsBefore, StageTimeoutStep, ends_of};
-ghost use Rattle.tftp_player.specs.Exchange.{record_closed};
+ghost use Rattle.tftp_player.specs.Simulation.{AreConsistent, AreAsBefore, EndsTimeoutStep};
+ghost use Rattle.tftp_player.specs.Simulation.{ends_of};
+ghost use Rattle.tftp_player.specs.Simulation.{record_closed};
 ghost use Rattle.tftp_player.specs.declared.player.Player.TheVariants as players;
 
 use crate::client::Client;
@@ -63,12 +64,12 @@ impl Ends {
 
     /// Adds a client at the next port.
     pub(crate) fn enter(&mut self, port: u16, client: Client) -> Result<(), WorldFault>
-        requires staged { AreConsistent self.old }
+        requires consistent { AreConsistent self.old }
         requires port { port ≡ 1024 + length (ends_of self.old.server self.old.players.items) }
         requires client { is_client client.end.role.side ≡ true }
         ensures enters { OnOk result (self.new.players.items
             ≡ self.old.players.items ++ players.Client client ∷ []) }
-        ensures staged { AreConsistent self.new }
+        ensures consistent { AreConsistent self.new }
         ensures server { self.new.server ≡ self.old.server }
         ensures memory { IfErr result (λ fault. fault ≡ WorldFault.Memory) }
         ensures err { OnErr result (AreAsBefore self.old self.new) }
@@ -86,12 +87,12 @@ impl Ends {
 
     /// The end at this index handles a timeout, unless it is closed.
     pub(crate) fn on_timeout(&mut self, index: usize, port: u16) -> Result<Effect, WorldFault>
-        requires staged { AreConsistent self.old }
+        requires consistent { AreConsistent self.old }
         requires index { (index < length self.old.players.items) × (port ≡ 1024 + index) }
         ensures times_out { IfOk result (λ effect.
-            StageTimeoutStep index self.old.server self.new.server self.old.players.items
+            EndsTimeoutStep index self.old.server self.new.server self.old.players.items
             self.new.players.items effect) }
-        ensures staged { AreConsistent self.new }
+        ensures consistent { AreConsistent self.new }
         ensures memory { IfErr result (λ fault. fault ≡ WorldFault.Memory) }
         ensures err { OnErr result (AreAsBefore self.old self.new) }
     {

@@ -12,7 +12,6 @@ mod datagram;
 mod effect;
 mod ends;
 mod event;
-mod exchange;
 mod fault;
 mod hosts;
 pub mod laws;
@@ -20,7 +19,8 @@ mod player;
 mod random;
 mod report;
 mod room;
-mod served;
+mod server_end;
+mod simulation;
 mod world;
 
 pub use datagram::Datagram;

@@ -9,7 +9,7 @@ use crate::client::Client;
 use crate::effect::Effect;
 use crate::fault::WorldFault;
 use crate::hosts::{client_at, server_at};
-use crate::served::Served;
+use crate::server_end::ServerEnd;
 use std::alloc::Global;
 use tftp_ends::{Endpoint, Record};
 use tftp_server::{MemStore, Server};
@@ -20,7 +20,7 @@ pub(crate) enum Player {
     /// A client, which is played here.
     Client(Client),
     /// A server's end, which the server plays while it is open.
-    Server(Served),
+    Server(ServerEnd),
 }
 
 impl Player {

@@ -8,7 +8,7 @@ ghost use Rattle.tftp_rules.specs.Hosts.{host_of};
 ghost use Rattle.tftp_rules.specs.Machine.{Elsewhere};
 ghost use Rattle.tftp_player.specs.Played.{records_from};
 ghost use Rattle.tftp_player.specs.PlayedWorld.{strayed_after, HasSentEach, IsHome, WasPlayed};
-ghost use Rattle.tftp_player.specs.Exchange.{stored_at, committed_at};
+ghost use Rattle.tftp_player.specs.Simulation.{stored_at, committed_at};
 ghost use Rattle.tftp_player.specs.Arriving.{IsPlayable};
 ghost use Rattle.tftp_player.specs.WorldSteps.{WorldStep, WorldRefuses};
 ghost use Rattle.tftp_player.specs.Settling.{Settled, StopsAt};
@@ -17,9 +17,9 @@ ghost use Rattle.tftp_player.specs.WorldSafety.{IsSafe};
 
 use crate::datagram::Datagram;
 use crate::event::Event;
-use crate::exchange::Exchange;
 use crate::fault::WorldFault;
 use crate::report::Report;
+use crate::simulation::Simulation;
 use std::alloc::Global;
 use std::marker::Model;
 use tftp_ends::{Endpoint, Record};
@@ -40,7 +40,7 @@ use tftp_server::Config;
 /// hold of any `World`.
 #[derive(Drop)]
 pub struct World {
-    exchange: Exchange,
+    simulation: Simulation,
     /// Whether a datagram of neither host has arrived.
     strayed: bool,
 }
@@ -51,9 +51,9 @@ impl Model for World {
 
     ghost Value = { PlayedWorld };
 
-    ghost view = { λ w. record { state = w.exchange; strayed = w.strayed } };
+    ghost view = { λ w. record { state = w.simulation; strayed = w.strayed } };
 
-    ghost invariant = { λ w. Refines w.strayed w.exchange × HasSentEach w.exchange };
+    ghost invariant = { λ w. Refines w.strayed w.simulation × HasSentEach w.simulation };
 }
 
 impl World {
@@ -74,9 +74,9 @@ impl World {
         ensures home { IfOk result IsHome }
         ensures played { IfOk result WasPlayed }
     {
-        let exchange = Exchange::new(alloc, files, config)?;
+        let simulation = Simulation::new(alloc, files, config)?;
         Ok(World {
-            exchange,
+            simulation,
             strayed: false,
         })
     }
@@ -100,7 +100,7 @@ impl World {
         ensures sent { result.now ≡ self.now.state.sent }
         ensures each { HasSentEach self.now.state }
     {
-        self.exchange.sent()
+        self.simulation.sent()
     }
 
     /// The record of every end that was ever opened, with its port, in order of opening.
@@ -110,28 +110,28 @@ impl World {
         ensures home { IsHome self.now }
         ensures played { WasPlayed self.now }
     {
-        self.exchange.records()
+        self.simulation.records()
     }
 
     /// What the receiver at this port has stored, also after it closed. None for a sender.
     pub fn stored(&self, port: u16) -> Option<&[u8]>
         ensures { option_map (λ bytes. bytes.now) result ≡ stored_at self.now.state.ends port }
     {
-        self.exchange.stored(port)
+        self.simulation.stored(port)
     }
 
     /// Whether the receiver at this port has committed what it stored.
     pub fn committed(&self, port: u16) -> bool
         ensures { result ≡ committed_at self.now.state.ends port }
     {
-        self.exchange.committed(port)
+        self.simulation.committed(port)
     }
 
     /// The server's file of this path, as it is now.
     pub fn file(&self, path: &Path) -> Option<&[u8]>
         ensures { option_map (λ bytes. bytes.now) result ≡ file_at self.now.state.files path.now }
     {
-        self.exchange.file(path)
+        self.simulation.file(path)
     }
 
     /// Plays an event. A refused event changes nothing.
@@ -159,7 +159,7 @@ impl World {
         ensures played { WasPlayed self.new }
     {
         let stray = event.is_stray();
-        match self.exchange.step(event) {
+        match self.simulation.step(event) {
             Ok(report) => {
                 self.strayed |= stray;
                 Ok(report)
@@ -185,7 +185,7 @@ impl World {
         ensures home { IsHome self.new }
         ensures played { WasPlayed self.new }
     {
-        let _ = &self.exchange;
+        let _ = &self.simulation;
         let mut count = 0;
         while count < most && count < self.sent().len().saturating_sub(from) {
             match self.apply(Event::Deliver(from + count)) {

@@ -3,23 +3,23 @@
 ghost use Rattle.std.specs.Prelude.{◌≡◌, ◌≢◌, true, false, ◌<◌, ◌+◌, length, IfOk, IfErr, OnErr};
 ghost use Rattle.tftp_negotiate.specs.Ranges.{IsBlockSize};
 ghost use Rattle.tftp_rules.specs.Hosts.{request_port};
-ghost use Rattle.tftp_player.specs.Exchange.{AreConsistent, AreAsBefore, StageDatagramStep};
-ghost use Rattle.tftp_player.specs.Arriving.{StageAsks, StageArrives, StageLacksPort, StageRefuses};
+ghost use Rattle.tftp_player.specs.Simulation.{AreConsistent, AreAsBefore, EndsDatagramStep};
+ghost use Rattle.tftp_player.specs.Arriving.{EndsAsk, EndsDelivery, EndsLackPort, EndsRefuse};
 
 use crate::WorldFault;
 use crate::effect::{Effect, no_effect};
 use crate::ends::{Ends, is_recorded_closed};
 use crate::hosts::{REQUEST_PORT, server_at};
 use crate::player::Player;
-use crate::served::admitted_end;
+use crate::server_end::admitted_end;
 use tftp_ends::Endpoint;
 use tftp_wire::Bytes;
 
 impl Ends {
     /// Whether a datagram to there could open an end, and no port is left for it.
     pub(crate) fn lacks_port(&self, to: Endpoint) -> bool
-        ensures lacks { result ≡ true → StageLacksPort to self.now.players.items }
-        ensures has { result ≡ false → StageLacksPort to self.now.players.items → ⊥ }
+        ensures lacks { result ≡ true → EndsLackPort to self.now.players.items }
+        ensures has { result ≡ false → EndsLackPort to self.now.players.items → ⊥ }
     {
         if differs(to, REQUEST_PORT) {
             return false;
@@ -37,14 +37,14 @@ impl Ends {
         to: Endpoint,
         bytes: &[u8],
     ) -> Result<Effect, WorldFault>
-        requires staged { AreConsistent self.old }
+        requires consistent { AreConsistent self.old }
         requires block { IsBlockSize self.old.server.config.limits.max_block }
         ensures arrives { IfOk result (λ effect.
-            StageArrives from to bytes.now self.old.server self.new.server
+            EndsDelivery from to bytes.now self.old.server self.new.server
             self.old.players.items self.new.players.items effect) }
-        ensures staged { AreConsistent self.new }
+        ensures consistent { AreConsistent self.new }
         ensures config { self.new.server.config ≡ self.old.server.config }
-        ensures refused { IfErr result (StageRefuses to self.old.players.items) }
+        ensures refused { IfErr result (EndsRefuse to self.old.players.items) }
         ensures err { OnErr result (AreAsBefore self.old self.new) }
     {
         if !differs(to, REQUEST_PORT) {
@@ -64,12 +64,12 @@ impl Ends {
         to: Endpoint,
         bytes: &[u8],
     ) -> Result<Effect, WorldFault>
-        requires staged { AreConsistent self.old }
+        requires consistent { AreConsistent self.old }
         requires index { (index < length self.old.players.items) × (to.port ≡ 1024 + index) }
         ensures steps { IfOk result (λ effect.
-            StageDatagramStep index from to bytes.now self.old.server self.new.server
+            EndsDatagramStep index from to bytes.now self.old.server self.new.server
             self.old.players.items self.new.players.items effect) }
-        ensures staged { AreConsistent self.new }
+        ensures consistent { AreConsistent self.new }
         ensures memory { IfErr result (λ fault. fault ≡ WorldFault.Memory) }
         ensures err { OnErr result (AreAsBefore self.old self.new) }
     {
@@ -92,14 +92,14 @@ impl Ends {
 
     /// The request port handles a datagram, and may open an end at the next port.
     fn ask(&mut self, from: Endpoint, bytes: &[u8]) -> Result<Effect, WorldFault>
-        requires staged { AreConsistent self.old }
+        requires consistent { AreConsistent self.old }
         requires block { IsBlockSize self.old.server.config.limits.max_block }
         ensures asks { IfOk result (λ effect.
-            StageAsks from bytes.now self.old.server self.new.server self.old.players.items
+            EndsAsk from bytes.now self.old.server self.new.server self.old.players.items
             self.new.players.items effect) }
-        ensures staged { AreConsistent self.new }
+        ensures consistent { AreConsistent self.new }
         ensures config { self.new.server.config ≡ self.old.server.config }
-        ensures refused { IfErr result (StageRefuses request_port self.old.players.items) }
+        ensures refused { IfErr result (EndsRefuse request_port self.old.players.items) }
         ensures err { OnErr result (AreAsBefore self.old self.new) }
     {
         let Some(port) = self.next_port() else {

@@ -1,15 +1,15 @@
 -- What the request port does is what it does in the world, and an end that opens is recorded.
 use Rattle.std.proofs.Common.{refl, ◌≡◌, ◌∙◌, ap, sym, arith}
-use Rattle.tftp_player.specs.Serving.{PlayedServer}
-use Rattle.tftp_player.proofs.AskingLemmas.{opened_requested, opened_recorded, opened_staged, opened_asks}
-use Rattle.tftp_player.proofs.AskingLemmas.{not_opened_same, quietly, quietly_staged}
+use Rattle.tftp_player.specs.ServerEnd.{PlayedServer}
+use Rattle.tftp_player.proofs.AskingLemmas.{opened_requested, opened_recorded, opened_consistent, opened_asks}
+use Rattle.tftp_player.proofs.AskingLemmas.{not_opened_same, quietly, quietly_consistent}
 use Rattle.tftp_player.proofs.ends.Ends.ask.Goals as goal
 
 pub returns-in_default-tid-clause-config : goal.returns-in_default-tid-clause-config
 returns-in_default-tid-clause-config c =
     let same : c.on_request.new.self ≡ c.args.self.now.server =
     not_opened_same c.args.from c.args.bytes.now c.args.self.now.server c.args.self.now.players.items
-    c.args.self.now.records.items _ c.in-Some.port c.requires.staged c.requires.block refl c.in-Some.ensures.some
+    c.args.self.now.records.items _ c.in-Some.port c.requires.consistent c.requires.block refl c.in-Some.ensures.some
     c.in-Some.ensures.fits (λ k. omega (arith, c.type_inv.bytes k))
     c.on_request.new.self c.in-Ok-on_request.opened c.in-Ok-on_request.ensures.steps.0
     c.in-Ok-on_request.ensures.steps.2 c.in_default-tid.is in
@@ -18,17 +18,17 @@ returns-in_default-tid-clause-config c =
 pub returns-in_default-tid-clause-asks : goal.returns-in_default-tid-clause-asks
 returns-in_default-tid-clause-asks c =
     quietly c.args.from c.args.bytes.now c.args.self.now.server c.args.self.now.players.items
-    c.args.self.now.records.items _ c.in-Some.port c.requires.staged c.requires.block refl c.in-Some.ensures.some
+    c.args.self.now.records.items _ c.in-Some.port c.requires.consistent c.requires.block refl c.in-Some.ensures.some
     c.in-Some.ensures.fits (λ k. omega (arith, c.type_inv.bytes k))
     c.on_request.new.self c.in-Ok-on_request.opened c.in-Ok-on_request.ensures.steps.0
     c.in-Ok-on_request.ensures.steps.2 c.in_default-tid.is
     c.reserve.new.self.items c.new-out.result.items c.from.result c.in-Ok.ensures.items c.new-out.ensures.items
     (c.from.ensures ∙ c.in-Ok-on_request.ensures.steps.1)
 
-pub returns-in_default-tid-clause-staged : goal.returns-in_default-tid-clause-staged
-returns-in_default-tid-clause-staged c =
-    quietly_staged c.args.from c.args.bytes.now c.args.self.now.server c.args.self.now.players.items
-    c.args.self.now.records.items _ c.in-Some.port c.requires.staged c.requires.block refl c.in-Some.ensures.some
+pub returns-in_default-tid-clause-consistent : goal.returns-in_default-tid-clause-consistent
+returns-in_default-tid-clause-consistent c =
+    quietly_consistent c.args.from c.args.bytes.now c.args.self.now.server c.args.self.now.players.items
+    c.args.self.now.records.items _ c.in-Some.port c.requires.consistent c.requires.block refl c.in-Some.ensures.some
     c.in-Some.ensures.fits (λ k. omega (arith, c.type_inv.bytes k))
     c.on_request.new.self c.in-Ok-on_request.opened c.in-Ok-on_request.ensures.steps.0
     c.in-Ok-on_request.ensures.steps.2 c.in_default-tid.is
@@ -37,7 +37,7 @@ returns-in_default-tid-clause-staged c =
 pub unreachable-requires : goal.unreachable-requires
 unreachable-requires c =
     opened_requested c.args.from c.args.bytes.now c.args.self.now.server c.args.self.now.players.items
-    c.args.self.now.records.items _ c.in-Some.port c.requires.staged c.requires.block refl c.in-Some.ensures.some
+    c.args.self.now.records.items _ c.in-Some.port c.requires.consistent c.requires.block refl c.in-Some.ensures.some
     c.in-Some.ensures.fits (λ k. omega (arith, c.type_inv.bytes k))
     c.on_request.new.self c.in-Ok-on_request.opened c.in-Ok-on_request.ensures.steps.0
     c.in-Ok-on_request.ensures.steps.2 c.in-Some-tid.field-0 c.in-Some-tid.is c.in-Ok-admitted_end.admitted
@@ -46,16 +46,16 @@ unreachable-requires c =
 pub unreachable-requires-in_default-record : goal.unreachable-requires-in_default-record
 unreachable-requires-in_default-record c =
     opened_recorded c.args.from c.args.bytes.now c.args.self.now.server c.args.self.now.players.items
-    c.args.self.now.records.items _ c.in-Some.port c.requires.staged c.requires.block refl c.in-Some.ensures.some
+    c.args.self.now.records.items _ c.in-Some.port c.requires.consistent c.requires.block refl c.in-Some.ensures.some
     c.in-Some.ensures.fits (λ k. omega (arith, c.type_inv.bytes k))
     c.on_request.new.self c.in-Ok-on_request.opened c.in-Ok-on_request.ensures.steps.0
     c.in-Ok-on_request.ensures.steps.2 c.in-Some-tid.field-0 c.in-Some-tid.is c.in-Ok-admitted_end.admitted
     c.in-Ok-admitted_end.ensures c.record.result c.record.ensures c.in_default-record.is
 
-pub returns-clause-staged : goal.returns-clause-staged
-returns-clause-staged c =
-    opened_staged c.args.from c.args.bytes.now c.args.self.now.server c.args.self.now.players.items
-    c.args.self.now.records.items _ c.in-Some.port c.requires.staged c.requires.block refl c.in-Some.ensures.some
+pub returns-clause-consistent : goal.returns-clause-consistent
+returns-clause-consistent c =
+    opened_consistent c.args.from c.args.bytes.now c.args.self.now.server c.args.self.now.players.items
+    c.args.self.now.records.items _ c.in-Some.port c.requires.consistent c.requires.block refl c.in-Some.ensures.some
     c.in-Some.ensures.fits (λ k. omega (arith, c.type_inv.bytes k))
     c.on_request.new.self c.in-Ok-on_request.opened c.in-Ok-on_request.ensures.steps.0
     c.in-Ok-on_request.ensures.steps.2 c.in-Some-tid.field-0 c.in-Some-tid.is c.in-Ok-admitted_end.admitted
@@ -67,7 +67,7 @@ returns-clause-staged c =
 pub returns-clause-asks : goal.returns-clause-asks
 returns-clause-asks c =
     opened_asks c.args.from c.args.bytes.now c.args.self.now.server c.args.self.now.players.items
-    c.args.self.now.records.items _ c.in-Some.port c.requires.staged c.requires.block refl c.in-Some.ensures.some
+    c.args.self.now.records.items _ c.in-Some.port c.requires.consistent c.requires.block refl c.in-Some.ensures.some
     c.in-Some.ensures.fits (λ k. omega (arith, c.type_inv.bytes k))
     c.on_request.new.self c.in-Ok-on_request.opened c.in-Ok-on_request.ensures.steps.0
     c.in-Ok-on_request.ensures.steps.2 c.in-Some-tid.field-0 c.in-Some-tid.is c.in-Ok-admitted_end.admitted

@@ -7,25 +7,25 @@ use Rattle.tftp_player.proofs.ends.Ends.on_datagram.Goals as goal
 pub on_datagram-requires-clause-kept : goal.on_datagram-requires-clause-kept
 on_datagram-requires-clause-kept c =
     read_kept c.args.self.now.server c.args.self.now.players.items c.args.self.now.records.items c.args.index
-    c.args.to.port c.index_mut-player.result.now c.requires.staged c.requires.index c.index_mut-player.ensures.value
+    c.args.to.port c.index_mut-player.result.now c.requires.consistent c.requires.index c.index_mut-player.ensures.value
 
 pub on_datagram-requires-clause-open : goal.on_datagram-requires-clause-open
 on_datagram-requires-clause-open c =
     read_open c.args.self.now.server c.args.self.now.players.items c.args.self.now.records.items c.args.index
-    c.args.to.port c.index_mut-player.result.now c.requires.staged c.requires.index c.index_mut-player.ensures.value
+    c.args.to.port c.index_mut-player.result.now c.requires.consistent c.requires.index c.index_mut-player.ensures.value
     c.is_recorded_closed.result c.is_recorded_closed.ensures c.if-is_recorded_closed.false
 
 pub index_mut-requires : goal.index_mut-requires
 index_mut-requires c =
     let within : c.args.index < length c.args.self.now.records.items =
     records_within c.args.self.now.server c.args.self.now.players.items c.args.self.now.records.items c.args.index
-    c.args.to.port c.index_mut-player.result.now c.requires.staged c.requires.index c.index_mut-player.ensures.value in
+    c.args.to.port c.index_mut-player.result.now c.requires.consistent c.requires.index c.index_mut-player.ensures.value in
     search rules
 
-pub returns-in-Ok-clause-staged : goal.returns-in-Ok-clause-staged
-returns-in-Ok-clause-staged c =
+pub returns-in-Ok-clause-consistent : goal.returns-in-Ok-clause-consistent
+returns-in-Ok-clause-consistent c =
     step_keeps_stage c.args.self.now.server c.args.self.now.players.items c.args.self.now.records.items c.args.index
-    c.args.from c.args.to c.args.bytes.now c.index_mut-player.result.now c.requires.staged c.requires.index
+    c.args.from c.args.to c.args.bytes.now c.index_mut-player.result.now c.requires.consistent c.requires.index
     c.index_mut-player.ensures.value
     c.is_recorded_closed.result c.on_datagram.new.self c.on_datagram.new.server c.in-Ok.effect c.in-Ok.record
     c.is_recorded_closed.ensures c.if-is_recorded_closed.false c.in-Ok.ensures.steps
@@ -33,7 +33,7 @@ returns-in-Ok-clause-staged c =
 pub returns-then-differs-clause-steps : goal.returns-then-differs-clause-steps
 returns-then-differs-clause-steps c =
     step_away c.args.self.now.server c.args.self.now.players.items c.args.self.now.records.items c.args.index
-    c.args.from c.args.to c.args.bytes.now c.index_mut-player.result.now c.requires.staged c.requires.index
+    c.args.from c.args.to c.args.bytes.now c.index_mut-player.result.now c.requires.consistent c.requires.index
     c.index_mut-player.ensures.value
     c.address-here.result c.no_effect.result c.address-here.ensures (c.differs.ensures.differs c.if-differs.true)
     c.no_effect.ensures
@@ -41,7 +41,7 @@ returns-then-differs-clause-steps c =
 pub returns-then-is_recorded_closed-clause-steps : goal.returns-then-is_recorded_closed-clause-steps
 returns-then-is_recorded_closed-clause-steps c =
     step_closed c.args.self.now.server c.args.self.now.players.items c.args.self.now.records.items c.args.index
-    c.args.from c.args.to c.args.bytes.now c.index_mut-player.result.now c.requires.staged c.requires.index
+    c.args.from c.args.to c.args.bytes.now c.index_mut-player.result.now c.requires.consistent c.requires.index
     c.index_mut-player.ensures.value
     c.address-here.result c.is_recorded_closed.result c.no_effect-then-is_recorded_closed.result c.address-here.ensures
     (c.differs.ensures.same c.if-differs.false)
@@ -50,7 +50,7 @@ returns-then-is_recorded_closed-clause-steps c =
 pub returns-in-Ok-clause-steps : goal.returns-in-Ok-clause-steps
 returns-in-Ok-clause-steps c =
     step_open c.args.self.now.server c.args.self.now.players.items c.args.self.now.records.items c.args.index
-    c.args.from c.args.to c.args.bytes.now c.index_mut-player.result.now c.requires.staged c.requires.index
+    c.args.from c.args.to c.args.bytes.now c.index_mut-player.result.now c.requires.consistent c.requires.index
     c.index_mut-player.ensures.value
     c.address-here.result c.is_recorded_closed.result c.on_datagram.new.self c.on_datagram.new.server c.in-Ok.effect
     c.in-Ok.record c.address-here.ensures (c.differs.ensures.same c.if-differs.false)

@@ -10,9 +10,9 @@ use Rattle.tftp_player.proofs.world.World.apply.Goals as goal
 pub invariant_of-self : goal.invariant_of-self
 invariant_of-self c = (
   subst (λ (stray : Bool). Refines (c.self.inside.strayed || stray) c.step.new.self) (sym c.is_stray-stray.ensures)
-      (played_keeps c.self.inside.strayed c.self.inside.exchange c.step.new.self c.args.event c.in-Ok.report
+      (played_keeps c.self.inside.strayed c.self.inside.simulation c.step.new.self c.args.event c.in-Ok.report
       c.self.invariant.0 c.in-Ok.ensures.steps),
-  sends_each c.self.inside.exchange c.step.new.self c.args.event c.in-Ok.report c.in-Ok.ensures.steps
+  sends_each c.self.inside.simulation c.step.new.self c.args.event c.in-Ok.report c.in-Ok.ensures.steps
       c.self.invariant.1,
 )
 

@@ -11,16 +11,16 @@ use Rattle.tftp_player.proofs.world.World.new.Goals as goal
 
 pub invariant_of-result : goal.invariant_of-result
 invariant_of-result c = (
-  subst (λ (w : WorldState). Refines false w) (sym c.in_ok-exchange.ensures.new)
+  subst (λ (w : WorldState). Refines false w) (sym c.in_ok-simulation.ensures.new)
       (new_ok false (in_path_order (contents c.args.files.items)) c.args.config c.requires.config.max_block),
-  subst HasSentEach (sym c.in_ok-exchange.ensures.new) (omega arith),
+  subst HasSentEach (sym c.in_ok-simulation.ensures.new) (omega arith),
 )
 
 pub returns-clause-safe : goal.returns-clause-safe
-returns-clause-safe c = kept_is_safe false c.in_ok-exchange.exchange (invariant_of-result c).0
+returns-clause-safe c = kept_is_safe false c.in_ok-simulation.simulation (invariant_of-result c).0
 
 pub returns-clause-home : goal.returns-clause-home
-returns-clause-home c = home_of false c.in_ok-exchange.exchange (invariant_of-result c).0
+returns-clause-home c = home_of false c.in_ok-simulation.simulation (invariant_of-result c).0
 
 pub returns-clause-played : goal.returns-clause-played
 returns-clause-played c = (invariant_of-result c).0

@@ -9,11 +9,11 @@ use Rattle.tftp_player.proofs.world.World.records.Goals as goal
 pub returns-clause-safe : goal.returns-clause-safe
 returns-clause-safe c =
     subst (λ (w : PlayedWorld). IsSafe w.state) c.self.view_is
-    (kept_is_safe c.self.inside.strayed c.self.inside.exchange c.self.invariant.0)
+    (kept_is_safe c.self.inside.strayed c.self.inside.simulation c.self.invariant.0)
 
 pub returns-clause-home : goal.returns-clause-home
 returns-clause-home c =
-    subst IsHome c.self.view_is (home_of c.self.inside.strayed c.self.inside.exchange c.self.invariant.0)
+    subst IsHome c.self.view_is (home_of c.self.inside.strayed c.self.inside.simulation c.self.invariant.0)
 
 pub returns-clause-played : goal.returns-clause-played
 returns-clause-played c = subst WasPlayed c.self.view_is c.self.invariant.0

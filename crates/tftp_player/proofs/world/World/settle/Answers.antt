@@ -14,8 +14,8 @@ loop-count-init c = record {
   strayed = refl;
   safe =
       subst (λ (w : PlayedWorld). IsSafe w.state) c.self.view_is
-      (kept_is_safe c.self.inside.strayed c.self.inside.exchange c.self.invariant.0);
-  home = subst IsHome c.self.view_is (home_of c.self.inside.strayed c.self.inside.exchange c.self.invariant.0);
+      (kept_is_safe c.self.inside.strayed c.self.inside.simulation c.self.invariant.0);
+  home = subst IsHome c.self.view_is (home_of c.self.inside.strayed c.self.inside.simulation c.self.invariant.0);
   played = subst WasPlayed c.self.view_is c.self.invariant.0;
 }
 
