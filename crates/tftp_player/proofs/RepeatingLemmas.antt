@@ -1,7 +1,7 @@
 -- A request that repeats that of an open transfer opens nothing, and repeats it while that transfer is open.
 use Rattle.std.proofs.Common.{◌≡◌, ℕ, ◌<◌, Bool, true, false, List, [], ◌∷◌, ◌++◌, length, Option, Some, None, refl}
 use Rattle.std.proofs.Common.{sym, ap, ◌∙◌, subst, inl, inr, arith}
-use Rattle.std.specs.Prelude.{if◌then◌else◌, option_map, slice_get, slice_set}
+use Rattle.std.specs.Prelude.{if◌then◌else◌, slice_get, slice_set}
 use Rattle.std.proofs.Math.ListN.{length-set}
 use Rattle.std.proofs.lemmas.Bool.{true≢false}
 use Rattle.std.proofs.lemmas.Option.{same_Some}
@@ -15,7 +15,6 @@ use Rattle.tftp_file.specs.declared.files.Files.{Files}
 use Rattle.tftp_file.specs.declared.files.Files.TheVariants.{Source, Sink}
 use Rattle.tftp_file.specs.Sink.{Holding}
 use Rattle.tftp_ends.specs.declared.outcome.Outcome.{Outcome}
-use Rattle.tftp_ends.specs.declared.phase.Phase.{Phase}
 use Rattle.tftp_ends.specs.declared.phase.Terms.{Terms}
 use Rattle.tftp_ends.specs.End.{is_sender, terms_of, outcome_of}
 use Rattle.tftp_ends.specs.declared.error_reply.ErrorReply.TheVariants.{IllegalOperation}
@@ -24,7 +23,7 @@ use Rattle.tftp_ends.specs.Step.{Turn, timeout_turn}
 use Rattle.tftp_server.specs.Port.{Service, Silent, Refused, Sends, Takes, Ignores, Refuses}
 use Rattle.tftp_rules.specs.Hosts.{request_port}
 use Rattle.tftp_rules.specs.Machine.{Endpoint}
-use Rattle.tftp_rules.specs.OpenEnds.{OpenEnd, files_of, end_after, peer_of}
+use Rattle.tftp_rules.specs.OpenEnds.{OpenEnd, files_of, end_after}
 use Rattle.tftp_player.specs.Openings.{sending_end, receiving_end}
 use Rattle.tftp_player.specs.Repeating.{AsksForTransfer, RepeatsOpenNothing, IsNewRequest, OnlyNewRequestsOpen}
 use Rattle.tftp_player.specs.Repeating.{RequestsLast}

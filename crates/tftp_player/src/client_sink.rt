@@ -69,6 +69,7 @@ impl Sink for ClientSink {
     ghost unmoved = { λ _. tt };
 
     fn append(&mut self, bytes: &[u8]) -> Result<(), StoreFault> {
+        // For the proof alone: a read says that the length of what is held is in range.
         let _held = self.sink.as_bytes();
         self.sink.append(bytes)
     }
