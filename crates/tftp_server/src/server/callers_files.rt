@@ -1,7 +1,8 @@
 //! A server whose caller has the files: the caller opens the end of an admitted request, and each
 //! step of a transfer is lent its source or its sink.
 
-ghost use Rattle.std.specs.Prelude.{◌≡◌, ◌↔◌, ◌⊎◌, List, ℕ, Some, false, option_copied, option_map};
+ghost use Rattle.std.specs.Prelude.{◌≡◌, ◌↔◌, ◌⊎◌, List, ℕ, Some, None, false, option_copied};
+ghost use Rattle.std.specs.Prelude.{option_map};
 ghost use Rattle.std.specs.Prelude.{is_some, if◌then◌else◌, IfOk, IfErr, IsErrOf, IsSome, OnOk, OnErr};
 ghost use Rattle.tftp_ends.specs.End.{record_of};
 ghost use Rattle.tftp_ends.specs.Files.{AreFilesOf, KeepsSource, KeepsSink};
@@ -73,7 +74,7 @@ impl<S: Store> Server<S> {
     /// Its steps are [`Server::lend_source`] or [`Server::lend_sink`].
     ///
     /// `TidInUse` if a transfer has the identifier; `NoSuchTid` if the admission opens none;
-    /// `Memory`. After a fault nothing has changed.
+    /// `Memory` only if it opens one. After a fault nothing has changed.
     pub fn hold(
         &mut self,
         admission: Admission<'_>,
@@ -93,6 +94,10 @@ impl<S: Store> Server<S> {
               }) self.old.held;
             })) }
         ensures in_use { IsErrOf result ServerFault.TidInUse ↔ IsSome (at tid self.old.held) }
+        ensures no_such_tid { IsErrOf result ServerFault.NoSuchTid
+            → asked_path admission.entry.ask ≡ None }
+        ensures memory { IsErrOf result ServerFault.Memory
+            → IsSome (asked_path admission.entry.ask) }
         ensures err { OnErr result (self.new ≡ self.old) }
     {
         if self.table.contains(tid) {
