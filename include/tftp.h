@@ -19,10 +19,11 @@
  *   A null from malloc or realloc is reported as TFTP_MEMORY, and nothing has changed; a call that
  *   returns a length returns 0. An end has a block of 128 bytes, one for the datagram that it sent
  *   last, which a timeout sends again, and, if it sends a file or receives netascii, one for the block
- *   at hand. They are as long as what was agreed needs: a get allocates in tftp_get, in netascii also
- *   at its first block, a sender until its first, and none at a later block. A server has a block, a table
- *   that grows with its transfers, and for each of these its path, its request and the blocks of an end
- *   but the first.
+ *   at hand. So tftp_get asks for memory twice and tftp_put three times, whatever the options are, and
+ *   no later call of that end does, but a get in netascii at its first block, once. A server's end
+ *   that sends asks at its first block, too, where it grows to what was agreed, and at none later. A
+ *   server has a block, a table that grows with its transfers, and for each of these its path, its
+ *   request and the blocks of an end but the first.
  * - No call is made from a signal handler: malloc may not be.
  */
 #ifndef TFTP_H

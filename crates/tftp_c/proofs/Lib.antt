@@ -1,3 +1,4 @@
+pub mod FaultLemmas
 pub mod HoldingLemmas
 pub mod ListedLemmas
 pub mod LooseValues

@@ -1,6 +1,6 @@
 -- A step over a buffer is a step over an empty sink in memory.
 use Rattle.std.specs.Prelude.{ℕ, ◌≡◌, false, List, length, take}
-use Rattle.std.proofs.Common.{ap, subst}
+use Rattle.std.proofs.Common.{ap, subst, sym}
 use Rattle.tftp_file.specs.Memory.{MemSinkState, memory_sink, new_mem_sink}
 use Rattle.tftp_file.specs.Sink.{sink_through}
 use Rattle.tftp_ends.specs.declared.endpoint.Endpoint.{Endpoint}
@@ -18,13 +18,14 @@ abbrev pub seen : SliceSink → MemSinkState
 seen s = stored s.room.now s.used s.is_committed
 
 pub stored_made : (from : Endpoint) (datagram : List ℕ) (before e : EndState) (k k' : SliceSink)
-    (room file : List ℕ) (step : Step) (outgoing : Outgoing) →
+    (room file : List ℕ) (step : Step) (outgoing : Outgoing) (count : ℕ) →
     seen k ≡ new_mem_sink (length room) false →
     file ≡ k'.room.now →
+    count ≡ k'.used →
     (turn : Turn) × ReceiverStep (sink_through memory_sink seen) from datagram before k turn k'
     × Lends before turn e step.to outgoing × (step ≡ reported before turn) →
-    Stored from datagram before e room file step outgoing k'.used
-stored_made from datagram before e k k' room file step outgoing empty same h =
+    Stored from datagram before e room file step outgoing count
+stored_made from datagram before e k k' room file step outgoing count empty same used h =
     record {
       turn = h.0;
       sink = seen k';
@@ -34,5 +35,6 @@ stored_made from datagram before e k k' room file step outgoing empty same h =
           (seen_step memory_sink seen from datagram before k h.0 k' h.1);
       lends = h.2;
       reports = h.3;
-      stored = ap (take k'.used) same;
+      stored =
+          subst (λ (n : ℕ). take n file ≡ (seen k').holding.bytes) (sym used) (ap (take k'.used) same);
     }

@@ -144,17 +144,18 @@ module _ (tid : ℕ) (old new : Table) (step : Step) (outgoing : Outgoing) (rest
         held = with_step (with_end h.end h.transfer) h.held;
       }
 
-  pub stored_at : (from : Endpoint) (datagram : List ℕ) (k k' : SliceSink) (room file : List ℕ) →
+  pub stored_at : (from : Endpoint) (datagram : List ℕ) (k k' : SliceSink) (room file : List ℕ) (count : ℕ) →
       seen k ≡ new_mem_sink (length room) false →
       file ≡ k'.room.now →
+      count ≡ k'.used →
       StoresLent (sink_through memory_sink seen) k k' from datagram tid old.held new.held step outgoing →
-      StepsAt tid (λ before e. Stored from datagram before e room file step outgoing k'.used) old new
-  stored_at from datagram k k' room file empty same h =
+      StepsAt tid (λ before e. Stored from datagram before e room file step outgoing count) old new
+  stored_at from datagram k k' room file count empty same used h =
       record {
         transfer = h.transfer;
         found = h.found;
         end = h.end;
-        steps = stored_made from datagram h.transfer.end h.end k k' room file step outgoing empty same
+        steps = stored_made from datagram h.transfer.end h.end k k' room file step outgoing count empty same used
             (h.turn, h.steps, h.lends, h.reports);
         held = with_step (with_end h.end h.transfer) h.held;
       }

@@ -1,5 +1,6 @@
 pub mod Built
 pub mod Elsewhere
+pub mod Faults
 pub mod Handled
 pub mod Listed
 pub mod Modes

@@ -1,9 +1,10 @@
 -- How a server's end opens for C.
-use Rattle.std.specs.Prelude.{ℕ, ◌≡◌, ◌-◌, if◌then◌else◌, List, length, Option, Some, None, Ok}
+use Rattle.std.specs.Prelude.{ℕ, ◌≡◌, ◌-◌, ◌*◌, ◌<◌, if◌then◌else◌, List, length, Option, Some, None, Ok}
 use Rattle.tftp_wire.specs.Spelling.{Spells}
 use Rattle.tftp_wire.specs.declared.limits.TheConstants.{MAX_BLOCK}
 use Rattle.tftp_wire.specs.declared.packet.Packet.TheVariants.{Read, Write}
 use Rattle.tftp_wire.specs.declared.packet.Request.{Request}
+use Rattle.tftp_negotiate.specs.Agreed as agreements
 use Rattle.tftp_negotiate.specs.Answer.{answer}
 use Rattle.tftp_negotiate.specs.Ranges.{block_sizes, is_in}
 use Rattle.tftp_negotiate.specs.declared.known.Kind.TheVariants as kinds
@@ -41,6 +42,7 @@ pub record ServesGet (client : TftpEndpoint) (datagram : List ℕ) (size : ℕ) 
   pub asked : Spells (Read request) datagram
   pub agreed : List Known
   pub answers : answer request.options kinds.Read request.mode size (limits_of options) ≡ Ok agreed
+  pub fits : size < 65535 * agreements.size agreed
   pub rest : List ℕ
   pub serves : ServesRead memory_source agreed (endpoint_of client) request.mode size
       options.retries next rest e

@@ -1,7 +1,9 @@
 //! How a server for C opens, and how a transfer opens in it: once its caller has found the file.
 
-ghost use Rattle.std.specs.Prelude.{◌≡◌, IfOk, IfErr};
+ghost use Rattle.std.specs.Prelude.{◌≡◌, IfOk, IfErr, OnOk};
 ghost use Rattle.tftp_ends.specs.Files.{AreFilesOf};
+ghost use Rattle.tftp_server.specs.Config.{IsConfig};
+ghost use Rattle.tftp_c.specs.Faults.{GetFails, PutFails, ReturnsHeld, StartRefused};
 ghost use Rattle.tftp_c.specs.Served.{config_of, table_fault, OpensAt, OpensGet, OpensPut, Starts};
 
 use crate::elsewhere::{Absent, Elsewhere};
@@ -28,7 +30,8 @@ fn config(options: &TftpOptions, transfers: u8) -> Config
 /// A server without transfers, which holds so many at once.
 pub(crate) fn start(alloc: Global, options: &TftpOptions, transfers: u8) -> Result<Served, u8>
     ensures ok { IfOk result (Starts options.now transfers) }
-    ensures err { IfErr result (λ fault. fault ≡ 0 → ⊥) }
+    ensures allowed { OnOk result (IsConfig (config_of options.now transfers)) }
+    ensures err { IfErr result (StartRefused options.now transfers) }
 {
     let config = config(options, transfers);
     if !config.is_valid() {
@@ -74,6 +77,7 @@ fn hold(
 ) -> u8
     ensures ok { result ≡ 0
         → OpensAt tid from.now request.now (λ e. e ≡ end) server.old server.new }
+    ensures fault { (result ≡ 0 → ⊥) → ReturnsHeld tid from.now request.now server.old result }
     ensures err { (result ≡ 0 → ⊥) → server.new ≡ server.old }
 {
     let Ok(admission) = server.admit(endpoint(from), request) else {
@@ -100,6 +104,8 @@ pub(crate) fn get(
 ) -> u8
     ensures ok { result ≡ 0 → OpensGet tid from.now request.now length next.now served.old.options
         reply.new event.new served.old.server served.new.server }
+    ensures fault { (result ≡ 0 → ⊥) → GetFails tid from.now request.now length next.now
+        served.old.options served.old.server result }
     ensures options { served.new.options ≡ served.old.options }
     ensures err { (result ≡ 0 → ⊥) → served.new ≡ served.old }
 {
@@ -130,6 +136,8 @@ pub(crate) fn put(
 ) -> u8
     ensures ok { result ≡ 0 → OpensPut tid from.now request.now served.old.options reply.new
         event.new served.old.server served.new.server }
+    ensures fault { (result ≡ 0 → ⊥) → PutFails tid from.now request.now served.old.options
+        served.old.server result }
     ensures options { served.new.options ≡ served.old.options }
     ensures err { (result ≡ 0 → ⊥) → served.new ≡ served.old }
 {

@@ -40,10 +40,12 @@ ghost use Rattle.tftp_wire.specs.declared.packet.Packet.{Packet};
 ghost use Rattle.tftp_wire.specs.declared.fault.PacketFault.{PacketFault};
 ghost use Rattle.tftp_file.specs.Netascii.{netascii_text};
 ghost use Rattle.tftp_wire.specs.Options.{option_bytes};
+ghost use Rattle.tftp_ends.specs.Opening.{MayGet, MayPut};
 ghost use Rattle.tftp_c.specs.Built.{BuildsRequest};
 ghost use Rattle.tftp_c.specs.Handled.{OnEnd, Received, Sent, TimedOut};
 ghost use Rattle.tftp_c.specs.Listed.{option_at, option_named, WritesOption};
-ghost use Rattle.tftp_c.specs.Opens.{gets, puts, Opens};
+ghost use Rattle.tftp_c.specs.Faults.{GetRefused, GetUnserved, PutRefused, PutUnserved, Returns};
+ghost use Rattle.tftp_c.specs.Opens.{asked_of, gets, mode_of, puts, Opens};
 ghost use Rattle.tftp_c.specs.Serves.{HoldsSuch, ServesGet, ServesPut};
 ghost use Rattle.tftp_c.specs.Shown.{Shows};
 
@@ -79,6 +81,9 @@ pub extern "C" fn tftp_get(
 ) -> u8
     ensures ok { result ≡ 0 → Opens end.new.slot.value (gets server.now name.now options.now)
         server.now request.new event.new }
+    ensures allowed { result ≡ 0
+        → MayGet name.now (mode_of options.now) (asked_of options.now 0) }
+    ensures fault { (result ≡ 0 → ⊥) → Returns (GetRefused name.now options.now) result }
     ensures err { (result ≡ 0 → ⊥) → end.new.slot.value ≡ None }
 {
     end.close(alloc);
@@ -90,7 +95,7 @@ pub extern "C" fn tftp_get(
             }
             Err(_) => event::MEMORY,
         },
-        Err(fault) => fault,
+        Err(fault) => opening::number(fault),
     }
 }
 
@@ -109,6 +114,9 @@ pub extern "C" fn tftp_put(
 ) -> u8
     ensures ok { result ≡ 0 → Opens end.new.slot.value
         (puts server.now name.now length options.now) server.now request.new event.new }
+    ensures allowed { result ≡ 0
+        → MayPut name.now (mode_of options.now) (asked_of options.now length) length }
+    ensures fault { (result ≡ 0 → ⊥) → Returns (PutRefused name.now length options.now) result }
     ensures err { (result ≡ 0 → ⊥) → end.new.slot.value ≡ None }
 {
     end.close(alloc);
@@ -120,7 +128,7 @@ pub extern "C" fn tftp_put(
             }
             Err(_) => event::MEMORY,
         },
-        Err(fault) => fault,
+        Err(fault) => opening::number(fault),
     }
 }
 
@@ -231,6 +239,8 @@ pub extern "C" fn tftp_serve_get(
 ) -> u8
     ensures ok { result ≡ 0 → HoldsSuch end.new.slot.value (λ e. ServesGet client.now request.now
         length next.now options.now e reply.new event.new) }
+    ensures fault { (result ≡ 0 → ⊥)
+        → GetUnserved request.now length next.now options.now result }
     ensures err { (result ≡ 0 → ⊥) → end.new.slot.value ≡ None }
 {
     end.close(alloc);
@@ -260,6 +270,7 @@ pub extern "C" fn tftp_serve_put(
 ) -> u8
     ensures ok { result ≡ 0 → HoldsSuch end.new.slot.value (λ e. ServesPut client.now request.now
         options.now e reply.new event.new) }
+    ensures fault { (result ≡ 0 → ⊥) → PutUnserved request.now options.now result }
     ensures err { (result ≡ 0 → ⊥) → end.new.slot.value ≡ None }
 {
     end.close(alloc);

@@ -1,13 +1,16 @@
 //! How a client opens for C.
 
-ghost use Rattle.std.specs.Prelude.{◌≡◌, IfOk, IfErr};
+ghost use Rattle.std.specs.Prelude.{◌≡◌, IfOk, IfErr, OnOk, Some};
+ghost use Rattle.tftp_ends.specs.Opening.{MayGet, MayPut};
+ghost use Rattle.tftp_c.specs.Faults.{open_fault, GetRefused, PutRefused};
 ghost use Rattle.tftp_c.specs.Opens.{asked_of, gets, mode_of, puts, Opened};
+ghost use Rattle.tftp_c.specs.Reports.{Reports, Sends};
 
 use crate::client::Client;
 use crate::event::{self, TftpEndpoint, TftpEvent, TftpOptions};
 use crate::report::{endpoint, report};
 use std::alloc::Global;
-use tftp_ends::{End, EndConfig, OpenFault, Outgoing};
+use tftp_ends::{End, EndConfig, Endpoint, OpenFault, Outgoing, Step};
 use tftp_negotiate::{Asked, Limits};
 use tftp_wire::{MAX_BLOCK, Mode};
 
@@ -58,7 +61,7 @@ fn config(options: &TftpOptions) -> EndConfig
 }
 
 pub(crate) fn number(fault: OpenFault) -> u8
-    ensures { result ≡ 0 → ⊥ }
+    ensures { result ≡ open_fault fault }
 {
     match fault {
         OpenFault::BadRequest => event::BAD_REQUEST,
@@ -66,6 +69,20 @@ pub(crate) fn number(fault: OpenFault) -> u8
         OpenFault::SourceFault => event::NO_SOURCE,
         OpenFault::Memory => event::MEMORY,
     }
+}
+
+/// Reports the opening of a client, whose request is for `to`.
+fn report_opening(end: &End, to: Endpoint, request: &mut [u8], event: &mut TftpEvent)
+    ensures sends { Sends (Some to) end.now.position.last_sent request.new event.new }
+    ensures file { event.new.file_len ≡ 0 }
+    ensures reports { Reports end.now event.new }
+{
+    let step = Step {
+        to: Some(to),
+        progress: false,
+        closed: None,
+    };
+    report(end, step, Outgoing::LastSent, request, 0, event);
 }
 
 /// Opens a client that gets.
@@ -76,26 +93,21 @@ pub(crate) fn get(
     options: &TftpOptions,
     request: &mut [u8],
     event: &mut TftpEvent,
-) -> Result<Client, u8>
+) -> Result<Client, OpenFault>
     ensures ok { IfOk result (λ c. Opened c.end (gets server.now name.now options.now) server.now
         request.new event.new) }
-    ensures err { IfErr result (λ fault. fault ≡ 0 → ⊥) }
+    ensures allowed { OnOk result
+        (MayGet name.now (mode_of options.now) (asked_of options.now 0)) }
+    ensures err { IfErr result (GetRefused name.now options.now) }
 {
-    let mut out = Vec::new(alloc);
-    match End::get(
-        alloc,
-        endpoint(server),
-        name,
-        mode(options),
-        &asked(options, 0),
-        &config(options),
-        &mut out,
-    ) {
-        Ok((end, step)) => {
-            report(&end, step, Outgoing::LastSent, request, 0, event);
+    let to = endpoint(server);
+    let asked = asked(options, 0);
+    match End::open_get(alloc, to, name, mode(options), &asked, &config(options)) {
+        Ok(end) => {
+            report_opening(&end, to, request, event);
             Ok(Client { end })
         }
-        Err(fault) => Err(number(fault)),
+        Err(fault) => Err(fault),
     }
 }
 
@@ -108,26 +120,21 @@ pub(crate) fn put(
     options: &TftpOptions,
     request: &mut [u8],
     event: &mut TftpEvent,
-) -> Result<Client, u8>
+) -> Result<Client, OpenFault>
     ensures ok { IfOk result (λ c. Opened c.end (puts server.now name.now length options.now)
         server.now request.new event.new) }
-    ensures err { IfErr result (λ fault. fault ≡ 0 → ⊥) }
+    ensures allowed { OnOk result
+        (MayPut name.now (mode_of options.now) (asked_of options.now length) length) }
+    ensures err { IfErr result (PutRefused name.now length options.now) }
 {
-    let mut out = Vec::new(alloc);
-    match End::put(
-        alloc,
-        endpoint(server),
-        name,
-        mode(options),
-        &asked(options, length),
-        length,
-        &config(options),
-        &mut out,
-    ) {
-        Ok((end, step)) => {
-            report(&end, step, Outgoing::LastSent, request, 0, event);
+    let to = endpoint(server);
+    let asked = asked(options, length);
+    let config = config(options);
+    match End::open_put(alloc, to, name, mode(options), &asked, length, &config) {
+        Ok(end) => {
+            report_opening(&end, to, request, event);
             Ok(Client { end })
         }
-        Err(fault) => Err(number(fault)),
+        Err(fault) => Err(fault),
     }
 }

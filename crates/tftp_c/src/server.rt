@@ -2,8 +2,11 @@
 
 ghost use Rattle.std.specs.Prelude.{◌≡◌, ◌↔◌, false, is_some, None};
 ghost use Rattle.tftp_server.specs.CallersFiles.{is_open_receiver, is_open_sender};
+ghost use Rattle.tftp_server.specs.Config.{IsConfig};
 ghost use Rattle.tftp_server.specs.State.{at, is_open, without};
+ghost use Rattle.tftp_c.specs.Faults.{GetFails, PutFails, StartRefused};
 ghost use Rattle.tftp_c.specs.Served.{AsksFor, HoldsServer, OnServer, OpensGet, OpensPut};
+ghost use Rattle.tftp_c.specs.Served.{config_of};
 ghost use Rattle.tftp_c.specs.Served.{ReceivedAt, SentAt, Starts, TimedOutAt};
 
 use crate::event::{self, TftpEndpoint, TftpEvent, TftpOptions, TftpQuestion};
@@ -22,6 +25,8 @@ pub extern "C" fn tftp_server_open(
 ) -> u8
     ensures ok { result ≡ 0
         → HoldsServer server.new.slot.value (λ s. Starts options.now transfers s) }
+    ensures allowed { result ≡ 0 → IsConfig (config_of options.now transfers) }
+    ensures fault { (result ≡ 0 → ⊥) → StartRefused options.now transfers result }
     ensures err { (result ≡ 0 → ⊥) → server.new.slot.value ≡ None }
 {
     server.close(alloc);
@@ -89,6 +94,9 @@ pub extern "C" fn tftp_server_get(
     ensures ok { OnServer server.old.slot.value server.new.slot.value (λ s t. result ≡ 0
         → OpensGet tid from.now request.now length next.now s.options reply.new event.new s.server
         t.server) }
+    ensures fault { OnServer server.old.slot.value server.new.slot.value (λ s _.
+        (result ≡ 0 → ⊥) → GetFails tid from.now request.now length next.now s.options s.server
+        result) }
     ensures options { OnServer server.old.slot.value server.new.slot.value (λ s t.
         t.options ≡ s.options) }
     ensures err { (result ≡ 0 → ⊥) → server.new.slot.value ≡ server.old.slot.value }
@@ -119,6 +127,8 @@ pub extern "C" fn tftp_server_put(
 ) -> u8
     ensures ok { OnServer server.old.slot.value server.new.slot.value (λ s t. result ≡ 0
         → OpensPut tid from.now request.now s.options reply.new event.new s.server t.server) }
+    ensures fault { OnServer server.old.slot.value server.new.slot.value (λ s _.
+        (result ≡ 0 → ⊥) → PutFails tid from.now request.now s.options s.server result) }
     ensures options { OnServer server.old.slot.value server.new.slot.value (λ s t.
         t.options ≡ s.options) }
     ensures err { (result ≡ 0 → ⊥) → server.new.slot.value ≡ server.old.slot.value }

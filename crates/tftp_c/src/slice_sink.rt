@@ -43,6 +43,15 @@ pub(crate) struct SliceSink<'a> {
     pub(crate) is_committed: bool,
 }
 
+impl<'a> SliceSink<'a> {
+    /// How many bytes are stored.
+    pub(crate) fn count(&self) -> usize
+        ensures { result ≡ self.now.used }
+    {
+        self.used
+    }
+}
+
 impl<'a> Sink for SliceSink<'a> {
     ghost use Rattle.std.specs.Prelude.{◌≡◌, refl, length};
     ghost use Rattle.std.proofs.Common.{◌∙◌};

@@ -1,6 +1,6 @@
 //! A source over bytes of the caller.
 
-ghost use Rattle.std.specs.Prelude.{◌≡◌};
+ghost use Rattle.std.specs.Prelude.{◌≡◌, ◌-◌, length};
 
 use std::marker::Model;
 use tftp_file::{FileFault, Source};
@@ -26,11 +26,11 @@ impl<'a> SliceSource<'a> {
         SliceSource { rest: bytes }
     }
 
-    /// The bytes that are left.
-    pub(crate) fn rest(&self) -> &[u8]
-        ensures { result.now ≡ self.now }
+    /// How many of these bytes, of which it was made, were taken.
+    pub(crate) fn taken_of(&self, bytes: &[u8]) -> usize
+        ensures { result ≡ length bytes.now - length self.now }
     {
-        self.rest
+        bytes.len().saturating_sub(self.rest.len())
     }
 }
 

@@ -37,7 +37,7 @@ fn store(
         is_committed: false,
     };
     match end.handle_datagram_as_receiver(&mut sink, from, datagram) {
-        Ok((step, outgoing)) => Ok((step, outgoing, sink.used)),
+        Ok((step, outgoing)) => Ok((step, outgoing, sink.count())),
         Err(fault) => Err(fault),
     }
 }
@@ -57,7 +57,7 @@ fn take(
     let mut source = SliceSource::of(next);
     match end.handle_datagram_as_sender(&mut source, from, datagram) {
         Ok((step, outgoing)) => {
-            let count = next.len().saturating_sub(source.rest().len());
+            let count = source.taken_of(next);
             Ok((step, outgoing, count))
         }
         Err(fault) => Err(fault),

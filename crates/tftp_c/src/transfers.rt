@@ -64,7 +64,7 @@ fn store(
         is_committed: false,
     };
     match server.lend_sink(tid, &mut sink, from, datagram) {
-        Ok((step, outgoing)) => Ok((step, outgoing, sink.used)),
+        Ok((step, outgoing)) => Ok((step, outgoing, sink.count())),
         Err(fault) => Err(fault),
     }
 }
@@ -86,7 +86,7 @@ fn take(
     let mut source = SliceSource::of(next);
     match server.lend_source(tid, &mut source, from, datagram) {
         Ok((step, outgoing)) => {
-            let count = next.len().saturating_sub(source.rest().len());
+            let count = source.taken_of(next);
             Ok((step, outgoing, count))
         }
         Err(fault) => Err(fault),

@@ -1,4 +1,5 @@
 -- The table has the end, for a request that the port admits.
+use Rattle.tftp_c.proofs.FaultLemmas.{hold_fails}
 use Rattle.tftp_c.proofs.HoldingLemmas.{opens_at}
 use Rattle.tftp_c.proofs.holding.hold.Goals as goal
 
@@ -8,3 +9,10 @@ returns-in-Ok-hold-clause-ok c = λ _.
     c.args.end c.absent_files-files.result c.in-Ok.admission c.args.server.now c.hold.new.self
     c.endpoint.ensures c.in-Ok.ensures.admits c.in-Ok.ensures.bytes c.in-Ok-hold.ensures.in_use
     c.in-Ok-hold.ensures.held
+
+-- A fault of the table is returned by its number.
+pub returns-in-Err-clause-fault : goal.returns-in-Err-clause-fault
+returns-in-Err-clause-fault c = λ _.
+    hold_fails c.args.tid c.args.from.now c.endpoint.result c.args.request.now c.in-Ok.admission.ask
+    c.args.server.now c.in-Err.fault c.number.result c.number.ensures c.endpoint.ensures
+    c.in-Ok.ensures.admits c.in-Err.ensures.in_use c.in-Err.ensures.no_such_tid c.in-Err.ensures.memory
