@@ -75,10 +75,10 @@ module _ {S F D : Type 0} (meaning : StoreMeaning S D) (sources : SourceMeaning 
       omega (arith, a, b)
 
   -- ---- at all ports
-  abbrev IsFew : Timer → Type 0
+  abbrev pub IsFew : Timer → Type 0
   IsFew timer = timer.received ≤ most_in_round
 
-  abbrev AreFew : LoopState S F D → Type 0
+  abbrev pub AreFew : LoopState S F D → Type 0
   AreFew s = All IsFew s.timers
 
   counted_few : (now : ℕ) (progress : Bool) (timer timer' : Timer) → timer.received < most_in_round
@@ -89,7 +89,7 @@ module _ {S F D : Type 0} (meaning : StoreMeaning S D) (sources : SourceMeaning 
   same_few : (timer timer' : Timer) → timer'.received ≡ timer.received → IsFew timer → IsFew timer'
   same_few timer timer' is few = omega (arith, is, few)
 
-  port_few : (now : ℕ) (s t : PortState S F D) → PortStep meaning sources now s t → IsFew s.timer → IsFew t.timer
+  pub port_few : (now : ℕ) (s t : PortState S F D) → PortStep meaning sources now s t → IsFew s.timer → IsFew t.timer
   port_few now s t (A_datagram d) few = counted_few now d.step.progress s.timer t.timer d.few d.timer
   port_few now s t (A_lost_datagram d) few = counted_few now false s.timer t.timer d.few d.timer
   port_few now s t (A_late_datagram d) few = counted_few now false s.timer t.timer d.few d.timer

@@ -14,6 +14,7 @@ pub mod LoopStays
 pub mod Opened
 pub mod Waits
 pub mod Counting
+pub mod PortCounts
 pub mod Visits
 pub mod Receipts
 pub mod Drained

@@ -1,10 +1,12 @@
 -- How many datagrams a server receives at one port before it goes on to the next, and between two
 -- waits (ours).
-use Rattle.std.specs.Prelude.{ℕ, ◌≡◌, ◌≤◌, ◌+◌, List, [], ◌∷◌, All}
+use Rattle.std.specs.Prelude.{ℕ, ◌≡◌, ◌≢◌, ◌≤◌, ◌+◌, ◌*◌, ◌==◌, if◌then◌else◌, List, [], ◌∷◌, All}
 use Rattle.tftp_file.specs.Source.{SourceMeaning}
 use Rattle.tftp_store.specs.Store.{StoreMeaning}
-use Rattle.tftp_sockets.specs.Journal.{Event}
+use Rattle.tftp_sockets.specs.Journal.{Event, QuietEvent}
 use Rattle.tftp_sockets.specs.Journal.Event.{Received, Sent, Watched, Elapsed, Printed, Quiet}
+use Rattle.tftp_sockets.specs.Journal.QuietEvent.{Empty, Failed, New_socket, No_socket, Out_of_memory}
+use Rattle.tftp_sockets.specs.Journal.QuietEvent.{Slept, Woke}
 use Rattle.tftp_loop.specs.Run.{Run}
 use Rattle.tftp_loop.specs.Steps.{Timer, PortState, LoopState, PortStep, LoopStep, most_in_round}
 
@@ -22,6 +24,27 @@ received_in (Quiet event ∷ events) = received_in events
 abbrev pub ReceivesAtMost : ℕ → List Event → List Event → Type 0
 ReceivesAtMost most before after = received_in after ≤ most + received_in before
 
+-- a count since the newest wait, after this event
+abbrev pub since_by : QuietEvent → ℕ → ℕ
+since_by (Empty port) before = before
+since_by (Failed port) before = before
+since_by (Slept millis) before = before
+since_by (Woke ports) before = 0
+since_by (No_socket port) before = before
+since_by (New_socket port) before = before
+since_by Out_of_memory before = before
+
+-- how many datagrams were received at the port since the newest wait
+abbrev pub received_since : ℕ → List Event → ℕ
+received_since port [] = 0
+received_since port (Received p from bytes ∷ events) =
+    (if p == port then 1 else 0) + received_since port events
+received_since port (Sent p to bytes ∷ events) = received_since port events
+received_since port (Watched time ∷ events) = received_since port events
+received_since port (Elapsed p time ∷ events) = received_since port events
+received_since port (Printed line ∷ events) = received_since port events
+received_since port (Quiet event ∷ events) = since_by event (received_since port events)
+
 module _ {S F D : Type 0} (meaning : StoreMeaning S D) (sources : SourceMeaning F) where
   -- a timer counts each datagram that is received at its port
   abbrev pub CountsReceived : Type 0
@@ -34,3 +57,12 @@ module _ {S F D : Type 0} (meaning : StoreMeaning S D) (sources : SourceMeaning 
   ReceivesFew =
       (start now : LoopState S F D) → start.timers ≡ [] → Run (LoopStep meaning sources) start now
       → All (λ (timer : Timer). timer.received ≤ most_in_round) now.timers
+
+  -- a port has three transfers at most between two waits: one that was open, and those of two
+  -- requests, of which one was kept from before. So the journal has no more datagrams of it than
+  -- three timers count
+  abbrev pub ReceivesFewAtAPort : Type 0
+  ReceivesFewAtAPort =
+      (start now : LoopState S F D) → start.timers ≡ [] → Run (LoopStep meaning sources) start now
+      → (port : ℕ) → port ≢ start.requests
+      → received_since port now.events ≤ 3 * most_in_round + received_since port start.events

@@ -1,7 +1,7 @@
 //! Laws of a server's runs, over the definitions alone. Its store is of any type.
 
 ghost use Rattle.tftp_loop.specs.Expiry.{ClosesOverAge, ClosesWithoutProgress, TimesOutInSilence};
-ghost use Rattle.tftp_loop.specs.Fair.{CountsReceived, ReceivesFew};
+ghost use Rattle.tftp_loop.specs.Fair.{CountsReceived, ReceivesFew, ReceivesFewAtAPort};
 ghost use Rattle.tftp_loop.specs.Handled.{HandlesBeforeItSleeps, HandlesByTheNextWait};
 ghost use Rattle.tftp_loop.specs.Handled.{ReadsTheRequestPort};
 ghost use Rattle.tftp_loop.specs.PortsInTurn.{UsesNoPortTwice};
@@ -53,8 +53,10 @@ pub fn a_range_gives_each_port_once()
 {}
 
 /// No port starves another. Between two waits at most 64 datagrams are received at the port of a
-/// transfer, each of which its timer counts, and one at the request port (`ReceivesRequest`).
+/// transfer, each of which its timer counts, and one at the request port (`ReceivesRequest`). The
+/// journal has at most 192 of a port, whatever transfers close and open there.
 pub fn a_server_receives_few_between_waits<T: Store>()
     ensures counts { CountsReceived T.meaning T.Source.meaning }
     ensures few { ReceivesFew T.meaning T.Source.meaning }
+    ensures journal { ReceivesFewAtAPort T.meaning T.Source.meaning }
 {}

@@ -1,5 +1,6 @@
 -- The lemmas that are the law.
 use Rattle.tftp_loop.proofs.Counting.{counted_along, few_along}
+use Rattle.tftp_loop.proofs.PortCounts.{few_at_a_port}
 use Rattle.tftp_loop.proofs.laws.a_server_receives_few_between_waits.Goals as goal
 
 pub returns-clause-counts : goal.returns-clause-counts
@@ -9,3 +10,7 @@ returns-clause-counts g c = λ now old new run.
 pub returns-clause-few : goal.returns-clause-few
 returns-clause-few g c = λ start now none run.
     few_along g.T.Store.meaning g.T.Source.Source.meaning start now none run
+
+pub returns-clause-journal : goal.returns-clause-journal
+returns-clause-journal g c = λ start now none run port apart.
+    few_at_a_port g.T.Store.meaning g.T.Source.Source.meaning start now none run port apart
