@@ -3,7 +3,7 @@ use Rattle.std.proofs.Common.{◌≡◌, ℕ, ◌+◌, ◌<◌, List, [], ◌∷
 use Rattle.std.proofs.Common.{sym, ap, ◌∙◌, subst, zero, suc, arith, inl, inr}
 use Rattle.std.specs.Prelude.{◌≢◌, ◌⊎◌, ◌==◌, if◌then◌else◌, slice_get, option_map}
 use Rattle.std.specs.List.{Contains}
-use Rattle.std.proofs.lemmas.Bool.{cases_Bool, cases_eq, eq-eqb, eqb-true, ne_eqb}
+use Rattle.std.proofs.lemmas.Bool.{cases_Bool, cases_eq, eq-eqb, eqb-true, ne_eqb, true≢false}
 use Rattle.std.proofs.lemmas.List.Elements.{All-contains, All-from_recursion, Contains-append_cases}
 use Rattle.std.proofs.lemmas.List.Elements.{Contains-append_left, Contains-append_right}
 use Rattle.std.proofs.lemmas.Option.{same_Some, slice_get-map}
@@ -13,7 +13,7 @@ use Rattle.tftp_store.specs.Store.{StoreMeaning}
 use Rattle.tftp_rules.specs.Machine.{Endpoint}
 use Rattle.tftp_sockets.specs.Journal.{Event}
 use Rattle.tftp_sockets.specs.Journal.Event.{Received, Sent, Watched, Elapsed, Printed, Quiet}
-use Rattle.tftp_promises.specs.Alone.{AreAmong, EachIsJoined, EachKeepsAnyFiles, EachKeepsPromises, alone}
+use Rattle.tftp_promises.specs.Alone.{AreAmong, EachIsJoined, EachKeepsAnyFiles, EachKeepsPromises, EachTakesOne, alone}
 use Rattle.tftp_promises.specs.Alone.{heard_with}
 use Rattle.tftp_promises.specs.Joined.{AreJoined}
 use Rattle.tftp_promises.specs.Journals.{IsOfPort}
@@ -27,8 +27,9 @@ use Rattle.tftp_promises.specs.Several.{number_of, other_ports, others_sent_from
 use Rattle.tftp_promises.proofs.ClientJournals.{asks_first}
 use Rattle.tftp_promises.proofs.KeptEvents.{first_or_more, nothing_in}
 use Rattle.tftp_promises.proofs.Orders.{first_in, later_in, mapped, noted_in, one_in}
-use Rattle.tftp_promises.proofs.Places.{port_in}
+use Rattle.tftp_promises.proofs.Places.{port_has, port_in}
 use Rattle.tftp_promises.proofs.ProgramsShown.{programs_keep, programs_keep_any}
+use Rattle.tftp_promises.proofs.TakesOne.{takes_none_or_one}
 
 -- ---- the events of one server and of one client
 -- an event before others: of the server, or of the client
@@ -146,6 +147,19 @@ in_apart own (p ∷ ports) port n c = elim (first_or_more p port ports c) [
       Contains (if b then apart_from own ports else p ∷ apart_from own ports) port
   after true i = i
   after false i = later_in p (apart_from own ports) port i
+
+-- nor is any of these among them
+not_in_apart : (own ports : List ℕ) (port : ℕ) → has_port own port ≡ true → Contains (apart_from own ports) port → ⊥
+not_in_apart own [] port has c = nothing_in port c
+not_in_apart own (p ∷ ports) port has c =
+    kept (has_port own p) refl (not_in_apart own ports port has) c where
+      kept : (b : Bool) → has_port own p ≡ b → (Contains (apart_from own ports) port → ⊥)
+          → Contains (if b then apart_from own ports else p ∷ apart_from own ports) port → ⊥
+      kept true is rest c = rest c
+      kept false is rest c = elim (first_or_more p port (apart_from own ports) c) [
+        | inl same ↦ true≢false (sym has ∙ (sym (ap (has_port own) same) ∙ is))
+        | inr more ↦ rest more
+      ]
 
 -- ---- the programs by their numbers
 -- a number is that of a server, or of a client
@@ -460,3 +474,15 @@ module _ {S F D G K : Type 0} (stores : StoreMeaning S D) (sources : SourceMeani
       programs_keep stores sources inputs outputs (alone several i server client)
       (heard_with i (number_of several k) order)
       (each_joined several order i server k client at_i found served) models
+
+  pub each_takes_one : EachTakesOne stores sources inputs outputs
+  each_takes_one several client =
+      elim (takes_none_or_one inputs outputs (endpoint several.ip several.port) client) [
+        | inl all ↦ inl (λ i server. all (other_ports several i server client))
+        | inr one ↦ inr (
+          one.0,
+          λ i server known.
+              one.1 (other_ports several i server client) (not_in_apart (known_ports several server client)
+              (others_sent_from i several.servers) one.0 (port_has (known_ports several server client) one.0 known)),
+        )
+      ]

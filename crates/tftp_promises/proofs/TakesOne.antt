@@ -54,6 +54,7 @@ use Rattle.tftp_rules.proofs.PhaseMoves.{both_true, if_acts}
 use Rattle.tftp_promises.specs.ClientRuns.{ClientDoes, ClientRun, Starts, Goes_on, Receives_one, Reads_clock, Waits_until}
 use Rattle.tftp_promises.specs.ClientRuns.{Times_out, File_works, Prints_line}
 use Rattle.tftp_promises.specs.Others.{ClientsTakeOne, DoesOwn, IsOtherAnswer, TakesOwn}
+use Rattle.tftp_promises.specs.Programs.{ClientProgram}
 use Rattle.tftp_promises.proofs.ClientJournals.{asks_there}
 use Rattle.tftp_promises.proofs.WrongPeers.{datagram_stays, timeout_stays}
 
@@ -392,9 +393,18 @@ module _ {G K : Type 0} {inputs : SourceMeaning G} {outputs : SinkMeaning K} (to
   takes (Goes_on run (File_works works)) asks = rests run (File_works works) refl (λ others. tt) (takes run asks)
   takes (Goes_on run (Prints_line line)) asks = rests run (Prints_line line) refl (λ others. tt) (takes run asks)
 
+pub takes_none_or_one : {G K : Type 0} (inputs : SourceMeaning G) (outputs : SinkMeaning K) (to : Endpoint)
+    (client : ClientProgram inputs outputs to) → ((others : List ℕ) → TakesOwn to.ip others client.runs)
+    ⊎ ((port : ℕ) × ((others : List ℕ) → (Contains others port → ⊥) → TakesOwn to.ip others client.runs))
+takes_none_or_one inputs outputs to client =
+    elim (takes to client.runs (λ opened none. asks_there client.opens)).taken [
+      | inl all ↦ inl all
+      | inr one ↦ inr (one.0, one.1)
+    ]
+
 pub takes_one : {G K : Type 0} (inputs : SourceMeaning G) (outputs : SinkMeaning K) → ClientsTakeOne inputs outputs
 takes_one inputs outputs to client =
-    elim (takes to client.runs (λ opened none. asks_there client.opens)).taken [
+    elim (takes_none_or_one inputs outputs to client) [
       | inl all ↦ (0, λ others n. all others)
-      | inr one ↦ (one.0, one.1)
+      | inr one ↦ one
     ]

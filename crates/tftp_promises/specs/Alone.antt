@@ -73,11 +73,16 @@ module _ {S F D G K : Type 0} {stores : StoreMeaning S D} {sources : SourceMeani
     pub away : (port : ℕ) → Contains (other_ports several i server client) port →
         there client ≢ endpoint several.ip port
 
-  -- the server serves the client: of the answers of all servers the client takes its
+  -- of the answers of all servers the client takes none but this one's
+  abbrev pub TakesIts : ℕ → OneServer several → OneClient several → Type 0
+  TakesIts i server client =
+      TakesOwn several.ip (other_ports several i server client) client.runs
+
+  -- the server serves the client
   pub record IsServed (order : List Noted) (i : ℕ) (server : OneServer several) (k : ℕ)
       (client : OneClient several) : Type 0 where
     pub among : AreAmong order i server k client
-    pub own : TakesOwn several.ip (other_ports several i server client) client.runs
+    pub own : TakesIts i server client
 
   -- the server is passed over: the client takes another, and sends to this one nothing but its
   -- request and ERRORs
@@ -144,6 +149,15 @@ module _ {S F D G K : Type 0} (stores : StoreMeaning S D) (sources : SourceMeani
       → IsServed several order i server k client
       → (models : AreModelled (alone several i server client))
       → KeepPromises (alone several i server client) models
+
+  -- a client takes no server's answer, or the answers of one port: those of the server that has the
+  -- port for it. So its own journal and those of the servers decide which one serves it
+  abbrev pub EachTakesOne : Type 0
+  EachTakesOne =
+      (several : Several stores sources inputs outputs) (client : OneClient several)
+      → ((i : ℕ) (server : OneServer several) → TakesIts several i server client)
+      ⊎ ((port : ℕ) × ((i : ℕ) (server : OneServer several)
+      → Contains (known_ports several server client) port → TakesIts several i server client))
 
   -- of a server that is passed over: so do its transfers, and none with the client has anything.
   -- The client has sent its request then, and no more

@@ -3,7 +3,7 @@
 
 ghost use Rattle.tftp_rules.specs.Machine.{Endpoint};
 ghost use Rattle.tftp_promises.specs.Alone.{EachIsJoined, EachKeepsAnyFiles, EachKeepsPromises};
-ghost use Rattle.tftp_promises.specs.Alone.{OthersHaveNothing};
+ghost use Rattle.tftp_promises.specs.Alone.{EachTakesOne, OthersHaveNothing};
 ghost use Rattle.tftp_promises.specs.ClientPrograms.{ClientsArePrograms};
 ghost use Rattle.tftp_promises.specs.ClientRuns.{ClientsAreRuns};
 ghost use Rattle.tftp_promises.specs.Hosts.{ClientsAreThere, ServerIsThere, StrangersAreElsewhere};
@@ -40,12 +40,14 @@ pub fn programs_keep_promises<T: Store, G: Source, K: Sink>()
 /// whatever ports the transfers of other clients have, before and after: for these two programs the
 /// others are strangers, the other servers at the address, and the other clients at other addresses
 /// and other endpoints. A transfer at a server whose answer the client passes over has nothing of
-/// its file, and is not complete. One server is the list of one (RFC 1350, section 4).
+/// its file, and is not complete. Which server's answer it takes is in the journals. One server is
+/// the list of one (RFC 1350, section 4).
 pub fn each_client_keeps_promises<T: Store, G: Source, K: Sink>()
     ensures joined { EachIsJoined T.meaning T.Source.meaning G.meaning K.meaning }
     ensures any_files { EachKeepsAnyFiles T.meaning T.Source.meaning G.meaning K.meaning }
     ensures promises { EachKeepsPromises T.meaning T.Source.meaning G.meaning K.meaning }
     ensures passed_over { OthersHaveNothing T.meaning T.Source.meaning G.meaning K.meaning }
+    ensures takes_one { EachTakesOne T.meaning T.Source.meaning G.meaning K.meaning }
 {}
 
 /// If no two ends of the run ever have one endpoint, the ports are fresh as the promises need them:

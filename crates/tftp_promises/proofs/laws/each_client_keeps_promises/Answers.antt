@@ -1,5 +1,5 @@
 -- The lemmas that are the law.
-use Rattle.tftp_promises.proofs.EachAlone.{each_joined, each_keeps, each_keeps_any}
+use Rattle.tftp_promises.proofs.EachAlone.{each_joined, each_keeps, each_keeps_any, each_takes_one}
 use Rattle.tftp_promises.proofs.PassedOver.{others_nothing}
 use Rattle.tftp_promises.proofs.laws.each_client_keeps_promises.Goals as goal
 
@@ -14,3 +14,6 @@ returns-clause-promises g c = each_keeps _ _ _ _
 
 pub returns-clause-passed_over : goal.returns-clause-passed_over
 returns-clause-passed_over g c = others_nothing _ _ _ _
+
+pub returns-clause-takes_one : goal.returns-clause-takes_one
+returns-clause-takes_one g c = each_takes_one _ _ _ _
