@@ -38,6 +38,7 @@ impl ErrorReply {
         ensures ok { OnOk result (out.new.items ≡ out.old.items ++ error_bytes self) }
         ensures err { OnErr result (out.new.items ≡ out.old.items) }
         ensures room { length out.old.items + MAX_ERROR ≤ vec_capacity out.old → IsOk result }
+        ensures capacity { vec_capacity out.old ≤ vec_capacity out.new }
         ensures why { OnErr result
             (HasNoRoom (vec_capacity out.old) (vec_len out.old) (length (error_bytes self))) }
     {

@@ -74,6 +74,13 @@ impl<S: Store> Server<S> {
         })
     }
 
+    /// How many transfers it holds at once, at most.
+    pub fn cap(&self) -> u8
+        ensures { result ≡ self.now.config.cap }
+    {
+        self.config.cap
+    }
+
     /// The record of the transfer at the identifier, open or closed, if one is held.
     pub fn record(&self, tid: u16) -> Option<Record>
         ensures { result ≡ option_map (λ held. record_of held.end) (at tid self.now.held) }

@@ -239,6 +239,7 @@ impl End {
         ensures end { IfOk result (λ opened. (opened.0 ≡ serving_write agreed.now peer mode retries)
             × HasSent opened.0 out.old.items out.new.items) }
         ensures step { IfOk result (λ opened. opened.1 ≡ opening_step peer) }
+        ensures capacity { vec_capacity out.old ≤ vec_capacity out.new }
         ensures err { IfErr result (λ fault. (fault ≡ OpenFault.Memory)
             × (out.new.items ≡ out.old.items)) }
     {
@@ -266,6 +267,7 @@ impl End {
             (Phase.Receiving terms 0) terms.peer answer.items)
             × (out.new.items ≡ out.old.items ++ answer.items)) }
         ensures step { IfOk result (λ o. o.1 ≡ opening_step terms.peer) }
+        ensures capacity { vec_capacity out.old ≤ vec_capacity out.new }
         ensures err { OnErr result (out.new.items ≡ out.old.items) }
     {
         out.extend_from_slice(&answer)?;

@@ -82,6 +82,7 @@ pub(crate) fn refuse(
     ensures memory { IfErr result (λ fault. fault ≡ ServerFault.Memory) }
     ensures why { OnErr result (HasNoRoom (vec_capacity out.old) (vec_len out.old)
         (length (error_bytes reply))) }
+    ensures capacity { vec_capacity out.old ≤ vec_capacity out.new }
     ensures err { OnErr result (out.new.items ≡ out.old.items) }
 {
     let Ok(()) = reply.append_to(out) else {
@@ -98,6 +99,7 @@ pub(crate) fn refuse_in_room(reply: ErrorReply, from: Endpoint, out: &mut Vec<u8
     requires { length out.old.items + MAX_ERROR ≤ vec_capacity out.old }
     ensures opened { result ≡ record { tid = None; to = Some from } }
     ensures bytes { out.new.items ≡ out.old.items ++ error_bytes reply }
+    ensures capacity { vec_capacity out.old ≤ vec_capacity out.new }
 {
     let Ok(()) = reply.append_to(out) else {
         unreachable!()

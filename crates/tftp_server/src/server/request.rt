@@ -66,6 +66,7 @@ impl<S: Store> Server<S> {
         ensures why { IsErrOf result ServerFault.Memory → RequestLacksMemory
             (vec_capacity out.old) (vec_len out.old) S.meaning S.Source.meaning self.old
             from bytes.now }
+        ensures capacity { vec_capacity out.old ≤ vec_capacity out.new }
         ensures err { OnErr result ((self.new ≡ self.old) × (out.new.items ≡ out.old.items)) }
     {
         match self.admit(from, bytes) {
@@ -176,6 +177,7 @@ impl<S: Store> Server<S> {
         ensures why { IsErrOf result ServerFault.Memory → AskLacksMemory
             (vec_capacity out.old) (vec_len out.old) S.meaning S.Source.meaning self.old
             admission.entry.ask }
+        ensures capacity { vec_capacity out.old ≤ vec_capacity out.new }
         ensures err { OnErr result ((self.new ≡ self.old) × (out.new.items ≡ out.old.items)) }
     {
         if self.table.contains(tid) {
@@ -216,6 +218,7 @@ impl<S: Store> Server<S> {
         ensures why { OnErr result (ReadLacksMemory (vec_capacity out.old) (vec_len out.old)
             S.meaning S.Source.meaning self.old read.entry.path read.entry.mode
             read.entry.options) }
+        ensures capacity { vec_capacity out.old ≤ vec_capacity out.new }
         ensures err { OnErr result ((self.new ≡ self.old) × (out.new.items ≡ out.old.items)) }
     {
         let start = out.len();
@@ -351,6 +354,7 @@ impl<S: Store> Server<S> {
               sent = sent;
             } ≡ left_by came self.old incoming.entry.from tid)) }
         ensures memory { IfErr result (λ fault. fault ≡ ServerFault.Memory) }
+        ensures capacity { vec_capacity out.old ≤ vec_capacity out.new }
         ensures err { OnErr result ((self.new ≡ self.old) × (out.new.items ≡ out.old.items)) }
     {
         let from = incoming.from;
@@ -396,6 +400,7 @@ impl<S: Store> Server<S> {
         ensures rest { self.new ≡ record self.old { store = self.new.store } }
         ensures room { OnOk result (length out.old.items + MAX_ERROR ≤ vec_capacity out.new) }
         ensures memory { IfErr result (λ fault. fault ≡ ServerFault.Memory) }
+        ensures capacity { vec_capacity out.old ≤ vec_capacity out.new }
         ensures err { OnErr result ((self.new ≡ self.old) × (out.new.items ≡ out.old.items)) }
     {
         let start = out.len();
@@ -430,6 +435,7 @@ fn prepare(
         write.now.mode retries) × (out.new.items ≡ out.old.items ++ made.0.position.last_sent)) }
     ensures request { IfOk result (λ made. made.1.items ≡ incoming.entry.bytes.now) }
     ensures room { OnOk result (length out.old.items + MAX_ERROR ≤ vec_capacity out.new) }
+    ensures capacity { vec_capacity out.old ≤ vec_capacity out.new }
     ensures err { OnErr result (out.new.items ≡ out.old.items) }
 {
     let start = out.len();
