@@ -13,9 +13,11 @@ pub mod PortStays
 pub mod LoopStays
 pub mod Opened
 pub mod Waits
+pub mod Surveys
 pub mod Counting
 pub mod PortCounts
 pub mod Visits
+pub mod Unclosed
 pub mod Receipts
 pub mod Drained
 pub mod Looking

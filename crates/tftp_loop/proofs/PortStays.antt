@@ -98,7 +98,7 @@ after_looks : (now : ℕ) (progress : Bool) (timer : Timer) → Looks (timer_aft
 after_looks now true timer = looks_first now timer.interval
 after_looks now false timer = omega arith
 
-after_port : (now : ℕ) (progress : Bool) (timer : Timer) → (timer_after now progress timer).port ≡ timer.port
+pub after_port : (now : ℕ) (progress : Bool) (timer : Timer) → (timer_after now progress timer).port ≡ timer.port
 after_port now true timer = refl
 after_port now false timer = refl
 

@@ -27,7 +27,7 @@ use Rattle.tftp_loop.specs.LoopStates.{pending_in, state_of, timer_of}
 use Rattle.tftp_loop.specs.MayWait.{AreSettled, AreKept, HasRead, HasSlept, HasWoken, IsHeld, IsSettled, IsTended}
 use Rattle.tftp_loop.specs.MayWait.{ReceivedFew}
 use Rattle.tftp_loop.specs.MayWait.{HasFew}
-use Rattle.tftp_loop.specs.MayWait.{marked_if, millis_of, set_if, timers_of}
+use Rattle.tftp_loop.specs.MayWait.{millis_of, timers_of, woken_if}
 use Rattle.tftp_loop.proofs.ListLemmas.{map_at}
 use Rattle.tftp_loop.proofs.LoopRuns.{same_state}
 use Rattle.tftp_loop.proofs.Tables.{any_default}
@@ -46,6 +46,18 @@ looks_mapped : (now : ℕ) (ports : List (Port TransferSocket)) →
     until_look now (map timer_of ports) ≡ wait_of now (map (λ (port : Port TransferSocket). port.look_at) ports)
 looks_mapped now [] = refl
 looks_mapped now (port ∷ ports) = ap (λ (n : ℕ). min (port.look_at - now) n) (looks_mapped now ports)
+
+-- the deadlines that are set change no mark, and no time at which a port is read
+set_any : (time : ℕ) (timers : List Timer) →
+    list_any (λ (timer : Timer). timer.marked) (map (set_by time) timers)
+    ≡ list_any (λ (timer : Timer). timer.marked) timers
+set_any time [] = refl
+set_any time (timer ∷ timers) = ap (λ (b : Bool). timer.marked || b) (set_any time timers)
+
+set_until : (time now : ℕ) (timers : List Timer) →
+    until_look now (map (set_by time) timers) ≡ until_look now timers
+set_until time now [] = refl
+set_until time now (timer ∷ timers) = ap (λ (n : ℕ). min (timer.look_at - now) n) (set_until time now timers)
 
 pub pending_same : (pending : Option (Endpoint × ℕ)) (buffer : List ℕ) →
     is_some (pending_in pending buffer) ≡ is_some pending
@@ -78,14 +90,24 @@ module _ {S F D : Type 0} where
         not_closed = tended.settled.none_closed k t h;
       }
 
-  -- the state once the clock was read
-  read_state : (buffer : List ℕ) (d read : ServerLoop S F D) → HasRead d read →
-      record (read_at read.sockets.watch.now (state_of buffer d)) { limit = read.sockets.limit } ≡ state_of buffer read
-  read_state buffer d read r =
-      sym (same_state (state_of buffer read)
-      (record (read_at read.sockets.watch.now (state_of buffer d)) { limit = read.sockets.limit })
-      r.requests r.range r.longest r.server (ap (λ (p : Option (Endpoint × ℕ)). pending_in p buffer) r.pending) r.timers
-      refl refl refl r.marked r.asked r.left r.rounds r.events)
+  -- a reading of the clock changes no wait but by its time
+  read_millis : (buffer : List ℕ) (d read : ServerLoop S F D) → HasRead d read →
+      most_millis (read_at read.sockets.watch.now (state_of buffer d)) ≡ millis_of read
+  read_millis buffer d read r =
+      let time = read.sockets.watch.now in
+      let Millis : Bool → Option (Endpoint × ℕ) → Bool → ℕ → ℕ =
+      λ requests pending marked n. cond (requests || (is_some (pending_in pending buffer) || marked)) 0 n in
+      let any : List (Port TransferSocket) → Bool =
+      λ ports. list_any (λ (timer : Timer). timer.marked) (map timer_of ports) in
+      let until : List (Port TransferSocket) → ℕ = λ ports. until_look time (map timer_of ports) in
+      ap (λ (b : Bool). Millis d.sockets.is_ready d.pending b
+      (until_look time (map (set_by time) (timers_of d)))) (set_any time (timers_of d))
+      ∙ (ap (λ (n : ℕ). Millis d.sockets.is_ready d.pending (any d.ports.items) n) (set_until time time (timers_of d))
+      ∙ (ap (λ (b : Bool). Millis b d.pending (any d.ports.items) (until d.ports.items)) (sym r.marked)
+      ∙ (ap (λ (p : Option (Endpoint × ℕ)). Millis read.sockets.is_ready p (any d.ports.items) (until d.ports.items))
+      (sym r.pending)
+      ∙ (ap (λ (ps : List (Port TransferSocket)). Millis read.sockets.is_ready read.pending (any ps) (until ps))
+      (sym r.ports) ∙ millis_same buffer read))))
 
   pub may_wait : (buffer : List ℕ) (d read : ServerLoop S F D) (millis : ℕ) (ports : List ℕ) → HasRead d read →
       IsTended d → 1 ≤ d.left → 1 ≤ d.rounds → millis ≤ millis_of read
@@ -93,8 +115,7 @@ module _ {S F D : Type 0} where
       → MayWait (state_of buffer d) read.sockets.watch.now millis ports
   may_wait buffer d read millis ports r tended left rounds longest shortest =
       let time = read.sockets.watch.now in
-      let same : most_millis (read_at time (state_of buffer d)) ≡ millis_of read =
-      ap (λ (s : LoopState S F D). most_millis s) (read_state buffer d read r) ∙ millis_same buffer read in
+      let same : most_millis (read_at time (state_of buffer d)) ≡ millis_of read = read_millis buffer d read r in
       record {
         read = refl;
         left = left;
@@ -122,19 +143,12 @@ changed_more f xs ys i q d h e g = ap (set ys i) g ∙ map_over_more f xs ys i (
 pub written : {X : Type 0} (xs ys : List X) (n : ℕ) → length ys ≡ n → take n (ys ++ drop (length ys) xs) ≡ ys
 written xs ys n e = grind (arith, common_steps)
 
--- the mark of a port is that of its timer
-pub timers_marked : (reported : List ℕ) (ports : List (Port TransferSocket)) →
-    map timer_of (map (marked_if reported) ports) ≡ map (marked_by reported) (map timer_of ports)
-timers_marked reported [] = refl
-timers_marked reported (port ∷ ports) =
-    ap (λ (ts : List Timer). marked_by reported (timer_of port) ∷ ts) (timers_marked reported ports)
-
--- the deadline of a port is set as that of its timer
-pub timers_set : (time : ℕ) (ports : List (Port TransferSocket)) →
-    map timer_of (map (set_if time) ports) ≡ map (set_by time) (map timer_of ports)
-timers_set time [] = refl
-timers_set time (port ∷ ports) =
-    ap (λ (ts : List Timer). set_by time (timer_of port) ∷ ts) (timers_set time ports)
+-- a port is woken as its timer
+pub timers_woken : (time : ℕ) (reported : List ℕ) (ports : List (Port TransferSocket)) →
+    map timer_of (map (woken_if time reported) ports) ≡ map (marked_by reported) (map (set_by time) (map timer_of ports))
+timers_woken time reported [] = refl
+timers_woken time reported (port ∷ ports) =
+    ap (λ (ts : List Timer). marked_by reported (set_by time (timer_of port)) ∷ ts) (timers_woken time reported ports)
 
 -- ---- what a wait leaves
 pub mapped_at : (f : Timer → Timer) (timers : List Timer) (k : ℕ) (d : Timer) → k < length timers →
@@ -267,7 +281,10 @@ module _ {S F D : Type 0} (meaning : StoreMeaning S D) (sources : SourceMeaning 
             (woken.longest ∙ (slept.longest ∙ reads.longest))
             (woken.server ∙ (slept.server ∙ reads.server))
             (ap (λ (p : Option (Endpoint × ℕ)). pending_in p buffer) (woken.pending ∙ (slept.pending ∙ reads.pending)))
-            (woken.timers ∙ ap (map (marked_by ports)) (slept.timers ∙ reads.timers)) refl (woken.limit ∙ end) refl
+            (woken.timers
+            ∙ (ap (λ (n : ℕ). map (marked_by ports) (map (set_by n) (timers_of noted))) now
+            ∙ ap (λ (ts : List Timer). map (marked_by ports) (map (set_by time) ts))
+            (slept.timers ∙ ap (map timer_of) reads.ports))) refl (woken.limit ∙ end) refl
             (woken.marked ∙ (ap (λ (b : Bool). b || is_among noted.sockets.requests.port ports)
             (slept.marked ∙ reads.marked)
             ∙ ap (λ (p : ℕ). old.sockets.is_ready || is_among p ports) requests)) woken.asked
@@ -280,9 +297,8 @@ module _ {S F D : Type 0} (meaning : StoreMeaning S D) (sources : SourceMeaning 
   -- the clock leaves what is settled
   pub read_settled : (old read : ServerLoop S F D) → HasRead old read → IsSettled old → IsSettled read
   read_settled old read reads settled =
-      subst (λ (ts : List Timer). AreSettled read.server.held ts) (sym reads.timers)
-      (subst (λ (s : ServerState S F D). AreSettled s.held (map (set_by read.sockets.watch.now) (timers_of old)))
-      (sym reads.server) (set_held old.server.held read.sockets.watch.now (timers_of old) settled))
+      subst (λ (ps : List (Port TransferSocket)). AreSettled read.server.held (map timer_of ps)) (sym reads.ports)
+      (subst (λ (s : ServerState S F D). AreSettled s.held (timers_of old)) (sym reads.server) settled)
 
   -- a wait leaves what is settled
   pub slept_settled : (old noted : ServerLoop S F D) (millis : ℕ) (ports : List ℕ) → HasSlept millis ports old noted →
@@ -294,14 +310,18 @@ module _ {S F D : Type 0} (meaning : StoreMeaning S D) (sources : SourceMeaning 
   pub woken_settled : (noted new : ServerLoop S F D) (ports : List ℕ) → HasWoken ports noted new → IsSettled noted →
       IsSettled new
   woken_settled noted new ports woken settled =
+      let time = noted.sockets.watch.now in
+      let set = map (set_by time) (timers_of noted) in
       subst (λ (ts : List Timer). AreSettled new.server.held ts) (sym woken.timers)
-      (subst (λ (s : ServerState S F D). AreSettled s.held (map (marked_by ports) (timers_of noted))) (sym woken.server)
-      (mapped_held noted.server.held (marked_by ports) (marks ports) (timers_of noted) settled))
+      (subst (λ (s : ServerState S F D). AreSettled s.held (map (marked_by ports) set)) (sym woken.server)
+      (mapped_held noted.server.held (marked_by ports) (marks ports) set
+      (set_held noted.server.held time (timers_of noted) settled)))
 
   -- and counts anew
   pub woken_few : (noted new : ServerLoop S F D) (ports : List ℕ) → HasWoken ports noted new → HasFew 0 new
   woken_few noted new ports woken =
+      let set = map (set_by noted.sockets.watch.now) (timers_of noted) in
       subst (λ (ts : List Timer). All (ReceivedFew 0) ts) (sym woken.timers)
       (λ k d h.
-      let e = length-map (timers_of noted) (marked_by ports) in
-      subst (ReceivedFew 0) (sym (mapped_at (marked_by ports) (timers_of noted) k d (omega (arith, e, h)))) (omega arith))
+      let e = length-map set (marked_by ports) in
+      subst (ReceivedFew 0) (sym (mapped_at (marked_by ports) set k d (omega (arith, e, h)))) (omega arith))

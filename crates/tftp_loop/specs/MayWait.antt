@@ -6,6 +6,7 @@ use Rattle.std.specs.List.{list_any, swap_remove}
 use Rattle.tftp_file.specs.Source.{SourceMeaning}
 use Rattle.tftp_ends.specs.declared.endpoint.Endpoint.{Endpoint}
 use Rattle.tftp_ends.specs.declared.record.Record.{Record}
+use Rattle.tftp_ends.specs.declared.record.Step.{Step}
 use Rattle.tftp_store.specs.Store.{StoreMeaning}
 use Rattle.tftp_server.specs.State.{TransferState, at, taken_of}
 use Rattle.tftp_sockets.specs.Watch.{deadline_of, last_moment, wait_of}
@@ -21,6 +22,7 @@ use Rattle.tftp_loop.specs.declared.port_turn.Turn.{Turn}
 use Rattle.tftp_loop.specs.declared.port_turn.Turn.TheVariants as turns
 use Rattle.tftp_loop.specs.declared.port_turn.PortStatus.{PortStatus}
 use Rattle.tftp_loop.specs.declared.port_turn.PortStatus.TheVariants as statuses
+use Rattle.tftp_loop.specs.declared.transfer_port.Survey.{Survey}
 use Rattle.tftp_loop.specs.declared.transfer_port.TransferSocket.{TransferSocket}
 use Rattle.tftp_loop.specs.Fair.{ReceivesAtMost}
 use Rattle.tftp_loop.specs.Run.{Run}
@@ -69,6 +71,18 @@ LeavesTimer statuses.Onward now timer =
 LeavesTimer statuses.Unfinished now timer = timer.look_at ≡ timer.deadline
 LeavesTimer statuses.Closed now timer = ⊤
 
+-- the port of the timer has no turn: it is not marked, or not due
+abbrev pub HasNoTurn : Turn → ℕ → Timer → Type 0
+HasNoTurn turns.Ready now timer = timer.marked ≡ false
+HasNoTurn turns.Due now timer = now < timer.look_at
+
+-- it holds unless the status is that the transfer closed
+abbrev pub UnlessClosed : PortStatus → Type 0 → Type 0
+UnlessClosed statuses.Empty P = P
+UnlessClosed statuses.Onward P = P
+UnlessClosed statuses.Unfinished P = P
+UnlessClosed statuses.Closed P = ⊤
+
 -- no two timers have one port
 abbrev pub AreApart : List Timer → Type 0
 AreApart timers =
@@ -86,9 +100,19 @@ module _ {F D : Type 0} where
     pub apart : AreApart timers
     pub each : All (IsHeld held) timers
 
+  -- no transfer at the port has closed
+  abbrev pub IsUnclosed : ℕ → List (ℕ × TransferState F D) → Type 0
+  IsUnclosed port held = taken_of (at port held) ≡ None
+
+  -- no transfer at the port has closed by this step; without one, if none had before
+  abbrev pub IsUnclosedBy : Option Step → ℕ → List (ℕ × TransferState F D)
+      → List (ℕ × TransferState F D) → Type 0
+  IsUnclosedBy None port old new = IsUnclosed port old → IsUnclosed port new
+  IsUnclosedBy (Some step) port old new = step.closed ≡ None → IsUnclosed port new
+
   -- the transfer of a timer has not closed
   abbrev pub IsOpen : List (ℕ × TransferState F D) → Timer → Type 0
-  IsOpen held timer = taken_of (at timer.port held) ≡ None
+  IsOpen held timer = IsUnclosed timer.port held
 
   -- and none has closed
   pub record AreSettled (held : List (ℕ × TransferState F D)) (timers : List Timer) : Type 0 where
@@ -105,6 +129,10 @@ module _ {S F D : Type 0} where
   -- the request port was read since the last wait, if it is marked or its datagram is pending
   abbrev pub AreTried : LoopState S F D → Type 0
   AreTried s = (s.marked || is_some s.pending) ≡ true → was_tried s.requests s.events ≡ true
+
+  -- the transfer at the port has not closed, if it had not
+  abbrev pub StaysOpen : PortState S F D → PortState S F D → Type 0
+  StaysOpen old new = IsOpen old.server.held old.timer → IsOpen new.server.held new.timer
 
   -- ---- a loop
 
@@ -164,6 +192,23 @@ module _ {S F D : Type 0} where
       wait_of d.sockets.watch.now
       (map (λ (port : Port TransferSocket). port.look_at) d.ports.items)
 
+-- how long to wait until this time, at most a second, in milliseconds
+abbrev pub wait_until : ℕ → Option ℕ → ℕ
+wait_until now None = LONGEST_WAIT
+wait_until now (Some time) = min (time - now) LONGEST_WAIT
+
+-- the earlier of two times, of which there may be one
+abbrev pub earlier : ℕ → Option ℕ → ℕ
+earlier time None = time
+earlier time (Some other) = min time other
+
+-- a survey of the ports: whether one is marked, and the nearest time at which one is read
+pub record IsSurveyOf (ports : List (Port TransferSocket)) (survey : Survey) : Type 0 where
+  pub marked : survey.is_ready
+      ≡ list_any (λ (port : Port TransferSocket). port.is_ready) ports
+  pub nearest : (now : ℕ) → wait_until now survey.look_at
+      ≡ wait_of now (map (λ (port : Port TransferSocket). port.look_at) ports)
+
 -- the port after a wait that reported these
 abbrev pub marked_if : List ℕ → Port TransferSocket → Port TransferSocket
 marked_if reported port =
@@ -182,15 +227,19 @@ set_if time port =
       };
     }
 
+-- the port after a wait that reported these, before which the clock was read at this time
+abbrev pub woken_if : ℕ → List ℕ → Port TransferSocket → Port TransferSocket
+woken_if time reported port = marked_if reported (set_if time port)
+
 module _ {S F D : Type 0} where
-  -- the clock was read before a wait, which set each provisional deadline
+  -- the clock was read before a wait
   pub record HasRead (old new : ServerLoop S F D) : Type 0 where
     pub requests : new.sockets.requests.port ≡ old.sockets.requests.port
     pub range : new.sockets.pool.range ≡ old.sockets.pool.range
     pub longest : new.longest ≡ old.longest
     pub server : new.server ≡ old.server
     pub pending : new.pending ≡ old.pending
-    pub timers : timers_of new ≡ map (set_by new.sockets.watch.now) (timers_of old)
+    pub ports : new.ports.items ≡ old.ports.items
     pub forward : old.sockets.watch.now ≤ new.sockets.watch.now
     pub soon : new.sockets.watch.now
         ≤ max old.sockets.watch.now (round_end old.sockets.watch.now old.sockets.limit)
@@ -218,14 +267,16 @@ module _ {S F D : Type 0} where
     pub events : new.journal.events
         ≡ Quiet (Woke ports) ∷ Quiet (Slept millis) ∷ old.journal.events
 
-  -- the ports that a wait reported are marked, the wait is counted, and the clock is read
+  -- each provisional deadline is set by the time that was read before a wait, the ports that it
+  -- reported are marked, it is counted, and the clock is read
   pub record HasWoken (ports : List ℕ) (old new : ServerLoop S F D) : Type 0 where
     pub requests : new.sockets.requests.port ≡ old.sockets.requests.port
     pub range : new.sockets.pool.range ≡ old.sockets.pool.range
     pub longest : new.longest ≡ old.longest
     pub server : new.server ≡ old.server
     pub pending : new.pending ≡ old.pending
-    pub timers : timers_of new ≡ map (marked_by ports) (timers_of old)
+    pub timers : timers_of new
+        ≡ map (marked_by ports) (map (set_by old.sockets.watch.now) (timers_of old))
     pub now : old.sockets.watch.now ≤ new.sockets.watch.now
     pub soon : new.sockets.watch.now
         ≤ max old.sockets.watch.now (round_end old.sockets.watch.now old.sockets.limit)
@@ -248,6 +299,10 @@ module _ {S F D : Type 0} where
   abbrev pub leaves_by : Turn → PortState S F D → ℕ → Type 0
   leaves_by turns.Ready = leaves_read
   leaves_by turns.Due = leaves_timed
+
+  -- the transfer at this index has not closed
+  abbrev pub IsOpenAt : ℕ → ServerLoop S F D → Type 0
+  IsOpenAt index d = (t : Timer) → IsOpen d.server.held (slice_index_or (timers_of d) index t)
 
   -- the port at this index is removed, and the outcome of its transfer is printed
   pub record ClosesPort (index : ℕ) (closed : Option Record) (old new : ServerLoop S F D)
@@ -279,9 +334,7 @@ module _ {S F D : Type 0} where
 
     -- the transfer at this index is removed if it has closed
     pub data Finishes (index : ℕ) (old new : ServerLoop S F D) : Type 0 where
-      Stays : new ≡ old
-          → ((d : Timer) → IsOpen old.server.held (slice_index_or (timers_of old) index d))
-          → Finishes index old new
+      Stays : new ≡ old → IsOpenAt index old → Finishes index old new
       Goes : ((buffer : List ℕ)
           → (closes : Closes meaning sources (state_of buffer old) (state_of buffer new))
           × (closes.index ≡ index)) → Finishes index old new

@@ -1,7 +1,7 @@
 //! A turn at the port of a transfer: its datagrams, and its timeout.
 
 ghost use Rattle.std.specs.Prelude.{◌≡◌, ◌≤◌, ◌⊎◌, IsSome, MatchOption, IfSome};
-ghost use Rattle.std.specs.Prelude.{◌<◌, ◌+◌, false, ℕ};
+ghost use Rattle.std.specs.Prelude.{◌≢◌, ◌<◌, ◌+◌, false, ℕ, None};
 ghost use Rattle.tftp_server.specs.State.{at, is_open, taken_of};
 ghost use Rattle.tftp_loop.specs.Fair.{ReceivesAtMost};
 ghost use Rattle.tftp_loop.specs.PortTurn.{AnswersReceived, HasStatus, IsTried, ServesTurn};
@@ -9,8 +9,8 @@ ghost use Rattle.tftp_loop.specs.PortTurn.{at_turn};
 ghost use Rattle.tftp_loop.specs.Steps.{AnswersDatagram, AnswersTimeout, LosesDatagram};
 ghost use Rattle.tftp_loop.specs.Steps.{Timer, WorksAtPort, most_in_round, restarted, timer_after};
 ghost use Rattle.tftp_loop.specs.LoopStates.{OnlyServesPort, at_port, timer_of};
-ghost use Rattle.tftp_loop.specs.MayWait.{IsTimed, KeepsTries, LeavesTimer, leaves_by, leaves_read};
-ghost use Rattle.tftp_loop.specs.MayWait.{leaves_timed};
+ghost use Rattle.tftp_loop.specs.MayWait.{HasNoTurn, IsTimed, IsUnclosedBy, KeepsTries, LeavesTimer};
+ghost use Rattle.tftp_loop.specs.MayWait.{StaysOpen, UnlessClosed, leaves_by, leaves_timed};
 
 use crate::datagram::Datagram;
 use crate::log_entry::LogEntry;
@@ -39,9 +39,9 @@ pub(crate) enum Turn {
     Due,
 }
 
-/// The result of a receive at a transfer's port.
+/// The result of a receive at a transfer's port, of a timeout, or of a turn.
 #[derive(Clone, Copy, PartialEq, Eq)]
-enum PortStatus {
+pub(crate) enum PortStatus {
     /// No datagram was received.
     Empty,
     /// The transfer advanced. Datagrams that are left are received once a wait reports the port, or
@@ -53,6 +53,18 @@ enum PortStatus {
     Closed,
 }
 
+impl PortStatus {
+    /// Whether the transfer closed.
+    pub(crate) fn is_closed(self) -> bool
+        ensures { result ≡ false → self ≢ PortStatus.Closed }
+    {
+        match self {
+            PortStatus::Closed => true,
+            PortStatus::Empty | PortStatus::Onward | PortStatus::Unfinished => false,
+        }
+    }
+}
+
 /// When a turn is taken.
 #[derive(Clone, Copy)]
 pub(crate) struct Moment {
@@ -60,6 +72,16 @@ pub(crate) struct Moment {
     pub(crate) now: u64,
     /// The number of active transfers.
     pub(crate) active: usize,
+}
+
+/// Whether the port of a transfer has a turn: it is marked, or it is due.
+pub(crate) fn has_turn(turn: Turn, now: u64, port: &TransferPort) -> bool
+    ensures { result ≡ false → HasNoTurn turn now (timer_of port.now) }
+{
+    match turn {
+        Turn::Ready => port.is_ready,
+        Turn::Due => is_due(now, port.look_at),
+    }
 }
 
 /// Takes a turn at the port of a transfer.
@@ -70,13 +92,15 @@ pub(crate) fn take_turn_at<S: Store>(
     moment: Moment,
     turn: Turn,
     buffer: &mut [u8],
-)
+) -> PortStatus
     requires due { port.old.look_at ≤ port.old.socket.deadline }
     requires few { port.old.socket.received ≤ MOST_AT_ONCE }
     ensures serves { OnlyServesPort S.meaning S.Source.meaning moment.now server.old port.old
         journal.old server.new port.new journal.new }
     ensures leaves { leaves_by turn (at_port server.new port.new journal.new) moment.now }
     ensures received { ReceivesAtMost MOST_AT_ONCE journal.old.events journal.new.events }
+    ensures open { UnlessClosed result (StaysOpen (at_port server.old port.old journal.old)
+        (at_port server.new port.new journal.new)) }
 {
     let mut at_port = PortTurn {
         server,
@@ -85,7 +109,7 @@ pub(crate) fn take_turn_at<S: Store>(
         now: moment.now,
         active: moment.active,
     };
-    at_port.take(turn, buffer);
+    at_port.take(turn, buffer)
 }
 
 /// A turn at the port of a transfer: what its steps read and change.
@@ -102,48 +126,34 @@ struct PortTurn<'a, S: Store> {
 
 impl<S: Store> PortTurn<'_, S> {
     /// Takes the turn.
-    fn take(&mut self, turn: Turn, buffer: &mut [u8])
+    fn take(&mut self, turn: Turn, buffer: &mut [u8]) -> PortStatus
         requires due { self.old.port.now.look_at ≤ self.old.port.now.socket.deadline }
         requires few { self.old.port.now.socket.received ≤ MOST_AT_ONCE }
         ensures serves { ServesTurn S.meaning S.Source.meaning MOST_AT_ONCE self.old self.new }
         ensures leaves { leaves_by turn (at_turn self.new) self.old.now }
+        ensures open { UnlessClosed result (StaysOpen (at_turn self.old) (at_turn self.new)) }
     {
         match turn {
-            Turn::Ready => self.take_ready(buffer),
+            Turn::Ready => self.take_datagrams(buffer),
             Turn::Due => self.take_due(buffer),
         }
     }
 
-    /// Handles the datagrams at the port, if it is marked.
-    fn take_ready(&mut self, buffer: &mut [u8])
+    /// Handles the datagrams at the port. Without progress, delivers the timeout if that is due.
+    fn take_due(&mut self, buffer: &mut [u8]) -> PortStatus
         requires { self.old.port.now.socket.received ≤ MOST_AT_ONCE }
         ensures serves { ServesTurn S.meaning S.Source.meaning MOST_AT_ONCE self.old self.new }
-        ensures read { leaves_read (at_turn self.new) self.new.now }
-    {
-        if self.port.is_ready {
-            self.take_datagrams(buffer);
-        }
-    }
-
-    /// Handles the datagrams at the port, if it is due. Without progress, delivers the timeout if
-    /// that is due.
-    fn take_due(&mut self, buffer: &mut [u8])
-        requires due { self.old.port.now.look_at ≤ self.old.port.now.socket.deadline }
-        requires few { self.old.port.now.socket.received ≤ MOST_AT_ONCE }
-        ensures serves { ServesTurn S.meaning S.Source.meaning MOST_AT_ONCE self.old self.new }
         ensures timed { leaves_timed (at_turn self.new) self.new.now }
+        ensures open { UnlessClosed result (StaysOpen (at_turn self.old) (at_turn self.new)) }
     {
-        if !is_due(self.now, self.port.look_at) {
-            return;
-        }
         let status = self.take_datagrams(buffer);
         if status == PortStatus::Closed {
-            return;
+            return status;
         }
         if status == PortStatus::Onward {
-            return;
+            return status;
         }
-        self.time_out_if_due();
+        self.time_out_if_due()
     }
 
     /// Handles datagrams, until the transfer advances or closes, or none is left.
@@ -152,6 +162,7 @@ impl<S: Store> PortTurn<'_, S> {
         ensures serves { ServesTurn S.meaning S.Source.meaning MOST_AT_ONCE self.old self.new }
         ensures status { HasStatus result self.new }
         ensures tried { IsTried self.new }
+        ensures open { UnlessClosed result (StaysOpen (at_turn self.old) (at_turn self.new)) }
     {
         for turn in 0..MOST_AT_ONCE {
             match self.take_datagram(buffer) {
@@ -170,6 +181,7 @@ impl<S: Store> PortTurn<'_, S> {
         ensures tried { IsTried self.new }
         ensures counted { self.new.port.now.socket.received
             ≤ self.old.port.now.socket.received + 1 }
+        ensures open { UnlessClosed result (StaysOpen (at_turn self.old) (at_turn self.new)) }
     {
         match self.port.socket.udp.receive(self.journal, buffer) {
             Receipt::Datagram(from, count) => {
@@ -196,6 +208,7 @@ impl<S: Store> PortTurn<'_, S> {
         ensures status { HasStatus result self.new }
         ensures counted { self.new.port.now.socket.received
             ≡ self.old.port.now.socket.received + 1 }
+        ensures open { UnlessClosed result (StaysOpen (at_turn self.old) (at_turn self.new)) }
     {
         if self.port.socket.age_limit < self.now {
             note_received(self.port);
@@ -214,6 +227,7 @@ impl<S: Store> PortTurn<'_, S> {
         ensures status { HasStatus result self.new }
         ensures counted { self.new.port.now.socket.received
             ≡ self.old.port.now.socket.received + 1 }
+        ensures open { UnlessClosed result (StaysOpen (at_turn self.old) (at_turn self.new)) }
     {
         let tid = self.port.socket.udp.port();
         let socket = &mut self.port.socket;
@@ -234,31 +248,36 @@ impl<S: Store> PortTurn<'_, S> {
     }
 
     /// Delivers the timeout, if it is due.
-    fn time_out_if_due(&mut self)
+    fn time_out_if_due(&mut self) -> PortStatus
         requires tried { IsTried self.old }
         requires look { self.old.port.now.look_at ≡ self.old.port.now.socket.deadline }
         ensures serves { ServesTurn S.meaning S.Source.meaning 0 self.old self.new }
         ensures timed { IsTimed self.new.now (timer_of self.new.port.now) }
+        ensures open { UnlessClosed result (StaysOpen (at_turn self.old) (at_turn self.new)) }
     {
         if is_due(self.now, self.port.socket.deadline) {
-            self.take_timeout();
+            self.take_timeout()
+        } else {
+            PortStatus::Empty
         }
     }
 
     /// Delivers the timeout, and sends the datagram of its step.
-    fn take_timeout(&mut self)
+    fn take_timeout(&mut self) -> PortStatus
         requires due { self.old.port.now.socket.deadline ≤ self.old.now }
         requires tried { IsTried self.old }
         requires look { self.old.port.now.look_at ≡ self.old.port.now.socket.deadline }
         ensures serves { ServesTurn S.meaning S.Source.meaning 0 self.old self.new }
         ensures timer { timer_of self.new.port.now
             ≡ restarted self.new.now (timer_of self.old.port.now) }
+        ensures open { UnlessClosed result (StaysOpen (at_turn self.old) (at_turn self.new)) }
     {
         restart(self.port, self.now);
         let number = self.port.socket.udp.port();
         self.journal.elapsed(number, self.now);
         let socket = &self.port.socket;
-        time_out(self.server, &socket.udp, &socket.log_entry, self.journal);
+        let step = time_out(self.server, &socket.udp, &socket.log_entry, self.journal);
+        status_of_timeout(step)
     }
 }
 
@@ -280,6 +299,7 @@ fn handle<S: Store>(
         datagram.entry.bytes.now server.old server.new journal.old.events journal.new.events step) }
     ensures closed { IfSome result (λ step. IsSome step.closed
         → IsSome (taken_of (at udp.now.port server.new.held))) }
+    ensures open { IsUnclosedBy result udp.now.port server.old.held server.new.held }
     ensures tries { KeepsTries journal.old.events journal.new.events }
     ensures received { ReceivesAtMost 0 journal.old.events journal.new.events }
 {
@@ -337,9 +357,20 @@ fn work_after<S: Store>(server: &mut Server<S>, port: &TransferPort, step: &Step
     work_at(server, port);
 }
 
+/// The result of a timeout's step, if a transfer was open.
+fn status_of_timeout(step: Option<Step>) -> PortStatus
+    ensures { UnlessClosed result (IfSome step (λ step. step.closed ≡ None)) }
+{
+    match step {
+        Some(step) if step.closed.is_some() => PortStatus::Closed,
+        _ => PortStatus::Empty,
+    }
+}
+
 /// The result of a step.
 fn status_of(step: &Step) -> PortStatus
     ensures closed { result ≡ PortStatus.Closed → IsSome step.now.closed }
+    ensures open { UnlessClosed result (step.now.closed ≡ None) }
     ensures timer { (now : ℕ) (timer : Timer)
         → LeavesTimer result now (timer_after now step.now.progress timer) }
 {
@@ -366,6 +397,7 @@ fn time_out<S: Store>(
         × (journal.new.events ≡ journal.old.events))
         (λ step. AnswersTimeout udp.now.port server.old server.new journal.old.events
         journal.new.events step) }
+    ensures open { IsUnclosedBy result udp.now.port server.old.held server.new.held }
     ensures received { ReceivesAtMost 0 journal.old.events journal.new.events }
 {
     let tid = udp.port();

@@ -4,21 +4,22 @@ ghost use Rattle.std.specs.Prelude.{◌≡◌, ◌≤◌, ◌<◌, ◌+◌, ◌�
 ghost use Rattle.std.specs.Prelude.{IfOk, length, map, false, if◌then◌else◌};
 ghost use Rattle.std.specs.List.{list_any};
 ghost use Rattle.tftp_sockets.specs.Quiet.{is_among};
-ghost use Rattle.tftp_loop.specs.Steps.{marked_by};
+ghost use Rattle.tftp_loop.specs.Steps.{marked_by, set_by};
 ghost use Rattle.tftp_loop.specs.LoopStates.{FailsToPrint, OnlyWorks, OnlyServes, ServesRounds};
 ghost use Rattle.tftp_loop.specs.LoopStates.{WorksRound};
 ghost use Rattle.tftp_loop.specs.MayWait.{ClosesPort, Finishes, HasRead, HasSlept, HasWoken};
 ghost use Rattle.tftp_loop.specs.MayWait.{AwaitTurn, HasFew, HaveTurned, before_turn};
+ghost use Rattle.tftp_loop.specs.MayWait.{IsOpenAt, IsSurveyOf, UnlessClosed};
 ghost use Rattle.tftp_loop.specs.MayWait.{IsSettled, IsTended, TakesTurn, Visits, leaves_by};
 ghost use Rattle.tftp_loop.specs.MayWait.{millis_of, timers_of};
 
 use crate::log::Log;
-use crate::port_turn::{Moment, Turn, take_turn_at};
+use crate::port_turn::{Moment, PortStatus, Turn, has_turn, take_turn_at};
 use crate::report::{log_unsent, record_of_closed, report_close};
 use crate::server_udp::ServerUdp;
 use crate::serving::{LoopConfig, LoopFault};
 use crate::sockets::Sockets;
-use crate::transfer_port::{TransferPort, count_active, mark_all, set_all, work_at};
+use crate::transfer_port::{Survey, TransferPort, wake_all, work_at};
 use std::alloc::{AllocError, Global};
 use std::time::Clock;
 use tftp_ends::{Endpoint, Record};
@@ -26,7 +27,7 @@ use tftp_lines::Reason;
 use tftp_server::{Server, Store};
 use tftp_sockets::{
     DATAGRAM_BUFFER, Journal, LONGEST_WAIT, Reports, index_of, note_poll, poll_now,
-    read_watch_within, wait, wait_for,
+    read_watch_within, wait,
 };
 use tftp_store::ServedStore;
 
@@ -197,18 +198,25 @@ impl<S: ServedStore<Reason> + Drop> ServerLoop<S> {
         ensures first { self.new.sockets.has_received ≡ false }
         ensures rounds { self.new.rounds + 1 ≡ self.old.rounds }
     {
-        let millis = self.millis_to_wait();
-        if millis > 0 {
+        let survey = Survey::of(self.sockets.watch.now, self.ports.as_slice());
+        if self.millis_to_wait(survey) > 0 {
             if let Some(tid) = self.server.store().take_unsynced() {
-                self.sync_and_wait(clock, reports, tid);
+                self.sync_and_wait(clock, reports, survey, tid);
                 return;
             }
         }
-        self.sleep(clock, reports);
+        self.sleep(clock, reports, survey);
     }
 
     /// Polls, and syncs the draft of a transfer and waits if no datagram has arrived.
-    fn sync_and_wait<C: Clock>(&mut self, clock: &C, reports: &mut Reports, tid: u16)
+    fn sync_and_wait<C: Clock>(
+        &mut self,
+        clock: &C,
+        reports: &mut Reports,
+        survey: Survey,
+        tid: u16,
+    )
+        requires surveyed { IsSurveyOf self.old.ports.items survey }
         requires tended { IsTended self.old }
         requires left { 1 ≤ self.old.left }
         requires rounds { 1 ≤ self.old.rounds }
@@ -219,13 +227,13 @@ impl<S: ServedStore<Reason> + Drop> ServerLoop<S> {
         ensures rounds { self.new.rounds + 1 ≡ self.old.rounds }
     {
         if poll_now(&mut self.sockets.poll, reports) {
-            self.set_deadlines(clock);
+            self.read_clock(clock);
             note_poll(reports, &mut self.journal);
             self.wake(clock, reports);
             return;
         }
         self.sync(tid);
-        self.sleep(clock, reports);
+        self.sleep(clock, reports, survey);
     }
 
     /// Syncs the draft of a transfer.
@@ -246,7 +254,8 @@ impl<S: ServedStore<Reason> + Drop> ServerLoop<S> {
     }
 
     /// Waits until a datagram has arrived or a port is to be read, for at most a second.
-    fn sleep<C: Clock>(&mut self, clock: &C, reports: &mut Reports)
+    fn sleep<C: Clock>(&mut self, clock: &C, reports: &mut Reports, survey: Survey)
+        requires surveyed { IsSurveyOf self.old.ports.items survey }
         requires tended { IsTended self.old }
         requires left { 1 ≤ self.old.left }
         requires rounds { 1 ≤ self.old.rounds }
@@ -256,29 +265,28 @@ impl<S: ServedStore<Reason> + Drop> ServerLoop<S> {
         ensures first { self.new.sockets.has_received ≡ false }
         ensures rounds { self.new.rounds + 1 ≡ self.old.rounds }
     {
-        self.active = count_active(self.sockets.watch.now, self.ports.as_slice());
-        self.set_deadlines(clock);
-        self.wait_for_ports(reports);
+        self.active = survey.active;
+        self.read_clock(clock);
+        self.wait_for_ports(reports, survey);
         self.wake(clock, reports);
     }
 
-    /// Reads the clock before a wait, and sets the deadlines of the transfers that opened, advanced
-    /// or timed out since it was read: the store or a file may have taken long.
-    fn set_deadlines<C: Clock>(&mut self, clock: &C)
+    /// Reads the clock before a wait: the store or a file may have taken long.
+    fn read_clock<C: Clock>(&mut self, clock: &C)
         ensures { HasRead self.old self.new }
     {
         let began = self.sockets.watch.now;
         let end = self.sockets.round_end();
-        let time = read_watch_within(clock, &mut self.journal, &mut self.sockets.watch, end);
+        read_watch_within(clock, &mut self.journal, &mut self.sockets.watch, end);
         self.sockets.limit = began.saturating_add(LONGEST_WAIT);
-        set_all(self.ports.as_mut_slice(), time);
     }
 
     /// Waits until a datagram has arrived, as long as is allowed.
-    fn wait_for_ports(&mut self, reports: &mut Reports)
+    fn wait_for_ports(&mut self, reports: &mut Reports, survey: Survey)
+        requires { IsSurveyOf self.old.ports.items survey }
         ensures { HasSlept (millis_of self.old) reports.new.ports.items self.old self.new }
     {
-        let millis = self.millis_to_wait();
+        let millis = self.millis_to_wait(survey);
         let polls = polls_before(millis, self.active);
         wait(
             &mut self.sockets.poll,
@@ -289,7 +297,8 @@ impl<S: ServedStore<Reason> + Drop> ServerLoop<S> {
         );
     }
 
-    /// Marks the ports that a wait reported, counts the wait, and reads the clock.
+    /// Sets the deadlines of the transfers that opened, advanced or timed out before the clock was
+    /// read, marks the ports that a wait reported, counts the wait, and reads the clock.
     fn wake<C: Clock>(&mut self, clock: &C, reports: &Reports)
         ensures { HasWoken reports.now.ports.items self.old self.new }
     {
@@ -300,7 +309,8 @@ impl<S: ServedStore<Reason> + Drop> ServerLoop<S> {
         self.sockets.limit = end;
     }
 
-    /// Marks the ports that a wait reported, and counts anew what is received at each.
+    /// Sets the provisional deadlines, marks the ports that a wait reported, and counts anew what is
+    /// received at each.
     fn mark(&mut self, reported: &[u16])
         ensures requests { self.new.sockets ≡ record self.old.sockets {
           is_ready = self.old.sockets.is_ready
@@ -308,27 +318,30 @@ impl<S: ServedStore<Reason> + Drop> ServerLoop<S> {
           has_received = false;
         } }
         ensures transfers { timers_of self.new ≡ map (marked_by reported.now)
-            (timers_of self.old) }
+            (map (set_by self.old.sockets.watch.now) (timers_of self.old)) }
         ensures rest { self.new
             ≡ record self.old { sockets = self.new.sockets; ports = self.new.ports } }
     {
-        mark_all(self.ports.as_mut_slice(), reported);
+        let time = self.sockets.watch.now;
+        wake_all(self.ports.as_mut_slice(), time, reported);
         self.sockets.mark(reported);
     }
 
     /// The longest wait, in milliseconds: none if a port is marked or a datagram is pending, and
     /// else until the nearest time at which a port is read, at most a second.
-    fn millis_to_wait(&self) -> u64
+    fn millis_to_wait(&self, survey: Survey) -> u64
+        requires { IsSurveyOf self.now.ports.items survey }
         ensures { result ≡ millis_of self.now }
     {
-        if self.is_busy() {
+        if self.is_busy(survey) {
             return 0;
         }
-        wait_for(self.sockets.watch.now, self.ports.as_slice())
+        survey.millis(self.sockets.watch.now)
     }
 
     /// Whether a port is marked or a datagram is pending.
-    fn is_busy(&self) -> bool
+    fn is_busy(&self, survey: Survey) -> bool
+        requires { IsSurveyOf self.now.ports.items survey }
         ensures { result ≡ (self.now.sockets.is_ready || (is_some self.now.pending
             || list_any (λ port. port.is_ready) self.now.ports.items)) }
     {
@@ -338,7 +351,7 @@ impl<S: ServedStore<Reason> + Drop> ServerLoop<S> {
         if self.pending.is_some() {
             return true;
         }
-        is_any_ready(self.ports.as_slice())
+        survey.is_ready
     }
 
     /// Takes a turn at the port of each transfer.
@@ -392,10 +405,14 @@ impl<S: ServedStore<Reason> + Drop> ServerLoop<S> {
         if index >= self.ports.len() {
             return Ok(());
         }
+        if !has_turn(turn, self.sockets.watch.now, &self.ports[index]) {
+            return Ok(());
+        }
         self.serve_port(rt, turn, index, buffer)
     }
 
-    /// Takes a turn at the port at this index, and removes its transfer if that closes.
+    /// Takes a turn at the port at this index, logs what could not be sent, and removes the transfer
+    /// if that closes.
     fn serve_port<P: Print + Eprint>(
         &mut self,
         rt: &P,
@@ -412,16 +429,22 @@ impl<S: ServedStore<Reason> + Drop> ServerLoop<S> {
         ensures rounds { self.new.rounds ≡ self.old.rounds }
         ensures fault { IfErr result (λ fault. FailsToPrint fault self.new.journal.events) }
     {
-        self.take_turn(turn, index, buffer);
+        let status = self.take_turn(turn, index, buffer);
+        log_unsent(rt, &self.ports[index]);
+        if !status.is_closed() {
+            return Ok(());
+        }
         self.finish(rt, index)
     }
 
     /// Takes a turn at the port at this index.
-    fn take_turn(&mut self, turn: Turn, index: usize, buffer: &mut [u8])
+    fn take_turn(&mut self, turn: Turn, index: usize, buffer: &mut [u8]) -> PortStatus
         requires within { index < length self.old.ports.items }
         requires settled { IsSettled self.old }
         requires waiting { AwaitTurn turn (index + 1) self.old }
-        ensures { TakesTurn S.meaning S.Source.meaning (leaves_by turn) index self.old self.new }
+        ensures takes { TakesTurn S.meaning S.Source.meaning (leaves_by turn) index self.old
+            self.new }
+        ensures open { UnlessClosed result (IsOpenAt index self.new) }
     {
         let moment = Moment {
             now: self.sockets.watch.now,
@@ -435,11 +458,11 @@ impl<S: ServedStore<Reason> + Drop> ServerLoop<S> {
             moment,
             turn,
             buffer,
-        );
+        )
     }
 
-    /// Logs what the transfer at this index could not send. If it has closed, removes it with its
-    /// port, and prints its outcome: it is one less to close.
+    /// Removes the transfer at this index with its port, if it has closed, and prints its outcome: it
+    /// is one less to close.
     fn finish<P: Print + Eprint>(&mut self, rt: &P, index: usize) -> Result<(), LoopFault>
         requires left { 1 ≤ self.old.left }
         requires within { index < length self.old.ports.items }
@@ -449,7 +472,6 @@ impl<S: ServedStore<Reason> + Drop> ServerLoop<S> {
         ensures fault { IfErr result (λ fault. FailsToPrint fault self.new.journal.events) }
     {
         let port = &self.ports[index];
-        log_unsent(rt, port);
         let closed = record_of_closed(&mut self.server, port.socket.udp.port());
         if closed.is_none() {
             return Ok(());
@@ -482,11 +504,4 @@ impl<S: ServedStore<Reason> + Drop> ServerLoop<S> {
 /// transfers.
 fn polls_before(millis: u64, active: usize) -> u32 {
     if millis > 0 && active > 1 { POLLS } else { 0 }
-}
-
-/// Whether a port is marked.
-fn is_any_ready(ports: &[TransferPort]) -> bool
-    ensures { result ≡ list_any (λ port. port.is_ready) ports.now }
-{
-    ports.iter().any(|port| port.is_ready)
 }

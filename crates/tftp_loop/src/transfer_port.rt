@@ -1,19 +1,20 @@
 //! The port of a transfer: its socket, its timer and its mark.
 
-ghost use Rattle.std.specs.Prelude.{◌≡◌, ◌<◌, true, false, map, min, ◌+◌};
+ghost use Rattle.std.specs.Prelude.{◌≡◌, ◌<◌, ◌∷◌, List, true, false, map, min, ◌+◌};
 ghost use Rattle.tftp_sockets.specs.Journal.{replied};
 ghost use Rattle.tftp_sockets.specs.Watch.{last_moment};
 ghost use Rattle.tftp_loop.specs.Fair.{ReceivesAtMost};
 ghost use Rattle.tftp_loop.specs.Steps.{WorksAtPort, age_limit_of, look_after, marked_as};
 ghost use Rattle.tftp_loop.specs.Steps.{most_in_round, restarted, timer_after};
 ghost use Rattle.tftp_loop.specs.LoopStates.{timer_of};
-ghost use Rattle.tftp_loop.specs.MayWait.{marked_if, set_if};
+ghost use Rattle.tftp_loop.specs.MayWait.{IsSurveyOf, earlier, marked_if, set_if, wait_until};
+ghost use Rattle.tftp_loop.specs.MayWait.{woken_if};
 
 use crate::log_entry::LogEntry;
 use tftp_ends::{Endpoint, Step};
 use tftp_lines::Reason;
 use tftp_server::{Server, Store};
-use tftp_sockets::{Journal, Port, ServerSocket, deadline};
+use tftp_sockets::{Journal, LONGEST_WAIT, Port, ServerSocket, deadline};
 
 /// The time after an opening or progress at which a port is read again though no wait reported it,
 /// in milliseconds. A second datagram that arrived with the first is reported only once.
@@ -51,10 +52,70 @@ pub(crate) struct TransferSocket {
 /// The port of a transfer.
 pub(crate) type TransferPort = Port<TransferSocket>;
 
-/// The number of transfers that were opened or made progress lately. One that only waits for a
-/// repeated datagram, or whose client vanished, does not count.
-pub(crate) fn count_active(now: u64, ports: &[TransferPort]) -> usize {
-    ports.iter().filter(|port| is_active(now, port)).count()
+/// What the ports of transfers ask of the next wait.
+#[derive(Clone, Copy)]
+pub(crate) struct Survey {
+    /// Whether one is marked.
+    pub(crate) is_ready: bool,
+    /// The nearest time at which one is read, marked or not, in milliseconds. `None` without ports.
+    pub(crate) look_at: Option<u64>,
+    /// The number of transfers that were opened or made progress lately. One that only waits for a
+    /// repeated datagram, or whose client vanished, does not count.
+    pub(crate) active: usize,
+}
+
+impl Survey {
+    /// One pass over the ports of transfers.
+    pub(crate) fn of(now: u64, ports: &[TransferPort]) -> Survey
+        ensures { IsSurveyOf ports.now result }
+    {
+        let mut survey = Survey {
+            is_ready: false,
+            look_at: None,
+            active: 0,
+        };
+        let mut index = ports.len();
+        while index > 0 {
+            index -= 1;
+            survey = survey.with(now, &ports[index]);
+        }
+        survey
+    }
+
+    /// The survey of these ports and this one.
+    fn with(self, now: u64, port: &TransferPort) -> Survey
+        ensures { (ports : List (Port TransferSocket)) → IsSurveyOf ports self
+            → IsSurveyOf (port.now ∷ ports) result }
+    {
+        Survey {
+            is_ready: port.is_ready || self.is_ready,
+            look_at: Some(earlier(port.look_at, self.look_at)),
+            active: self
+                .active
+                .saturating_add(usize::from(is_active(now, port))),
+        }
+    }
+
+    /// How long to wait, in milliseconds, if no port is marked: until the nearest time at which one
+    /// is read, at most a second.
+    pub(crate) fn millis(self, now: u64) -> u64
+        ensures { result ≡ wait_until now self.look_at }
+    {
+        match self.look_at {
+            Some(time) => time.saturating_sub(now).min(LONGEST_WAIT),
+            None => LONGEST_WAIT,
+        }
+    }
+}
+
+/// The earlier of two times, of which there may be one.
+fn earlier(time: u64, other: Option<u64>) -> u64
+    ensures { result ≡ earlier time other }
+{
+    match other {
+        Some(other) => time.min(other),
+        None => time,
+    }
 }
 
 /// Whether a transfer was opened or made progress lately.
@@ -153,13 +214,22 @@ pub(crate) fn mark_empty(port: &mut TransferPort)
     port.look_at = port.socket.deadline;
 }
 
-/// Marks the ports that a wait reported, and counts anew what is received at each.
-pub(crate) fn mark_all(ports: &mut [TransferPort], reported: &[u16])
-    ensures { ports.new ≡ map (marked_if reported.now) ports.old }
+/// Wakes the ports of transfers after a wait: sets the provisional deadlines at the reading of the
+/// clock before it, marks the ports that it reported, and counts anew what is received at each.
+pub(crate) fn wake_all(ports: &mut [TransferPort], time: u64, reported: &[u16])
+    ensures { ports.new ≡ map (woken_if time reported.now) ports.old }
 {
     for port in ports.iter_mut() {
-        mark_reported(port, reported);
+        wake(port, time, reported);
     }
+}
+
+/// Wakes the port of a transfer.
+fn wake(port: &mut TransferPort, time: u64, reported: &[u16])
+    ensures { port.new ≡ woken_if time reported.now port.old }
+{
+    set_deadline(port, time);
+    mark_reported(port, reported);
 }
 
 /// Marks a port if a wait reported it, and counts anew.
@@ -188,15 +258,6 @@ pub(crate) fn restart(port: &mut TransferPort, now: u64)
     port.look_at = deadline(now, port.socket.interval);
     port.socket.deadline = port.look_at;
     port.socket.is_provisional = true;
-}
-
-/// Sets the provisional deadlines at a reading of the clock.
-pub(crate) fn set_all(ports: &mut [TransferPort], time: u64)
-    ensures { ports.new ≡ map (set_if time) ports.old }
-{
-    for port in ports.iter_mut() {
-        set_deadline(port, time);
-    }
 }
 
 /// Sets the deadline of a transfer at a reading of the clock, if it is provisional.

@@ -2,6 +2,7 @@ use Rattle.std.proofs.Common.{refl, ap}
 use Rattle.tftp_loop.proofs.PortLemmas.{handled, closed_by, bytes_lent, found_next, lost}
 use Rattle.std.specs.Prelude.{option_map, Err}
 use Rattle.tftp_ends.specs.Step.{lent}
+use Rattle.tftp_loop.proofs.Unclosed.{lost_open, open_by}
 use Rattle.tftp_loop.proofs.port_turn.handle.Goals as goal
 
 pub returns-in_default-clause-handled : goal.returns-in_default-clause-handled
@@ -30,5 +31,16 @@ returns-clause-handled g c =
 pub returns-clause-closed : goal.returns-clause-closed
 returns-clause-closed g c =
     closed_by g.S.Store.meaning g.S.Source.Source.meaning c.args.tid c.args.server.now c.handle_datagram.new.self
+    c.in-Ok.step c.in-Ok.outgoing c.args.udp.now.port c.args.datagram.from c.args.datagram.bytes.now c.requires
+    c.in-Ok.ensures.takes
+
+pub returns-in_default-clause-open : goal.returns-in_default-clause-open
+returns-in_default-clause-open g c =
+    lost_open g.S.Store.meaning g.S.Source.Source.meaning c.args.tid c.args.udp.now.port c.args.server.now
+    c.handle_datagram.new.self c.requires c.in_default.ensures.err
+
+pub returns-clause-open : goal.returns-clause-open
+returns-clause-open g c =
+    open_by g.S.Store.meaning g.S.Source.Source.meaning c.args.tid c.args.server.now c.handle_datagram.new.self
     c.in-Ok.step c.in-Ok.outgoing c.args.udp.now.port c.args.datagram.from c.args.datagram.bytes.now c.requires
     c.in-Ok.ensures.takes

@@ -2,6 +2,8 @@ use Rattle.std.proofs.Common.{arith, refl, ap}
 use Rattle.tftp_loop.specs.Steps.{Timer}
 use Rattle.tftp_loop.specs.LoopStates.{timer_of}
 use Rattle.tftp_loop.proofs.PortRuns.{receives_late}
+use Rattle.std.proofs.Common.{ℕ, sym, subst}
+use Rattle.tftp_loop.specs.MayWait.{IsUnclosed}
 use Rattle.tftp_loop.proofs.port_turn.PortTurn.answer_in_time.Goals as goal
 
 pub returns-then-self-clause-answers : goal.returns-then-self-clause-answers
@@ -20,3 +22,9 @@ returns-then-self-clause-answers g c =
 
 pub returns-then-self-clause-counted : goal.returns-then-self-clause-counted
 returns-then-self-clause-counted g c = ap (λ (t : Timer). t.received) c.note_received.ensures
+
+pub returns-then-self-clause-open : goal.returns-then-self-clause-open
+returns-then-self-clause-open g c =
+    λ unclosed.
+    subst (λ (p : ℕ). IsUnclosed p c.args.self.now.server.now.held)
+    (sym (ap (λ (t : Timer). t.port) c.note_received.ensures)) unclosed

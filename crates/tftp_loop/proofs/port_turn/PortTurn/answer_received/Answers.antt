@@ -1,8 +1,10 @@
-use Rattle.std.proofs.Common.{refl, ap, ◌∙◌}
+use Rattle.std.proofs.Common.{◌≡◌, ℕ, refl, sym, ap, subst, ◌∙◌}
 use Rattle.tftp_loop.specs.Steps.{Timer}
 use Rattle.tftp_loop.specs.LoopStates.{timer_of}
 use Rattle.tftp_loop.proofs.PortRuns.{here, receives, receives_lost, then_works}
-use Rattle.tftp_loop.proofs.PortStays.{after_received}
+use Rattle.tftp_loop.specs.MayWait.{IsUnclosed}
+use Rattle.tftp_loop.proofs.PortStays.{after_port, after_received}
+use Rattle.tftp_loop.proofs.Unclosed.{open_after, unless_map}
 use Rattle.tftp_loop.proofs.port_turn.PortTurn.answer_received.Goals as goal
 
 pub returns-in_default-clause-answers : goal.returns-in_default-clause-answers
@@ -48,3 +50,23 @@ returns-clause-counted g c =
     let old = c.args.self.now in
     ap (λ (t : Timer). t.received) c.note_step.ensures
     ∙ after_received old.now c.in-Some.step.progress (timer_of old.port.now)
+
+pub returns-in_default-clause-open : goal.returns-in_default-clause-open
+returns-in_default-clause-open g c =
+    λ unclosed.
+    subst (λ (p : ℕ). IsUnclosed p c.handle.new.server.held)
+    (sym (ap (λ (t : Timer). t.port) c.note_received.ensures)) (c.in_default.ensures.open unclosed)
+
+pub returns-clause-open : goal.returns-clause-open
+returns-clause-open g c =
+    let old = c.args.self.now in
+    let port = c.note_step.new.port.socket.udp.port in
+    let same : port ≡ old.port.now.socket.udp.port =
+    ap (λ (t : Timer). t.port) c.note_step.ensures
+    ∙ after_port old.now c.in-Some.step.progress (timer_of old.port.now) in
+    unless_map c.status_of.result
+    (λ none unclosed.
+    open_after g.S.Store.meaning g.S.Source.Source.meaning port c.handle.new.server c.work_after.new.server
+    c.work_after.ensures.works
+    (subst (λ (p : ℕ). IsUnclosed p c.handle.new.server.held) (sym same) (c.in-Some.ensures.open none)))
+    c.status_of.ensures.open

@@ -4,6 +4,7 @@ use Rattle.tftp_sockets.specs.Journal.QuietEvent.{Empty, Failed}
 use Rattle.tftp_sockets.specs.Quiet.{was_tried}
 use Rattle.tftp_loop.specs.Steps.{Timer}
 use Rattle.tftp_loop.specs.LoopStates.{timer_of}
+use Rattle.tftp_loop.specs.MayWait.{IsUnclosed}
 use Rattle.tftp_loop.proofs.PortRuns.{finds_nothing, fails_to_receive}
 use Rattle.tftp_loop.proofs.PortStays.{received_tried, stays_along}
 use Rattle.tftp_loop.proofs.TurnLemmas.{receives_none, serves_received}
@@ -67,3 +68,15 @@ returns-in-Nothing-clause-counted g c =
 pub returns-in-Failed-clause-counted : goal.returns-in-Failed-clause-counted
 returns-in-Failed-clause-counted g c =
     let none = ap (λ (t : Timer). t.received) c.mark_ready.ensures in omega (arith, none)
+
+pub returns-in-Nothing-clause-open : goal.returns-in-Nothing-clause-open
+returns-in-Nothing-clause-open g c =
+    λ unclosed.
+    subst (λ (p : ℕ). IsUnclosed p c.args.self.now.server.now.held)
+    (sym (ap (λ (t : Timer). t.port) c.mark_empty.ensures)) unclosed
+
+pub returns-in-Failed-clause-open : goal.returns-in-Failed-clause-open
+returns-in-Failed-clause-open g c =
+    λ unclosed.
+    subst (λ (p : ℕ). IsUnclosed p c.args.self.now.server.now.held)
+    (sym (ap (λ (t : Timer). t.port) c.mark_ready.ensures)) unclosed

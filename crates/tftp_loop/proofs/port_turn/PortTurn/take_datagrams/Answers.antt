@@ -1,10 +1,11 @@
 use Rattle.std.proofs.Common.{arith, refl, inl, inr, ◌+◌}
 use Rattle.tftp_loop.specs.declared.port_turn.TheConstants.{MOST_AT_ONCE}
 use Rattle.tftp_loop.proofs.TurnLemmas.{idles, serves_onward}
+use Rattle.tftp_loop.proofs.Unclosed.{unless_map}
 use Rattle.tftp_loop.proofs.port_turn.PortTurn.take_datagrams.Goals as goal
 
 pub loop-turn-init : goal.loop-turn-init
-loop-turn-init g c = (idles g.S.Store.meaning g.S.Source.Source.meaning 0 _, omega arith, inl refl)
+loop-turn-init g c = (idles g.S.Store.meaning g.S.Source.Source.meaning 0 _, omega arith, inl refl, λ unclosed. unclosed)
 
 pub loop-turn-preserved : goal.loop-turn-preserved
 loop-turn-preserved g c = (
@@ -13,6 +14,7 @@ loop-turn-preserved g c = (
       c.loop-turn.invariant.0 c.take_datagram.ensures.serves,
   let before = c.loop-turn.invariant.1 in let one = c.take_datagram.ensures.counted in omega (arith, before, one),
   inr (c.take_datagram.ensures.tried, c.in-Unfinished.ensures.status.timer),
+  λ unclosed. c.in-Unfinished.ensures.open (c.loop-turn.invariant.3 unclosed),
 )
 
 pub returns-in_default-clause-serves : goal.returns-in_default-clause-serves
@@ -25,3 +27,8 @@ take_datagram-requires g c =
     let before = c.loop-turn.invariant.1 in
     let few = c.requires in
     omega (arith, before, few)
+
+pub returns-in_default-clause-open : goal.returns-in_default-clause-open
+returns-in_default-clause-open g c =
+    unless_map c.take_datagram.result (λ stays unclosed. stays (c.loop-turn.invariant.3 unclosed))
+    c.take_datagram.ensures.open

@@ -1,11 +1,7 @@
 use Rattle.std.proofs.Common.{arith}
 use Rattle.tftp_loop.specs.declared.port_turn.TheConstants.{MOST_AT_ONCE}
-use Rattle.tftp_loop.proofs.TurnLemmas.{idles, serves_onward}
+use Rattle.tftp_loop.proofs.TurnLemmas.{serves_onward}
 use Rattle.tftp_loop.proofs.port_turn.PortTurn.take_due.Goals as goal
-
-pub returns-then-not-is_due-clause-serves : goal.returns-then-not-is_due-clause-serves
-returns-then-not-is_due-clause-serves g c =
-    idles g.S.Store.meaning g.S.Source.Source.meaning MOST_AT_ONCE c.args.self.now
 
 pub returns-clause-serves : goal.returns-clause-serves
 returns-clause-serves g c =

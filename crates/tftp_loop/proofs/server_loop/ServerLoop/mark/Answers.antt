@@ -1,14 +1,15 @@
 use Rattle.std.proofs.Common.{map, ap, ◌∙◌, rules}
 use Rattle.std.proofs.lemmas.List.{with_items_is, places}
 use Rattle.tftp_loop.specs.LoopStates.{timer_of}
-use Rattle.tftp_loop.specs.MayWait.{marked_if}
-use Rattle.tftp_loop.proofs.Waits.{timers_marked}
+use Rattle.tftp_loop.specs.MayWait.{woken_if}
+use Rattle.tftp_loop.proofs.Waits.{timers_woken}
 use Rattle.tftp_loop.proofs.server_loop.ServerLoop.mark.Goals as goal
 
 pub returns-clause-transfers : goal.returns-clause-transfers
 returns-clause-transfers g c =
     let ps = c.args.self.now.ports.items in
-    let whole = with_items_is c.args.self.now.ports c.mark_all.new.ports (search (rules, places)) in
-    ap (map timer_of) (whole ∙ (c.mark_all.ensures ∙ ap (map (marked_if c.args.reported.now))
+    let time = c.args.self.now.sockets.watch.now in
+    let whole = with_items_is c.args.self.now.ports c.wake_all.new.ports (search (rules, places)) in
+    ap (map timer_of) (whole ∙ (c.wake_all.ensures ∙ ap (map (woken_if time c.args.reported.now))
     c.as_mut_slice.ensures.value))
-    ∙ timers_marked c.args.reported.now ps
+    ∙ timers_woken time c.args.reported.now ps

@@ -9,23 +9,23 @@ pub returns-then-poll_now-clause-serves : goal.returns-then-poll_now-clause-serv
 returns-then-poll_now-clause-serves g c =
     let ports = c.poll_now.new.reports.ports.items in
     let old = c.args.self.now in
-    let read = c.set_deadlines.new.self in
+    let read = c.read_clock.new.self in
     let reads : HasRead old read =
     record {
-      requests = c.set_deadlines.ensures.requests;
-      range = c.set_deadlines.ensures.range;
-      longest = c.set_deadlines.ensures.longest;
-      server = c.set_deadlines.ensures.server;
-      pending = c.set_deadlines.ensures.pending;
-      timers = c.set_deadlines.ensures.timers;
-      forward = c.set_deadlines.ensures.forward;
-      soon = c.set_deadlines.ensures.soon;
-      limit = c.set_deadlines.ensures.limit;
-      marked = c.set_deadlines.ensures.marked;
-      asked = c.set_deadlines.ensures.asked;
-      left = c.set_deadlines.ensures.left;
-      rounds = c.set_deadlines.ensures.rounds;
-      events = c.set_deadlines.ensures.events;
+      requests = c.read_clock.ensures.requests;
+      range = c.read_clock.ensures.range;
+      longest = c.read_clock.ensures.longest;
+      server = c.read_clock.ensures.server;
+      pending = c.read_clock.ensures.pending;
+      ports = c.read_clock.ensures.ports;
+      forward = c.read_clock.ensures.forward;
+      soon = c.read_clock.ensures.soon;
+      limit = c.read_clock.ensures.limit;
+      marked = c.read_clock.ensures.marked;
+      asked = c.read_clock.ensures.asked;
+      left = c.read_clock.ensures.left;
+      rounds = c.read_clock.ensures.rounds;
+      events = c.read_clock.ensures.events;
     } in
     λ buffer.
     waits_as g.S.Store.meaning g.S.Source.Source.meaning buffer old read _ c.wake.new.self 0 ports reads
@@ -51,21 +51,21 @@ pub returns-then-poll_now-clause-settled : goal.returns-then-poll_now-clause-set
 returns-then-poll_now-clause-settled g c =
     woken_settled g.S.Store.meaning g.S.Source.Source.meaning _ c.wake.new.self c.poll_now.new.reports.ports.items
     c.wake.ensures
-    (read_settled g.S.Store.meaning g.S.Source.Source.meaning c.args.self.now c.set_deadlines.new.self (record {
-      requests = c.set_deadlines.ensures.requests;
-      range = c.set_deadlines.ensures.range;
-      longest = c.set_deadlines.ensures.longest;
-      server = c.set_deadlines.ensures.server;
-      pending = c.set_deadlines.ensures.pending;
-      timers = c.set_deadlines.ensures.timers;
-      forward = c.set_deadlines.ensures.forward;
-      soon = c.set_deadlines.ensures.soon;
-      limit = c.set_deadlines.ensures.limit;
-      marked = c.set_deadlines.ensures.marked;
-      asked = c.set_deadlines.ensures.asked;
-      left = c.set_deadlines.ensures.left;
-      rounds = c.set_deadlines.ensures.rounds;
-      events = c.set_deadlines.ensures.events;
+    (read_settled g.S.Store.meaning g.S.Source.Source.meaning c.args.self.now c.read_clock.new.self (record {
+      requests = c.read_clock.ensures.requests;
+      range = c.read_clock.ensures.range;
+      longest = c.read_clock.ensures.longest;
+      server = c.read_clock.ensures.server;
+      pending = c.read_clock.ensures.pending;
+      ports = c.read_clock.ensures.ports;
+      forward = c.read_clock.ensures.forward;
+      soon = c.read_clock.ensures.soon;
+      limit = c.read_clock.ensures.limit;
+      marked = c.read_clock.ensures.marked;
+      asked = c.read_clock.ensures.asked;
+      left = c.read_clock.ensures.left;
+      rounds = c.read_clock.ensures.rounds;
+      events = c.read_clock.ensures.events;
     })
     c.requires.tended.settled)
 

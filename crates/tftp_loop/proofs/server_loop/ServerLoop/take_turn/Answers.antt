@@ -3,6 +3,7 @@ use Rattle.tftp_loop.specs.LoopStates.{timer_of}
 use Rattle.tftp_loop.specs.MayWait.{IsHeld, ReceivedFew, before_turn}
 use Rattle.tftp_loop.proofs.ListLemmas.{map_is, map_within}
 use Rattle.tftp_loop.proofs.Visits.{few_before}
+use Rattle.tftp_loop.proofs.Unclosed.{open_at, unless_map}
 use Rattle.tftp_loop.proofs.server_loop.ServerLoop.take_turn.Goals as goal
 
 pub take_turn_at-requires : goal.take_turn_at-requires
@@ -21,3 +22,12 @@ take_turn_at-requires g c =
           (c.requires.waiting c.args.index (timer_of port) (omega arith)
           (map_within timer_of ports c.args.index c.requires.within)));
     }
+
+pub returns-clause-open : goal.returns-clause-open
+returns-clause-open g c =
+    unless_map c.take_turn_at.result
+    (λ stays.
+    open_at c.args.self.now c.args.index c.index_mut-port.result.now c.take_turn_at.new.port
+    c.take_turn_at.new.server.held _ c.requires.within c.index_mut-port.ensures.value Rattle.std.proofs.Common.refl
+    c.requires.settled stays)
+    c.take_turn_at.ensures.open

@@ -1,0 +1,170 @@
+-- A turn that did not close its transfer left it open.
+use Rattle.std.proofs.Common.{◌≡◌, ◌⊎◌, ℕ, Bool, true, false, List, Option, Some, None, refl, sym, ap, subst, ◌∙◌}
+use Rattle.std.proofs.Common.{arith, inl, inr, ◌<◌, ◌≤◌, ◌+◌, length, map}
+use Rattle.std.specs.Prelude.{is_some, IfSome, if◌then◌else◌, slice_set, slice_index_or}
+use Rattle.std.specs.BTreeMap.{is_at}
+use Rattle.std.specs.Ordering.{nat_cmp}
+use Rattle.std.proofs.lemmas.Bool.{cases_eq}
+use Rattle.tftp_file.specs.Source.{SourceMeaning}
+use Rattle.tftp_ends.specs.declared.endpoint.Endpoint.{Endpoint}
+use Rattle.tftp_ends.specs.declared.outcome.Outcome.{Outcome}
+use Rattle.tftp_ends.specs.declared.outgoing.Outgoing.{Outgoing}
+use Rattle.tftp_ends.specs.declared.record.Step.{Step}
+use Rattle.tftp_ends.specs.End.{EndState, outcome_of, record_of}
+use Rattle.tftp_store.specs.Store.{StoreMeaning}
+use Rattle.tftp_server.specs.State.{TransferState, ServerState, at, draft_of, is_closed, taken_of}
+use Rattle.tftp_server.specs.Steps.{KeepsHeld, TakesDatagramLent, TimesOutLent, with_end}
+use Rattle.tftp_loop.specs.declared.port_turn.PortStatus.{PortStatus}
+use Rattle.tftp_loop.specs.declared.port_turn.PortStatus.TheVariants as statuses
+use Rattle.tftp_sockets.specs.declared.port.Port.{Port}
+use Rattle.tftp_loop.specs.declared.port_turn.Turn.{Turn}
+use Rattle.tftp_loop.specs.declared.port_turn.Turn.TheVariants as turns
+use Rattle.tftp_loop.specs.declared.server_loop.ServerLoop.{ServerLoop}
+use Rattle.tftp_loop.specs.declared.transfer_port.TransferSocket.{TransferSocket}
+use Rattle.tftp_loop.specs.LoopStates.{timer_of}
+use Rattle.tftp_loop.specs.MayWait.{AwaitTurn, HasNoTurn, HasTurned, HaveTurned, IsHeld, IsOpen, IsSettled, IsUnclosed}
+use Rattle.tftp_loop.specs.MayWait.{IsUnclosedBy, ReceivedFew, UnlessClosed, before_turn, timers_of}
+use Rattle.tftp_loop.specs.Steps.{Timer, WorksAtPort}
+use Rattle.tftp_loop.proofs.ListLemmas.{map_is, map_set, map_within}
+use Rattle.tftp_loop.proofs.PortLemmas.{found_next, found_timed, set_found}
+use Rattle.tftp_loop.proofs.Tables.{any_default, not_taken, set_own}
+use Rattle.tftp_loop.proofs.Visits.{works_unclosed}
+
+-- ---- unless the status is that it closed
+pub unless_all : {P : Type 0} (status : PortStatus) → P → UnlessClosed status P
+unless_all statuses.Empty h = h
+unless_all statuses.Onward h = h
+unless_all statuses.Unfinished h = h
+unless_all statuses.Closed h = tt
+
+pub unless_map : {P Q : Type 0} (status : PortStatus) → (P → Q) → UnlessClosed status P → UnlessClosed status Q
+unless_map statuses.Empty f h = f h
+unless_map statuses.Onward f h = f h
+unless_map statuses.Unfinished f h = f h
+unless_map statuses.Closed f h = tt
+
+pub unless_not : {P : Type 0} (status : PortStatus) → (status ≡ statuses.Closed → ⊥) → UnlessClosed status P → P
+unless_not statuses.Empty apart h = h
+unless_not statuses.Onward apart h = h
+unless_not statuses.Unfinished apart h = h
+unless_not statuses.Closed apart h = absurd (apart refl)
+
+no_outcome : (o : Option Outcome) → o ≡ None → is_some o ≡ false
+no_outcome o e = ap is_some e
+
+module _ {F D : Type 0} where
+  -- a transfer that is open cannot be taken
+  open_untaken : (o : Option (TransferState F D)) (held : TransferState F D) → o ≡ Some held →
+      is_closed held ≡ false → taken_of o ≡ None
+  open_untaken o held e h =
+      ap (λ (x : Option (TransferState F D)). taken_of x) e
+      ∙ ap (λ (b : Bool). if b then Some (record_of held.end, draft_of held.files) else None) h
+
+module _ {S F D : Type 0} (meaning : StoreMeaning S D) (sources : SourceMeaning F) (tid : ℕ)
+    (old new : ServerState S F D) (step : Step) (outgoing : Outgoing) where
+  -- the transfer did not close by its step
+  pub open_by : (port : ℕ) (from : Endpoint) (bytes : List ℕ) → tid ≡ port →
+      (takes : TakesDatagramLent meaning sources tid from bytes old new step outgoing)
+      → step.closed ≡ None → IsUnclosed port new.held
+  open_by port from bytes same takes none =
+      let At : ℕ → Type 0 = λ p. IsUnclosed p new.held in
+      subst At same
+      (open_untaken (at tid new.held) takes.next
+      (found_next meaning sources tid old new step outgoing from bytes takes)
+      (ap (λ (e : EndState). is_some (outcome_of e.position.phase)) takes.takes.carries.state
+      ∙ sym (ap (λ (s : Step). is_some s.closed) takes.takes.reports) ∙ no_outcome step.closed none))
+
+module _ {S F D : Type 0} (tid : ℕ) (old new : ServerState S F D) (step : Step) (outgoing : Outgoing) where
+  -- nor by its timeout
+  pub open_timed : (port : ℕ) → tid ≡ port → (t : TimesOutLent tid old.held new.held step outgoing) →
+      step.closed ≡ None → IsUnclosed port new.held
+  open_timed port same t none =
+      let At : ℕ → Type 0 = λ p. IsUnclosed p new.held in
+      subst At same
+      (open_untaken (at tid new.held) (with_end t.end t.transfer) (found_timed tid old new step outgoing t)
+      (ap (λ (e : EndState). is_some (outcome_of e.position.phase)) t.carries.state
+      ∙ sym (ap (λ (s : Step). is_some s.closed) t.reports) ∙ no_outcome step.closed none))
+
+module _ {S F D : Type 0} (meaning : StoreMeaning S D) (sources : SourceMeaning F) where
+  -- a datagram that was lost left it open
+  keeps_open : (port : ℕ) (o : Option (TransferState F D)) (old new : ServerState S F D) → at port old.held ≡ o →
+      KeepsHeld meaning sources port o old new → IsUnclosed port old.held → IsUnclosed port new.held
+  keeps_open port None old new found keeps unclosed =
+      ap (λ (s : ServerState S F D). taken_of (at port s.held)) keeps ∙ unclosed
+  keeps_open port (Some transfer) old new found keeps unclosed =
+      let next = keeps.0 in
+      let still =
+      not_taken (is_closed transfer) (record_of transfer.end, draft_of transfer.files)
+      (ap (λ (p : Option (TransferState F D)). taken_of p) (sym found) ∙ unclosed) in
+      open_untaken (at port new.held) next
+      (ap (at port) keeps.2 ∙ set_found (is_at (nat_cmp port)) transfer next old.held found)
+      (ap (λ (e : EndState). is_some (outcome_of e.position.phase)) keeps.1.end ∙ still)
+
+  pub lost_open : (tid port : ℕ) (old new : ServerState S F D) → tid ≡ port →
+      KeepsHeld meaning sources tid (at tid old.held) old new → IsUnclosed port old.held → IsUnclosed port new.held
+  lost_open tid port old new same keeps =
+      let At : ℕ → Type 0 = λ p. IsUnclosed p old.held → IsUnclosed p new.held in
+      subst At same (keeps_open tid (at tid old.held) old new refl keeps)
+
+  -- file work after a step leaves it open
+  pub open_after : (port : ℕ) (middle new : ServerState S F D) →
+      (new ≡ middle) ⊎ WorksAtPort meaning sources port middle new → IsUnclosed port middle.held
+      → IsUnclosed port new.held
+  open_after port middle new (inl same) unclosed =
+      ap (λ (s : ServerState S F D). taken_of (at port s.held)) same ∙ unclosed
+  open_after port middle new (inr works) unclosed =
+      works_unclosed meaning sources port (at port middle.held) middle new refl works.works unclosed
+
+-- the status of a timeout
+pub timeout_open : {F D : Type 0} (o : Option Step) (status : PortStatus) (port : ℕ)
+    (old new : List (ℕ × TransferState F D))
+    → IsUnclosedBy o port old new → UnlessClosed status (IfSome o (λ (step : Step). step.closed ≡ None))
+    → UnlessClosed status (IsUnclosed port old → IsUnclosed port new)
+timeout_open None status port old new keeps h = unless_all status keeps
+timeout_open (Some step) status port old new opens h = unless_map status (λ none was. opens none) h
+
+module _ {S F D : Type 0} where
+  -- a transfer whose turn left it open is open at its index
+  pub open_at : (old : ServerLoop S F D) (index : ℕ) (port next : Port TransferSocket)
+      (held : List (ℕ × TransferState F D)) (items : List (Port TransferSocket)) → index < length old.ports.items
+      → port ≡ slice_index_or old.ports.items index port → items ≡ slice_set old.ports.items index next →
+      IsSettled old → (IsOpen old.server.held (timer_of port) → IsOpen held (timer_of next)) → (t : Timer) →
+      IsOpen held (slice_index_or (map timer_of items) index t)
+  open_at old index port next held items inside is_port set settled stays t =
+      let within = map_within timer_of old.ports.items index inside in
+      let was : timer_of port ≡ slice_index_or (timers_of old) index (timer_of port) =
+      map_is timer_of old.ports.items index port is_port in
+      let own : slice_index_or (map timer_of items) index t ≡ timer_of next =
+      ap (λ (ts : List Timer). slice_index_or ts index t)
+      (ap (map timer_of) set ∙ map_set timer_of old.ports.items index next)
+      ∙ set_own (timers_of old) index (timer_of next) t within in
+      subst (IsOpen held) (sym own)
+      (stays (subst (IsOpen old.server.held) (sym was) (settled.none_closed index (timer_of port) within)))
+
+  own_turned : (turn : Turn) (d : ServerLoop S F D) (timer : Timer) → HasNoTurn turn d.sockets.watch.now timer →
+      ReceivedFew (before_turn turn) timer → timer.look_at ≤ timer.deadline → HasTurned turn d timer
+  own_turned turns.Ready d timer none few look =
+      ((λ marked. absurd (let e : false ≡ true = sym none ∙ marked in cc)), omega (arith, few))
+  own_turned turns.Due d timer none few look = record { due = inl (omega (arith, none, look)); look = inl none }
+
+  -- a port without a turn has had it
+  pub idle_turned : (turn : Turn) (index : ℕ) (d : ServerLoop S F D) (port : Port TransferSocket) →
+      index < length d.ports.items → port ≡ slice_index_or d.ports.items index port →
+      HasNoTurn turn d.sockets.watch.now (timer_of port) → IsSettled d → AwaitTurn turn (index + 1) d →
+      HaveTurned turn (index + 1) d → HaveTurned turn index d
+  idle_turned turn index d port inside is_port none settled waiting turned k t l h =
+      let within = map_within timer_of d.ports.items index inside in
+      let was : timer_of port ≡ slice_index_or (timers_of d) index (timer_of port) =
+      map_is timer_of d.ports.items index port is_port in
+      elim (cases_eq k index) [
+        | inl same ↦
+            let own : timer_of port ≡ slice_index_or (timers_of d) k t =
+            was ∙ (any_default (timers_of d) index (timer_of port) t within
+            ∙ ap (λ (j : ℕ). slice_index_or (timers_of d) j t) (sym same)) in
+            subst (HasTurned turn d) own
+            (own_turned turn d (timer_of port) none
+            (subst (ReceivedFew (before_turn turn)) (sym was)
+            (waiting index (timer_of port) (omega arith) within))
+            (subst (IsHeld d.server.held) (sym was) (settled.kept.each index (timer_of port) within)).look)
+        | inr apart ↦ turned k t (omega (arith, l, apart)) h
+      ]

@@ -1,0 +1,28 @@
+use Rattle.std.proofs.Common.{arith, refl, sym, ap, ◌∙◌, ℕ, ◌∷◌}
+use Rattle.tftp_sockets.specs.Journal.Event.{Watched}
+use Rattle.tftp_loop.proofs.server_loop.ServerLoop.read_clock.Goals as goal
+
+pub returns : goal.returns
+returns g c =
+    let read = c.read_watch_within-self.ensures in
+    let is = read.time in
+    let forward = read.forward in
+    let soon = read.soon in
+    let limit = c.saturating_add-self.ensures in
+    let end = c.round_end-end.ensures in
+    record {
+      requests = refl;
+      range = refl;
+      longest = refl;
+      server = refl;
+      pending = refl;
+      ports = refl;
+      forward = omega (arith, forward, is);
+      soon = omega (arith, soon, is, end);
+      limit = omega (arith, limit);
+      marked = refl;
+      asked = refl;
+      left = refl;
+      rounds = refl;
+      events = read.noted ∙ ap (λ (n : ℕ). Watched n ∷ c.args.self.now.journal.events) (sym is);
+    }

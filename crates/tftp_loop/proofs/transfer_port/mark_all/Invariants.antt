@@ -1,7 +1,0 @@
-use Rattle.std.proofs.Common.{◌≡◌, ◌++◌, map, take, drop}
-use Rattle.tftp_loop.specs.MayWait.{marked_if}
-use Rattle.tftp_loop.proofs.transfer_port.mark_all.Given as goal
-
-abbrev pub invariant-loop-port : goal.invariant-loop-port
-invariant-loop-port l =
-    l.ports ≡ map (marked_if l.reported) (take l.port-index l.initial.ports) ++ drop l.port-index l.initial.ports
