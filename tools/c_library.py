@@ -203,13 +203,13 @@ def by_peer(scene, built, lossy) -> None:
 
 
 def by_python(scene, library) -> None:
-    """get.py from tftpd, from another project's server and through a bad network."""
+    """get.py from tftpd and from another project's server, in a good network and through a bad one."""
     scene.make("f", content(2_000))
-    server = scene.serve("--transfers", "2")
-    for at in [server, scene.proxy(server, 5), *([started_peer(scene)] if peer() else [])]:
-        run(sys.executable, TOP / "examples/python/get.py", library, *at.word.split(":"), "f", "got", 512,
-            cwd=scene.folder)
-        expect((scene.folder / "got").read_bytes(), content(2_000), f"what get.py stored from {at.word}")
+    for server in [scene.serve("--transfers", "2"), *([started_peer(scene)] if peer() else [])]:
+        for at in [server, scene.proxy(server, 5)]:
+            run(sys.executable, TOP / "examples/python/get.py", library, *at.word.split(":"), "f", "got", 512,
+                cwd=scene.folder)
+            expect((scene.folder / "got").read_bytes(), content(2_000), f"what get.py stored from {at.word}")
 
 
 def by_rust(scene, room) -> None:
