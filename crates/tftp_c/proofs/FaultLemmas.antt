@@ -1,5 +1,5 @@
 -- Why an opening failed.
-use Rattle.std.specs.Prelude.{ℕ, ◌≡◌, ◌⊎◌, ◌↔◌, List, Option, None, Err, IsErrOf, IsSome}
+use Rattle.std.specs.Prelude.{ℕ, ◌≡◌, ◌↔◌, List, Option, None, Err, IsErrOf, IsSome}
 use Rattle.std.proofs.Common.{inr, refl, subst}
 use Rattle.tftp_ends.specs.declared.endpoint.Endpoint.{Endpoint}
 use Rattle.tftp_ends.specs.declared.fault.OpenFault.{OpenFault}
