@@ -1,5 +1,5 @@
 -- The calls by which a store over a folder begins a draft (ours).
-use Rattle.std.specs.Prelude.{ℕ, ◌≡◌, ◌⊎◌, List, ◌∷◌, ◌++◌, Ok, codes}
+use Rattle.std.specs.Prelude.{ℕ, ◌≡◌, ◌⊎◌, List, ◌∷◌, ◌++◌, codes}
 use Rattle.std.specs.Fmt.{decimal}
 use Rattle.tftp_disk.specs.DiskJournal.{DiskEvent, Done}
 use Rattle.tftp_disk.specs.DiskJournal.DiskEvent.{Made, Removed}

@@ -1,5 +1,7 @@
 pub mod Begin
 pub mod Commit
 pub mod Draft
+pub mod Opened
 pub mod Settings
+pub mod Source
 pub mod Uploads

@@ -1,14 +1,19 @@
 //! Finds the files of a folder on the system.
 
-ghost use Rattle.std.specs.Prelude.{◌≡◌, ◌⊎◌, ◌∷◌, [], Ok, Err, IfErr, IfOk, OnErr};
+ghost use Rattle.std.specs.Prelude.{◌≡◌, ◌⊎◌, ◌∷◌, [], true, Ok, Err, IfErr, IfOk, OnErr, IfSome};
 ghost use Rattle.std.specs.String.{string_bytes};
 ghost use Rattle.tftp_disk.specs.Changes.{changes};
 ghost use Rattle.tftp_disk.specs.DiskJournal.{Done};
-ghost use Rattle.tftp_disk.specs.DiskJournal.DiskEvent.{Made};
+ghost use Rattle.tftp_disk.specs.DiskJournal.DiskEvent.{Made, Looked, Opened, Examined};
+ghost use Rattle.tftp_disk.specs.Found.{is_same_file};
+ghost use Rattle.tftp_disk.specs.declared.found.Found.{Found};
+ghost use Rattle.tftp_folder.specs.Opened.{FindsAt, FollowsTo, LooksLast, IsStill, OpensAt};
+ghost use Rattle.tftp_folder.specs.Opened.{OpensSeen, given};
 ghost use Rattle.tftp_folder.specs.Begin.{draft_name, MakesDraft};
 ghost use Rattle.tftp_folder.specs.Uploads.{path_below};
 ghost use Rattle.tftp_disk.specs.DiskFault.{MayNotOpen, MayNotStore, MayNotName, is_replaced};
 
+use crate::below::is_below;
 use crate::naming::{NameFault, has_no_link};
 use crate::replacing::check_replaced;
 use crate::served_folder::ServedFolder;
@@ -34,6 +39,23 @@ pub(crate) struct Location {
     folder: Option<FileId>,
     /// What was found at the path itself; links are not followed.
     found: Option<Found>,
+}
+
+/// What was found above a path.
+#[derive(Clone, Copy)]
+struct Above {
+    /// A folder of the path is a link.
+    has_link: bool,
+    /// The parent folder, if that is not the root.
+    folder: Option<FileId>,
+}
+
+/// A file that was opened to be read.
+#[derive(Drop)]
+pub(crate) struct OpenedFile<F> {
+    pub(crate) file: DiskFile<F>,
+    /// What the system said of it.
+    pub(crate) found: Found,
 }
 
 /// A place for a new file, in a folder without links on its path.
@@ -75,45 +97,68 @@ impl<R: Files + Drop> ServedFolder<R> {
     ) -> Result<Location, StoreFault>
         ensures fault { IfErr result MayNotOpen }
         ensures path { IfOk result (λ location. location.path ≡ target) }
+        ensures found { IfOk result (λ location. LooksLast (string_bytes target) location.found
+            journal.new.events) }
         ensures looks { changes journal.new.events ≡ changes journal.old.events }
     {
+        let above = self.walk_folders(journal, path, target.as_str())?;
+        match tftp_disk::look(&self.files, journal, target.as_str()) {
+            Ok(found) => Ok(Location {
+                path: target,
+                has_link: above.has_link || found.kind == Kind::Link,
+                folder: above.folder,
+                found: Some(found),
+            }),
+            Err(error) => {
+                if error.kind() == ErrorKind::NotFound {
+                    Ok(Location {
+                        path: target,
+                        has_link: above.has_link,
+                        folder: above.folder,
+                        found: None,
+                    })
+                } else {
+                    Err(self.open_refused(&error))
+                }
+            }
+        }
+    }
+
+    /// Looks at each folder above a path of the store, from the root down. `Missing` if one is.
+    fn walk_folders(
+        &self,
+        journal: &mut DiskJournal,
+        path: &Path,
+        target: &str,
+    ) -> Result<Above, StoreFault>
+        ensures fault { IfErr result MayNotOpen }
+        ensures looks { changes journal.new.events ≡ changes journal.old.events }
+    {
+        let mut above = Above {
+            has_link: false,
+            folder: None,
+        };
         let Ok(name) = str::from_utf8(path.as_bytes()) else {
             return Err(StoreFault::Missing);
         };
-        let mut has_link = false;
-        let mut folder = None;
-        let mut found: Option<Found> = None;
-        let mut is_missing = false;
+        let Some((folders, _)) = name.rsplit_once('/') else {
+            return Ok(above);
+        };
         let mut end = self.root.len();
-        for segment in name.split('/') {
-            if is_missing {
-                return Err(StoreFault::Missing);
-            }
-            if let Some(above) = found {
-                folder = Some(above.id);
-            }
+        for segment in folders.split('/') {
             end = end.saturating_add(1).saturating_add(segment.len());
-            let Some(at) = target.as_str().get(..end) else {
+            let Some(at) = target.get(..end) else {
                 return Err(StoreFault::Missing);
             };
             match tftp_disk::look(&self.files, journal, at) {
                 Ok(seen) => {
-                    has_link |= seen.kind == Kind::Link;
-                    found = Some(seen);
-                }
-                Err(error) if error.kind() == ErrorKind::NotFound => {
-                    is_missing = true;
-                    found = None;
+                    above.has_link |= seen.kind == Kind::Link;
+                    above.folder = Some(seen.id);
                 }
                 Err(error) => return Err(self.open_refused(&error)),
             }
         }
-        Ok(Location {
-            path: target,
-            has_link,
-            folder,
-            found,
-        })
+        Ok(above)
     }
 
     /// The target of a path with links. `Io` if it is outside the folder.
@@ -123,17 +168,16 @@ impl<R: Files + Drop> ServedFolder<R> {
         alloc: Global,
         path: &str,
     ) -> Result<Location, StoreFault>
-        ensures { IfErr result MayNotOpen }
+        ensures fault { IfErr result MayNotOpen }
+        ensures ok { IfOk result (λ location. FollowsTo (string_bytes self.now.root) path.now
+            (string_bytes location.path) location.found journal.new.events) }
     {
         let canonical = match tftp_disk::resolve(&self.files, journal, alloc, path) {
             Ok(canonical) => canonical,
             Err(error) => return Err(self.open_refused(&error)),
         };
-        let text = canonical.as_path().as_str();
-        let is_inside = text
-            .strip_prefix(self.root.as_str())
-            .is_some_and(|rest| rest.starts_with('/'));
-        if !is_inside {
+        let text = canonical.as_str();
+        if !is_below(self.root.as_bytes(), text.as_bytes()) {
             return Err(self.refused(Reason::LeadsOut));
         }
         match tftp_disk::look(&self.files, journal, text) {
@@ -147,6 +191,26 @@ impl<R: Files + Drop> ServedFolder<R> {
         }
     }
 
+    /// Finds the file of a path of the store, through links within the folder.
+    fn locate(
+        &self,
+        journal: &mut DiskJournal,
+        alloc: Global,
+        path: &Path,
+    ) -> Result<Location, StoreFault>
+        ensures fault { IfErr result MayNotOpen }
+        ensures ok { IfOk result (λ location. FindsAt (string_bytes self.now.root) path.now
+            (string_bytes location.path) location.found journal.new.events) }
+    {
+        let target = self.path_of(alloc, path)?;
+        let location = self.walk(journal, path, target)?;
+        if location.has_link {
+            self.follow(journal, alloc, location.path.as_str())
+        } else {
+            Ok(location)
+        }
+    }
+
     /// Opens the regular file at the path, and returns it with what was found of it. A folder is
     /// `Missing`, and any other file that is not regular is `Io`, as is one that is replaced again
     /// and again.
@@ -155,12 +219,17 @@ impl<R: Files + Drop> ServedFolder<R> {
         journal: &mut DiskJournal,
         alloc: Global,
         path: &Path,
-    ) -> Result<(DiskFile<R::File>, Found), StoreFault>
-        ensures { IfErr result MayNotOpen }
+    ) -> Result<OpenedFile<R::File>, StoreFault>
+        ensures fault { IfErr result MayNotOpen }
+        ensures opens { IfOk result (λ opened. OpensAt (string_bytes self.now.root) path.now
+            opened.found journal.new.events opened.file.journal.events) }
+        ensures start { IfOk result (λ opened. given opened.file.journal.events ≡ []) }
     {
         for _ in 0..MOST_LOOKS {
-            if let Some(opened) = self.open_found(journal, alloc, path)? {
-                return Ok(opened);
+            match self.open_found(journal, alloc, path) {
+                Ok(Some(opened)) => return Ok(opened),
+                Ok(None) => {}
+                Err(fault) => return Err(fault),
             }
         }
         Err(self.refused(Reason::FileReplaced))
@@ -173,14 +242,15 @@ impl<R: Files + Drop> ServedFolder<R> {
         journal: &mut DiskJournal,
         alloc: Global,
         path: &Path,
-    ) -> Result<Option<(DiskFile<R::File>, Found)>, StoreFault>
-        ensures { IfErr result MayNotOpen }
+    ) -> Result<Option<OpenedFile<R::File>>, StoreFault>
+        ensures fault { IfErr result MayNotOpen }
+        ensures opens { IfOk result (λ opened. IfSome opened (λ file. OpensAt
+            (string_bytes self.now.root) path.now file.found journal.new.events
+            file.file.journal.events)) }
+        ensures start { IfOk result (λ opened. IfSome opened (λ file.
+            given file.file.journal.events ≡ [])) }
     {
-        let target = self.path_of(alloc, path)?;
-        let mut location = self.walk(journal, path, target)?;
-        if location.has_link {
-            location = self.follow(journal, alloc, location.path.as_str())?;
-        }
+        let location = self.locate(journal, alloc, path)?;
         let Some(found) = location.found else {
             return Err(StoreFault::Missing);
         };
@@ -197,33 +267,44 @@ impl<R: Files + Drop> ServedFolder<R> {
         journal: &mut DiskJournal,
         path: &str,
         seen: FileId,
-    ) -> Result<Option<(DiskFile<R::File>, Found)>, StoreFault>
-        ensures { IfErr result MayNotOpen }
+    ) -> Result<Option<OpenedFile<R::File>>, StoreFault>
+        ensures fault { IfErr result MayNotOpen }
+        ensures opens { IfOk result (λ opened. IfSome opened (λ file. OpensSeen
+            (string_bytes self.now.root) path.now seen file.found journal.old.events
+            journal.new.events)) }
+        ensures file { IfOk result (λ opened. IfSome opened (λ file. file.file.journal.events
+            ≡ Examined (Ok file.found) ∷ Opened path.now (Ok tt) ∷ [])) }
     {
         let mut file = match tftp_disk::open(&self.files, journal, path) {
             Ok(file) => file,
             Err(error) => return Err(self.open_refused(&error)),
         };
-        match file.examine() {
-            Ok(opened) => {
-                if opened.id.is(seen) && self.is_still(journal, path, seen) {
-                    Ok(Some((file, opened)))
-                } else {
-                    Ok(None)
-                }
-            }
-            Err(error) => Err(self.open_refused(&error)),
+        let found = match file.examine() {
+            Ok(found) => found,
+            Err(error) => return Err(self.open_refused(&error)),
+        };
+        if found.id.is(seen) && self.is_still(journal, path, seen) {
+            Ok(Some(OpenedFile { file, found }))
+        } else {
+            Ok(None)
         }
     }
 
     /// Whether the file still is at the path, below folders alone.
-    fn is_still(&self, journal: &mut DiskJournal, path: &str, id: FileId) -> bool {
+    fn is_still(&self, journal: &mut DiskJournal, path: &str, id: FileId) -> bool
+        ensures { result ≡ true → IsStill (string_bytes self.now.root) path.now id
+            journal.old.events journal.new.events }
+    {
         has_no_link(&self.files, journal, self.root.as_str(), folder_of(path))
             && self.is_at(journal, path, id)
     }
 
     /// Whether the file is at the path.
-    fn is_at(&self, journal: &mut DiskJournal, path: &str, id: FileId) -> bool {
+    fn is_at(&self, journal: &mut DiskJournal, path: &str, id: FileId) -> bool
+        ensures { result ≡ true → (again : Found)
+            × (journal.new.events ≡ Looked path.now (Ok again) ∷ journal.old.events)
+            × (is_same_file id again.id ≡ true) }
+    {
         match tftp_disk::look(&self.files, journal, path) {
             Ok(found) => id.is(found.id),
             Err(_) => false,

@@ -1,5 +1,13 @@
 //! A file of a folder that is being read.
 
+ghost use Rattle.std.specs.Prelude.{◌≡◌, ◌∷◌, None, IfOk};
+ghost use Rattle.std.specs.Io.{ReadsAtMost};
+ghost use Rattle.std.specs.Io.KnownBytes.{Keeps, ReadConsumes};
+ghost use Rattle.std.specs.Io.Seek.{SeekMoves};
+ghost use Rattle.tftp_disk.specs.Calls.{read_event};
+ghost use Rattle.tftp_disk.specs.DiskJournal.DiskEvent.{Sought};
+ghost use Rattle.tftp_folder.specs.Source.{file_of};
+
 use std::alloc::{AllocError, Global};
 use std::cell::Cell;
 use std::io::{self, BufReader, Read, Seek, SeekFrom};
@@ -50,13 +58,15 @@ impl SharedReason {
 /// An open file that keeps the reason for its last failed call.
 #[derive(Drop)]
 pub(crate) struct NotedFile<F: Drop> {
-    file: F,
+    file: DiskFile<F>,
     failure: SharedReason,
 }
 
 impl<F: Drop> NotedFile<F> {
     /// A file that has not failed.
-    pub(crate) fn new(alloc: Global, file: F) -> Result<NotedFile<F>, AllocError> {
+    pub(crate) fn new(alloc: Global, file: DiskFile<F>) -> Result<NotedFile<F>, AllocError>
+        ensures { IfOk result (λ noted. noted.file ≡ file) }
+    {
         let failure = SharedReason::new(alloc)?;
         Ok(NotedFile { file, failure })
     }
@@ -67,14 +77,21 @@ impl<F: Drop> NotedFile<F> {
     }
 
     /// Keeps the reason of an error.
-    fn note(&self, error: io::Error) -> io::Error {
+    fn note(&self, error: io::Error) -> io::Error
+        ensures { result ≡ error }
+    {
         self.failure.set(reason_of(&error));
         error
     }
 }
 
 impl<F: Read + Drop> Read for NotedFile<F> {
-    fn read(&mut self, buffer: &mut [u8]) -> io::Result<usize> {
+    fn read(&mut self, buffer: &mut [u8]) -> io::Result<usize>
+        ensures bound { ReadsAtMost result buffer.new }
+        ensures bytes { ReadConsumes None None result buffer.new }
+        ensures noted { self.new.file.journal.events ≡ read_event result buffer.new
+            ∷ self.old.file.journal.events }
+    {
         match self.file.read(buffer) {
             Ok(count) => Ok(count),
             Err(error) => Err(self.note(error)),
@@ -83,7 +100,12 @@ impl<F: Read + Drop> Read for NotedFile<F> {
 }
 
 impl<F: Seek + Drop> Seek for NotedFile<F> {
-    fn seek(&mut self, to: SeekFrom) -> io::Result<u64> {
+    fn seek(&mut self, to: SeekFrom) -> io::Result<u64>
+        ensures moves { SeekMoves None None None to result }
+        ensures bytes { Keeps None None }
+        ensures noted { self.new.file.journal.events ≡ Sought to result
+            ∷ self.old.file.journal.events }
+    {
         match self.file.seek(to) {
             Ok(at) => Ok(at),
             Err(error) => Err(self.note(error)),
@@ -92,7 +114,7 @@ impl<F: Seek + Drop> Seek for NotedFile<F> {
 }
 
 /// The wire text of a file, which is read ahead.
-type FileText<F> = Ahead<ReadSource<BufReader<NotedFile<DiskFile<F>>>>>;
+type FileText<F> = Ahead<ReadSource<BufReader<NotedFile<F>>>>;
 
 /// The source of a file of a [`FolderStore`](crate::FolderStore). Its store gets the reason for a
 /// fill that fails, or that finds fewer bytes than it requests.
@@ -111,12 +133,15 @@ impl<F: Read + Drop> FolderSource<F> {
     /// The source of an open file whose text has this length. It fails only when out of memory.
     pub(crate) fn new(
         alloc: Global,
-        file: NotedFile<DiskFile<F>>,
+        file: NotedFile<F>,
         found: DiskJournal,
         mode: Mode,
         length: u64,
         reason: SharedReason,
-    ) -> io::Result<FolderSource<F>> {
+    ) -> io::Result<FolderSource<F>>
+        ensures file { IfOk result (λ source. file_of source ≡ file) }
+        ensures found { IfOk result (λ source. source.found ≡ found) }
+    {
         let failure = file.failure.share()?;
         let room = length.min(READ_BUFFER) as usize;
         let reader = BufReader::with_capacity(alloc, room, file)?;

@@ -1,24 +1,28 @@
 //! A store over the files in a folder and its subfolders.
 
 ghost use Rattle.std.specs.Prelude.{◌≡◌, ◌≢◌, ℕ, List, true, false, None, Some, Ok, IfOk, IfErr};
-ghost use Rattle.std.specs.Prelude.{[], IfSome, OnErr};
+ghost use Rattle.std.specs.Prelude.{[], ◌++◌, ◌⊎◌, codes, IfSome, OnOk, OnErr};
 ghost use Rattle.std.specs.String.{string_bytes};
 ghost use Rattle.tftp_file.specs.Path.{path_of_name};
+ghost use Rattle.tftp_disk.specs.Changes.{changes};
 ghost use Rattle.tftp_disk.specs.DiskFault.{MayNotOpen, MayNotStore, MayNotName, is_replaced};
+ghost use Rattle.tftp_folder.specs.Opened.{given, IsRootOf};
 ghost use Rattle.tftp_folder.specs.Settings.{SameSettings};
+ghost use Rattle.tftp_folder.specs.Source.{calls_on, StatesLength, StaysOpen};
 ghost use Rattle.tftp_folder.specs.Uploads.{IsBelow, path_below};
 
 use crate::beginning::{DraftMemory, begin_draft};
+use crate::below::is_below;
 use crate::folder_draft::FolderDraft;
 use crate::folder_source::{FolderSource, NotedFile, SharedReason};
 use crate::naming::{NameFault, give_name, has_no_link};
 use crate::served_folder::ServedFolder;
-use crate::wire_lengths::WireLengths;
+use crate::wire_lengths::{WireLengths, check_empty};
 use std::alloc::Global;
 use std::cell::Cell;
 use std::io::{self, ErrorKind};
 use std::rt::Files;
-use tftp_disk::{DiskFile, DiskJournal, Existing, Found, Kind, check_length};
+use tftp_disk::{DiskJournal, Existing, Found, Kind};
 use tftp_file::{FileFault, MAX_WIRE, Path, PathFault, StoreFault, path_of};
 use tftp_lines::Reason;
 use tftp_store::{Opening, ServedStore, Store};
@@ -58,15 +62,15 @@ impl<R: Files + Drop> FolderStore<R> {
     /// The store over a folder. It fails with `NotADirectory` if `root` is no folder, with the
     /// system's error if `root` cannot be resolved, or when out of memory.
     pub fn new(files: R, alloc: Global, root: &str) -> io::Result<FolderStore<R>>
-        ensures { IfOk result (λ store. (store.is_read_only ≡ false) × (store.uploads ≡ None)) }
+        ensures settings { IfOk result (λ store. (store.is_read_only ≡ false)
+            × (store.uploads ≡ None)) }
+        ensures root { IfOk result (λ store. IsRootOf root.now (string_bytes store.folder.root)
+            store.journal.events) }
+        ensures drafts { IfOk result (λ store. string_bytes store.folder.drafts
+            ≡ string_bytes store.folder.root) }
     {
         let mut journal = DiskJournal::new();
-        let canonical = tftp_disk::resolve(&files, &mut journal, alloc, root)?;
-        let text = canonical.as_path().as_str();
-        if tftp_disk::follow(&files, &mut journal, text)?.kind != Kind::Folder {
-            return Err(io::Error::from_raw_os_error(ENOTDIR));
-        }
-        let root = String::from_str(alloc, text.strip_suffix('/').unwrap_or(text))?;
+        let root = resolve_root(&files, &mut journal, alloc, root)?;
         let drafts = root.clone()?;
         let reason = SharedReason::new(alloc)?;
         Ok(FolderStore {
@@ -111,6 +115,7 @@ impl<R: Files + Drop> FolderStore<R> {
         ensures err { OnErr result (self.new ≡ record self.old {
           journal = self.new.journal;
         }) }
+        ensures looks { changes self.new.journal.events ≡ changes self.old.journal.events }
     {
         let path = match path_of(alloc, folder.as_bytes()) {
             Ok(path) => path,
@@ -131,23 +136,35 @@ impl<R: Files + Drop> FolderStore<R> {
     /// file cannot be read, or has a byte though its length is 0.
     fn measure(
         &self,
-        file: &mut NotedFile<DiskFile<R::File>>,
+        file: &mut NotedFile<R::File>,
         found: &Found,
         mode: Mode,
     ) -> Result<u64, StoreFault>
-        ensures { IfErr result MayNotOpen }
+        requires { given (calls_on file.old) ≡ [] }
+        ensures fault { IfErr result MayNotOpen }
+        ensures stated { IfOk result (StatesLength self.now.lengths.longest mode found.now) }
+        ensures start { OnOk result (given (calls_on file.new) ≡ []) }
+        ensures stays { StaysOpen file.old file.new }
     {
-        match check_length(file, found.bytes) {
-            Ok(()) => {}
-            Err(error) if error.kind() == ErrorKind::InvalidData => {
-                return Err(self.folder.refused(Reason::LengthUnknown));
-            }
-            Err(error) => return Err(self.folder.open_refused(&error)),
+        if let Err(error) = check_empty(file, found) {
+            return Err(self.not_empty(&error));
         }
         match self.lengths.length_of(file, found, mode) {
-            Ok(length) => Ok(length.unwrap_or(MAX_WIRE + 1)),
+            Ok(Some(length)) => Ok(length),
+            Ok(None) => Ok(MAX_WIRE + 1),
             Err(FileFault::Memory) => Err(StoreFault::Memory),
             Err(FileFault::Read) => Err(self.folder.refused(file.failure())),
+        }
+    }
+
+    /// The fault of a file that states a length of 0 and is not known to be empty; keeps the reason.
+    fn not_empty(&self, error: &io::Error) -> StoreFault
+        ensures { MayNotOpen result }
+    {
+        if error.kind() == ErrorKind::InvalidData {
+            self.folder.refused(Reason::LengthUnknown)
+        } else {
+            self.folder.open_refused(error)
         }
     }
 
@@ -170,6 +187,34 @@ impl<R: Files + Drop> FolderStore<R> {
     }
 }
 
+/// The canonical path of a folder, without a trailing slash.
+fn resolve_root<R: Files>(
+    files: &R,
+    journal: &mut DiskJournal,
+    alloc: Global,
+    root: &str,
+) -> io::Result<String>
+    requires { journal.old.events ≡ [] }
+    ensures { IfOk result (λ path. IsRootOf root.now (string_bytes path) journal.new.events) }
+{
+    let canonical = tftp_disk::resolve(files, journal, alloc, root)?;
+    let text = canonical.as_str();
+    if tftp_disk::follow(files, journal, text)?.kind != Kind::Folder {
+        return Err(io::Error::from_raw_os_error(ENOTDIR));
+    }
+    Ok(String::from_str(alloc, without_last_slash(text))?)
+}
+
+/// A path without its last slash, if it has one.
+fn without_last_slash(path: &str) -> &str
+    ensures { (path.now ≡ result.now) ⊎ (path.now ≡ result.now ++ codes "/") }
+{
+    match path.strip_suffix("/") {
+        Some(front) => front,
+        None => path,
+    }
+}
+
 /// The path of a folder below the root, which no link leads to.
 fn folder_below<R: Files + Drop>(
     served: &ServedFolder<R>,
@@ -177,8 +222,9 @@ fn folder_below<R: Files + Drop>(
     alloc: Global,
     name: &[u8],
 ) -> io::Result<String>
-    ensures { IfOk result (λ folder.
+    ensures ok { IfOk result (λ folder.
         string_bytes folder ≡ path_below (string_bytes served.now.root) name.now) }
+    ensures looks { changes journal.new.events ≡ changes journal.old.events }
 {
     let Ok(name) = str::from_utf8(name) else {
         return Err(io::Error::from_raw_os_error(ENOENT));
@@ -190,16 +236,6 @@ fn folder_below<R: Files + Drop>(
         Ok(folder)
     } else {
         Err(io::Error::from_raw_os_error(ENOTDIR))
-    }
-}
-
-/// Whether the path is that of a file in this folder or below.
-fn is_below(folder: &[u8], path: &[u8]) -> bool
-    ensures { result ≡ true → IsBelow folder.now path.now }
-{
-    match path.strip_prefix(folder) {
-        Some([first, ..]) => *first == b'/',
-        _ => false,
     }
 }
 
@@ -240,6 +276,7 @@ impl<R: Files + Drop> Store for FolderStore<R> {
     ghost use Rattle.tftp_disk.specs.DiskFault.{MayNotOpen, MayNotStore, MayNotBegin, MayNotName};
     ghost use Rattle.std.specs.Result.{result_err};
     ghost use Rattle.tftp_folder.specs.Settings.{HasBegun, SameSettings};
+    ghost use Rattle.tftp_folder.specs.Source.{OpensFile};
     ghost use Rattle.tftp_folder.specs.Uploads.{IsBelow, path_below};
 
     type Source = FolderSource<R::File>;
@@ -268,12 +305,16 @@ impl<R: Files + Drop> Store for FolderStore<R> {
         alloc: Global,
         path: &Path,
         mode: Mode,
-    ) -> Result<Opening<FolderSource<R::File>>, StoreFault> {
+    ) -> Result<Opening<FolderSource<R::File>>, StoreFault>
+        ensures refused { IfErr result MayNotOpen }
+        ensures opened { IfOk result (OpensFile (string_bytes self.now.folder.root) path.now
+            self.now.lengths.longest mode) }
+    {
         self.folder.reason.clear();
         let mut journal = DiskJournal::new();
-        let (file, found) = self.folder.open_file(&mut journal, alloc, path)?;
-        let mut file = NotedFile::new(alloc, file)?;
-        let length = self.measure(&mut file, &found, mode)?;
+        let opened = self.folder.open_file(&mut journal, alloc, path)?;
+        let mut file = NotedFile::new(alloc, opened.file)?;
+        let length = self.measure(&mut file, &opened.found, mode)?;
         let reason = self.folder.reason.share()?;
         match FolderSource::new(alloc, file, journal, mode, length, reason) {
             Ok(source) => Ok(Opening { source, length }),

@@ -7,6 +7,7 @@
 #![tactic(auto)]
 
 mod beginning;
+mod below;
 mod finding;
 mod folder_draft;
 mod folder_source;

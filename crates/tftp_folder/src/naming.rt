@@ -1,7 +1,10 @@
 //! Gives a draft its name on the disk, in the folder that its request named.
 
-ghost use Rattle.std.specs.Prelude.{◌≡◌, false, Ok, OnOk};
+ghost use Rattle.std.specs.Prelude.{◌≡◌, ◌∷◌, true, false, Ok, OnOk};
 ghost use Rattle.tftp_disk.specs.Changes.{changes};
+ghost use Rattle.tftp_disk.specs.DiskJournal.DiskEvent.{Looked};
+ghost use Rattle.tftp_disk.specs.declared.found.Found.{Found};
+ghost use Rattle.tftp_folder.specs.Opened.{AreFolders};
 ghost use Rattle.tftp_disk.specs.DiskFault.{is_replaced};
 ghost use Rattle.tftp_folder.specs.Draft.{IsDone, StaysDone, KeepsDone, NamesDraft, RenamesDraft};
 ghost use Rattle.tftp_folder.specs.Draft.{NamesIn, GivesName};
@@ -169,7 +172,9 @@ pub(crate) fn has_no_link<R: Files>(
     root: &str,
     folder: &str,
 ) -> bool
-    ensures { changes journal.new.events ≡ changes journal.old.events }
+    ensures looks { changes journal.new.events ≡ changes journal.old.events }
+    ensures folders { result ≡ true → AreFolders root.now folder.now journal.old.events
+        journal.new.events }
 {
     let mut folder = folder;
     for _ in 0..MOST_FOLDERS {
@@ -186,7 +191,10 @@ pub(crate) fn has_no_link<R: Files>(
 
 /// Whether the path is that of a folder, and no link.
 fn is_folder<R: Files>(files: &R, journal: &mut DiskJournal, path: &str) -> bool
-    ensures { changes journal.new.events ≡ changes journal.old.events }
+    ensures looks { changes journal.new.events ≡ changes journal.old.events }
+    ensures folder { result ≡ true → (found : Found)
+        × (journal.new.events ≡ Looked path.now (Ok found) ∷ journal.old.events)
+        × (found.kind ≡ Kind.Folder) }
 {
     match tftp_disk::look(files, journal, path) {
         Ok(found) => found.kind == Kind::Folder,

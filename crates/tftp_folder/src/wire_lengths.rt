@@ -1,13 +1,26 @@
 //! The lengths of files in netascii, each measured once.
 
+ghost use Rattle.std.specs.Prelude.{◌≡◌, ◌≤◌, ◌<◌, min, [], Ok, None, IfOk, OnOk};
+ghost use Rattle.tftp_file.specs.Length.{up_to};
+ghost use Rattle.tftp_wire.specs.declared.mode.Mode.TheVariants.{Octet};
+ghost use Rattle.tftp_folder.specs.Opened.{given};
+ghost use Rattle.tftp_folder.specs.Source.{calls_on, StaysOpen};
+
+use crate::folder_source::NotedFile;
 use lru::LruCache;
 use std::alloc::{AllocError, Global};
 use std::cell::RefCell;
-use std::io::{Read, Seek};
+use std::io::{self, ErrorKind, Read, Seek, SeekFrom};
 use std::num::NonZeroUsize;
-use tftp_disk::{FileId, Found, length_on_wire};
-use tftp_file::{FileFault, MAX_WIRE};
+use tftp_disk::{FileId, Found};
+use tftp_file::{FileFault, MAX_WIRE, wire_length_within};
 use tftp_wire::Mode;
+
+/// How many bytes are read at once of a file that is measured.
+const CHUNK: usize = 8_192;
+
+/// The longest text on the wire of so many bytes.
+const MOST_IN_CHUNK: u64 = 2 * CHUNK as u64;
 
 /// How many lengths are remembered.
 const MOST_LENGTHS: usize = 1_024;
@@ -57,24 +70,50 @@ impl WireLengths {
         self.longest = bytes;
     }
 
-    /// The length of an open file on the wire, or `None` if it is too long to be sent. In netascii
-    /// a file is read to its end once, whatever the block size, and again after a change. The
-    /// length on the wire is at least that of the file, so a file that is too long by its own
-    /// length is not read.
-    pub(crate) fn length_of<F: Read + Seek>(
+    /// The length of an open file on the wire, or `None` if it is too long to be sent. In octet it is
+    /// what the system states. In netascii a file is read to its end once, whatever the block size,
+    /// and again after a change. The length on the wire is at least that of the file, so a file that
+    /// is too long by its own length is not read.
+    pub(crate) fn length_of<F: Read + Seek + Drop>(
         &self,
-        file: &mut F,
+        file: &mut NotedFile<F>,
         found: &Found,
         mode: Mode,
-    ) -> Result<Option<u64>, FileFault> {
-        if mode == Mode::Octet || found.bytes > self.longest {
-            return length_on_wire(file, mode, found.bytes, self.longest);
+    ) -> Result<Option<u64>, FileFault>
+        requires { given (calls_on file.old) ≡ [] }
+        ensures long { min self.now.longest MAX_WIRE < found.now.bytes → result ≡ Ok None }
+        ensures octet { mode ≡ Octet
+            → result ≡ Ok (up_to (min self.now.longest MAX_WIRE) found.now.bytes) }
+        ensures start { OnOk result (given (calls_on file.new) ≡ []) }
+        ensures stays { StaysOpen file.old file.new }
+    {
+        if found.bytes > self.longest.min(MAX_WIRE) {
+            return Ok(None);
         }
+        match mode {
+            Mode::Octet => Ok(Some(found.bytes)),
+            Mode::Netascii => self.netascii_length(file, found),
+        }
+    }
+
+    /// The length of a file in netascii, which is read once.
+    fn netascii_length<F: Read + Seek + Drop>(
+        &self,
+        file: &mut NotedFile<F>,
+        found: &Found,
+    ) -> Result<Option<u64>, FileFault>
+        requires { given (calls_on file.old) ≡ [] }
+        ensures start { OnOk result (given (calls_on file.new) ≡ []) }
+        ensures stays { StaysOpen file.old file.new }
+    {
         let contents = Contents::of(found);
         if let Some(length) = self.recall(contents) {
             return Ok(length);
         }
-        let length = length_on_wire(file, mode, found.bytes, MAX_WIRE)?;
+        let length = count_netascii(file)?;
+        let Ok(_) = file.seek(SeekFrom::Start(0)) else {
+            return Err(FileFault::Read);
+        };
         self.remember(contents, length);
         Ok(length)
     }
@@ -92,5 +131,56 @@ impl WireLengths {
         if let Ok(mut measured) = self.measured.try_borrow_mut() {
             let _ = measured.put(contents, length);
         }
+    }
+}
+
+/// The length of an open file in netascii, which is read from its beginning to its end, at most
+/// until `MAX_WIRE` is passed: then it is `None`.
+fn count_netascii<F: Read + Drop>(file: &mut NotedFile<F>) -> Result<Option<u64>, FileFault>
+    ensures stays { StaysOpen file.old file.new }
+{
+    let mut chunk = [0; CHUNK];
+    let mut total = 0;
+    while total <= MAX_WIRE {
+        let count = count_next(file, &mut chunk)?;
+        if count == 0 {
+            return Ok(Some(total));
+        }
+        total += count;
+    }
+    Ok(None)
+}
+
+/// Reads the next bytes, and counts them in netascii: 0 at the end.
+fn count_next<F: Read + Drop>(
+    file: &mut NotedFile<F>,
+    chunk: &mut [u8; CHUNK],
+) -> Result<u64, FileFault>
+    ensures within { IfOk result (λ count. count ≤ MOST_IN_CHUNK) }
+    ensures stays { StaysOpen file.old file.new }
+{
+    let Ok(count) = file.read(&mut chunk[..]) else {
+        return Err(FileFault::Read);
+    };
+    Ok(wire_length_within(&chunk[..count], Mode::Netascii, MOST_IN_CHUNK))
+}
+
+/// Fails if a file that states a length of 0 has a byte, as a file of `/proc` does: its length is
+/// not known before it is read, and what was measured would be sent as an empty file. A file of
+/// another length is not read.
+///
+/// `InvalidData` if it has a byte, else the error of the read.
+pub(crate) fn check_empty<F: Read + Drop>(file: &mut NotedFile<F>, found: &Found) -> io::Result<()>
+    requires { given (calls_on file.old) ≡ [] }
+    ensures start { OnOk result (given (calls_on file.new) ≡ []) }
+    ensures stays { StaysOpen file.old file.new }
+{
+    if found.bytes > 0 {
+        return Ok(());
+    }
+    match file.read(&mut [0]) {
+        Ok(0) => Ok(()),
+        Ok(_) => Err(io::Error::from(ErrorKind::InvalidData)),
+        Err(error) => Err(error),
     }
 }

@@ -1,7 +1,7 @@
 use Rattle.tftp_folder.proofs.UploadLemmas.{below}
-use Rattle.tftp_folder.proofs.folder_store.is_below.Goals as goal
+use Rattle.tftp_folder.proofs.below.is_below.Goals as goal
 
--- src/folder.rt:213:1
+-- What begins with the folder and a slash is below it.
 pub returns-in-Some-len1-up : goal.returns-in-Some-len1-up
 returns-in-Some-len1-up c =
     let cases = c.in-Some-len1-up.ensures.cases in

@@ -1,0 +1,108 @@
+-- How a store over a folder finds and opens a file to be read (ours).
+use Rattle.std.specs.Prelude.{ℕ, ◌≡◌, ◌≤◌, ◌⊎◌, Bool, true, false, ◌==◌, max, if◌then◌else◌, List, []}
+use Rattle.std.specs.Prelude.{◌∷◌, ◌++◌, length, Option, Some, None, IfSome, Ok, codes}
+use Rattle.std.specs.declared.io.SeekFrom.{SeekFrom}
+use Rattle.std.specs.declared.io.SeekFrom.TheVariants.{Start}
+use Rattle.tftp_disk.specs.DiskJournal.{DiskEvent}
+use Rattle.tftp_disk.specs.DiskJournal.DiskEvent.{Looked, Followed, Resolved, Opened}
+use Rattle.tftp_disk.specs.DiskJournal.DiskEvent.{Examined, Given, Sought}
+use Rattle.tftp_disk.specs.Folder.{IsFolderOf}
+use Rattle.tftp_disk.specs.Found.{is_same_file}
+use Rattle.tftp_disk.specs.declared.found.FileId.{FileId}
+use Rattle.tftp_disk.specs.declared.found.Found.{Found}
+use Rattle.tftp_disk.specs.declared.found.Kind.TheVariants.{Regular, Folder}
+use Rattle.tftp_folder.specs.Uploads.{IsBelow, path_below}
+
+-- the root is the folder that the system resolved the operator's path to, without its last slash
+pub record IsRootOf (path root : List ℕ) (after : List DiskEvent) : Type 0 where
+  pub text : List ℕ
+  pub found : Found
+  pub looked : after ≡ Followed text (Ok found) ∷ Resolved path (Ok text) ∷ []
+  pub is_folder : found.kind ≡ Folder
+  pub whole : (text ≡ root) ⊎ (text ≡ root ++ codes "/")
+
+-- the path of the open file of these calls
+abbrev pub opened_at : List DiskEvent → Option (List ℕ)
+opened_at [] = None
+opened_at (Opened path (Ok done) ∷ events) = Some path
+opened_at (event ∷ events) = opened_at events
+
+-- what the system said of it at the newest look
+abbrev pub examined : List DiskEvent → Option Found
+examined [] = None
+examined (Examined (Ok found) ∷ events) = Some found
+examined (event ∷ events) = examined events
+
+-- the next read is to begin at the first byte
+abbrev pub is_rewind : SeekFrom → Bool
+is_rewind (Start place) = place == 0
+is_rewind to = false
+
+-- the bytes that were read of it, in order, since its opening or its newest rewind
+abbrev pub given : List DiskEvent → List ℕ
+given [] = []
+given (Given bytes ∷ events) = given events ++ bytes
+given (Sought to (Ok place) ∷ events) = if is_rewind to then [] else given events
+given (event ∷ events) = given events
+
+-- the path and each above it, up to the root, was looked at, and is a folder and no link
+pub data AreFolders (root : List ℕ) : List ℕ → List DiskEvent → List DiskEvent → Type 0 where
+  Above : {path : List ℕ} {events : List DiskEvent} → length path ≤ max (length root) 1
+      → AreFolders root path events events
+  Then : {path above : List ℕ} {found : Found} {before after : List DiskEvent}
+      → found.kind ≡ Folder → IsFolderOf path above
+      → AreFolders root above (Looked path (Ok found) ∷ before) after
+      → AreFolders root path before after
+
+-- the newest look was at the path, if a file was found
+abbrev pub LooksLast : List ℕ → Option Found → List DiskEvent → Type 0
+LooksLast at found after =
+    IfSome found (λ seen. (before : List DiskEvent) × (after ≡ Looked at (Ok seen) ∷ before))
+
+-- the system resolved the path to one that is below the root, and then that was looked at
+abbrev pub FollowsTo : (root path at : List ℕ) → Option Found → List DiskEvent → Type 0
+FollowsTo root path at found after =
+    IfSome found (λ seen. (before : List DiskEvent) × IsBelow root at
+    × (after ≡ Looked at (Ok seen) ∷ Resolved path (Ok at) ∷ before))
+
+-- the path of a request is there in the root, or the system resolved it to a path that is below the
+-- root and has no links
+abbrev pub LeadsTo : (root path at : List ℕ) → List DiskEvent → Type 0
+LeadsTo root path at before =
+    (at ≡ path_below root path)
+    ⊎ (IsBelow root at
+    × ((first : List DiskEvent) × (before ≡ Resolved (path_below root path) (Ok at) ∷ first)))
+
+-- the newest look was at the place of a request's path, if a file was found there
+abbrev pub FindsAt : (root path at : List ℕ) → Option Found → List DiskEvent → Type 0
+FindsAt root path at found after =
+    IfSome found (λ seen. (before : List DiskEvent) × LeadsTo root path at before
+    × (after ≡ Looked at (Ok seen) ∷ before))
+
+-- each folder of the path was looked at, and is no link, and then the file was still there
+pub record IsStill (root path : List ℕ) (id : FileId) (before after : List DiskEvent) : Type 0 where
+  pub folder : List ℕ
+  pub is_folder : IsFolderOf path folder
+  pub looked : List DiskEvent
+  pub folders : AreFolders root folder before looked
+  pub again : Found
+  pub newest : after ≡ Looked path (Ok again) ∷ looked
+  pub same : is_same_file id again.id ≡ true
+
+-- a file was opened at the path: it is the one that was seen, and is still there
+pub record OpensSeen (root path : List ℕ) (seen : FileId) (opened : Found)
+    (before after : List DiskEvent) : Type 0 where
+  pub same : is_same_file opened.id seen ≡ true
+  pub still : IsStill root path seen (Opened path (Ok tt) ∷ before) after
+
+-- a regular file was found at the place of the path, and opened there; `after` are the calls on
+-- paths, `file` those on the open file
+pub record OpensAt (root path : List ℕ) (opened : Found) (after file : List DiskEvent) : Type 0 where
+  pub at : List ℕ
+  pub seen : Found
+  pub before : List DiskEvent
+  pub place : LeadsTo root path at before
+  pub regular : seen.kind ≡ Regular
+  pub opens : OpensSeen root at seen.id opened (Looked at (Ok seen) ∷ before) after
+  pub file_at : opened_at file ≡ Some at
+  pub file_is : examined file ≡ Some opened
