@@ -1,13 +1,15 @@
 -- A draft of a store over a folder, by the calls on its file (ours).
-use Rattle.std.specs.Prelude.{ℕ, ◌≡◌, Bool, true, false, List, [], ◌∷◌, Option, Some, Ok}
+use Rattle.std.specs.Prelude.{ℕ, ◌≡◌, ◌⊎◌, Bool, true, false, List, [], ◌∷◌, Option, Some, Ok}
+use Rattle.std.specs.Prelude.{Err}
+use Rattle.std.specs.declared.io.Error.{Error}
 use Rattle.std.specs.String.{string_bytes}
 use Rattle.tftp_disk.specs.DiskJournal.{DiskEvent, Done, made_at, is_synced, sync_failed, state_of, written}
 use Rattle.tftp_disk.specs.DiskWriter.{calls_of, handed}
-use Rattle.tftp_disk.specs.NamedFolder.{OpensFolder, SyncsFolder}
+use Rattle.tftp_disk.specs.NamedFolder.{OpensFolder, SyncsFolder, SyncsNoFolder}
 use Rattle.tftp_disk.specs.declared.calls.DiskFolder.{DiskFolder}
 use Rattle.tftp_disk.specs.DiskJournal.DiskEvent.{Renamed}
 use Rattle.tftp_folder.specs.Begin.{MakesDraft}
-use Rattle.tftp_folder.specs.Commit.{Names}
+use Rattle.tftp_folder.specs.Commit.{Names, RefusesName, MayRemove, RemovesNew}
 use Rattle.tftp_folder.specs.declared.folder_draft.FolderDraft.{FolderDraft}
 
 module _ {F : Type 0} where
@@ -54,6 +56,17 @@ module _ {F : Type 0} where
       after ≡ Renamed (state_of (calls_of draft.writer)) (string_bytes draft.draft)
       (string_bytes draft.target) answer ∷ before
 
+  -- the rename to its name failed, or was not tried
+  abbrev pub RenamesNoDraft : FolderDraft F → List DiskEvent → List DiskEvent → Type 0
+  RenamesNoDraft draft before after =
+      (after ≡ before) ⊎ ((refusal : Error) × RenamesDraft draft before (Err refusal) after)
+
+  -- the system refused the draft its name
+  abbrev pub RefusesDraft : FolderDraft F → List DiskEvent → Bool → List DiskEvent → Type 0
+  RefusesDraft draft before replaces after =
+      RefusesName (state_of (calls_of draft.writer)) (string_bytes draft.draft)
+      (string_bytes draft.target) before replaces after
+
   -- the draft got its name, and then the folder was synced
   abbrev pub NamesIn : FolderDraft F → Option (DiskFolder F) → List DiskEvent → Bool
       → List DiskEvent → Type 0
@@ -67,6 +80,23 @@ module _ {F : Type 0} where
       (folder : Option (DiskFolder F)) × (opened : List DiskEvent)
       × OpensFolder (string_bytes draft.target) folder before opened
       × NamesIn draft folder opened replaces after
+
+  -- the draft lost the name that it got: by then that was another file's, or in another folder, or
+  -- the folder could not be synced
+  abbrev pub LosesName : FolderDraft F → Option (DiskFolder F) → (named : List DiskEvent) → Bool
+      → List DiskEvent → Type 0
+  LosesName draft folder named replaces after =
+      MayRemove (string_bytes draft.target) named after
+      ⊎ ((failed : List DiskEvent) × (error : Error) × SyncsNoFolder folder named error failed
+      × RemovesNew (string_bytes draft.target) failed replaces after)
+
+  -- the draft got no name in this folder, or lost it
+  abbrev pub NamesNothingIn : FolderDraft F → Option (DiskFolder F) → List DiskEvent → Bool
+      → List DiskEvent → Type 0
+  NamesNothingIn draft folder before replaces after =
+      RefusesDraft draft before replaces after
+      ⊎ ((named : List DiskEvent) × NamesDraft draft before replaces named
+      × LosesName draft folder named replaces after)
 
   -- its file was made at its path, it has these bytes, all that is in it is synced, and no sync of
   -- it failed

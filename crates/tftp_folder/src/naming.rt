@@ -1,13 +1,16 @@
 //! Gives a draft its name on the disk, in the folder that its request named.
 
-ghost use Rattle.std.specs.Prelude.{◌≡◌, ◌∷◌, true, false, Ok, OnOk};
+ghost use Rattle.std.specs.Prelude.{◌≡◌, ◌∷◌, true, false, Ok, OnOk, OnErr};
 ghost use Rattle.tftp_disk.specs.Changes.{changes};
 ghost use Rattle.tftp_disk.specs.DiskJournal.DiskEvent.{Looked};
 ghost use Rattle.tftp_disk.specs.declared.found.Found.{Found};
 ghost use Rattle.tftp_folder.specs.Opened.{AreFolders};
 ghost use Rattle.tftp_disk.specs.DiskFault.{is_replaced};
 ghost use Rattle.tftp_folder.specs.Draft.{IsDone, StaysDone, KeepsDone, NamesDraft, RenamesDraft};
-ghost use Rattle.tftp_folder.specs.Draft.{NamesIn, GivesName};
+ghost use Rattle.std.specs.String.{string_bytes};
+ghost use Rattle.tftp_folder.specs.Commit.{MayRemove, RemovesNew};
+ghost use Rattle.tftp_folder.specs.Draft.{NamesIn, GivesName, NamesNothingIn};
+ghost use Rattle.tftp_folder.specs.Draft.{RefusesDraft, RenamesNoDraft};
 
 use crate::folder_draft::FolderDraft;
 use crate::replacing::rename_over;
@@ -60,7 +63,10 @@ pub(crate) fn give_name<R: Files>(
         return Err(NameFault::Rule(Reason::FolderReplaced));
     }
     // The folder is opened first: if that fails, no name is given.
-    let folder = NamedFolder::of(files, journal, draft.target.as_str())?;
+    let folder = match NamedFolder::of(files, journal, draft.target.as_str()) {
+        Ok(folder) => folder,
+        Err(error) => return Err(NameFault::System(error)),
+    };
     match name_in(files, journal, &folder, root, draft, existing) {
         Ok(()) => Ok(()),
         Err(fault) => Err(fault),
@@ -80,19 +86,36 @@ fn name_in<R: Files>(
     ensures stays { OnOk result (KeepsDone draft.old draft.new) }
     ensures ok { OnOk result (NamesIn draft.new folder.now.folder (changes journal.old.events)
         (is_replaced existing) (changes journal.new.events)) }
+    ensures err { OnErr result (NamesNothingIn draft.new folder.now.folder
+        (changes journal.old.events) (is_replaced existing) (changes journal.new.events)) }
 {
-    put_name(files, journal, draft, existing)?;
-    if let Err(reason) = look_again(files, journal, root, draft, existing) {
-        return Err(NameFault::Rule(reason));
+    match put_name(files, journal, draft, existing) {
+        Ok(()) => {}
+        Err(fault) => return Err(fault),
+    }
+    match look_again(files, journal, root, draft, existing) {
+        Ok(()) => {}
+        Err(reason) => return Err(NameFault::Rule(reason)),
     }
     match folder.sync(journal) {
         Ok(()) => Ok(()),
         Err(error) => {
-            if existing == Existing::Refused {
-                let _ = tftp_disk::remove(files, journal, draft.target.as_str());
-            }
+            remove_new(files, journal, draft.target.as_str(), existing);
             Err(NameFault::System(error))
         }
+    }
+}
+
+/// Removes a name again, unless it replaced a file.
+fn remove_new<R: Files>(files: &R, journal: &mut DiskJournal, name: &str, existing: Existing)
+    ensures { RemovesNew name.now (changes journal.old.events) (is_replaced existing)
+        (changes journal.new.events) }
+{
+    match existing {
+        Existing::Refused => {
+            let _ = tftp_disk::remove(files, journal, name);
+        }
+        Existing::Replaced => {}
     }
 }
 
@@ -106,6 +129,8 @@ fn put_name<R: Files>(
     requires { IsDone draft.old }
     ensures stays { OnOk result (KeepsDone draft.old draft.new) }
     ensures ok { OnOk result (NamesDraft draft.new (changes journal.old.events)
+        (is_replaced existing) (changes journal.new.events)) }
+    ensures err { OnErr result (RefusesDraft draft.new (changes journal.old.events)
         (is_replaced existing) (changes journal.new.events)) }
 {
     match existing {
@@ -128,6 +153,8 @@ fn look_again<R: Files>(
 ) -> Result<(), Reason>
     ensures stays { StaysDone draft.old draft.new }
     ensures ok { OnOk result (changes journal.new.events ≡ changes journal.old.events) }
+    ensures err { OnErr result (MayRemove (string_bytes draft.new.target)
+        (changes journal.old.events) (changes journal.new.events)) }
 {
     let folder = folder_of(draft.target.as_str());
     let is_in_place = leads_to(files, journal, root, folder, draft.folder);
@@ -209,7 +236,9 @@ fn name_new<R: Files>(
     journal: &mut DiskJournal,
     draft: &FolderDraft<R::File>,
 ) -> io::Result<()>
-    ensures { OnOk result (NamesDraft draft.now (changes journal.old.events) false
+    ensures ok { OnOk result (NamesDraft draft.now (changes journal.old.events) false
+        (changes journal.new.events)) }
+    ensures err { OnErr result (RefusesDraft draft.now (changes journal.old.events) false
         (changes journal.new.events)) }
 {
     let (path, target) = (draft.draft.as_str(), draft.target.as_str());
@@ -218,8 +247,15 @@ fn name_new<R: Files>(
             let _ = tftp_disk::remove(files, journal, path);
             Ok(())
         }
-        Err(error) if error.kind() == ErrorKind::AlreadyExists => Err(error),
-        Err(_) => rename_new(files, journal, draft),
+        Err(error) => {
+            if error.kind() == ErrorKind::AlreadyExists {
+                return Err(error);
+            }
+            match rename_new(files, journal, draft) {
+                Ok(()) => Ok(()),
+                Err(error) => Err(error),
+            }
+        }
     }
 }
 
@@ -229,7 +265,9 @@ fn rename_new<R: Files>(
     journal: &mut DiskJournal,
     draft: &FolderDraft<R::File>,
 ) -> io::Result<()>
-    ensures { OnOk result (RenamesDraft draft.now (changes journal.old.events) (Ok tt)
+    ensures ok { OnOk result (RenamesDraft draft.now (changes journal.old.events) (Ok tt)
+        (changes journal.new.events)) }
+    ensures err { OnErr result (RenamesNoDraft draft.now (changes journal.old.events)
         (changes journal.new.events)) }
 {
     let (path, target) = (draft.draft.as_str(), draft.target.as_str());
@@ -237,7 +275,10 @@ fn rename_new<R: Files>(
         Ok(_) => Err(io::Error::from(ErrorKind::AlreadyExists)),
         Err(error) => {
             if error.kind() == ErrorKind::NotFound {
-                tftp_disk::rename(files, journal, draft.file(), path, target)
+                match tftp_disk::rename(files, journal, draft.file(), path, target) {
+                    Ok(()) => Ok(()),
+                    Err(error) => Err(error),
+                }
             } else {
                 Err(error)
             }

@@ -1,8 +1,11 @@
 //! Which files a draft may replace, and what it has of them.
 
-ghost use Rattle.std.specs.Prelude.{◌≡◌, true, OnOk};
+ghost use Rattle.std.specs.Prelude.{◌≡◌, ◌∷◌, true, Ok, OnOk, OnErr};
+ghost use Rattle.std.specs.String.{string_bytes};
 ghost use Rattle.tftp_disk.specs.Changes.{changes};
-ghost use Rattle.tftp_folder.specs.Draft.{IsDone, KeepsDone, NamesDraft};
+ghost use Rattle.tftp_disk.specs.DiskJournal.DiskEvent.{Tried};
+ghost use Rattle.tftp_folder.specs.Commit.{MayBeReplaced, RenamesOver};
+ghost use Rattle.tftp_folder.specs.Draft.{IsDone, KeepsDone, NamesDraft, RefusesDraft};
 
 use crate::folder_draft::FolderDraft;
 use crate::naming::NameFault;
@@ -27,7 +30,10 @@ pub(crate) fn check_replaced<R: Files>(
     path: &str,
     found: &Found,
 ) -> Result<(), NameFault>
-    ensures { changes journal.new.events ≡ changes journal.old.events }
+    ensures looks { changes journal.new.events ≡ changes journal.old.events }
+    ensures regular { OnOk result (found.now.kind ≡ Kind.Regular) }
+    ensures tried { OnOk result (journal.new.events ≡ Tried path.now (Ok tt)
+        ∷ journal.old.events) }
 {
     match found.kind {
         Kind::Regular => match tftp_disk::try_to_write(files, journal, path) {
@@ -51,6 +57,32 @@ pub(crate) fn rename_over<R: Files>(
     ensures stays { OnOk result (KeepsDone draft.old draft.new) }
     ensures ok { OnOk result (NamesDraft draft.new (changes journal.old.events) true
         (changes journal.new.events)) }
+    ensures err { OnErr result (RefusesDraft draft.new (changes journal.old.events) true
+        (changes journal.new.events)) }
+    ensures over { OnOk result (RenamesOver (string_bytes draft.old.target) journal.new.events) }
+{
+    match check_named(files, journal, draft) {
+        Ok(()) => {}
+        Err(fault) => return Err(fault),
+    }
+    let (path, target) = (draft.draft.as_str(), draft.target.as_str());
+    match tftp_disk::rename(files, journal, draft.file(), path, target) {
+        Ok(()) => Ok(()),
+        Err(error) => Err(NameFault::System(error)),
+    }
+}
+
+/// Looks at what has the name of a draft by now. If there is a file, it may be replaced as at the
+/// request, and the draft gets its permissions.
+fn check_named<R: Files>(
+    files: &R,
+    journal: &mut DiskJournal,
+    draft: &mut FolderDraft<R::File>,
+) -> Result<(), NameFault>
+    requires { IsDone draft.old }
+    ensures stays { OnOk result (KeepsDone draft.old draft.new) }
+    ensures looks { changes journal.new.events ≡ changes journal.old.events }
+    ensures over { OnOk result (MayBeReplaced (string_bytes draft.old.target) journal.new.events) }
 {
     match tftp_disk::look(files, journal, draft.target.as_str()) {
         Ok(found) => {
@@ -58,16 +90,14 @@ pub(crate) fn rename_over<R: Files>(
             if draft.take_permissions(&found)? {
                 draft.sync_all()?;
             }
+            Ok(())
         }
         Err(error) => {
-            if error.kind() != ErrorKind::NotFound {
-                return Err(NameFault::System(error));
+            if error.kind() == ErrorKind::NotFound {
+                Ok(())
+            } else {
+                Err(NameFault::System(error))
             }
         }
-    }
-    let (path, target) = (draft.draft.as_str(), draft.target.as_str());
-    match tftp_disk::rename(files, journal, draft.file(), path, target) {
-        Ok(()) => Ok(()),
-        Err(error) => Err(NameFault::System(error)),
     }
 }

@@ -1,0 +1,39 @@
+-- The draft had got its name, as it is now.
+use Rattle.std.proofs.Common.{List, ℕ, inl, inr, subst}
+use Rattle.tftp_disk.specs.DiskJournal.{DiskEvent}
+use Rattle.tftp_disk.specs.NamedFolder.{SyncsNoFolder}
+use Rattle.tftp_disk.specs.Changes.{changes}
+use Rattle.tftp_disk.specs.DiskFault.{is_replaced}
+use Rattle.tftp_folder.specs.Commit.{RemovesNew}
+use Rattle.tftp_folder.proofs.NamingLemmas.{names_stay}
+use Rattle.tftp_folder.proofs.naming.name_in.Goals as goal
+
+pub returns-in-Err-look_again-clause-err : goal.returns-in-Err-look_again-clause-err
+returns-in-Err-look_again-clause-err g c =
+    inr (
+      changes c.put_name.new.journal.events,
+      names_stay c.put_name.new.draft c.look_again.new.draft c.look_again.ensures.stays
+          (changes c.args.journal.now.events) (changes c.put_name.new.journal.events)
+          (is_replaced c.args.existing) c.in-Ok.ensures.ok,
+      inl c.in-Err-look_again.ensures.err,
+    )
+
+pub returns-in-Err-sync-clause-err : goal.returns-in-Err-sync-clause-err
+returns-in-Err-sync-clause-err g c =
+    let failed = changes c.sync.new.journal.events in
+    inr (
+      changes c.put_name.new.journal.events,
+      names_stay c.put_name.new.draft c.look_again.new.draft c.look_again.ensures.stays
+          (changes c.args.journal.now.events) (changes c.put_name.new.journal.events)
+          (is_replaced c.args.existing) c.in-Ok.ensures.ok,
+      inr (
+        failed,
+        c.in-Err-sync.error,
+        subst (λ (named : List DiskEvent).
+            SyncsNoFolder c.args.folder.now.folder named c.in-Err-sync.error failed)
+            c.in-Ok-look_again.ensures.ok c.in-Err-sync.ensures.err,
+        subst (λ (name : List ℕ). RemovesNew name failed (is_replaced c.args.existing)
+            (changes c.remove_new.new.journal.events))
+            c.as_str.ensures.value c.remove_new.ensures,
+      ),
+    )
