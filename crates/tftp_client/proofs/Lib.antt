@@ -1,8 +1,10 @@
+pub mod Changing
 pub mod Commands
 pub mod Committing
 pub mod Conversing
 pub mod Counting
 pub mod HeldBytes
+pub mod NamedFile
 pub mod Running
 pub mod SameKind
 pub mod Silent

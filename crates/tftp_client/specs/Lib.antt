@@ -4,11 +4,14 @@ pub mod CommandLine
 pub mod Conversation
 pub mod Converses
 pub mod Fallback
+pub mod Fetched
 pub mod LocalError
 pub mod Moved
 pub mod Ordered
+pub mod PartFile
 pub mod Runs
 pub mod Silence
 pub mod Stored
 pub mod Taken
 pub mod Words
+pub mod Written

@@ -9,11 +9,14 @@ mod command_line;
 pub mod laws;
 mod local;
 mod local_error;
+mod local_names;
+mod naming;
 mod part_file;
 mod program;
 mod taken;
 mod transfer;
 mod without_options;
+mod written;
 
 pub use program::{tftp_command, tftp_with_journal, tftp_words};
 pub use without_options::fallback;

@@ -1,8 +1,7 @@
 //! The local file of a client. A fetched file is written under another name, and gets its name at
 //! the commit, once it is on the disk. A file to send is measured first.
 //!
-//! Clauses state which bytes were passed to a fetched file, and how long a file to send was when it
-//! was measured. No contract states what a disk holds.
+//! Clauses state by which calls of the system, as a journal has them: not what a disk then holds.
 
 ghost use Rattle.std.specs.Prelude.{◌≡◌, ◌≢◌, ◌≤◌, false, length, IfOk};
 ghost use Rattle.tftp_wire.specs.declared.mode.Mode.TheVariants.{Octet};
@@ -13,10 +12,10 @@ use crate::local_error::LocalError;
 use crate::part_file::PartFile;
 use crate::taken::Taken;
 use std::alloc::Global;
-use std::fs::{self, OpenFile};
-use std::io::{self, BufReader, ErrorKind, Read, Seek};
+use std::fs::OpenFile;
+use std::io::{BufReader, ErrorKind, Read, Seek};
 use std::rt::Files;
-use tftp_disk::{ErrorKeeper, Existing, check_length, length_on_wire};
+use tftp_disk::{DiskFile, DiskJournal, ErrorKeeper, Existing, Kind, check_length, length_on_wire};
 use tftp_file::{Ahead, MAX_WIRE, ReadSource, Sink, StoreFault};
 use tftp_wire::Mode;
 
@@ -24,7 +23,7 @@ use tftp_wire::Mode;
 const READ_BUFFER: usize = 32_768;
 
 /// The source of a file to send.
-pub(crate) type LocalSource<F> = Ahead<ReadSource<BufReader<ErrorKeeper<F>>>>;
+pub(crate) type LocalSource<F> = Ahead<ReadSource<BufReader<ErrorKeeper<DiskFile<F>>>>>;
 
 /// A file to send, and its lengths.
 #[derive(Drop)]
@@ -49,11 +48,12 @@ impl<F: Read + Seek + OpenFile + Drop> Outbound<F> {
         ensures octet { IfOk result (λ outbound. mode ≡ Octet → outbound.wire_bytes ≤ MAX_WIRE
             → outbound.host_bytes ≡ outbound.wire_bytes) }
     {
-        if !fs::metadata(files, local)?.is_file() {
+        let mut journal = DiskJournal::new();
+        if tftp_disk::follow(files, &mut journal, local)?.kind != Kind::Regular {
             return Err(LocalError::NotAFile);
         }
-        let mut file = fs::open(files, local)?;
-        let host_bytes = file.metadata()?.len();
+        let mut file = tftp_disk::open(files, &mut journal, local)?;
+        let host_bytes = file.examine()?.bytes;
         check_known(&mut file, host_bytes)?;
         let wire_bytes = wire_bytes(&mut file, mode, host_bytes)?;
         let reader = BufReader::with_capacity(alloc, READ_BUFFER, ErrorKeeper::new(file))?;
@@ -98,7 +98,6 @@ pub(crate) fn read_error<F: Read + Drop>(source: LocalSource<F>) -> Option<Local
 /// megabytes, so that the commit has little left to sync.
 ///
 /// Its model is the bytes of the appends that succeeded, and whether a commit succeeded after them.
-/// A failed append may leave a part of its bytes in the buffer and on the disk.
 #[derive(Drop)]
 pub(crate) struct LocalFile<R: Files + Drop> {
     part: PartFile<R>,

@@ -1,5 +1,5 @@
 -- The folder in which a file gets its name (ours).
-use Rattle.std.specs.Prelude.{ℕ, ◌≡◌, List, ◌∷◌, Option, Some, None, Ok, Err}
+use Rattle.std.specs.Prelude.{ℕ, ◌≡◌, ◌⊎◌, List, ◌∷◌, Option, Some, None, Ok, Err}
 use Rattle.std.specs.IoError.{error_kind}
 use Rattle.std.specs.declared.io.Error.{Error}
 use Rattle.std.specs.declared.io.ErrorKind.TheVariants as kinds
@@ -8,6 +8,12 @@ use Rattle.tftp_disk.specs.DiskJournal.{DiskEvent, Done, folder_at}
 use Rattle.tftp_disk.specs.DiskJournal.DiskEvent.{Folder_opened, Folder_synced}
 use Rattle.tftp_disk.specs.Folder.{IsFolderOf}
 use Rattle.tftp_disk.specs.declared.calls.DiskFolder.{DiskFolder}
+
+-- the user may not read the folder of the path, so that it is not synced
+abbrev pub MayNotSync : List ℕ → Type 0
+MayNotSync path =
+    (at : List ℕ) × (refusal : Error) × IsFolderOf path at
+    × (error_kind refusal ≡ kinds.PermissionDenied)
 
 -- the folder of the path was opened, or may not be
 abbrev pub OpensFolder : {F : Type 0} → List ℕ → Option (DiskFolder F) → List DiskEvent
@@ -20,11 +26,22 @@ OpensFolder path None before after =
     × (error_kind refusal ≡ kinds.PermissionDenied)
     × (after ≡ Folder_opened at (Err refusal) ∷ before)
 
+-- the folder is that of the path, or may not be opened
+abbrev pub IsFolderFor : {F : Type 0} → List ℕ → Option (DiskFolder F) → Type 0
+IsFolderFor path (Some folder) =
+    (at : List ℕ) × IsFolderOf path at × (folder_at folder.journal.events ≡ Some at)
+IsFolderFor path None = MayNotSync path
+
 -- the folder was not opened
 abbrev pub OpensNoFolder : List ℕ → List DiskEvent → List DiskEvent → Type 0
 OpensNoFolder path before after =
     (at : List ℕ) × (refusal : Error) × IsFolderOf path at
     × (after ≡ Folder_opened at (Err refusal) ∷ before)
+
+-- the path by which the folder was opened
+abbrev pub path_in : {F : Type 0} → Option (DiskFolder F) → Option (List ℕ)
+path_in None = None
+path_in (Some folder) = folder_at folder.journal.events
 
 -- the folder was synced, unless its file system syncs none or it may not be opened
 abbrev pub SyncsFolder : {F : Type 0} → Option (DiskFolder F) → List DiskEvent → List DiskEvent
@@ -40,3 +57,10 @@ abbrev pub SyncsNoFolder : {F : Type 0} → Option (DiskFolder F) → List DiskE
 SyncsNoFolder (Some folder) before error after =
     after ≡ Folder_synced (folder_at folder.journal.events) (Err error) ∷ before
 SyncsNoFolder None before error after = ⊥
+
+-- the folder of the path was synced, unless its file system syncs none or the user may not read it
+abbrev pub SyncsAfter : List ℕ → List DiskEvent → List DiskEvent → Type 0
+SyncsAfter path before after =
+    ((at : List ℕ) × (answer : Done) × IsFolderOf path at × IsSynced answer
+    × (after ≡ Folder_synced (Some at) answer ∷ before))
+    ⊎ (MayNotSync path × (after ≡ before))

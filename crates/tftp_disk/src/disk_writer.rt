@@ -5,12 +5,19 @@ ghost use Rattle.tftp_disk.specs.DiskJournal.{written};
 ghost use Rattle.tftp_disk.specs.DiskJournal.DiskEvent.{Examined, Synced, Mode_set};
 ghost use Rattle.tftp_disk.specs.DiskWriter.{calls_of, handed, NoSyncs};
 
-use crate::block_writer::{FLUSH_AT, WRITE_BUFFER};
 use crate::calls::DiskFile;
 use crate::found::Found;
 use std::alloc::{AllocError, Global};
 use std::fs::OpenFile;
 use std::io::{self, ErrorKind, Write};
+use tftp_wire::MAX_BLOCK;
+
+/// The bytes in the buffer from which on it is due: so few that the write ends before the peer has
+/// sent its next block.
+const FLUSH_AT: usize = 8_192;
+
+/// The capacity of the write buffer, in bytes: before it is due there is space for any block.
+const WRITE_BUFFER: usize = FLUSH_AT + MAX_BLOCK as usize;
 
 /// How often a write is tried that a signal interrupts.
 const MOST_TRIES: u32 = 1_000;

@@ -1,12 +1,12 @@
-//! What `tftp` and `tftpd` share of files on a disk: their length on the wire, the faults of the
-//! system's errors, a writer block by block, and the folder of a file that gets a name.
+//! What `tftp` and `tftpd` share of files on a disk: the calls of the system, with a journal of them,
+//! the length of a file on the wire, the faults of the system's errors, a writer block by block, and
+//! the folder of a file that gets a name.
 //!
-//! It opens no file but a folder, and has no rule of the protocol.
+//! It has no rule of the protocol.
 //!
-//! Begin with [`BlockWriter`], a file that is written block by block.
+//! Begin with [`DiskFile`], an open file with the journal of its calls.
 #![tactic(auto)]
 
-mod block_writer;
 mod calls;
 mod disk;
 mod disk_event_ref;
@@ -18,7 +18,6 @@ mod folder;
 mod found;
 mod named_folder;
 
-pub use block_writer::BlockWriter;
 pub use calls::{
     DiskFile, DiskFolder, follow, link, look, make, open, open_folder, remove, rename, resolve,
     try_to_write,
@@ -28,6 +27,6 @@ pub use disk_journal::DiskJournal;
 pub use disk_writer::{DiskWriter, write_buffer};
 pub use error_keeper::ErrorKeeper;
 pub use existing::Existing;
-pub use folder::{Folder, folder_of, folder_or_root};
+pub use folder::{folder_of, folder_or_root};
 pub use found::{FileId, Found, Kind};
 pub use named_folder::NamedFolder;

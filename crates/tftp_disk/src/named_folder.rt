@@ -1,9 +1,10 @@
 //! The folder in which a file gets its name: it is synced after that.
 
-ghost use Rattle.std.specs.Prelude.{◌≡◌, ◌⊎◌, ◌↔◌, IsTrue, IfOk, IfErr, OnOk, OnErr};
+ghost use Rattle.std.specs.Prelude.{◌∷◌, Err, ◌≡◌, ◌⊎◌, ◌↔◌, IsTrue, IfOk, IfErr, OnOk, OnErr};
 ghost use Rattle.tftp_disk.specs.Changes.{changes};
-ghost use Rattle.tftp_disk.specs.NamedFolder.{OpensFolder, OpensNoFolder, SyncsFolder};
-ghost use Rattle.tftp_disk.specs.NamedFolder.{SyncsNoFolder};
+ghost use Rattle.tftp_disk.specs.NamedFolder.{OpensFolder, OpensNoFolder, IsFolderFor, SyncsFolder};
+ghost use Rattle.tftp_disk.specs.NamedFolder.{SyncsNoFolder, path_in};
+ghost use Rattle.tftp_disk.specs.DiskJournal.DiskEvent.{Folder_synced};
 
 use crate::calls::{DiskFolder, open_folder};
 use crate::disk_journal::DiskJournal;
@@ -31,6 +32,7 @@ impl<F> NamedFolder<F> {
             (changes journal.old.events) (changes journal.new.events)) }
         ensures err { OnErr result (OpensNoFolder path.now
             (changes journal.old.events) (changes journal.new.events)) }
+        ensures fits { IfOk result (λ folder. IsFolderFor path.now folder.folder) }
     {
         match open_folder(files, journal, folder_of(path)) {
             Ok(folder) => Ok(NamedFolder {
@@ -54,6 +56,8 @@ impl<F: OpenFile> NamedFolder<F> {
             (changes journal.old.events) (changes journal.new.events)) }
         ensures err { IfErr result (λ error. SyncsNoFolder self.now.folder
             (changes journal.old.events) error (changes journal.new.events)) }
+        ensures unsynced { IfErr result (λ error. changes journal.new.events
+            ≡ Folder_synced (path_in self.now.folder) (Err error) ∷ changes journal.old.events) }
     {
         let Some(folder) = &self.folder else {
             return Ok(());

@@ -1,0 +1,39 @@
+-- The file of a fetch that is being written, by the calls on it (own).
+use Rattle.std.specs.Prelude.{ℕ, ◌≡◌, List, [], Option, Some, None}
+use Rattle.std.specs.String.{string_bytes}
+use Rattle.tftp_disk.specs.declared.existing.Existing.{Existing}
+use Rattle.tftp_disk.specs.DiskFault.{is_replaced}
+use Rattle.tftp_disk.specs.DiskJournal.{made_at, state_of}
+use Rattle.tftp_disk.specs.DiskWriter.{calls_of, handed}
+use Rattle.tftp_client.specs.Fetched.{IsWholeAt, Paths}
+use Rattle.tftp_client.specs.declared.local_names.LocalNames.{LocalNames}
+use Rattle.tftp_client.specs.declared.written.Written.{Written}
+
+-- the names of a file that is fetched
+abbrev pub paths_of : LocalNames → Existing → Paths
+paths_of names existing =
+    record {
+      local = string_bytes names.local;
+      part = string_bytes names.part;
+      replaces = is_replaced existing;
+    }
+
+module _ {F : Type 0} where
+  -- the bytes that the file was handed, if it is made
+  abbrev pub bytes_in : Option (Written F) → List ℕ
+  bytes_in None = []
+  bytes_in (Some written) = handed written.writer
+
+  -- where it was made; before that, where it is to be made
+  abbrev pub place_in : List ℕ → Option (Written F) → Option (List ℕ)
+  place_in part None = Some part
+  place_in part (Some written) = made_at (calls_of written.writer)
+
+  -- it was handed what it was before, and is where it was made
+  pub record SameFile (before after : Written F) : Type 0 where
+    pub content : handed after.writer ≡ handed before.writer
+    pub place : made_at (calls_of after.writer) ≡ made_at (calls_of before.writer)
+
+  -- all that it was handed is in it and synced
+  abbrev pub IsDone : List ℕ → List ℕ → Written F → Type 0
+  IsDone part bytes written = IsWholeAt part bytes (state_of (calls_of written.writer))
