@@ -5,7 +5,7 @@ use Rattle.std.specs.declared.io.Error.{Error}
 use Rattle.std.specs.String.{string_bytes}
 use Rattle.tftp_disk.specs.DiskJournal.{DiskEvent, Done, made_at, is_synced, sync_failed, state_of, written}
 use Rattle.tftp_disk.specs.DiskWriter.{calls_of, handed}
-use Rattle.tftp_disk.specs.NamedFolder.{OpensFolder, SyncsFolder, SyncsNoFolder}
+use Rattle.tftp_disk.specs.NamedFolder.{OpensFolder, OpensNoFolder, SyncsFolder, SyncsNoFolder}
 use Rattle.tftp_disk.specs.declared.calls.DiskFolder.{DiskFolder}
 use Rattle.tftp_disk.specs.DiskJournal.DiskEvent.{Renamed}
 use Rattle.tftp_folder.specs.Begin.{MakesDraft}
@@ -97,6 +97,15 @@ module _ {F : Type 0} where
       RefusesDraft draft before replaces after
       ⊎ ((named : List DiskEvent) × NamesDraft draft before replaces named
       × LosesName draft folder named replaces after)
+
+  -- the draft got no name, or lost it: nothing was changed, or its folder was not opened, or it got
+  -- none there
+  abbrev pub NamesNothing : FolderDraft F → List DiskEvent → Bool → List DiskEvent → Type 0
+  NamesNothing draft before replaces after =
+      (after ≡ before) ⊎ OpensNoFolder (string_bytes draft.target) before after
+      ⊎ ((folder : Option (DiskFolder F)) × (opened : List DiskEvent)
+      × OpensFolder (string_bytes draft.target) folder before opened
+      × NamesNothingIn draft folder opened replaces after)
 
   -- its file was made at its path, it has these bytes, all that is in it is synced, and no sync of
   -- it failed

@@ -273,6 +273,7 @@ impl<R: Files + Drop> Store for FolderStore<R> {
     ghost use Rattle.tftp_disk.specs.Changes.{changes};
     ghost use Rattle.tftp_folder.specs.Begin.{draft_name, BeginsNone};
     ghost use Rattle.tftp_folder.specs.Draft.{bytes_of, BeginsAt, GivesName, IsWhole, SameNames};
+    ghost use Rattle.tftp_folder.specs.Draft.{NamesNothing};
     ghost use Rattle.tftp_disk.specs.DiskFault.{MayNotOpen, MayNotStore, MayNotBegin, MayNotName};
     ghost use Rattle.std.specs.Result.{result_err};
     ghost use Rattle.tftp_folder.specs.Settings.{HasBegun, SameSettings};
@@ -396,7 +397,9 @@ impl<R: Files + Drop> Store for FolderStore<R> {
         ensures named { OnOk result (GivesName draft.new (changes self.old.journal.events) replace
             (changes self.new.journal.events)) }
         ensures whole { OnOk result (IsWhole draft.new (bytes_of draft.old)) }
-        ensures names { OnOk result (SameNames draft.old draft.new) }
+        ensures names { SameNames draft.old draft.new }
+        ensures not_named { OnErr result (NamesNothing draft.new (changes self.old.journal.events)
+            replace (changes self.new.journal.events)) }
     {
         if let Err(error) = draft.finish() {
             return Err(self.folder.write_refused(&error));

@@ -9,7 +9,7 @@ ghost use Rattle.tftp_disk.specs.DiskFault.{is_replaced};
 ghost use Rattle.tftp_folder.specs.Draft.{IsDone, StaysDone, KeepsDone, NamesDraft, RenamesDraft};
 ghost use Rattle.std.specs.String.{string_bytes};
 ghost use Rattle.tftp_folder.specs.Commit.{MayRemove, RemovesNew};
-ghost use Rattle.tftp_folder.specs.Draft.{NamesIn, GivesName, NamesNothingIn};
+ghost use Rattle.tftp_folder.specs.Draft.{NamesIn, GivesName, NamesNothing, NamesNothingIn, SameNames};
 ghost use Rattle.tftp_folder.specs.Draft.{RefusesDraft, RenamesNoDraft};
 
 use crate::folder_draft::FolderDraft;
@@ -52,7 +52,10 @@ pub(crate) fn give_name<R: Files>(
 ) -> Result<(), NameFault>
     requires { IsDone draft.old }
     ensures stays { OnOk result (KeepsDone draft.old draft.new) }
+    ensures names { SameNames draft.old draft.new }
     ensures ok { OnOk result (GivesName draft.new (changes journal.old.events)
+        (is_replaced existing) (changes journal.new.events)) }
+    ensures err { OnErr result (NamesNothing draft.new (changes journal.old.events)
         (is_replaced existing) (changes journal.new.events)) }
 {
     if !draft.is_at_draft(files, journal) {
@@ -84,6 +87,7 @@ fn name_in<R: Files>(
 ) -> Result<(), NameFault>
     requires { IsDone draft.old }
     ensures stays { OnOk result (KeepsDone draft.old draft.new) }
+    ensures names { SameNames draft.old draft.new }
     ensures ok { OnOk result (NamesIn draft.new folder.now.folder (changes journal.old.events)
         (is_replaced existing) (changes journal.new.events)) }
     ensures err { OnErr result (NamesNothingIn draft.new folder.now.folder
@@ -128,6 +132,7 @@ fn put_name<R: Files>(
 ) -> Result<(), NameFault>
     requires { IsDone draft.old }
     ensures stays { OnOk result (KeepsDone draft.old draft.new) }
+    ensures names { SameNames draft.old draft.new }
     ensures ok { OnOk result (NamesDraft draft.new (changes journal.old.events)
         (is_replaced existing) (changes journal.new.events)) }
     ensures err { OnErr result (RefusesDraft draft.new (changes journal.old.events)

@@ -5,7 +5,7 @@ ghost use Rattle.std.specs.String.{string_bytes};
 ghost use Rattle.tftp_disk.specs.Changes.{changes};
 ghost use Rattle.tftp_disk.specs.DiskJournal.DiskEvent.{Tried};
 ghost use Rattle.tftp_folder.specs.Commit.{MayBeReplaced, RenamesOver};
-ghost use Rattle.tftp_folder.specs.Draft.{IsDone, KeepsDone, NamesDraft, RefusesDraft};
+ghost use Rattle.tftp_folder.specs.Draft.{IsDone, KeepsDone, NamesDraft, RefusesDraft, SameNames};
 
 use crate::folder_draft::FolderDraft;
 use crate::naming::NameFault;
@@ -55,6 +55,7 @@ pub(crate) fn rename_over<R: Files>(
 ) -> Result<(), NameFault>
     requires { IsDone draft.old }
     ensures stays { OnOk result (KeepsDone draft.old draft.new) }
+    ensures names { SameNames draft.old draft.new }
     ensures ok { OnOk result (NamesDraft draft.new (changes journal.old.events) true
         (changes journal.new.events)) }
     ensures err { OnErr result (RefusesDraft draft.new (changes journal.old.events) true
@@ -81,6 +82,7 @@ fn check_named<R: Files>(
 ) -> Result<(), NameFault>
     requires { IsDone draft.old }
     ensures stays { OnOk result (KeepsDone draft.old draft.new) }
+    ensures names { SameNames draft.old draft.new }
     ensures looks { changes journal.new.events ≡ changes journal.old.events }
     ensures over { OnOk result (MayBeReplaced (string_bytes draft.old.target) journal.new.events) }
 {
