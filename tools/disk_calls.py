@@ -15,7 +15,7 @@ CRATES = ("tftp_disk", "tftp_folder", "tftp_client")
 # functions and types of std that call the system on a path, and methods of its open files that no trait of ours has
 CALLS = re.compile(r"\bfs::[a-z]\w*|\bOpenOptions\b|\bFile::|\.(?:set_permissions|set_len|set_times|try_clone)\(|\bread_dir\b")
 JOURNALS = {
-    "crates/tftp_client/src/local.rt": 1,
+    "crates/tftp_client/src/outbound.rt": 1,
     "crates/tftp_client/src/part_file.rt": 1,
     "crates/tftp_disk/src/calls.rt": 2,
     "crates/tftp_folder/src/folder_store.rt": 2,

@@ -8,6 +8,7 @@ pub mod Fetched
 pub mod LocalError
 pub mod Moved
 pub mod Ordered
+pub mod Outbound
 pub mod PartFile
 pub mod Runs
 pub mod Silence

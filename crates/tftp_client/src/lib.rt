@@ -11,6 +11,7 @@ mod local;
 mod local_error;
 mod local_names;
 mod naming;
+mod outbound;
 mod part_file;
 mod program;
 mod taken;

@@ -1,10 +1,9 @@
 //! The local file of a client. A fetched file is written under another name, and gets its name at
-//! the commit, once it is on the disk. A file to send is measured first.
+//! the commit, once it is on the disk.
 //!
 //! Clauses state by which calls of the system, as a journal has them: not what a disk then holds.
 
-ghost use Rattle.std.specs.Prelude.{◌≡◌, ◌≢◌, ◌≤◌, false, length, IfOk};
-ghost use Rattle.tftp_wire.specs.declared.mode.Mode.TheVariants.{Octet};
+ghost use Rattle.std.specs.Prelude.{◌≡◌, ◌≢◌, false, length, IfOk};
 ghost use Rattle.tftp_file.specs.declared.fault.StoreFault.TheVariants.{Memory};
 ghost use Rattle.tftp_client.specs.Taken.{nothing};
 
@@ -12,79 +11,13 @@ use crate::local_error::LocalError;
 use crate::part_file::PartFile;
 use crate::taken::Taken;
 use std::alloc::Global;
-use std::fs::OpenFile;
-use std::io::{BufReader, ErrorKind, Read, Seek};
+use std::io::{BufReader, Read};
 use std::rt::Files;
-use tftp_disk::{DiskFile, DiskJournal, ErrorKeeper, Existing, Kind, check_length, length_on_wire};
-use tftp_file::{Ahead, MAX_WIRE, ReadSource, Sink, StoreFault};
-use tftp_wire::Mode;
-
-/// The capacity of the read buffer, in bytes. Blocks of this size and more bypass it.
-const READ_BUFFER: usize = 32_768;
+use tftp_disk::{DiskFile, ErrorKeeper, Existing};
+use tftp_file::{Ahead, ReadSource, Sink, StoreFault};
 
 /// The source of a file to send.
 pub(crate) type LocalSource<F> = Ahead<ReadSource<BufReader<ErrorKeeper<DiskFile<F>>>>>;
-
-/// A file to send, and its lengths.
-#[derive(Drop)]
-pub(crate) struct Outbound<F: Read + Drop> {
-    pub(crate) source: LocalSource<F>,
-    /// The length of the file, in bytes.
-    pub(crate) host_bytes: u64,
-    /// The length of its text on the wire, in bytes; `MAX_WIRE + 1` if it exceeds `MAX_WIRE`.
-    pub(crate) wire_bytes: u64,
-}
-
-impl<F: Read + Seek + OpenFile + Drop> Outbound<F> {
-    /// Opens a regular file to send. Any other kind is refused before it is opened, since opening a
-    /// FIFO would block. The length is that of the open file; a file that states none and has a
-    /// byte is refused, as many of `/proc` are.
-    pub(crate) fn open<R: Files<File = F>>(
-        files: &R,
-        alloc: Global,
-        local: &str,
-        mode: Mode,
-    ) -> Result<Outbound<F>, LocalError>
-        ensures octet { IfOk result (λ outbound. mode ≡ Octet → outbound.wire_bytes ≤ MAX_WIRE
-            → outbound.host_bytes ≡ outbound.wire_bytes) }
-    {
-        let mut journal = DiskJournal::new();
-        if tftp_disk::follow(files, &mut journal, local)?.kind != Kind::Regular {
-            return Err(LocalError::NotAFile);
-        }
-        let mut file = tftp_disk::open(files, &mut journal, local)?;
-        let host_bytes = file.examine()?.bytes;
-        check_known(&mut file, host_bytes)?;
-        let wire_bytes = wire_bytes(&mut file, mode, host_bytes)?;
-        let reader = BufReader::with_capacity(alloc, READ_BUFFER, ErrorKeeper::new(file))?;
-        Ok(Outbound {
-            source: Ahead::new(alloc, ReadSource::new(reader, mode)),
-            host_bytes,
-            wire_bytes,
-        })
-    }
-}
-
-/// Fails if a file that states a length of 0 has a byte.
-fn check_known<F: Read>(file: &mut F, host_bytes: u64) -> Result<(), LocalError> {
-    match check_length(file, host_bytes) {
-        Ok(()) => Ok(()),
-        Err(error) if error.kind() == ErrorKind::InvalidData => Err(LocalError::LengthUnknown),
-        Err(error) => Err(LocalError::System(error)),
-    }
-}
-
-/// The length of a file's text on the wire, in bytes; `MAX_WIRE + 1` if it exceeds `MAX_WIRE`.
-fn wire_bytes<F: Read + Seek>(file: &mut F, mode: Mode, host_bytes: u64) -> Result<u64, LocalError>
-    ensures octet { IfOk result (λ count. mode ≡ Octet → count ≤ MAX_WIRE
-        → host_bytes ≡ count) }
-{
-    match length_on_wire(file, mode, host_bytes, MAX_WIRE) {
-        Ok(Some(count)) => Ok(count),
-        Ok(None) => Ok(MAX_WIRE + 1),
-        Err(_) => Err(LocalError::Unreadable),
-    }
-}
 
 /// The error of the last failed read, if a read failed.
 pub(crate) fn read_error<F: Read + Drop>(source: LocalSource<F>) -> Option<LocalError> {

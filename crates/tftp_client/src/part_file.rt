@@ -81,8 +81,8 @@ impl<R: Files + Drop> PartFile<R> {
     fn create_once(&mut self) -> Result<(), LocalError>
         ensures names { SameNames self.old self.new }
         ensures bytes { bytes_in self.new.written ≡ bytes_in self.old.written }
-        ensures keeps { Keeps (paths_of self.old.names self.old.existing) (changes self.old.journal.events)
-            (changes self.new.journal.events) }
+        ensures keeps { Keeps (paths_of self.old.names self.old.existing)
+            (changes self.old.journal.events) (changes self.new.journal.events) }
         ensures some { OnOk result (IsSome self.new.written) }
     {
         if self.written.is_some() {
@@ -109,8 +109,8 @@ impl<R: Files + Drop> PartFile<R> {
         ensures ok { OnOk result (bytes_in self.new.written
             ≡ bytes_in self.old.written ++ bytes.now) }
         ensures err { OnErr result (bytes_in self.new.written ≡ bytes_in self.old.written) }
-        ensures keeps { Keeps (paths_of self.old.names self.old.existing) (changes self.old.journal.events)
-            (changes self.new.journal.events) }
+        ensures keeps { Keeps (paths_of self.old.names self.old.existing)
+            (changes self.old.journal.events) (changes self.new.journal.events) }
     {
         self.create_once()?;
         match &mut self.written {
@@ -134,8 +134,8 @@ impl<R: Files + Drop> PartFile<R> {
     pub(crate) fn commit(&mut self) -> Result<(), LocalError>
         ensures names { SameNames self.old self.new }
         ensures bytes { bytes_in self.new.written ≡ bytes_in self.old.written }
-        ensures keeps { Keeps (paths_of self.old.names self.old.existing) (changes self.old.journal.events)
-            (changes self.new.journal.events) }
+        ensures keeps { Keeps (paths_of self.old.names self.old.existing)
+            (changes self.old.journal.events) (changes self.new.journal.events) }
         ensures named { OnOk result ∥ WasNamed (paths_of self.old.names self.old.existing)
             (bytes_in self.old.written) (changes self.new.journal.events) ∥₁ }
     {

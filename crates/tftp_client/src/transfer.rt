@@ -20,7 +20,8 @@ ghost use Rattle.tftp_client.specs.Runs.{IsFileOf, MayOpen, begun, measured, ope
 
 use crate::cause::Cause;
 use crate::client_udp::ClientUdp;
-use crate::local::{LocalFile, LocalSource, Outbound, read_error};
+use crate::local::{LocalFile, LocalSource, read_error};
+use crate::outbound::Outbound;
 pub(crate) use crate::transfer::completed::Completed;
 use crate::transfer::conversation::Conversation;
 pub(crate) use crate::transfer::conversation::{MAX_WAITS, Progress};
