@@ -7,7 +7,7 @@ use std::process::ExitCode;
 use std::time::Clock;
 use tftp_arguments::{WordsFault, own_words};
 use tftp_file::{Path, StoreFault, path_of};
-use tftp_loop::{Ending, LoopConfig, LoopFault, ServerUdp, serve};
+use tftp_loop::{Ending, LoopConfig, LoopFault, NoSignal, ServerUdp, serve};
 use tftp_server::{Config, Server};
 use tftp_sockets::{Journal, endpoint_in};
 use tftp_store::MemStore;
@@ -66,6 +66,7 @@ fn config_of(words: &[String]) -> Option<LoopConfig> {
             rounds: u64::MAX,
         },
         longest: None,
+        drains: false,
         logs: false,
         has_priority: false,
     })
@@ -93,7 +94,7 @@ fn serve_store<N: ServerUdp + Clock + Print + Eprint>(
     journal: Journal,
 ) -> (Result<(), LoopFault>, Journal) {
     match Server::new(alloc, Config::default(), store) {
-        Ok(server) => serve(rt, alloc, server, config, journal),
+        Ok(server) => serve(rt, alloc, server, config, &NoSignal, journal),
         Err(_) => (Err(LoopFault::Memory), journal),
     }
 }

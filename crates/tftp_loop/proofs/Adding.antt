@@ -13,6 +13,7 @@ use Rattle.tftp_loop.specs.Steps.PortStep.{A_failed_receive, A_timeout, A_missed
 use Rattle.tftp_loop.specs.Steps.LoopStep.{Waited, At_port, Request_received, No_request_found, Request_not_received}
 use Rattle.tftp_loop.specs.Steps.LoopStep.{Request_noted}
 use Rattle.tftp_loop.specs.Steps.LoopStep.{Request_answered, Request_lost, Clock_read, Store_set, Transfer_closed}
+use Rattle.tftp_loop.specs.Steps.LoopStep.{Drain_begun}
 
 pub record Adds (before after : List Event) : Type 0 where
   pub more : List Event
@@ -82,6 +83,7 @@ module _ {S F D : Type 0} (meaning : StoreMeaning S D) (sources : SourceMeaning 
       (ap (λ (u : LoopState S F D). u.events) d.is)
   step_adds s t (Store_set d) = adds_none s.events t.events (ap (λ (u : LoopState S F D). u.events) d.is)
   step_adds s t (Transfer_closed d) = adds_one _ s.events t.events (ap (λ (u : LoopState S F D). u.events) d.is)
+  step_adds s t (Drain_begun d) = adds_none s.events t.events (ap (λ (u : LoopState S F D). u.events) d.is)
 
   same_now : (now : ℕ) (t u : LoopState S F D) → t ≡ u → now ≤ u.now → now ≤ t.now
   same_now now t u e h = subst (λ (v : LoopState S F D). now ≤ v.now) (sym e) h
@@ -98,3 +100,4 @@ module _ {S F D : Type 0} (meaning : StoreMeaning S D) (sources : SourceMeaning 
   step_forward s t (Clock_read d) = same_now s.now t _ d.is d.forward
   step_forward s t (Store_set d) = same_now s.now t _ d.is (omega arith)
   step_forward s t (Transfer_closed d) = same_now s.now t _ d.is (omega arith)
+  step_forward s t (Drain_begun d) = same_now s.now t _ d.is (omega arith)

@@ -25,6 +25,7 @@ use Rattle.tftp_loop.specs.Steps.{port_state, set_by, started, with_timer}
 use Rattle.tftp_loop.specs.Steps.LoopStep.{Waited, At_port, Request_received, No_request_found, Request_not_received}
 use Rattle.tftp_loop.specs.Steps.LoopStep.{Request_noted}
 use Rattle.tftp_loop.specs.Steps.LoopStep.{Request_answered, Request_lost, Clock_read, Store_set, Transfer_closed}
+use Rattle.tftp_loop.specs.Steps.LoopStep.{Drain_begun}
 use Rattle.tftp_loop.specs.Expiry.{IsIdleAt, ReceivesNoneAt}
 use Rattle.tftp_loop.specs.MayWait.{AreKept}
 use Rattle.tftp_loop.proofs.LoopStays.{all_appended, all_removed, all_set, other_port, some_none}
@@ -242,6 +243,7 @@ module _ {S F D : Type 0} (meaning : StoreMeaning S D) (sources : SourceMeaning 
       (slice_index_or s.timers k e) refl refl (bounded k e h))
   step_bounded s t (Transfer_closed d) kept bounded = subst AreBounded (sym d.is)
       (removed_bounded s.server s.now s.timers d.index d.timer d.within d.is_timer kept bounded)
+  step_bounded s t (Drain_begun d) kept bounded = subst AreBounded (sym d.is) bounded
 
   -- ---- along a run
   pub record IsSound (s : LoopState S F D) : Type 0 where

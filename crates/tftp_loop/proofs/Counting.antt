@@ -18,6 +18,7 @@ use Rattle.tftp_loop.specs.Steps.{port_state, set_by, started, timer_after, with
 use Rattle.tftp_loop.specs.Steps.LoopStep.{Waited, At_port, Request_received, No_request_found, Request_not_received}
 use Rattle.tftp_loop.specs.Steps.LoopStep.{Request_noted, Request_answered, Request_lost, Clock_read, Store_set}
 use Rattle.tftp_loop.specs.Steps.LoopStep.{Transfer_closed}
+use Rattle.tftp_loop.specs.Steps.LoopStep.{Drain_begun}
 use Rattle.tftp_loop.specs.Steps.PortStep.{A_datagram, A_lost_datagram, A_late_datagram, Nothing_found}
 use Rattle.tftp_loop.specs.Steps.PortStep.{A_failed_receive, A_timeout, A_missed_timeout, Work}
 use Rattle.tftp_loop.proofs.LoopStays.{all_appended, all_removed, all_set}
@@ -136,6 +137,7 @@ module _ {S F D : Type 0} (meaning : StoreMeaning S D) (sources : SourceMeaning 
       (λ k e h.
       all_removed IsFew s.timers 0 d.index d.timer (omega arith) d.within (λ k e l h apart. few k e h) k e
       (omega arith) h)
+  step_few s t (Drain_begun d) few = subst AreFew (sym d.is) few
 
   pub few_along : (start now : LoopState S F D) → start.timers ≡ [] → Run (LoopStep meaning sources) start now → AreFew now
   few_along start now none Start =

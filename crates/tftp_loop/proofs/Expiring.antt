@@ -31,6 +31,7 @@ use Rattle.tftp_loop.specs.Steps.PortStep.{A_failed_receive, A_timeout, A_missed
 use Rattle.tftp_loop.specs.Steps.LoopStep.{Waited, At_port, Request_received, No_request_found, Request_not_received}
 use Rattle.tftp_loop.specs.Steps.LoopStep.{Request_noted}
 use Rattle.tftp_loop.specs.Steps.LoopStep.{Request_answered, Request_lost, Clock_read, Store_set, Transfer_closed}
+use Rattle.tftp_loop.specs.Steps.LoopStep.{Drain_begun}
 use Rattle.tftp_loop.specs.Reported.{IsNoWait}
 use Rattle.tftp_loop.specs.Expiry.{After, At_first, ClosesInSilence, Idles, IsIdle, IsIdleAt, NoneReceived}
 use Rattle.tftp_loop.specs.Expiry.{PrintsClose, ReceivesNone, ReceivesNoneAt, closing_time, counted_from}
@@ -329,6 +330,8 @@ module _ {S F D : Type 0} (meaning : StoreMeaning S D) (sources : SourceMeaning 
               adds = adds_more first.events s.events _ lasts.adds adds;
             }))
       ]
+  step_lives Quiet More since s t (Drain_begun d) is idle fewer silent soon kept lasts =
+      passes Quiet More since s t _ (Drain_begun d) fewer d.is refl refl lasts
 
   -- ---- at a wait
   due_later : (now : ℕ) (here : Timer) → (now < here.deadline) ⊎ (here.deadline ≡ deadline_of now here.interval)
@@ -474,6 +477,7 @@ module _ {S F D : Type 0} (meaning : StoreMeaning S D) (sources : SourceMeaning 
   late_idle Quiet since s t (Clock_read d) kept late lasts = (tt, tt)
   late_idle Quiet since s t (Store_set d) kept late lasts = (tt, tt)
   late_idle Quiet since s t (Transfer_closed d) kept late lasts = (tt, tt)
+  late_idle Quiet since s t (Drain_begun d) kept late lasts = (tt, tt)
 
   -- what was printed stays so
   gone_lives : (s t : LoopState S F D) → LoopStep meaning sources s t → LivesOn (Unit {0}) s → Gone (Unit {0}) s

@@ -1,5 +1,5 @@
 -- What becomes of a datagram of the request port before a server sleeps.
-use Rattle.std.proofs.Common.{arith, ◌≡◌, ◌≤◌, ◌==◌, ◌||◌, ◌⊎◌, ℕ, Bool, true, false, List, ◌∷◌, cond, Option, Some}
+use Rattle.std.proofs.Common.{arith, ◌≡◌, ◌≤◌, ◌==◌, ◌||◌, ◌&&◌, not, ◌⊎◌, ℕ, Bool, true, false, List, ◌∷◌, cond, Option, Some}
 use Rattle.std.proofs.Common.{None, map, sym, ap, subst, ◌∙◌, inl, inr}
 use Rattle.std.specs.Prelude.{is_some, All, ◌≢◌}
 use Rattle.std.specs.List.{list_any}
@@ -21,6 +21,8 @@ use Rattle.tftp_loop.specs.Steps.PortStep.{A_failed_receive, A_timeout, A_missed
 use Rattle.tftp_loop.specs.Steps.LoopStep.{Waited, At_port, Request_received, No_request_found, Request_not_received}
 use Rattle.tftp_loop.specs.Steps.LoopStep.{Request_noted}
 use Rattle.tftp_loop.specs.Steps.LoopStep.{Request_answered, Request_lost, Clock_read, Store_set, Transfer_closed}
+use Rattle.tftp_loop.specs.Steps.LoopStep.{Drain_begun}
+use Rattle.tftp_loop.specs.Steps.{is_draining, reads_requests}
 use Rattle.tftp_loop.specs.Reported.{GoesOn, Goes_by, IsNoWait}
 use Rattle.tftp_loop.specs.Handled.{By_answer, By_loss, IsResolved}
 use Rattle.tftp_loop.specs.Sleeps.{HasItsOwnPort}
@@ -33,6 +35,11 @@ no_time : (a p c : Bool) (n m : ℕ) → p ≡ true → m ≤ cond (a || (p || c
 no_time true p c n m e h = h
 no_time false true c n m e h = h
 no_time false false c n m e h = absurd (let f : false ≡ true = e in cc)
+
+-- the request port is read if it is marked, and the server does not drain
+reads_so : (drains marked : Bool) → drains ≡ false → marked ≡ true → (not drains && marked) ≡ true
+reads_so true marked on m = absurd (let f : true ≡ false = on in cc)
+reads_so false marked on m = m
 
 -- a receive at another port
 other_untried : (port r : ℕ) (tried : Bool) → (port ≡ r → ⊥) → tried ≡ false → ((port == r) || tried) ≡ false
@@ -91,6 +98,8 @@ module _ {S F D : Type 0} (meaning : StoreMeaning S D) (sources : SourceMeaning 
       inl (ap (λ (u : LoopState S F D). u.pending) d.is ∙ pending)
   step_pending from bytes first s t run (Transfer_closed d) pending =
       inl (ap (λ (u : LoopState S F D). u.pending) d.is ∙ pending)
+  step_pending from bytes first s t run (Drain_begun d) pending =
+      inl (ap (λ (u : LoopState S F D). u.pending) d.is ∙ pending)
 
   pending_along : (from : Endpoint) (bytes : List ℕ) (first s : LoopState S F D) → Run (LoopStep meaning sources) first s
       → first.pending ≡ Some (from, bytes) → IsPending from bytes first s
@@ -116,7 +125,7 @@ module _ {S F D : Type 0} (meaning : StoreMeaning S D) (sources : SourceMeaning 
       elim (pending_along receives.from receives.bytes received last run
       (ap (λ (u : LoopState S F D). u.pending) receives.is)) [
         | inl still ↦
-            let none = no_time last.marked (is_some last.pending)
+            let none = no_time (reads_requests last) (is_some last.pending)
             (list_any (λ (timer : Timer). timer.marked) (map (set_by waits.time) last.timers))
             (until_look waits.time (map (set_by waits.time) last.timers)) waits.millis (ap is_some still) waits.may.longest in
             absurd (omega (arith, none, some))
@@ -174,6 +183,7 @@ module _ {S F D : Type 0} (meaning : StoreMeaning S D) (sources : SourceMeaning 
   step_untried from bytes s t (Clock_read d) is own pending h = subst Untried (sym d.is) h
   step_untried from bytes s t (Store_set d) is own pending h = subst Untried (sym d.is) h
   step_untried from bytes s t (Transfer_closed d) is own pending h = subst Untried (sym d.is) h
+  step_untried from bytes s t (Drain_begun d) is own pending h = subst Untried (sym d.is) h
 
   abbrev Stays_pending : Endpoint → List ℕ → LoopState S F D → LoopState S F D → Type 0
   Stays_pending from bytes first s = ((s.pending ≡ Some (from, bytes)) × Untried s)
@@ -221,7 +231,7 @@ module _ {S F D : Type 0} (meaning : StoreMeaning S D) (sources : SourceMeaning 
       (ap (λ (u : LoopState S F D). u.pending) receives.is) goes own) [
         | inl still ↦ absurd
             (let tried : was_tried last.requests last.events ≡ true =
-            next.may.requests (or_right last.marked (is_some last.pending) (ap is_some still.0)) in
+            next.may.requests (or_right (reads_requests last) (is_some last.pending) (ap is_some still.0)) in
             let e : true ≡ false = sym tried ∙ still.1 in
             cc)
         | inr done ↦ done
@@ -263,6 +273,7 @@ module _ {S F D : Type 0} (meaning : StoreMeaning S D) (sources : SourceMeaning 
   step_reads s t (Clock_read d) is reads = subst Reads (sym d.is) reads
   step_reads s t (Store_set d) is reads = subst Reads (sym d.is) reads
   step_reads s t (Transfer_closed d) is reads = subst Reads (sym d.is) reads
+  step_reads s t (Drain_begun d) is reads = subst Reads (sym d.is) reads
 
   reads_along : (s t : LoopState S F D) → Run (GoesOn meaning sources) s t → Reads s → Reads t
   reads_along s t Start reads = reads
@@ -271,11 +282,13 @@ module _ {S F D : Type 0} (meaning : StoreMeaning S D) (sources : SourceMeaning 
 
   pub reads_the_request_port : (old woken last new : LoopState S F D) (waits : Waits meaning sources old woken)
       → is_among old.requests waits.ports ≡ true → Run (GoesOn meaning sources) woken last
-      → Waits meaning sources last new → was_tried last.requests last.events ≡ true
-  reads_the_request_port old woken last new waits among run next =
+      → Waits meaning sources last new → is_draining last.drain ≡ false → was_tried last.requests last.events ≡ true
+  reads_the_request_port old woken last new waits among run next on =
       let marked : woken.marked ≡ true = ap (λ (u : LoopState S F D). u.marked) waits.is
       ∙ or_right old.marked (is_among old.requests waits.ports) among in
       elim (reads_along woken last run (inl marked)) [
-        | inl still ↦ next.may.requests (or_left last.marked (is_some last.pending) still)
+        | inl still ↦
+            let reads = reads_so (is_draining last.drain) last.marked on still in
+            next.may.requests (or_left (reads_requests last) (is_some last.pending) reads)
         | inr tried ↦ tried
       ]

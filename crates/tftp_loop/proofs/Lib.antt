@@ -32,3 +32,4 @@ pub mod Rounds
 pub mod InTime
 pub mod Expiring
 pub mod Handling
+pub mod Draining

@@ -21,6 +21,7 @@ use Rattle.tftp_loop.specs.Steps.PortStep.{A_failed_receive, A_timeout, A_missed
 use Rattle.tftp_loop.specs.Steps.LoopStep.{Waited, At_port, Request_received, No_request_found, Request_not_received}
 use Rattle.tftp_loop.specs.Steps.LoopStep.{Request_noted}
 use Rattle.tftp_loop.specs.Steps.LoopStep.{Request_answered, Request_lost, Clock_read, Store_set, Transfer_closed}
+use Rattle.tftp_loop.specs.Steps.LoopStep.{Drain_begun}
 use Rattle.tftp_loop.specs.MayWait.{AreApart}
 use Rattle.tftp_loop.proofs.Drained.{answered_drained, either_drained, other_drained, port_drained, replied_drained}
 use Rattle.tftp_loop.proofs.LoopStays.{all_appended, all_removed, all_set, other_port}
@@ -240,3 +241,6 @@ module _ {S F D : Type 0} (meaning : StoreMeaning S D) (sources : SourceMeaning 
       still s.events _ s.now (slice_index_or (swap_remove s.timers d.index d.timer) k e) (λ was. was)
       (all_removed (IsLooked s.events s.now) s.timers 0 d.index d.timer (omega arith) d.within
       (λ k e l h other. looked k e h) k e (omega arith) h))
+  step_looked s t (Drain_begun d) own apart looked =
+      subst AreLooked (sym d.is)
+      (λ k e h. still s.events _ s.now (slice_index_or s.timers k e) (λ was. was) (looked k e h))

@@ -28,8 +28,8 @@ use Rattle.tftp_loop.proofs.ListLemmas.{map_is, map_within, map_set, set_itself,
 -- equal parts, equal states
 pub same_state : {S F D : Type 0} (s t : LoopState S F D)
     → s.requests ≡ t.requests → s.range ≡ t.range → s.longest ≡ t.longest → s.server ≡ t.server → s.pending ≡ t.pending → s.timers ≡ t.timers
-    → s.now ≡ t.now → s.limit ≡ t.limit → s.woken ≡ t.woken → s.marked ≡ t.marked → s.asked ≡ t.asked → s.left ≡ t.left → s.rounds ≡ t.rounds → s.events ≡ t.events → s ≡ t
-same_state {S} {F} {D} s t a r o b c d e l w f q g h k = λ i. record {
+    → s.now ≡ t.now → s.limit ≡ t.limit → s.woken ≡ t.woken → s.marked ≡ t.marked → s.asked ≡ t.asked → s.drain ≡ t.drain → s.left ≡ t.left → s.rounds ≡ t.rounds → s.events ≡ t.events → s ≡ t
+same_state {S} {F} {D} s t a r o b c d e l w f q n g h k = λ i. record {
   requests = a i;
   range = r i;
   longest = o i;
@@ -41,6 +41,7 @@ same_state {S} {F} {D} s t a r o b c d e l w f q g h k = λ i. record {
   woken = w i;
   marked = f i;
   asked = q i;
+  drain = n i;
   left = g i;
   rounds = h i;
   events = k i;
@@ -58,8 +59,8 @@ noted_state {S} {F} {D} old new events is noted =
     (ap (λ (d : ServerLoop S F D). (loop_state None d).timers) is)
     (ap (λ (d : ServerLoop S F D). d.sockets.watch.now) is) (ap (λ (d : ServerLoop S F D). d.sockets.limit) is) refl
     (ap (λ (d : ServerLoop S F D). d.sockets.is_ready) is)
-    (ap (λ (d : ServerLoop S F D). d.sockets.has_received) is) (ap (λ (d : ServerLoop S F D). d.left) is)
-    (ap (λ (d : ServerLoop S F D). d.rounds) is) noted
+    (ap (λ (d : ServerLoop S F D). d.sockets.has_received) is) (ap (λ (d : ServerLoop S F D). d.drain) is)
+    (ap (λ (d : ServerLoop S F D). d.left) is) (ap (λ (d : ServerLoop S F D). d.rounds) is) noted
 
 -- a transfer that was taken has an outcome
 outcome_taken : {F D : Type 0} (o : Option (TransferState F D)) (t : Record × Option D) → taken_of o ≡ Some t →
@@ -177,7 +178,7 @@ module _ {S F D : Type 0} (meaning : StoreMeaning S D) (sources : SourceMeaning 
             left = s.left - 1;
             events = close_printed timer.port timer.peer (Some outcome) s.events;
           })
-          refl refl refl (rest ∙ ap (λ h. record s.server { held = h }) held) refl refl refl refl refl refl refl refl refl
+          refl refl refl (rest ∙ ap (λ h. record s.server { held = h }) held) refl refl refl refl refl refl refl refl refl refl
           printed;
     },
     refl,

@@ -20,6 +20,8 @@ use Rattle.tftp_loop.specs.Steps.{note_event, with_timer}
 use Rattle.tftp_loop.specs.Steps.LoopStep.{Waited, At_port, Request_received, No_request_found, Request_not_received}
 use Rattle.tftp_loop.specs.Steps.LoopStep.{Request_noted, Request_answered, Request_lost, Clock_read, Store_set}
 use Rattle.tftp_loop.specs.Steps.LoopStep.{Transfer_closed}
+use Rattle.tftp_loop.specs.Steps.LoopStep.{Drain_begun}
+use Rattle.tftp_loop.specs.Steps.{reads_requests}
 use Rattle.tftp_loop.specs.LoopStates.{IsWork, Works, Work_by}
 use Rattle.tftp_loop.specs.MayWait.{AreApart, AreKept, AreTried, IsHeld, IsRead, KeepsTries}
 use Rattle.tftp_loop.proofs.ListLemmas.{set_long}
@@ -329,7 +331,7 @@ module _ {S F D : Type 0} (meaning : StoreMeaning S D) (sources : SourceMeaning 
             (with_timer s.now s.longest d.from left.opened.tid left.new.held s.timers)) (sym d.steps.left)
             (answered_read s.now s.longest d.from d.tid s.server s.timers d.steps.came s.events fs tries h);
         tried =
-            λ h m. tries s.requests (still_tried s.marked (is_some s.pending) (was_tried s.requests s.events ≡ true) h
+            λ h m. tries s.requests (still_tried (reads_requests s) (is_some s.pending) (was_tried s.requests s.events ≡ true) h
             m);
       })
   step_keeps s t (Request_lost d) work =
@@ -337,7 +339,7 @@ module _ {S F D : Type 0} (meaning : StoreMeaning S D) (sources : SourceMeaning 
         tries = λ q h. h;
         kept = λ h. h;
         read = λ h. h;
-        tried = λ h m. still_tried s.marked (is_some s.pending) (was_tried s.requests s.events ≡ true) h m;
+        tried = λ h m. still_tried (reads_requests s) (is_some s.pending) (was_tried s.requests s.events ≡ true) h m;
       })
   step_keeps s t (Store_set d) work =
       subst (Keeps s) (sym d.is) (record { tries = λ q h. h; kept = λ h. h; read = λ h. h; tried = λ h. h })
@@ -350,6 +352,13 @@ module _ {S F D : Type 0} (meaning : StoreMeaning S D) (sources : SourceMeaning 
             λ k e h. all_removed R s.timers 0 d.index d.timer (omega arith) d.within (λ k e l h apart. read k e h) k e
             (omega arith) h;
         tried = λ h. h;
+      })
+  step_keeps s t (Drain_begun d) work =
+      subst (Keeps s) (sym d.is) (record {
+        tries = λ q h. h;
+        kept = λ h. h;
+        read = λ h. h;
+        tried = λ h m. h (or_right (reads_requests s) (is_some s.pending) m);
       })
 
   pub work_keeps : (s t : LoopState S F D) → Run (Works meaning sources) s t → Keeps s t

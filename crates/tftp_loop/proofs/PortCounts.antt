@@ -19,7 +19,7 @@ use Rattle.tftp_loop.specs.Steps.{Timer, PortState, LoopState, PortStep, LoopSte
 use Rattle.tftp_loop.specs.Steps.{interval_at, marked_by, most_in_round, note_event, port_state, set_by, started, with_timer}
 use Rattle.tftp_loop.specs.Steps.LoopStep.{Waited, At_port, Request_received, No_request_found, Request_not_received}
 use Rattle.tftp_loop.specs.Steps.LoopStep.{Request_noted, Request_answered, Request_lost, Clock_read, Store_set}
-use Rattle.tftp_loop.specs.Steps.LoopStep.{Transfer_closed}
+use Rattle.tftp_loop.specs.Steps.LoopStep.{Drain_begun, Transfer_closed}
 use Rattle.tftp_loop.specs.Steps.PortStep.{A_datagram, A_lost_datagram, A_late_datagram, Nothing_found}
 use Rattle.tftp_loop.specs.Steps.PortStep.{A_failed_receive, A_timeout, A_missed_timeout, Work}
 use Rattle.tftp_loop.proofs.Bounded.{sound_along}
@@ -252,6 +252,7 @@ module _ {S F D : Type 0} (meaning : StoreMeaning S D) (sources : SourceMeaning 
           subst Counted (sym d.is) (record { opened = c.opened; few = omega (arith, before); all = c.all; each = c.each })
       step_counted s t (Clock_read d) own kept few c = subst Counted (sym d.is) (as_before s _ refl refl refl refl c)
       step_counted s t (Store_set d) own kept few c = subst Counted (sym d.is) (as_before s _ refl refl refl refl c)
+      step_counted s t (Drain_begun d) own kept few c = subst Counted (sym d.is) (as_before s _ refl refl refl refl c)
       step_counted s t (Transfer_closed d) own kept few c =
           subst Counted (sym d.is) (record {
             opened = c.opened;
@@ -277,6 +278,7 @@ module _ {S F D : Type 0} (meaning : StoreMeaning S D) (sources : SourceMeaning 
     same_requests s t (Clock_read d) = ap (λ (u : LoopState S F D). u.requests) d.is
     same_requests s t (Store_set d) = ap (λ (u : LoopState S F D). u.requests) d.is
     same_requests s t (Transfer_closed d) = ap (λ (u : LoopState S F D). u.requests) d.is
+    same_requests s t (Drain_begun d) = ap (λ (u : LoopState S F D). u.requests) d.is
 
     requests_along : (start now : LoopState S F D) → Run (LoopStep meaning sources) start now → now.requests ≡ start.requests
     requests_along start now Start = refl

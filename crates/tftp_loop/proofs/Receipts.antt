@@ -1,6 +1,6 @@
 -- What is received at the request port, and what becomes of it.
-use Rattle.std.proofs.Common.{arith, ◌≡◌, ◌||◌, ℕ, zero, suc, Bool, true, false, List, [], ◌∷◌, length, map, take, min}
-use Rattle.std.proofs.Common.{Option, Some, None, refl, sym, ap, subst, ◌∙◌, ◌⊎◌, inr}
+use Rattle.std.proofs.Common.{arith, ◌≡◌, ◌||◌, ◌&&◌, not, ℕ, zero, suc, Bool, true, false, List, [], ◌∷◌, length, map, take, min}
+use Rattle.std.proofs.Common.{Option, Some, None, refl, sym, ap, subst, ◌∙◌, ◌⊎◌, inl, inr}
 use Rattle.std.specs.Prelude.{All, Result, Ok, Err, IfErr, OnOk}
 use Rattle.tftp_file.specs.Source.{SourceMeaning}
 use Rattle.tftp_ends.specs.declared.endpoint.Endpoint.{Endpoint}
@@ -11,12 +11,13 @@ use Rattle.tftp_sockets.specs.Journal.QuietEvent.{Empty, Failed}
 use Rattle.tftp_sockets.specs.Quiet.{was_tried}
 use Rattle.tftp_loop.specs.declared.server_loop.ServerLoop.{ServerLoop}
 use Rattle.tftp_loop.specs.declared.serving.LoopFault.{LoopFault}
-use Rattle.tftp_loop.specs.WholeRun.{EndsBy}
-use Rattle.tftp_loop.specs.Steps.{LoopState, Timer}
-use Rattle.tftp_loop.specs.Steps.LoopStep.{No_request_found, Request_not_received}
-use Rattle.tftp_loop.specs.LoopStates.{FailsToPrint, WorksRound, Work_by, loop_state, pending_in, state_of, timer_of}
+use Rattle.tftp_loop.specs.WholeRun.{EndsBy, IsOver}
+use Rattle.tftp_loop.specs.Steps.{LoopState, Timer, is_draining}
+use Rattle.tftp_loop.specs.Steps.LoopStep.{No_request_found, Request_not_received, Drain_begun}
+use Rattle.tftp_loop.specs.declared.drain.Drain.TheVariants.{Awaited, Begun}
+use Rattle.tftp_loop.specs.LoopStates.{FailsToPrint, IsEmptied, WorksRound, Work_by, loop_state, pending_in, state_of, timer_of}
 use Rattle.tftp_loop.specs.MayWait.{AnswersPending, AreSettled, AreTried, HandlesReceived, Concluded, Kept}
-use Rattle.tftp_loop.specs.MayWait.{HasFew, HasTriedRequests, IsSettled, ReceivedFew}
+use Rattle.tftp_loop.specs.MayWait.{HasFew, HasTriedRequests, IsSettled, ReceivedFew, reads_of}
 use Rattle.tftp_loop.proofs.LoopRuns.{Runs, same_state}
 use Rattle.tftp_loop.proofs.LoopStays.{work_keeps}
 use Rattle.tftp_loop.proofs.Opened.{concludes_asked, concludes_few, concludes_settled}
@@ -44,13 +45,18 @@ take_least {X = X} (suc n) [] = ap (λ (m : ℕ). take {A = X} m []) (least_none
 take_least {X = X} (suc n) (x ∷ xs) =
     ap (λ (m : ℕ). take m (x ∷ xs)) (more_least n (length xs)) ∙ ap (λ (ys : List X). x ∷ ys) (take_least n xs)
 
+-- when the request port is read
+pub reads_when : (drains ready : Bool) → (not drains && ready) ≡ true → (drains ≡ false) × (ready ≡ true)
+reads_when true ready e = absurd (let f : false ≡ true = e in cc)
+reads_when false ready e = (refl, e)
+
 module _ {S F D : Type 0} where
   -- whether the datagram is pending does not depend on the buffer
   pub to_state : (buffer : List ℕ) (d : ServerLoop S F D) → HasTriedRequests d → AreTried (state_of buffer d)
-  to_state buffer d h m = h (ap (λ (b : Bool). d.sockets.is_ready || b) (sym (pending_same d.pending buffer)) ∙ m)
+  to_state buffer d h m = h (ap (λ (b : Bool). reads_of d || b) (sym (pending_same d.pending buffer)) ∙ m)
 
   pub from_state : (buffer : List ℕ) (d : ServerLoop S F D) → AreTried (state_of buffer d) → HasTriedRequests d
-  from_state buffer d h m = h (ap (λ (b : Bool). d.sockets.is_ready || b) (pending_same d.pending buffer) ∙ m)
+  from_state buffer d h m = h (ap (λ (b : Bool). reads_of d || b) (pending_same d.pending buffer) ∙ m)
 
   -- no datagram is pending
   none_pending : (buffer : List ℕ) (d : ServerLoop S F D) → d.pending ≡ None → state_of buffer d ≡ loop_state None d
@@ -89,7 +95,7 @@ module _ {S F D : Type 0} (meaning : StoreMeaning S D) (sources : SourceMeaning 
 
   -- ---- a datagram was received
   module _ (before buffer : List ℕ) (old noted new : ServerLoop S F D) (from : Endpoint) (count : ℕ)
-      (none : old.pending ≡ None) (marked : old.sockets.is_ready ≡ true)
+      (none : old.pending ≡ None) (reads : reads_of old ≡ true)
       (first : old.sockets.has_received ≡ false)
       (is : noted ≡ record old { sockets = record old.sockets { has_received = true }; journal = noted.journal })
       (events : noted.journal.events ≡ Received old.sockets.requests.port from
@@ -101,6 +107,7 @@ module _ {S F D : Type 0} (meaning : StoreMeaning S D) (sources : SourceMeaning 
     received_run =
         subst (λ (s : LoopState S F D). Runs meaning sources s received) (sym (none_pending before old none))
         (receives_as meaning sources (loop_state None old) received from (take count buffer) refl first
+        (reads_when (is_draining old.drain) old.sockets.is_ready reads).0
         (same_state received
         (record (loop_state None old) {
           pending = Some (from, take count buffer);
@@ -113,9 +120,10 @@ module _ {S F D : Type 0} (meaning : StoreMeaning S D) (sources : SourceMeaning 
         (ap (λ (d : ServerLoop S F D). d.server) is) refl (ap (λ (d : ServerLoop S F D). (loop_state None d).timers) is)
         (ap (λ (d : ServerLoop S F D). d.sockets.watch.now) is)
         (ap (λ (d : ServerLoop S F D). d.sockets.limit) is) refl
-        (ap (λ (d : ServerLoop S F D). d.sockets.is_ready) is ∙ marked)
-        (ap (λ (d : ServerLoop S F D). d.sockets.has_received) is) (ap (λ (d : ServerLoop S F D). d.left) is)
-        (ap (λ (d : ServerLoop S F D). d.rounds) is) events))
+        (ap (λ (d : ServerLoop S F D). d.sockets.is_ready) is
+        ∙ (reads_when (is_draining old.drain) old.sockets.is_ready reads).1)
+        (ap (λ (d : ServerLoop S F D). d.sockets.has_received) is) (ap (λ (d : ServerLoop S F D). d.drain) is)
+        (ap (λ (d : ServerLoop S F D). d.left) is) (ap (λ (d : ServerLoop S F D). d.rounds) is) events))
 
     received_is_tried : AreTried received
     received_is_tried m =
@@ -181,38 +189,59 @@ module _ {S F D : Type 0} (meaning : StoreMeaning S D) (sources : SourceMeaning 
       (ap (λ (d : ServerLoop S F D). d.sockets.watch.now) is)
       (ap (λ (d : ServerLoop S F D). d.sockets.limit) is) refl
       (ap (λ (d : ServerLoop S F D). d.sockets.is_ready) is)
-      (ap (λ (d : ServerLoop S F D). d.sockets.has_received) is)
+      (ap (λ (d : ServerLoop S F D). d.sockets.has_received) is) (ap (λ (d : ServerLoop S F D). d.drain) is)
       (ap (λ (d : ServerLoop S F D). d.left) is) (ap (λ (d : ServerLoop S F D). d.rounds) is) events
 
-  pub finds_none : (before after : List ℕ) (old new : ServerLoop S F D) → old.pending ≡ None →
+  -- it begins to drain
+  pub drains_as : (buffer : List ℕ) (old new : ServerLoop S F D) → old.drain ≡ Awaited
+      → new ≡ record old { drain = Begun } → Runs meaning sources (state_of buffer old) (state_of buffer new)
+  drains_as buffer old new awaited is =
+      once (Work_by (Drain_begun (record {
+        awaited = awaited;
+        is = ap (λ (d : ServerLoop S F D). state_of buffer d) is;
+      })) tt)
+
+  pub finds_none : (before after : List ℕ) (old new : ServerLoop S F D) → old.pending ≡ None → reads_of old ≡ true →
       new ≡ record old { sockets = record old.sockets { is_ready = false }; journal = new.journal }
       → new.journal.events ≡ Quiet (Empty old.sockets.requests.port) ∷ old.journal.events →
       WorksRound meaning sources before old after new
-  finds_none before after old new none is events =
+  finds_none before after old new none reads is events =
       once (Work_by (No_request_found (record {
         none = ap (λ (p : Option (Endpoint × ℕ)). pending_in p before) none;
+        goes_on = (reads_when (is_draining old.drain) old.sockets.is_ready reads).0;
         is = looked_state before after old new false _ none is events;
       })) tt)
 
   pub fails_to_find : (before after : List ℕ) (old new : ServerLoop S F D) → old.pending ≡ None →
-      old.sockets.is_ready ≡ true → new ≡ record old { journal = new.journal }
+      reads_of old ≡ true → new ≡ record old { journal = new.journal }
       → new.journal.events ≡ Quiet (Failed old.sockets.requests.port) ∷ old.journal.events →
       WorksRound meaning sources before old after new
-  fails_to_find before after old new none marked is events =
+  fails_to_find before after old new none reads is events =
       let looked = λ (ready : Bool).
       record old { sockets = record old.sockets { is_ready = ready }; journal = new.journal } in
+      let when = reads_when (is_draining old.drain) old.sockets.is_ready reads in
       once (Work_by (Request_not_received (record {
         none = ap (λ (p : Option (Endpoint × ℕ)). pending_in p before) none;
-        is = looked_state before after old new true _ none (is ∙ ap looked marked) events;
+        goes_on = when.0;
+        is = looked_state before after old new true _ none (is ∙ ap looked when.1) events;
       })) tt)
 
--- what holds of a success
 -- how the rounds ended
-pub ends_by : {S F D A : Type 0} (result : Result A LoopFault) (last : LoopState S F D)
-    → OnOk result ((last.left ≡ 0) ⊎ (last.rounds ≡ 0))
-    → IfErr result (λ fault. FailsToPrint fault last.events) → EndsBy result last
-ends_by (Ok done) last ends fails = ends
-ends_by (Err fault) last ends fails = inr fails
+is_over : {S F D : Type 0} (buffer : List ℕ) (d : ServerLoop S F D)
+    → (d.left ≡ 0) ⊎ ((d.rounds ≡ 0) ⊎ IsEmptied d) → IsOver (state_of buffer d)
+is_over buffer d (inl left) = inl left
+is_over buffer d (inr (inl rounds)) = inr (inl rounds)
+is_over buffer d (inr (inr emptied)) = inr (inr (record {
+  begun = emptied.begun;
+  none = ap (λ (p : Option (Endpoint × ℕ)). pending_in p buffer) emptied.none;
+  closed = ap (map timer_of) emptied.closed;
+}))
+
+pub ends_by : {S F D A : Type 0} (result : Result A LoopFault) (buffer : List ℕ) (d : ServerLoop S F D)
+    → OnOk result ((d.left ≡ 0) ⊎ ((d.rounds ≡ 0) ⊎ IsEmptied d))
+    → IfErr result (λ fault. FailsToPrint fault d.journal.events) → EndsBy result (state_of buffer d)
+ends_by (Ok done) buffer d ends fails = is_over buffer d ends
+ends_by (Err fault) buffer d ends fails = inr fails
 
 -- a server without transfers
 pub starts_settled : {S F D : Type 0} (d : ServerLoop S F D) → d.ports.items ≡ [] → IsSettled d

@@ -25,6 +25,7 @@ use Rattle.tftp_loop.specs.Steps.PortStep.{A_failed_receive, A_timeout, A_missed
 use Rattle.tftp_loop.specs.Steps.LoopStep.{Waited, At_port, Request_received, No_request_found, Request_not_received}
 use Rattle.tftp_loop.specs.Steps.LoopStep.{Request_noted, Request_answered, Request_lost, Clock_read, Store_set}
 use Rattle.tftp_loop.specs.Steps.LoopStep.{Transfer_closed}
+use Rattle.tftp_loop.specs.Steps.LoopStep.{Drain_begun}
 use Rattle.tftp_loop.specs.Reported.{GoesOn, Goes_by, HasTimer, IsNoWait}
 use Rattle.tftp_loop.specs.MayWait.{AreApart, AreKept, KeepsTries}
 use Rattle.tftp_loop.proofs.ListLemmas.{map_at, set_long}
@@ -265,6 +266,9 @@ module _ {S F D : Type 0} (meaning : StoreMeaning S D) (sources : SourceMeaning 
             ap (λ (o : Option (TransferState F D)). taken_of o) (removed_apart d.timer.port port s.server.held apart)
             ∙ due.unclosed;
       }))
+  step_reads port s t (Drain_begun d) is kept (inl tried) = subst (Reads port) (sym d.is) (inl tried)
+  step_reads port s t (Drain_begun d) is kept (inr due) =
+      subst (Reads port) (sym d.is) (inr (same_due port s _ refl refl due))
 
   record ReadsKept (port : ℕ) (s : LoopState S F D) : Type 0 where
     pub kept : AreKept s.server.held s.timers

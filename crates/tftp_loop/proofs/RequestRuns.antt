@@ -26,7 +26,7 @@ use Rattle.tftp_loop.specs.MayOpen.{MayOpen, NeedsMemory}
 use Rattle.tftp_loop.specs.Steps.{LoopState, AnswersRequest, IsSet, LosesRequest, NotesRequest, RequestLoss}
 use Rattle.tftp_loop.specs.Steps.{RequestNote, Found_no_port, Found_port, Found_no_memory, No_memory, No_port}
 use Rattle.tftp_loop.specs.Steps.{Same_port, SetsStore, after_request, is_taken, note_event, with_timer}
-use Rattle.tftp_loop.specs.Steps.{answering_port}
+use Rattle.tftp_loop.specs.Steps.{answering_port, is_draining}
 use Rattle.tftp_loop.specs.Steps.LoopStep.{Request_noted, Request_received, Request_answered, Request_lost, Store_set}
 use Rattle.tftp_loop.specs.LoopStates.{IsAdmission, Work_by}
 use Rattle.tftp_loop.specs.MayWait.{Concludes, Prepares, Notes_it, Sets_store}
@@ -46,15 +46,22 @@ refused_bytes (Some reply) = error_bytes reply
 module _ {S F D : Type 0} (meaning : StoreMeaning S D) (sources : SourceMeaning F) where
   -- a datagram was received
   pub receives_as : (s t : LoopState S F D) (from : Endpoint) (bytes : List ℕ) → s.pending ≡ None
-      → s.asked ≡ false → t ≡ record s {
+      → s.asked ≡ false → is_draining s.drain ≡ false → t ≡ record s {
         pending = Some (from, bytes);
         marked = true;
         asked = true;
         events = Received s.requests from bytes ∷ s.events;
       } → Runs meaning sources s t
-  receives_as s t from bytes none first is =
+  receives_as s t from bytes none first on is =
       once
-      (Work_by (Request_received (record { from = from; bytes = bytes; none = none; first = first; is = is })) tt)
+      (Work_by (Request_received (record {
+        from = from;
+        bytes = bytes;
+        none = none;
+        goes_on = on;
+        first = first;
+        is = is;
+      })) tt)
 
   -- the step of the store, if it was set
   abbrev pub Sets : LoopState S F D → LoopState S F D → Type 0

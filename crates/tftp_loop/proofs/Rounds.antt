@@ -7,6 +7,7 @@ use Rattle.tftp_loop.specs.Steps.{LoopState, LoopStep, Waits, round_end}
 use Rattle.tftp_loop.specs.Steps.LoopStep.{Waited, At_port, Request_received, No_request_found, Request_not_received}
 use Rattle.tftp_loop.specs.Steps.LoopStep.{Request_noted, Request_answered, Request_lost, Clock_read, Store_set}
 use Rattle.tftp_loop.specs.Steps.LoopStep.{Transfer_closed}
+use Rattle.tftp_loop.specs.Steps.LoopStep.{Drain_begun}
 use Rattle.tftp_loop.specs.Reported.{IsNoWait}
 
 module _ {S F D : Type 0} (meaning : StoreMeaning S D) (sources : SourceMeaning F) where
@@ -24,6 +25,7 @@ module _ {S F D : Type 0} (meaning : StoreMeaning S D) (sources : SourceMeaning 
   wait_or_work s t (Clock_read d) = inr tt
   wait_or_work s t (Store_set d) = inr tt
   wait_or_work s t (Transfer_closed d) = inr tt
+  wait_or_work s t (Drain_begun d) = inr tt
 
   -- the time since the round before the newest wait began, or since the beginning: a second at most
   pub record InRound (since : ℕ) (s : LoopState S F D) : Type 0 where
@@ -79,6 +81,8 @@ module _ {S F D : Type 0} (meaning : StoreMeaning S D) (sources : SourceMeaning 
   step_round since s t (Store_set d) is round =
       same_round since s t (ap (λ (u : LoopState S F D). u.now) d.is) (ap (λ (u : LoopState S F D). u.limit) d.is) round
   step_round since s t (Transfer_closed d) is round =
+      same_round since s t (ap (λ (u : LoopState S F D). u.now) d.is) (ap (λ (u : LoopState S F D). u.limit) d.is) round
+  step_round since s t (Drain_begun d) is round =
       same_round since s t (ap (λ (u : LoopState S F D). u.now) d.is) (ap (λ (u : LoopState S F D). u.limit) d.is) round
   step_round since s t (Clock_read d) is round =
       let now : t.now ≡ d.time = ap (λ (u : LoopState S F D). u.now) d.is in

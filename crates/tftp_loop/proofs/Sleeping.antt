@@ -18,6 +18,8 @@ use Rattle.tftp_loop.specs.Steps.{until_look}
 use Rattle.tftp_loop.specs.Steps.LoopStep.{Waited, At_port, Request_received, No_request_found, Request_not_received}
 use Rattle.tftp_loop.specs.Steps.LoopStep.{Request_noted, Request_answered, Request_lost, Clock_read, Store_set}
 use Rattle.tftp_loop.specs.Steps.LoopStep.{Transfer_closed}
+use Rattle.tftp_loop.specs.Steps.LoopStep.{Drain_begun}
+use Rattle.tftp_loop.specs.Steps.{is_draining, reads_requests}
 use Rattle.tftp_loop.specs.LoopStates.{Work_by}
 use Rattle.tftp_loop.specs.Sleeps.{HasItsOwnPort, MaySleep}
 use Rattle.tftp_loop.specs.MayWait.{AreKept}
@@ -78,6 +80,8 @@ module _ {S F D : Type 0} (meaning : StoreMeaning S D) (sources : SourceMeaning 
       subst (λ (u : LoopState S F D). u.marked ≡ false → is_drained u.requests u.events ≡ true) (sym d.is) h
   step_drained s t (Transfer_closed d) own h =
       subst (λ (u : LoopState S F D). u.marked ≡ false → is_drained u.requests u.events ≡ true) (sym d.is) h
+  step_drained s t (Drain_begun d) own h =
+      subst (λ (u : LoopState S F D). u.marked ≡ false → is_drained u.requests u.events ≡ true) (sym d.is) h
 
   pub step_kept : (s t : LoopState S F D) → LoopStep meaning sources s t → AreKept s.server.held s.timers →
       AreKept t.server.held t.timers
@@ -101,6 +105,8 @@ module _ {S F D : Type 0} (meaning : StoreMeaning S D) (sources : SourceMeaning 
   step_kept s t (Store_set d) kept = (work_keeps meaning sources s t (Then Start (Work_by (Store_set d) tt))).kept kept
   step_kept s t (Transfer_closed d) kept =
       (work_keeps meaning sources s t (Then Start (Work_by (Transfer_closed d) tt))).kept kept
+  step_kept s t (Drain_begun d) kept =
+      (work_keeps meaning sources s t (Then Start (Work_by (Drain_begun d) tt))).kept kept
 
   pub kept_along : (config : LoopConfig) (port : ℕ) (server : ServerState S F D) (before : List Event)
       (old : LoopState S F D) → Run (LoopStep meaning sources) (at_start config port server before) old
@@ -133,6 +139,11 @@ idle_parts true p c n h = absurd (omega (arith, h))
 idle_parts false true c n h = absurd (omega (arith, h))
 idle_parts false false true n h = absurd (omega (arith, h))
 idle_parts false false false n h = (refl, refl, refl)
+
+-- the request port is not marked if it is not read, and the server does not drain
+unmarked_when : (drains marked : Bool) → (not drains && marked) ≡ false → drains ≡ false → marked ≡ false
+unmarked_when true marked e on = absurd (let f : true ≡ false = on in cc)
+unmarked_when false marked e on = e
 
 idle_millis : (b : Bool) (n millis : ℕ) → 1 ≤ millis → millis ≤ cond b 0 n → millis ≤ n
 idle_millis true n millis h k = absurd (omega (arith, h, k))
@@ -180,13 +191,13 @@ module _ {S F D : Type 0} (meaning : StoreMeaning S D) (sources : SourceMeaning 
       let until = until_look waits.time set in
       let longest = waits.may.longest in
       let parts =
-      idle_parts old.marked (is_some old.pending) (list_any (λ (timer : Timer). timer.marked) set) until
+      idle_parts (reads_requests old) (is_some old.pending) (list_any (λ (timer : Timer). timer.marked) set) until
       (omega (arith, some, longest)) in
       let most : waits.millis ≤ until = idle_millis (is_busy (read_at waits.time old)) until waits.millis some longest in
       let looked = read_looked old.events old.now waits.time old.timers waits.forward was.looked in
       let kept = set_kept old.server.held waits.time old.timers was.kept in
       record {
-        requests = was.drained parts.0;
+        requests = λ on. was.drained (unmarked_when (is_draining old.drain) old.marked parts.0 on);
         pending = none_pending old.pending parts.1;
         transfers = λ k d h.
             let first = look_first waits.time set k d h in

@@ -1,5 +1,5 @@
 -- A wait, and when it is allowed.
-use Rattle.std.proofs.Common.{arith, ◌≡◌, ◌<◌, ◌≤◌, ◌-◌, ◌||◌, ◌⊎◌, ◌+◌, ◌++◌, ℕ, zero, suc, Bool, List, [], ◌∷◌}
+use Rattle.std.proofs.Common.{arith, ◌≡◌, ◌<◌, ◌≤◌, ◌-◌, ◌||◌, ◌&&◌, not, ◌⊎◌, ◌+◌, ◌++◌, ℕ, zero, suc, Bool, List, [], ◌∷◌}
 use Rattle.std.proofs.Common.{length, map, take, drop, get_or, set, min, max, true, false, Option, Some, None, IsSome}
 use Rattle.std.proofs.Common.{refl, sym, ap, subst, ◌∙◌}
 use Rattle.std.proofs.Common.{inl, inr, cond}
@@ -21,13 +21,14 @@ use Rattle.tftp_loop.specs.declared.server_loop.ServerLoop.{ServerLoop}
 use Rattle.tftp_loop.specs.Run.{Run}
 use Rattle.tftp_loop.specs.Run.Run.{Start, Then}
 use Rattle.tftp_loop.specs.Steps.{Timer, LoopState, LoopStep, MayWait, IsServed, deadline_by, marked_by, most_millis}
-use Rattle.tftp_loop.specs.Steps.{read_at, round_end, set_by, until_look}
+use Rattle.tftp_loop.specs.Steps.{is_draining, read_at, round_end, set_by, until_look}
 use Rattle.tftp_loop.specs.Steps.LoopStep.{Waited, Clock_read}
 use Rattle.tftp_loop.specs.LoopStates.{pending_in, state_of, timer_of}
 use Rattle.tftp_loop.specs.MayWait.{AreSettled, AreKept, HasRead, HasSlept, HasWoken, IsHeld, IsSettled, IsTended}
 use Rattle.tftp_loop.specs.MayWait.{ReceivedFew}
 use Rattle.tftp_loop.specs.MayWait.{HasFew}
-use Rattle.tftp_loop.specs.MayWait.{millis_of, timers_of, woken_if}
+use Rattle.tftp_loop.specs.MayWait.{millis_of, reads_of, timers_of, woken_if}
+use Rattle.tftp_loop.specs.declared.drain.Drain.{Drain}
 use Rattle.tftp_loop.proofs.ListLemmas.{map_at}
 use Rattle.tftp_loop.proofs.LoopRuns.{same_state}
 use Rattle.tftp_loop.proofs.Tables.{any_default}
@@ -71,11 +72,11 @@ shortest_by m n e (inr h) = inr h
 module _ {S F D : Type 0} where
   pub millis_same : (buffer : List ℕ) (d : ServerLoop S F D) → most_millis (state_of buffer d) ≡ millis_of d
   millis_same buffer d =
-      ap (λ (p : Bool). cond (d.sockets.is_ready || (p || list_any (λ (timer : Timer). timer.marked) (timers_of d))) 0
+      ap (λ (p : Bool). cond (reads_of d || (p || list_any (λ (timer : Timer). timer.marked) (timers_of d))) 0
       (until_look d.sockets.watch.now (timers_of d))) (pending_same d.pending buffer)
-      ∙ (ap (λ (a : Bool). cond (d.sockets.is_ready || (is_some d.pending || a)) 0
+      ∙ (ap (λ (a : Bool). cond (reads_of d || (is_some d.pending || a)) 0
       (until_look d.sockets.watch.now (timers_of d))) (any_mapped d.ports.items)
-      ∙ ap (λ (n : ℕ). cond (d.sockets.is_ready ||
+      ∙ ap (λ (n : ℕ). cond (reads_of d ||
       (is_some d.pending || list_any (λ (port : Port TransferSocket). port.is_ready) d.ports.items)) 0 n)
       (looks_mapped d.sockets.watch.now d.ports.items))
 
@@ -100,13 +101,16 @@ module _ {S F D : Type 0} where
       let any : List (Port TransferSocket) → Bool =
       λ ports. list_any (λ (timer : Timer). timer.marked) (map timer_of ports) in
       let until : List (Port TransferSocket) → ℕ = λ ports. until_look time (map timer_of ports) in
-      ap (λ (b : Bool). Millis d.sockets.is_ready d.pending b
+      let reads : reads_of d ≡ reads_of read =
+      ap (λ (drain : Drain). not (is_draining drain) && d.sockets.is_ready) (sym r.drain)
+      ∙ ap (λ (b : Bool). not (is_draining read.drain) && b) (sym r.marked) in
+      ap (λ (b : Bool). Millis (reads_of d) d.pending b
       (until_look time (map (set_by time) (timers_of d)))) (set_any time (timers_of d))
-      ∙ (ap (λ (n : ℕ). Millis d.sockets.is_ready d.pending (any d.ports.items) n) (set_until time time (timers_of d))
-      ∙ (ap (λ (b : Bool). Millis b d.pending (any d.ports.items) (until d.ports.items)) (sym r.marked)
-      ∙ (ap (λ (p : Option (Endpoint × ℕ)). Millis read.sockets.is_ready p (any d.ports.items) (until d.ports.items))
+      ∙ (ap (λ (n : ℕ). Millis (reads_of d) d.pending (any d.ports.items) n) (set_until time time (timers_of d))
+      ∙ (ap (λ (b : Bool). Millis b d.pending (any d.ports.items) (until d.ports.items)) reads
+      ∙ (ap (λ (p : Option (Endpoint × ℕ)). Millis (reads_of read) p (any d.ports.items) (until d.ports.items))
       (sym r.pending)
-      ∙ (ap (λ (ps : List (Port TransferSocket)). Millis read.sockets.is_ready read.pending (any ps) (until ps))
+      ∙ (ap (λ (ps : List (Port TransferSocket)). Millis (reads_of read) read.pending (any ps) (until ps))
       (sym r.ports) ∙ millis_same buffer read))))
 
   pub may_wait : (buffer : List ℕ) (d read : ServerLoop S F D) (millis : ℕ) (ports : List ℕ) → HasRead d read →
@@ -121,7 +125,7 @@ module _ {S F D : Type 0} where
         left = left;
         rounds = rounds;
         requests =
-            λ h. tended.requests (ap (λ (b : Bool). d.sockets.is_ready || b) (sym (pending_same d.pending buffer)) ∙ h);
+            λ h. tended.requests (ap (λ (b : Bool). reads_of d || b) (sym (pending_same d.pending buffer)) ∙ h);
         transfers = served buffer d tended;
         longest = omega (arith, longest, same);
         shortest = λ h. shortest_by (millis_of read) (most_millis (read_at time (state_of buffer d))) same (shortest h);
@@ -288,6 +292,7 @@ module _ {S F D : Type 0} (meaning : StoreMeaning S D) (sources : SourceMeaning 
             (woken.marked ∙ (ap (λ (b : Bool). b || is_among noted.sockets.requests.port ports)
             (slept.marked ∙ reads.marked)
             ∙ ap (λ (p : ℕ). old.sockets.is_ready || is_among p ports) requests)) woken.asked
+            (woken.drain ∙ (slept.drain ∙ reads.drain))
             (woken.left ∙ (slept.left ∙ reads.left))
             (woken.rounds ∙ ap (λ (n : ℕ). n - 1) (slept.rounds ∙ reads.rounds))
             (woken.events ∙ ap (λ (es : List Event). Watched new.sockets.watch.now ∷ es)

@@ -1,13 +1,13 @@
 -- What a server has done with each datagram of its request port before it sleeps (RFC 1350,
 -- section 4).
-use Rattle.std.specs.Prelude.{ℕ, ◌≡◌, ◌≤◌, true, List}
+use Rattle.std.specs.Prelude.{ℕ, ◌≡◌, ◌≤◌, true, false, List}
 use Rattle.tftp_file.specs.Source.{SourceMeaning}
 use Rattle.tftp_ends.specs.declared.endpoint.Endpoint.{Endpoint}
 use Rattle.tftp_store.specs.Store.{StoreMeaning}
 use Rattle.tftp_sockets.specs.Quiet.{is_among, was_tried}
 use Rattle.tftp_loop.specs.Run.{Run}
 use Rattle.tftp_loop.specs.Steps.{LoopState, LoopStep, Waits, ReceivesRequest, AnswersRequest}
-use Rattle.tftp_loop.specs.Steps.{LosesRequest}
+use Rattle.tftp_loop.specs.Steps.{LosesRequest, is_draining}
 use Rattle.tftp_loop.specs.Reported.{GoesOn}
 use Rattle.tftp_loop.specs.Sleeps.{HasItsOwnPort}
 
@@ -49,10 +49,10 @@ module _ {S F D : Type 0} (meaning : StoreMeaning S D) (sources : SourceMeaning 
       → Waits meaning sources last new
       → IsResolved receives.from receives.bytes received last
 
-  -- the request port is read by the next wait after the one that reported it
+  -- the request port is read by the next wait after the one that reported it, unless it drains
   abbrev pub ReadsTheRequestPort : Type 0
   ReadsTheRequestPort =
       (old woken last new : LoopState S F D)
       → (waits : Waits meaning sources old woken) → is_among old.requests waits.ports ≡ true
       → Run (GoesOn meaning sources) woken last → Waits meaning sources last new
-      → was_tried last.requests last.events ≡ true
+      → is_draining last.drain ≡ false → was_tried last.requests last.events ≡ true

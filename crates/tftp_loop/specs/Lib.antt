@@ -13,3 +13,4 @@ pub mod Reported
 pub mod Expiry
 pub mod Handled
 pub mod PortsInTurn
+pub mod Draining

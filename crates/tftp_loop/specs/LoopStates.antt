@@ -1,5 +1,5 @@
 -- The loop's own values as states of its run.
-use Rattle.std.specs.Prelude.{ℕ, ◌≡◌, ◌≢◌, ◌⊎◌, ⊤, false, List, ◌∷◌, map, take, Option, Some, None}
+use Rattle.std.specs.Prelude.{ℕ, ◌≡◌, ◌≢◌, ◌⊎◌, ⊤, false, List, [], ◌∷◌, map, take, Option, Some, None}
 use Rattle.std.specs.Prelude.{IfSome}
 use Rattle.tftp_file.specs.Source.{SourceMeaning}
 use Rattle.tftp_ends.specs.declared.endpoint.Endpoint.{Endpoint}
@@ -15,6 +15,7 @@ use Rattle.tftp_sockets.specs.Journal.Event.{Printed}
 use Rattle.tftp_ends.specs.declared.outcome.Outcome.{Outcome}
 use Rattle.tftp_lines.specs.Printed.{line_text}
 use Rattle.tftp_lines.specs.declared.printed.Printed.TheVariants.{Closed}
+use Rattle.tftp_loop.specs.declared.drain.Drain.TheVariants.{Begun}
 use Rattle.tftp_loop.specs.declared.transfer_port.TransferSocket.{TransferSocket}
 use Rattle.tftp_loop.specs.PortOrder.{IsOneOf}
 use Rattle.tftp_loop.specs.Run.{Run}
@@ -101,10 +102,17 @@ module _ {S F D : Type 0} where
         woken = false;
         marked = d.sockets.is_ready;
         asked = d.sockets.has_received;
+        drain = d.drain;
         left = d.left;
         rounds = d.rounds;
         events = d.journal.events;
       }
+
+  -- a daemon that drains has nothing left to do
+  pub record IsEmptied (d : ServerLoop S F D) : Type 0 where
+    pub begun : d.drain ≡ Begun
+    pub none : d.pending ≡ None
+    pub closed : d.ports.items ≡ []
 
   -- the state of a daemon whose pending datagram is in this buffer
   abbrev pub state_of : List ℕ → ServerLoop S F D → LoopState S F D
@@ -155,6 +163,7 @@ module _ {S F D : Type 0} where
     pub limit : new.sockets.limit ≡ old.sockets.limit
     pub marked : new.sockets.is_ready ≡ old.sockets.is_ready
     pub asked : new.sockets.has_received ≡ old.sockets.has_received
+    pub drain : new.drain ≡ old.drain
     pub left_to_close : new.left ≡ old.left
     pub rounds : new.rounds ≡ old.rounds
     pub events : new.journal.events

@@ -1,7 +1,7 @@
 -- What each part of a round leaves at the ports, so that the next wait is allowed.
-use Rattle.std.specs.Prelude.{ℕ, ◌≡◌, ◌≤◌, ◌<◌, ◌+◌, ◌-◌, ◌||◌, ◌⊎◌, ⊤, true, false, List, ◌∷◌, map, min, max}
+use Rattle.std.specs.Prelude.{ℕ, ◌≡◌, ◌≤◌, ◌<◌, ◌+◌, ◌-◌, ◌||◌, ◌&&◌, not, ◌⊎◌, ⊤, true, false, List, ◌∷◌, map, min, max}
 use Rattle.std.specs.Prelude.{length, take, slice_set, slice_index_or, Option, Some, None, is_some}
-use Rattle.std.specs.Prelude.{IsSome, All, if◌then◌else◌}
+use Rattle.std.specs.Prelude.{Bool, IsSome, All, if◌then◌else◌}
 use Rattle.std.specs.List.{list_any, swap_remove}
 use Rattle.tftp_file.specs.Source.{SourceMeaning}
 use Rattle.tftp_ends.specs.declared.endpoint.Endpoint.{Endpoint}
@@ -29,7 +29,7 @@ use Rattle.tftp_loop.specs.Run.{Run}
 use Rattle.tftp_loop.specs.Steps.{Timer, PortState, LoopState, AnswersRequest, Closes}
 use Rattle.tftp_loop.specs.Steps.{LosesRequest}
 use Rattle.tftp_loop.specs.Steps.{NotesRequest, SetsStore, deadline_by, next_look, marked_by}
-use Rattle.tftp_loop.specs.Steps.{round_end, set_by}
+use Rattle.tftp_loop.specs.Steps.{is_draining, reads_requests, round_end, set_by}
 use Rattle.tftp_loop.specs.LoopStates.{OnlyServesPort, close_reported, loop_state, state_of, timer_of}
 
 -- ---- timers
@@ -126,9 +126,10 @@ abbrev pub KeepsTries : List Event → List Event → Type 0
 KeepsTries before after = (port : ℕ) → was_tried port before ≡ true → was_tried port after ≡ true
 
 module _ {S F D : Type 0} where
-  -- the request port was read since the last wait, if it is marked or its datagram is pending
+  -- the request port was read since the last wait, if it is to be read or its datagram is pending
   abbrev pub AreTried : LoopState S F D → Type 0
-  AreTried s = (s.marked || is_some s.pending) ≡ true → was_tried s.requests s.events ≡ true
+  AreTried s =
+      (reads_requests s || is_some s.pending) ≡ true → was_tried s.requests s.events ≡ true
 
   -- the transfer at the port has not closed, if it had not
   abbrev pub StaysOpen : PortState S F D → PortState S F D → Type 0
@@ -139,6 +140,10 @@ module _ {S F D : Type 0} where
   -- the timers of a daemon
   abbrev pub timers_of : ServerLoop S F D → List Timer
   timers_of d = map timer_of d.ports.items
+
+  -- whether the request port of a daemon is read
+  abbrev pub reads_of : ServerLoop S F D → Bool
+  reads_of d = not (is_draining d.drain) && d.sockets.is_ready
 
   -- between two calls: no transfer has closed, and each has a timer
   abbrev pub IsSettled : ServerLoop S F D → Type 0
@@ -172,7 +177,7 @@ module _ {S F D : Type 0} where
   -- the request port was read
   abbrev pub HasTriedRequests : ServerLoop S F D → Type 0
   HasTriedRequests d =
-      (d.sockets.is_ready || is_some d.pending) ≡ true
+      (reads_of d || is_some d.pending) ≡ true
       → was_tried d.sockets.requests.port d.journal.events ≡ true
 
   -- all is done that is to be done before a wait
@@ -185,7 +190,7 @@ module _ {S F D : Type 0} where
   -- the longest wait of a daemon, in milliseconds
   abbrev pub millis_of : ServerLoop S F D → ℕ
   millis_of d =
-      if (d.sockets.is_ready || (is_some d.pending
+      if (reads_of d || (is_some d.pending
       || list_any (λ (port : Port TransferSocket). port.is_ready) d.ports.items))
       then 0
       else
@@ -246,6 +251,7 @@ module _ {S F D : Type 0} where
     pub limit : new.sockets.limit ≡ min (old.sockets.watch.now + LONGEST_WAIT) last_moment
     pub marked : new.sockets.is_ready ≡ old.sockets.is_ready
     pub asked : new.sockets.has_received ≡ old.sockets.has_received
+    pub drain : new.drain ≡ old.drain
     pub left : new.left ≡ old.left
     pub rounds : new.rounds ≡ old.rounds
     pub events : new.journal.events ≡ Watched new.sockets.watch.now ∷ old.journal.events
@@ -262,6 +268,7 @@ module _ {S F D : Type 0} where
     pub limit : new.sockets.limit ≡ old.sockets.limit
     pub marked : new.sockets.is_ready ≡ old.sockets.is_ready
     pub asked : new.sockets.has_received ≡ old.sockets.has_received
+    pub drain : new.drain ≡ old.drain
     pub left : new.left ≡ old.left
     pub rounds : new.rounds ≡ old.rounds
     pub events : new.journal.events
@@ -284,6 +291,7 @@ module _ {S F D : Type 0} where
     pub marked : new.sockets.is_ready
         ≡ (old.sockets.is_ready || is_among old.sockets.requests.port ports)
     pub asked : new.sockets.has_received ≡ false
+    pub drain : new.drain ≡ old.drain
     pub left : new.left ≡ old.left
     pub rounds : new.rounds ≡ old.rounds - 1
     pub events : new.journal.events ≡ Watched new.sockets.watch.now ∷ old.journal.events

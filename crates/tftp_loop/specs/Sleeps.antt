@@ -8,7 +8,7 @@ use Rattle.tftp_sockets.specs.Journal.{Event}
 use Rattle.tftp_sockets.specs.Quiet.{is_drained}
 use Rattle.tftp_loop.specs.Run.{Run}
 use Rattle.tftp_loop.specs.declared.serving.LoopConfig.{LoopConfig}
-use Rattle.tftp_loop.specs.Steps.{Timer, LoopState, LoopStep, Waits, at_start, look_after, read_at}
+use Rattle.tftp_loop.specs.Steps.{Timer, LoopState, LoopStep, Waits, at_start, is_draining, look_after, read_at}
 
 -- a port of a transfer is not marked, and a wait of so long is over when it is read again, which is
 -- at its deadline at the latest; the last event of the port is that a receive found nothing there,
@@ -29,8 +29,8 @@ module _ {S F D : Type 0} (meaning : StoreMeaning S D) (sources : SourceMeaning 
 
   -- the server may sleep for so long
   pub record MaySleep (old : LoopState S F D) (millis : ℕ) : Type 0 where
-    -- the last event of the request port is that a receive found nothing there
-    pub requests : is_drained old.requests old.events ≡ true
+    -- the last event of the request port is that a receive found nothing there, unless it drains
+    pub requests : is_draining old.drain ≡ false → is_drained old.requests old.events ≡ true
     pub pending : old.pending ≡ None
     pub transfers : All (Rests old.events old.now millis) old.timers
     pub longest : millis ≤ LONGEST_WAIT

@@ -1,6 +1,6 @@
 -- A run of a server over UDP: each step is followed at once by its answer, nothing else is sent or
 -- printed, and the server waits only when its work is done (RFC 1350, sections 2 and 4).
-use Rattle.std.specs.Prelude.{ℕ, ◌≡◌, ◌≢◌, ◌≤◌, ◌<◌, ◌-◌, ◌+◌, ◌==◌, ◌||◌, ◌⊎◌, min, max, Bool}
+use Rattle.std.specs.Prelude.{ℕ, ◌≡◌, ◌≢◌, ◌≤◌, ◌<◌, ◌-◌, ◌+◌, ◌==◌, ◌||◌, ◌&&◌, not, ◌⊎◌, min, max, Bool}
 use Rattle.std.specs.Prelude.{true, false}
 use Rattle.std.specs.Prelude.{if◌then◌else◌, List, [], ◌∷◌, ◌++◌, length, map, All, IfSome}
 use Rattle.std.specs.Prelude.{slice_set, slice_index_or, Option, Some, None, is_some}
@@ -34,6 +34,8 @@ use Rattle.tftp_sockets.specs.Journal.QuietEvent.{Slept, Woke}
 use Rattle.tftp_sockets.specs.Quiet.{has_woken, is_among, was_tried}
 use Rattle.tftp_loop.specs.MayOpen.{MayOpen, NeedsMemory}
 use Rattle.tftp_loop.specs.PortOrder.{IsOneOf}
+use Rattle.tftp_loop.specs.declared.drain.Drain.{Drain}
+use Rattle.tftp_loop.specs.declared.drain.Drain.TheVariants.{Never, Awaited, Begun}
 use Rattle.tftp_loop.specs.declared.port_order.PortRange.{PortRange}
 use Rattle.tftp_loop.specs.declared.serving.LoopConfig.{LoopConfig}
 
@@ -88,11 +90,24 @@ pub record LoopState (S F D : Type 0) : Type 0 where
   pub marked : Bool
   -- whether one was received there since the newest wait
   pub asked : Bool
+  -- whether it takes no new request, and ends once what is open has closed
+  pub drain : Drain
   -- how many transfers are yet to close, and how many waits may still begin
   pub left : ℕ
   pub rounds : ℕ
   -- the last event first
   pub events : List Event
+
+-- whether a server drains: it takes no new request
+abbrev pub is_draining : Drain → Bool
+is_draining Never = false
+is_draining Awaited = false
+is_draining Begun = true
+
+-- what a server begins with: it awaits a signal to drain, or none is given
+abbrev pub drain_of : Bool → Drain
+drain_of true = Awaited
+drain_of false = Never
 
 -- the time after an opening or progress at which a port is read again though no wait reported it,
 -- in milliseconds: a second datagram that arrived with the first is reported only once
@@ -406,9 +421,15 @@ until_look now [] = LONGEST_WAIT
 until_look now (timer ∷ timers) = min (timer.look_at - now) (until_look now timers)
 
 module _ {S F D : Type 0} where
+  -- whether the request port is read: it is marked, and the server does not drain
+  abbrev pub reads_requests : LoopState S F D → Bool
+  reads_requests old = not (is_draining old.drain) && old.marked
+
   -- whether the server has something to do at once: a port that is marked, or a pending datagram
   abbrev pub is_busy : LoopState S F D → Bool
-  is_busy old = old.marked || (is_some old.pending || list_any (λ timer. timer.marked) old.timers)
+  is_busy old =
+      reads_requests old
+      || (is_some old.pending || list_any (λ timer. timer.marked) old.timers)
 
   -- the longest wait, in milliseconds: none if there is something to do
   abbrev pub most_millis : LoopState S F D → ℕ
@@ -440,9 +461,10 @@ module _ {S F D : Type 0} where
     -- the loop goes on
     pub left : 1 ≤ old.left
     pub rounds : 1 ≤ old.rounds
-    -- the request port was read since the last wait, if it is marked or its datagram is pending: so
-    -- a datagram is pending at one wait at most, since it is not read while one is
-    pub requests : (old.marked || is_some old.pending) ≡ true
+    -- the request port was read since the last wait, if it is marked and the server does not drain,
+    -- or its datagram is pending: so a datagram is pending at one wait at most, since it is not read
+    -- while one is
+    pub requests : (reads_requests old || is_some old.pending) ≡ true
         → was_tried old.requests old.events ≡ true
     pub transfers : All (IsServed old) old.timers
     -- it is no longer than there is nothing to do
@@ -487,11 +509,12 @@ module _ {S F D : Type 0} (meaning : StoreMeaning S D) (sources : SourceMeaning 
     }
 
   -- a datagram is received at the request port while none is pending, the first since the newest
-  -- wait
+  -- wait; the server does not drain
   pub record ReceivesRequest : Type 0 where
     pub from : Endpoint
     pub bytes : List ℕ
     pub none : old.pending ≡ None
+    pub goes_on : is_draining old.drain ≡ false
     pub first : old.asked ≡ false
     pub is : new ≡ record old {
       pending = Some (from, bytes);
@@ -500,17 +523,20 @@ module _ {S F D : Type 0} (meaning : StoreMeaning S D) (sources : SourceMeaning 
       events = Received old.requests from bytes ∷ old.events;
     }
 
-  -- a receive at the request port finds nothing, while none is pending
+  -- a receive at the request port finds nothing, while none is pending; the server does not drain
   pub record FindsNoRequest : Type 0 where
     pub none : old.pending ≡ None
+    pub goes_on : is_draining old.drain ≡ false
     pub is : new ≡ record old {
       marked = false;
       events = Quiet (Empty old.requests) ∷ old.events;
     }
 
-  -- a receive at the request port fails otherwise, while none is pending: it stays marked
+  -- a receive at the request port fails otherwise, while none is pending: it stays marked; the
+  -- server does not drain
   pub record FailsToReceiveRequest : Type 0 where
     pub none : old.pending ≡ None
+    pub goes_on : is_draining old.drain ≡ false
     pub is : new ≡ record old {
       marked = true;
       events = Quiet (Failed old.requests) ∷ old.events;
@@ -579,6 +605,11 @@ module _ {S F D : Type 0} (meaning : StoreMeaning S D) (sources : SourceMeaning 
       events = Printed (line_text (Closed timer.port timer.peer.port outcome)) ∷ old.events;
     }
 
+  -- the signal to drain was given: from now on no new request is taken
+  pub record BeginsDrain : Type 0 where
+    pub awaited : old.drain ≡ Awaited
+    pub is : new ≡ record old { drain = Begun }
+
   -- the steps of the loop
   pub data LoopStep : Type 0 where
     Waited : Waits → LoopStep
@@ -592,9 +623,11 @@ module _ {S F D : Type 0} (meaning : StoreMeaning S D) (sources : SourceMeaning 
     Clock_read : ReadsClock → LoopStep
     Store_set : SetsStore → LoopStep
     Transfer_closed : Closes → LoopStep
+    Drain_begun : BeginsDrain → LoopStep
 
 -- a server of this configuration with a bound request port that has received nothing: its transfers
--- have ports of the range, if there is one, and it ends after so many closed transfers or waits
+-- have ports of the range, if there is one, and it ends after so many closed transfers or waits,
+-- or once it has drained, if it awaits a signal for that
 abbrev pub at_start : {S F D : Type 0} → LoopConfig → ℕ → ServerState S F D → List Event
     → LoopState S F D
 at_start config requests server events =
@@ -610,6 +643,7 @@ at_start config requests server events =
       woken = false;
       marked = true;
       asked = false;
+      drain = drain_of config.drains;
       left = config.ending.transfers;
       rounds = config.ending.rounds;
       events = events;

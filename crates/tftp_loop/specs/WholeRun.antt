@@ -1,5 +1,5 @@
 -- A whole run of a server over UDP, from one journal to the other (RFC 1350, section 4).
-use Rattle.std.specs.Prelude.{ℕ, ◌≡◌, ◌⊎◌, List, ◌∷◌, Result, Ok, Err}
+use Rattle.std.specs.Prelude.{ℕ, ◌≡◌, ◌⊎◌, List, [], ◌∷◌, None, Result, Ok, Err}
 use Rattle.tftp_file.specs.Source.{SourceMeaning}
 use Rattle.tftp_store.specs.Store.{StoreMeaning}
 use Rattle.tftp_server.specs.State.{ServerState}
@@ -11,6 +11,7 @@ use Rattle.tftp_sockets.specs.Journal.Event.{Printed}
 use Rattle.tftp_loop.specs.Run.{Run}
 use Rattle.tftp_loop.specs.Steps.{LoopStep, LoopState, at_start}
 use Rattle.tftp_loop.specs.LoopStates.{FailsToBind, StopsServing}
+use Rattle.tftp_loop.specs.declared.drain.Drain.TheVariants.{Begun}
 use Rattle.tftp_loop.specs.declared.serving.LoopConfig.{LoopConfig}
 use Rattle.tftp_loop.specs.declared.serving.LoopFault.{LoopFault}
 
@@ -20,9 +21,15 @@ listening ip port events =
     Printed (line_text (Listening (record { ip = ip; port = port }))) ∷ events
 
 module _ {S F D : Type 0} where
-  -- a run to its end: so many transfers closed, or so many waits are over
+  -- a server that drains has nothing left to do: no datagram is pending, and no transfer is open
+  pub record HasDrained (last : LoopState S F D) : Type 0 where
+    pub begun : last.drain ≡ Begun
+    pub none : last.pending ≡ None
+    pub closed : last.timers ≡ []
+
+  -- a run to its end: so many transfers closed, or so many waits are over, or it has drained
   abbrev pub IsOver : LoopState S F D → Type 0
-  IsOver last = (last.left ≡ 0) ⊎ (last.rounds ≡ 0)
+  IsOver last = (last.left ≡ 0) ⊎ ((last.rounds ≡ 0) ⊎ HasDrained last)
 
   -- how a run with this result ended: without a fault it is over, and with one it stopped for it
   abbrev pub EndsBy : {A : Type 0} → Result A LoopFault → LoopState S F D → Type 0

@@ -1,5 +1,6 @@
 //! Laws of a server's runs, over the definitions alone. Its store is of any type.
 
+ghost use Rattle.tftp_loop.specs.Draining.{DrainsByASignal, OnlyFinishes};
 ghost use Rattle.tftp_loop.specs.Expiry.{ClosesOverAge, ClosesWithoutProgress, TimesOutInSilence};
 ghost use Rattle.tftp_loop.specs.Fair.{CountsReceived, ReceivesFew, ReceivesFewAtAPort};
 ghost use Rattle.tftp_loop.specs.Handled.{HandlesBeforeItSleeps, HandlesByTheNextWait};
@@ -34,6 +35,13 @@ pub fn a_server_handles_before_it_sleeps<T: Store>()
     ensures reads { ReadsTheRequestPort T.meaning T.Source.meaning }
     ensures handles { HandlesBeforeItSleeps T.meaning T.Source.meaning }
     ensures soon { HandlesByTheNextWait T.meaning T.Source.meaning }
+{}
+
+/// Once a server drains it receives nothing at its request port, whatever comes there, and goes on
+/// with what is open. It drains only if it awaits a signal for that.
+pub fn a_server_that_drains_only_finishes<T: Store>()
+    ensures finishes { OnlyFinishes T.meaning T.Source.meaning }
+    ensures signal { DrainsByASignal T.meaning T.Source.meaning }
 {}
 
 /// A transfer that makes no progress is closed in time, whatever is sent to its port. At each wait

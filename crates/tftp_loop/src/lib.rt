@@ -10,6 +10,7 @@
 #![tactic(auto)]
 
 mod datagram;
+mod drain;
 pub mod laws;
 mod log;
 mod log_entry;
@@ -24,6 +25,7 @@ mod serving;
 mod sockets;
 mod transfer_port;
 
+pub use drain::{DrainSignal, NoSignal};
 pub use port_order::{PortOrder, PortRange};
 pub use server_udp::ServerUdp;
 pub use serving::{Ending, LoopConfig, LoopFault, serve};

@@ -22,6 +22,13 @@ pub(crate) fn log_listening<E: Eprint>(rt: &E, config: &LoopConfig, line: Printe
     }
 }
 
+/// Logs that the server drains, with so many transfers open, if there is a log.
+pub(crate) fn log_drain<E: Eprint>(rt: &E, log: Log, count: usize) {
+    if log.is_written {
+        let _ = eprintln!(rt; "draining: {count} transfers open");
+    }
+}
+
 /// Logs a datagram that opened no transfer. `reason` is why its name or a file call was refused, if
 /// one was.
 pub(crate) fn log_unopened<E: Eprint>(

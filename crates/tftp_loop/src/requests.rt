@@ -14,7 +14,7 @@ ghost use Rattle.tftp_loop.specs.PortPool.{IsOfPool};
 ghost use Rattle.tftp_loop.specs.Steps.{IsSet, answering_port, interval_at, started, with_timer};
 ghost use Rattle.tftp_loop.specs.LoopStates.{HasAnswered, IsAdmission, WorksRound, timer_of};
 ghost use Rattle.tftp_loop.specs.MayWait.{AnswersPending, HandlesReceived, HasTriedRequests};
-ghost use Rattle.tftp_loop.specs.MayWait.{HasFew, IsSettled};
+ghost use Rattle.tftp_loop.specs.MayWait.{HasFew, IsSettled, reads_of};
 ghost use Rattle.tftp_loop.specs.declared.port_turn.TheConstants.{MOST_AT_ONCE};
 
 use crate::datagram::Datagram;
@@ -38,8 +38,9 @@ const NO_PORT: u16 = 0;
 const MOST_AHEAD: usize = 1 << 20;
 
 impl<S: ServedStore<Reason> + Drop> ServerLoop<S> {
-    /// Handles the pending datagram of the request port, and then the next one, if there is one. It
-    /// is the only one of its round, since an opening asks the store while transfers wait.
+    /// Handles the pending datagram of the request port, and then the next one, if there is one and
+    /// the server does not drain. It is the only one of its round, since an opening asks the store
+    /// while transfers wait.
     pub(crate) fn take_request<N: ServerUdp + Eprint>(&mut self, rt: &N, request: &mut [u8])
         requires first { self.old.sockets.has_received ≡ false }
         ensures works { WorksRound S.meaning S.Source.meaning request.old self.old request.new
@@ -50,7 +51,7 @@ impl<S: ServedStore<Reason> + Drop> ServerLoop<S> {
         ensures rounds { self.new.rounds ≡ self.old.rounds }
     {
         self.take_pending(rt, request);
-        if !self.sockets.is_ready {
+        if !self.reads_requests() {
             return;
         }
         self.receive_request(rt, request);
@@ -94,7 +95,7 @@ impl<S: ServedStore<Reason> + Drop> ServerLoop<S> {
     /// Receives a datagram at the request port, and handles it.
     fn receive_request<N: ServerUdp + Eprint>(&mut self, rt: &N, request: &mut [u8])
         requires pending { self.old.pending ≡ None }
-        requires marked { self.old.sockets.is_ready ≡ true }
+        requires reads { reads_of self.old ≡ true }
         requires first { self.old.sockets.has_received ≡ false }
         ensures works { WorksRound S.meaning S.Source.meaning request.old self.old request.new
             self.new }

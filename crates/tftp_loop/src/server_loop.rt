@@ -1,21 +1,22 @@
 //! The loop over the ports of a server, in one thread.
 
 ghost use Rattle.std.specs.Prelude.{◌≡◌, ◌≤◌, ◌<◌, ◌+◌, ◌⊎◌, ◌||◌, IfErr, OnOk, None, is_some, []};
-ghost use Rattle.std.specs.Prelude.{IfOk, length, map, false, if◌then◌else◌};
+ghost use Rattle.std.specs.Prelude.{IfOk, IsTrue, length, map, false, if◌then◌else◌};
 ghost use Rattle.std.specs.List.{list_any};
 ghost use Rattle.tftp_sockets.specs.Quiet.{is_among};
-ghost use Rattle.tftp_loop.specs.Steps.{marked_by, set_by};
+ghost use Rattle.tftp_loop.specs.Steps.{drain_of, marked_by, set_by};
 ghost use Rattle.tftp_loop.specs.LoopStates.{FailsToPrint, OnlyWorks, OnlyServes, ServesRounds};
-ghost use Rattle.tftp_loop.specs.LoopStates.{WorksRound};
+ghost use Rattle.tftp_loop.specs.LoopStates.{IsEmptied, WorksRound};
 ghost use Rattle.tftp_loop.specs.MayWait.{ClosesPort, Finishes, HasRead, HasSlept, HasWoken};
 ghost use Rattle.tftp_loop.specs.MayWait.{AwaitTurn, HasFew, HaveTurned, before_turn};
 ghost use Rattle.tftp_loop.specs.MayWait.{IsOpenAt, IsSurveyOf, UnlessClosed};
 ghost use Rattle.tftp_loop.specs.MayWait.{IsSettled, IsTended, TakesTurn, Visits, leaves_by};
-ghost use Rattle.tftp_loop.specs.MayWait.{millis_of, timers_of};
+ghost use Rattle.tftp_loop.specs.MayWait.{millis_of, reads_of, timers_of};
 
+use crate::drain::{Drain, DrainSignal};
 use crate::log::Log;
 use crate::port_turn::{Moment, PortStatus, Turn, has_turn, take_turn_at};
-use crate::report::{log_unsent, record_of_closed, report_close};
+use crate::report::{log_drain, log_unsent, record_of_closed, report_close};
 use crate::server_udp::ServerUdp;
 use crate::serving::{LoopConfig, LoopFault};
 use crate::sockets::Sockets;
@@ -59,6 +60,10 @@ pub(crate) struct ServerLoop<S: Store + Drop> {
     pub(crate) rounds: u64,
     /// The age of a transfer, in seconds, behind which its datagrams are dropped.
     pub(crate) longest: Option<u32>,
+    /// Whether it takes no new request.
+    pub(crate) drain: Drain,
+    /// The time of the watch at which the signal to drain is looked at again, in milliseconds.
+    signal_look: u64,
     pub(crate) log: Log,
     pub(crate) alloc: Global,
 }
@@ -113,6 +118,7 @@ impl<S: ServedStore<Reason> + Drop> ServerLoop<S> {
         ensures left { result.left ≡ config.now.ending.transfers }
         ensures rounds { result.rounds ≡ config.now.ending.rounds }
         ensures longest { result.longest ≡ config.now.longest }
+        ensures drain { result.drain ≡ drain_of config.now.drains }
     {
         ServerLoop {
             server,
@@ -125,6 +131,8 @@ impl<S: ServedStore<Reason> + Drop> ServerLoop<S> {
             left: config.ending.transfers,
             rounds: config.ending.rounds,
             longest: config.longest,
+            drain: Drain::of(config.drains),
+            signal_look: 0,
             log: Log {
                 is_written: config.logs,
                 has_priority: config.has_priority,
@@ -133,10 +141,12 @@ impl<S: ServedStore<Reason> + Drop> ServerLoop<S> {
         }
     }
 
-    /// Serves, wait by wait, until no transfer is yet to close or no wait may begin.
-    pub(crate) fn take_rounds<N: ServerUdp + Clock + Print + Eprint>(
+    /// Serves, wait by wait, until no transfer is yet to close or no wait may begin, or until it has
+    /// drained.
+    pub(crate) fn take_rounds<N: ServerUdp + Clock + Print + Eprint, D: DrainSignal>(
         &mut self,
         rt: &N,
+        signal: &D,
         reports: &mut Reports,
         request: &mut [u8],
         datagram: &mut [u8],
@@ -146,18 +156,96 @@ impl<S: ServedStore<Reason> + Drop> ServerLoop<S> {
         requires first { self.old.sockets.has_received ≡ false }
         ensures serves { ServesRounds S.meaning S.Source.meaning request.old self.old
             request.new self.new }
-        ensures end { OnOk result ((self.new.left ≡ 0) ⊎ (self.new.rounds ≡ 0)) }
+        ensures end { OnOk result ((self.new.left ≡ 0) ⊎ ((self.new.rounds ≡ 0)
+            ⊎ IsEmptied self.new)) }
         ensures fault { IfErr result (λ fault. FailsToPrint fault self.new.journal.events) }
     {
-        self.take_ports(rt, request, datagram)?;
+        self.take_round(rt, signal, request, datagram)?;
         while self.rounds > 0 {
             if self.left == 0 {
                 return Ok(());
             }
+            if self.is_emptied() {
+                return Ok(());
+            }
             self.wait(rt, reports);
-            self.take_ports(rt, request, datagram)?;
+            self.take_round(rt, signal, request, datagram)?;
         }
         Ok(())
+    }
+
+    /// Begins to drain if that is signalled, and then handles datagrams and due timeouts.
+    fn take_round<N: ServerUdp + Print + Eprint, D: DrainSignal>(
+        &mut self,
+        rt: &N,
+        signal: &D,
+        request: &mut [u8],
+        datagram: &mut [u8],
+    ) -> Result<(), LoopFault>
+        requires settled { IsSettled self.old }
+        requires few { HasFew 0 self.old }
+        requires first { self.old.sockets.has_received ≡ false }
+        ensures works { WorksRound S.meaning S.Source.meaning request.old self.old request.new
+            self.new }
+        ensures tended { OnOk result (1 ≤ self.new.left → IsTended self.new) }
+        ensures rounds { self.new.rounds ≡ self.old.rounds }
+        ensures fault { IfErr result (λ fault. FailsToPrint fault self.new.journal.events) }
+    {
+        self.look_at_signal(rt, signal);
+        self.take_ports(rt, request, datagram)
+    }
+
+    /// Begins to drain if that is signalled. The signal is looked at once a second at most.
+    fn look_at_signal<E: Eprint, D: DrainSignal>(&mut self, rt: &E, signal: &D)
+        ensures works { OnlyWorks S.meaning S.Source.meaning self.old self.new }
+        ensures rest { self.new ≡ record self.old {
+          drain = self.new.drain;
+          signal_look = self.new.signal_look;
+        } }
+    {
+        let Drain::Awaited = self.drain else {
+            return;
+        };
+        let now = self.sockets.watch.now;
+        if now < self.signal_look {
+            return;
+        }
+        self.signal_look = now.saturating_add(LONGEST_WAIT);
+        if !signal.is_given() {
+            return;
+        }
+        self.begin_drain(rt);
+    }
+
+    /// Takes no new request from now on, and logs that.
+    fn begin_drain<E: Eprint>(&mut self, rt: &E)
+        ensures { self.new ≡ record self.old { drain = Drain.Begun } }
+    {
+        self.drain = Drain::Begun;
+        log_drain(rt, self.log, self.ports.len());
+    }
+
+    /// Whether the server has drained: it takes no new request, and has nothing left to do.
+    fn is_emptied(&self) -> bool
+        ensures { IsTrue result → IsEmptied self.now }
+    {
+        let Drain::Begun = self.drain else {
+            return false;
+        };
+        if self.pending.is_some() {
+            return false;
+        }
+        self.ports.is_empty()
+    }
+
+    /// Whether the request port is read: it is marked, and the server does not drain.
+    pub(crate) fn reads_requests(&self) -> bool
+        ensures { result ≡ reads_of self.now }
+    {
+        if self.drain.is_draining() {
+            return false;
+        }
+        self.sockets.is_ready
     }
 
     /// Handles datagrams and due timeouts, until no transfer is yet to close. Transfers precede a
@@ -327,7 +415,7 @@ impl<S: ServedStore<Reason> + Drop> ServerLoop<S> {
         self.sockets.mark(reported);
     }
 
-    /// The longest wait, in milliseconds: none if a port is marked or a datagram is pending, and
+    /// The longest wait, in milliseconds: none if a port is to be read or a datagram is pending, and
     /// else until the nearest time at which a port is read, at most a second.
     fn millis_to_wait(&self, survey: Survey) -> u64
         requires { IsSurveyOf self.now.ports.items survey }
@@ -339,13 +427,13 @@ impl<S: ServedStore<Reason> + Drop> ServerLoop<S> {
         survey.millis(self.sockets.watch.now)
     }
 
-    /// Whether a port is marked or a datagram is pending.
+    /// Whether a port is to be read or a datagram is pending.
     fn is_busy(&self, survey: Survey) -> bool
         requires { IsSurveyOf self.now.ports.items survey }
-        ensures { result ≡ (self.now.sockets.is_ready || (is_some self.now.pending
+        ensures { result ≡ (reads_of self.now || (is_some self.now.pending
             || list_any (λ port. port.is_ready) self.now.ports.items)) }
     {
-        if self.sockets.is_ready {
+        if self.reads_requests() {
             return true;
         }
         if self.pending.is_some() {

@@ -3,6 +3,7 @@
 ghost use Rattle.std.specs.Prelude.{◌≡◌, true, false};
 ghost use Rattle.tftp_loop.specs.WholeRun.{Serves, ServesFrom, listening};
 
+use crate::drain::DrainSignal;
 use crate::port_order::PortRange;
 use crate::report::log_listening;
 use crate::server_loop::{Buffers, ServerLoop};
@@ -28,6 +29,8 @@ pub struct LoopConfig {
     /// The age of a transfer, in seconds, behind which its datagrams are dropped, so that it times
     /// out once its retries are over; `None` for no limit.
     pub longest: Option<u32>,
+    /// Whether a signal to drain is awaited.
+    pub drains: bool,
     /// Whether the start, each request and each close is logged as a line on standard error.
     pub logs: bool,
     /// Whether a line of the log that is a warning begins with its priority, `<4>`: for a standard
@@ -66,33 +69,36 @@ pub enum LoopFault {
 
 /// Serves until the end of `config`. Adds its events to the journal, and returns it.
 ///
-/// It returns `Ok` only at that end: so many transfers closed, or so many waits are over.
+/// It returns `Ok` only at that end: so many transfers closed, or so many waits are over; or, if the
+/// configuration has it drain, once the signal was given and what was open then has closed.
 /// `Socket` is returned only if no port was bound and nothing done, `Output` only if the last event
 /// is the line that could not be printed. If the configuration has a range of ports, each transfer
 /// that opens has one of them.
-pub fn serve<N: ServerUdp + Clock + Print + Eprint, S: ServedStore<Reason> + Drop>(
+pub fn serve<N: ServerUdp + Clock + Print + Eprint, S: ServedStore<Reason> + Drop, D: DrainSignal>(
     rt: &N,
     alloc: Global,
     server: Server<S>,
     config: &LoopConfig,
+    signal: &D,
     journal: Journal,
 ) -> (Result<(), LoopFault>, Journal)
     ensures { Serves S.meaning S.Source.meaning config.now server result.0 journal.events
         result.1.events }
 {
     match Sockets::bind(rt, alloc, config) {
-        Ok(sockets) => listen(rt, alloc, server, sockets, config, journal),
+        Ok(sockets) => listen(rt, alloc, server, sockets, config, signal, journal),
         Err(error) => (Err(LoopFault::Socket(reason_of(&error))), journal),
     }
 }
 
 /// Prints the endpoint of the request port, and serves it.
-fn listen<N: ServerUdp + Clock + Print + Eprint, S: ServedStore<Reason> + Drop>(
+fn listen<N: ServerUdp + Clock + Print + Eprint, S: ServedStore<Reason> + Drop, D: DrainSignal>(
     rt: &N,
     alloc: Global,
     server: Server<S>,
     sockets: Sockets,
     config: &LoopConfig,
+    signal: &D,
     journal: Journal,
 ) -> (Result<(), LoopFault>, Journal)
     requires time { sockets.watch.now ≡ 0 }
@@ -109,19 +115,20 @@ fn listen<N: ServerUdp + Clock + Print + Eprint, S: ServedStore<Reason> + Drop>(
     match print_line(rt, &mut journal, line) {
         Ok(()) => {
             log_listening(rt, config, line);
-            run(rt, alloc, server, sockets, config, journal)
+            run(rt, alloc, server, sockets, config, signal, journal)
         }
         Err(_) => (Err(LoopFault::Output), journal),
     }
 }
 
 /// Serves the request port.
-fn run<N: ServerUdp + Clock + Print + Eprint, S: ServedStore<Reason> + Drop>(
+fn run<N: ServerUdp + Clock + Print + Eprint, S: ServedStore<Reason> + Drop, D: DrainSignal>(
     rt: &N,
     alloc: Global,
     server: Server<S>,
     sockets: Sockets,
     config: &LoopConfig,
+    signal: &D,
     journal: Journal,
 ) -> (Result<(), LoopFault>, Journal)
     requires time { sockets.watch.now ≡ 0 }
@@ -138,6 +145,7 @@ fn run<N: ServerUdp + Clock + Print + Eprint, S: ServedStore<Reason> + Drop>(
     let mut running = ServerLoop::new(alloc, server, sockets, config, journal);
     let result = running.take_rounds(
         rt,
+        signal,
         &mut buffers.reports,
         buffers.request.as_mut_slice(),
         buffers.datagram.as_mut_slice(),

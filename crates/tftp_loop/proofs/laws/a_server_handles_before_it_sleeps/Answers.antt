@@ -3,8 +3,8 @@ use Rattle.tftp_loop.proofs.Handling.{handles_before_it_sleeps, handles_by_the_n
 use Rattle.tftp_loop.proofs.laws.a_server_handles_before_it_sleeps.Goals as goal
 
 pub returns-clause-reads : goal.returns-clause-reads
-returns-clause-reads g c = λ old woken last new waits among run next. reads_the_request_port g.T.Store.meaning
-    g.T.Source.Source.meaning old woken last new waits among run next
+returns-clause-reads g c = λ old woken last new waits among run next on. reads_the_request_port g.T.Store.meaning
+    g.T.Source.Source.meaning old woken last new waits among run next on
 
 pub returns-clause-handles : goal.returns-clause-handles
 returns-clause-handles g c = λ old received last new receives run waits some. handles_before_it_sleeps

@@ -44,9 +44,9 @@ returns g c =
           (ap (λ (s : Sockets). s.watch.now) made.sockets ∙ c.requires.time)
           (ap (λ (s : Sockets). s.limit) made.sockets ∙ c.requires.limit) refl
           (ap (λ (s : Sockets). s.is_ready) made.sockets ∙ c.requires.marked)
-          (ap (λ (s : Sockets). s.has_received) made.sockets ∙ c.requires.asked) made.left made.rounds
+          (ap (λ (s : Sockets). s.has_received) made.sockets ∙ c.requires.asked) made.drain made.left made.rounds
           (ap (λ (j : Journal). j.events) made.journal)))
           rounds.ensures.serves;
       noted = refl;
-      ends = ends_by rounds.result last rounds.ensures.end rounds.ensures.fault;
+      ends = ends_by rounds.result rounds.new.request rounds.new.self rounds.ensures.end rounds.ensures.fault;
     }

@@ -22,7 +22,7 @@ returns-in-Ok-clause-answers g c =
     refl c.requires.admitted c.set_store.ensures.rest c.set_store.ensures.same c.set_store.ensures.behind
     c.in-Ok.ensures.carries_out free a.port a.own
     c.clear.ensures.items
-    (same_state _ _ a.requests a.range a.longest a.server refl a.timers a.now a.limit refl a.marked a.asked a.left_to_close a.rounds a.events)
+    (same_state _ _ a.requests a.range a.longest a.server refl a.timers a.now a.limit refl a.marked a.asked a.drain a.left_to_close a.rounds a.events)
 
 pub returns-in-Ok-clause-rounds : goal.returns-in-Ok-clause-rounds
 returns-in-Ok-clause-rounds g c = c.answer_opened.ensures.rounds
@@ -48,4 +48,5 @@ returns-in-Err-clause-answers g c =
     (ap (λ (d : ServerLoop _ _ _). d.sockets.limit) lost.rest ∙ ap (λ (s : Sockets). s.limit) back) refl
     (ap (λ (d : ServerLoop _ _ _). d.sockets.is_ready) lost.rest ∙ ap (λ (s : Sockets). s.is_ready) back)
     (ap (λ (d : ServerLoop _ _ _). d.sockets.has_received) lost.rest ∙ ap (λ (s : Sockets). s.has_received) back)
+    (ap (λ (d : ServerLoop _ _ _). d.drain) lost.rest)
     (ap (λ (d : ServerLoop _ _ _). d.left) lost.rest) (ap (λ (d : ServerLoop _ _ _). d.rounds) lost.rest) lost.noted)

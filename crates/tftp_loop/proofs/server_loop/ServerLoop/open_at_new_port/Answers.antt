@@ -21,7 +21,7 @@ returns-in_default-clause-answers g c =
     c.port_for.new.journal.events refl opens c.in_default.ensures.tries
     (same_state _ _ (ap (λ (s : Sockets). s.requests.port) same) (ap (λ (s : Sockets). s.pool.range) same) refl refl refl
     refl (ap (λ (s : Sockets). s.watch.now) same) (ap (λ (s : Sockets). s.limit) same) refl
-    (ap (λ (s : Sockets). s.is_ready) same) (ap (λ (s : Sockets). s.has_received) same) refl refl refl)
+    (ap (λ (s : Sockets). s.is_ready) same) (ap (λ (s : Sockets). s.has_received) same) refl refl refl refl)
 
 pub returns-then-is_taken-clause-answers : goal.returns-then-is_taken-clause-answers
 returns-then-is_taken-clause-answers g c =
@@ -40,7 +40,7 @@ returns-then-is_taken-clause-answers g c =
     c.in-Some.ensures.tries taken
     (same_state _ _ (ap (λ (s : Sockets). s.requests.port) same) (ap (λ (s : Sockets). s.pool.range) same) refl refl refl
     refl (ap (λ (s : Sockets). s.watch.now) same) (ap (λ (s : Sockets). s.limit) same) refl
-    (ap (λ (s : Sockets). s.is_ready) same) (ap (λ (s : Sockets). s.has_received) same) refl refl refl)
+    (ap (λ (s : Sockets). s.is_ready) same) (ap (λ (s : Sockets). s.has_received) same) refl refl refl refl)
 
 pub returns-clause-answers : goal.returns-clause-answers
 returns-clause-answers g c =
@@ -58,5 +58,5 @@ returns-clause-answers g c =
     (loop_state None c.open_at.new.self))
     (same_state _ tried (ap (λ (s : Sockets). s.requests.port) same) (ap (λ (s : Sockets). s.pool.range) same) refl refl
     refl refl (ap (λ (s : Sockets). s.watch.now) same) (ap (λ (s : Sockets). s.limit) same) refl
-    (ap (λ (s : Sockets). s.is_ready) same) (ap (λ (s : Sockets). s.has_received) same) refl refl refl)
+    (ap (λ (s : Sockets). s.is_ready) same) (ap (λ (s : Sockets). s.has_received) same) refl refl refl refl)
     c.open_at.ensures.answers)

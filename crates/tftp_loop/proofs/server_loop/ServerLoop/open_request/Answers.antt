@@ -27,6 +27,7 @@ returns-in_default-clause-answers g c =
     (ap (λ (d : ServerLoop _ _ _). d.sockets.limit) lost.rest) refl
     (ap (λ (d : ServerLoop _ _ _). d.sockets.is_ready) lost.rest)
     (ap (λ (d : ServerLoop _ _ _). d.sockets.has_received) lost.rest)
+    (ap (λ (d : ServerLoop _ _ _). d.drain) lost.rest)
     (ap (λ (d : ServerLoop _ _ _). d.left) lost.rest) (ap (λ (d : ServerLoop _ _ _). d.rounds) lost.rest) lost.noted)
 
 pub returns-in-Some-clause-answers : goal.returns-in-Some-clause-answers
@@ -39,7 +40,7 @@ returns-in-Some-clause-answers g c =
     (same_state _ s (ap (λ (s : Sockets). s.requests.port) same) (ap (λ (s : Sockets). s.pool.range) same) refl refl refl
     (ap (map timer_of) c.try_reserve.ensures.items)
     (ap (λ (s : Sockets). s.watch.now) same) (ap (λ (s : Sockets). s.limit) same) refl
-    (ap (λ (s : Sockets). s.is_ready) same) (ap (λ (s : Sockets). s.has_received) same) refl refl refl)
+    (ap (λ (s : Sockets). s.is_ready) same) (ap (λ (s : Sockets). s.has_received) same) refl refl refl refl)
     c.open_at.ensures.answers
 
 pub returns-in-None-clause-answers : goal.returns-in-None-clause-answers
@@ -52,5 +53,5 @@ returns-in-None-clause-answers g c =
     (same_state _ s (ap (λ (s : Sockets). s.requests.port) same) (ap (λ (s : Sockets). s.pool.range) same) refl refl refl
     (ap (map timer_of) c.try_reserve.ensures.items)
     (ap (λ (s : Sockets). s.watch.now) same) (ap (λ (s : Sockets). s.limit) same) refl
-    (ap (λ (s : Sockets). s.is_ready) same) (ap (λ (s : Sockets). s.has_received) same) refl refl refl)
+    (ap (λ (s : Sockets). s.is_ready) same) (ap (λ (s : Sockets). s.has_received) same) refl refl refl refl)
     c.open_at_new_port.ensures.answers

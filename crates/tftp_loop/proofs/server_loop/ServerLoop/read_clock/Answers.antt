@@ -22,6 +22,7 @@ returns g c =
       limit = omega (arith, limit);
       marked = refl;
       asked = refl;
+      drain = refl;
       left = refl;
       rounds = refl;
       events = read.noted ∙ ap (λ (n : ℕ). Watched n ∷ c.args.self.now.journal.events) (sym is);

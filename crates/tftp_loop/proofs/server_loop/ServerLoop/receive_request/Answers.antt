@@ -11,7 +11,7 @@ returns-in-Datagram-clause-works g c =
       sockets = record c.args.self.now.sockets { has_received = true };
       journal = c.receive.new.journal;
     }) c.take_received.new.self
-    c.in-Datagram.from c.in-Datagram.count c.requires.pending c.requires.marked c.requires.first refl c.in-Datagram.ensures.noted
+    c.in-Datagram.from c.in-Datagram.count c.requires.pending c.requires.reads c.requires.first refl c.in-Datagram.ensures.noted
     c.take_received.ensures.handles
 
 pub returns-in-Datagram-clause-settled : goal.returns-in-Datagram-clause-settled
@@ -21,7 +21,7 @@ returns-in-Datagram-clause-settled g c =
       sockets = record c.args.self.now.sockets { has_received = true };
       journal = c.receive.new.journal;
     }) c.take_received.new.self
-    c.in-Datagram.from c.in-Datagram.count c.requires.pending c.requires.marked c.requires.first refl c.in-Datagram.ensures.noted
+    c.in-Datagram.from c.in-Datagram.count c.requires.pending c.requires.reads c.requires.first refl c.in-Datagram.ensures.noted
     c.take_received.ensures.handles
 
 pub returns-in-Datagram-clause-few : goal.returns-in-Datagram-clause-few
@@ -32,7 +32,7 @@ returns-in-Datagram-clause-few g c =
       sockets = record c.args.self.now.sockets { has_received = true };
       journal = c.receive.new.journal;
     }) c.take_received.new.self
-    c.in-Datagram.from c.in-Datagram.count c.requires.pending c.requires.marked c.requires.first refl c.in-Datagram.ensures.noted
+    c.in-Datagram.from c.in-Datagram.count c.requires.pending c.requires.reads c.requires.first refl c.in-Datagram.ensures.noted
     MOST_AT_ONCE c.take_received.ensures.handles few
 
 pub returns-in-Datagram-clause-tried : goal.returns-in-Datagram-clause-tried
@@ -42,15 +42,15 @@ returns-in-Datagram-clause-tried g c =
       sockets = record c.args.self.now.sockets { has_received = true };
       journal = c.receive.new.journal;
     }) c.take_received.new.self
-    c.in-Datagram.from c.in-Datagram.count c.requires.pending c.requires.marked c.requires.first refl c.in-Datagram.ensures.noted
+    c.in-Datagram.from c.in-Datagram.count c.requires.pending c.requires.reads c.requires.first refl c.in-Datagram.ensures.noted
     c.take_received.ensures.handles
 
 pub returns-in-Nothing-clause-works : goal.returns-in-Nothing-clause-works
 returns-in-Nothing-clause-works g c =
     finds_none g.S.Store.meaning g.S.Source.Source.meaning c.args.request.now c.receive.new.buffer c.args.self.now _
-    c.requires.pending refl c.in-Nothing.ensures.noted
+    c.requires.pending c.requires.reads refl c.in-Nothing.ensures.noted
 
 pub returns-in-Failed-clause-works : goal.returns-in-Failed-clause-works
 returns-in-Failed-clause-works g c =
     fails_to_find g.S.Store.meaning g.S.Source.Source.meaning c.args.request.now c.receive.new.buffer c.args.self.now _
-    c.requires.pending c.requires.marked refl c.in-Failed.ensures.noted
+    c.requires.pending c.requires.reads refl c.in-Failed.ensures.noted

@@ -2,14 +2,14 @@ use Rattle.tftp_loop.proofs.LoopRuns.{runs_as}
 use Rattle.tftp_loop.proofs.RunLemmas.{onward}
 use Rattle.tftp_loop.proofs.server_loop.ServerLoop.take_rounds.Goals as goal
 
-pub returns-in_err-take_ports-clause-serves : goal.returns-in_err-take_ports-clause-serves
-returns-in_err-take_ports-clause-serves g c =
-    runs_as g.S.Store.meaning g.S.Source.Source.meaning c.take_ports.ensures.works
+pub returns-in_err-take_round-clause-serves : goal.returns-in_err-take_round-clause-serves
+returns-in_err-take_round-clause-serves g c =
+    runs_as g.S.Store.meaning g.S.Source.Source.meaning c.take_round.ensures.works
 
 pub loop-self-init : goal.loop-self-init
 loop-self-init g c = record {
-  serves = runs_as g.S.Store.meaning g.S.Source.Source.meaning c.take_ports.ensures.works;
-  tended = c.in_ok-take_ports.ensures.tended;
+  serves = runs_as g.S.Store.meaning g.S.Source.Source.meaning c.take_round.ensures.works;
+  tended = c.in_ok-take_round.ensures.tended;
 }
 
 pub loop-self-preserved : goal.loop-self-preserved
@@ -17,12 +17,12 @@ loop-self-preserved g c = record {
   serves =
       onward c.loop-self.invariant.serves
       (onward (c.wait.ensures.serves c.loop-self.request)
-      (runs_as g.S.Store.meaning g.S.Source.Source.meaning c.take_ports-in-loop-self.ensures.works));
-  tended = c.in_ok-take_ports-2.ensures.tended;
+      (runs_as g.S.Store.meaning g.S.Source.Source.meaning c.take_round-in-loop-self.ensures.works));
+  tended = c.in_ok-take_round-2.ensures.tended;
 }
 
-pub returns-in_err-take_ports-2-clause-serves : goal.returns-in_err-take_ports-2-clause-serves
-returns-in_err-take_ports-2-clause-serves g c =
+pub returns-in_err-take_round-2-clause-serves : goal.returns-in_err-take_round-2-clause-serves
+returns-in_err-take_round-2-clause-serves g c =
     onward c.loop-self.invariant.serves
     (onward (c.wait.ensures.serves c.loop-self.request)
-    (runs_as g.S.Store.meaning g.S.Source.Source.meaning c.take_ports-in-loop-self.ensures.works))
+    (runs_as g.S.Store.meaning g.S.Source.Source.meaning c.take_round-in-loop-self.ensures.works))

@@ -1,0 +1,74 @@
+-- A server that drains receives nothing at its request port.
+use Rattle.std.proofs.Common.{◌≡◌, ◌∙◌, ℕ, true, false, List, sym, ap}
+use Rattle.std.proofs.lemmas.Bool.{true≢false}
+use Rattle.tftp_file.specs.Source.{SourceMeaning}
+use Rattle.tftp_store.specs.Store.{StoreMeaning}
+use Rattle.tftp_server.specs.State.{ServerState}
+use Rattle.tftp_sockets.specs.Journal.{Event}
+use Rattle.tftp_loop.specs.declared.drain.Drain.{Drain}
+use Rattle.tftp_loop.specs.declared.drain.Drain.TheVariants.{Awaited, Begun, Never}
+use Rattle.tftp_loop.specs.declared.serving.LoopConfig.{LoopConfig}
+use Rattle.tftp_loop.specs.Draining.{FinishesWork, Finishes_by, IsFinishing}
+use Rattle.tftp_loop.specs.Run.{Run}
+use Rattle.tftp_loop.specs.Run.Run.{Start, Then}
+use Rattle.tftp_loop.specs.Steps.{LoopState, LoopStep, BeginsDrain, at_start, drain_of, is_draining}
+use Rattle.tftp_loop.specs.Steps.LoopStep.{Waited, At_port, Request_received, No_request_found, Request_not_received}
+use Rattle.tftp_loop.specs.Steps.LoopStep.{Request_noted, Request_answered, Request_lost, Clock_read, Store_set}
+use Rattle.tftp_loop.specs.Steps.LoopStep.{Transfer_closed, Drain_begun}
+
+-- a server that drains does not go on
+no_longer : {P : Type 0} (drain : Drain) → drain ≡ Begun → is_draining drain ≡ false → P
+no_longer drain begun on = absurd (true≢false (sym (ap is_draining begun) ∙ on))
+
+module _ {S F D : Type 0} (meaning : StoreMeaning S D) (sources : SourceMeaning F) where
+  -- ---- once it drains
+  step_finishes : (s t : LoopState S F D) (does : LoopStep meaning sources s t) → s.drain ≡ Begun
+      → IsFinishing meaning sources does × (t.drain ≡ Begun)
+  step_finishes s t (Waited d) begun = (tt, ap (λ (u : LoopState S F D). u.drain) d.is ∙ begun)
+  step_finishes s t (At_port d) begun = (tt, ap (λ (u : LoopState S F D). u.drain) d.is ∙ begun)
+  step_finishes s t (Request_received d) begun = no_longer s.drain begun d.goes_on
+  step_finishes s t (No_request_found d) begun = no_longer s.drain begun d.goes_on
+  step_finishes s t (Request_not_received d) begun = no_longer s.drain begun d.goes_on
+  step_finishes s t (Request_noted d) begun = (tt, ap (λ (u : LoopState S F D). u.drain) d.is ∙ begun)
+  step_finishes s t (Request_answered d) begun = (tt, ap (λ (u : LoopState S F D). u.drain) d.is ∙ begun)
+  step_finishes s t (Request_lost d) begun = (tt, ap (λ (u : LoopState S F D). u.drain) d.is ∙ begun)
+  step_finishes s t (Clock_read d) begun = (tt, ap (λ (u : LoopState S F D). u.drain) d.is ∙ begun)
+  step_finishes s t (Store_set d) begun = (tt, ap (λ (u : LoopState S F D). u.drain) d.is ∙ begun)
+  step_finishes s t (Transfer_closed d) begun = (tt, ap (λ (u : LoopState S F D). u.drain) d.is ∙ begun)
+  step_finishes s t (Drain_begun d) begun = no_longer s.drain begun (ap is_draining d.awaited)
+
+  finishes_along : (s t : LoopState S F D) → s.drain ≡ Begun → Run (LoopStep meaning sources) s t
+      → Run (FinishesWork meaning sources) s t × (t.drain ≡ Begun)
+  finishes_along s t begun Start = (Start, begun)
+  finishes_along s t begun (Then {middle} run does) =
+      let was = finishes_along s middle begun run in
+      let now = step_finishes middle t does was.1 in
+      (Then was.0 (Finishes_by does now.0), now.1)
+
+  pub only_finishes : (old drains last : LoopState S F D) → BeginsDrain meaning sources old drains
+      → Run (LoopStep meaning sources) drains last
+      → Run (FinishesWork meaning sources) drains last × (last.drain ≡ Begun)
+  only_finishes old drains last begins run =
+      finishes_along drains last (ap (λ (u : LoopState S F D). u.drain) begins.is) run
+
+  -- ---- without a signal
+  step_never : (s t : LoopState S F D) → LoopStep meaning sources s t → s.drain ≡ Never → t.drain ≡ Never
+  step_never s t (Waited d) never = ap (λ (u : LoopState S F D). u.drain) d.is ∙ never
+  step_never s t (At_port d) never = ap (λ (u : LoopState S F D). u.drain) d.is ∙ never
+  step_never s t (Request_received d) never = ap (λ (u : LoopState S F D). u.drain) d.is ∙ never
+  step_never s t (No_request_found d) never = ap (λ (u : LoopState S F D). u.drain) d.is ∙ never
+  step_never s t (Request_not_received d) never = ap (λ (u : LoopState S F D). u.drain) d.is ∙ never
+  step_never s t (Request_noted d) never = ap (λ (u : LoopState S F D). u.drain) d.is ∙ never
+  step_never s t (Request_answered d) never = ap (λ (u : LoopState S F D). u.drain) d.is ∙ never
+  step_never s t (Request_lost d) never = ap (λ (u : LoopState S F D). u.drain) d.is ∙ never
+  step_never s t (Clock_read d) never = ap (λ (u : LoopState S F D). u.drain) d.is ∙ never
+  step_never s t (Store_set d) never = ap (λ (u : LoopState S F D). u.drain) d.is ∙ never
+  step_never s t (Transfer_closed d) never = ap (λ (u : LoopState S F D). u.drain) d.is ∙ never
+  step_never s t (Drain_begun d) never = absurd (let e : Never ≡ Awaited = sym never ∙ d.awaited in cc)
+
+  pub drains_by_a_signal : (config : LoopConfig) (port : ℕ) (server : ServerState S F D) (before : List Event)
+      (last : LoopState S F D) → config.drains ≡ false
+      → Run (LoopStep meaning sources) (at_start config port server before) last → last.drain ≡ Never
+  drains_by_a_signal config port server before last none Start = ap drain_of none
+  drains_by_a_signal config port server before last none (Then {middle} run does) =
+      step_never middle last does (drains_by_a_signal config port server before middle none run)
