@@ -13,7 +13,7 @@ use Rattle.tftp_loop.specs.Steps.PortStep.{A_datagram, A_lost_datagram, A_late_d
 use Rattle.tftp_loop.specs.Steps.PortStep.{A_timeout, A_missed_timeout, Work}
 use Rattle.tftp_loop.specs.Steps.LoopStep.{Waited, At_port, Request_received, No_request_found, Request_not_received}
 use Rattle.tftp_loop.specs.Steps.LoopStep.{Request_noted, Request_answered, Request_lost, Clock_read, Store_set}
-use Rattle.tftp_loop.specs.Steps.LoopStep.{Transfer_closed}
+use Rattle.tftp_loop.specs.Steps.LoopStep.{Drain_begun, Transfer_closed}
 use Rattle.tftp_loop.specs.declared.serving.LoopConfig.{LoopConfig}
 use Rattle.tftp_promises.specs.Lines.{lines_of, close_lines, closed_lines}
 
@@ -60,6 +60,7 @@ module _ {S F D : Type 0} {stores : StoreMeaning S D} {sources : SourceMeaning F
   step_lines old new (Clock_read d) = ap (λ (s : LoopState S F D). lines_of s.events) d.is
   step_lines old new (Store_set d) = ap (λ (s : LoopState S F D). lines_of s.events) d.is
   step_lines old new (Transfer_closed d) = ap (λ (s : LoopState S F D). lines_of s.events) d.is
+  step_lines old new (Drain_begun d) = ap (λ (s : LoopState S F D). lines_of s.events) d.is
 
   run_lines : {first now : LoopState S F D} (run : Run (LoopStep stores sources) first now) →
       lines_of now.events ≡ closed_lines run ++ lines_of first.events

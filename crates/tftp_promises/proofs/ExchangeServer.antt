@@ -139,7 +139,8 @@ reads_file peer = record {
 }
 
 pub asks_to_read : Step s0 s1
-asks_to_read = Request_received (record { from = reader; bytes = read_request; none = refl; first = refl; is = refl })
+asks_to_read = Request_received
+    (record { from = reader; bytes = read_request; none = refl; goes_on = refl; first = refl; is = refl })
 
 pub opens_read : Step s1 s2
 unfolding occurrences_of name_of answered_option
@@ -278,7 +279,8 @@ wakes_again = Clock_read (record {
 })
 
 pub asks_again : Step woken s7
-asks_again = Request_received (record { from = latecomer; bytes = read_request; none = refl; first = refl; is = refl })
+asks_again = Request_received
+    (record { from = latecomer; bytes = read_request; none = refl; goes_on = refl; first = refl; is = refl })
 
 pub opens_again : Step s7 s8
 unfolding occurrences_of name_of answered_option

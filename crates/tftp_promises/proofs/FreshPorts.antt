@@ -13,7 +13,7 @@ use Rattle.tftp_loop.specs.Run.{Run}
 use Rattle.tftp_loop.specs.Run.Run.{Start, Then}
 use Rattle.tftp_loop.specs.Steps.{LoopState, LoopStep, Waited, At_port, Request_received, No_request_found}
 use Rattle.tftp_loop.specs.Steps.{Request_not_received, Request_noted, Request_answered, Request_lost, Clock_read}
-use Rattle.tftp_loop.specs.Steps.{Store_set, Transfer_closed}
+use Rattle.tftp_loop.specs.Steps.{Store_set, Drain_begun, Transfer_closed}
 use Rattle.tftp_promises.specs.Openings.{DistinctPortsAreFresh, is_ours, our_ports, ours_by}
 use Rattle.tftp_promises.specs.Order.{Programs}
 use Rattle.tftp_promises.specs.Ports.{AreDistinct, opened_by, opened_ports}
@@ -74,6 +74,7 @@ module _ {S F D G K : Type 0} {stores : StoreMeaning S D} {sources : SourceMeani
   step_twice run (Clock_read h) rest n = rest n
   step_twice run (Store_set h) rest n = rest n
   step_twice run (Transfer_closed h) rest n = rest n
+  step_twice run (Drain_begun h) rest n = rest n
 
   ours_twice : {first last : LoopState S F D} (run : Run (LoopStep stores sources) first last) →
       NoneTwice (opened_ports run) → NoneTwice (our_ports programs run)

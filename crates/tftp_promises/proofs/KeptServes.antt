@@ -17,7 +17,7 @@ use Rattle.tftp_sockets.specs.Journal.Event.{Received, Watched, Elapsed, Printed
 use Rattle.tftp_sockets.specs.Journal.QuietEvent.{Empty, Failed, Slept, Woke}
 use Rattle.tftp_loop.specs.Steps.{LoopState, LoopStep, port_state, Waited, At_port, Request_received, No_request_found}
 use Rattle.tftp_loop.specs.Steps.{Request_not_received, Request_noted, Request_answered, Request_lost, Clock_read}
-use Rattle.tftp_loop.specs.Steps.{Store_set, Transfer_closed}
+use Rattle.tftp_loop.specs.Steps.{Store_set, BeginsDrain, Drain_begun, Transfer_closed}
 use Rattle.tftp_loop.specs.Steps.{Waits, ServesPort, ReceivesRequest, FindsNoRequest, FailsToReceiveRequest}
 use Rattle.tftp_loop.specs.Steps.{NotesRequest, AnswersRequest, LosesRequest, ReadsClock, SetsStore, PortStep, A_datagram}
 use Rattle.tftp_loop.specs.Steps.{note_event}
@@ -198,6 +198,14 @@ module _ {S F D G K : Type 0} {stores : StoreMeaning S D} {sources : SourceMeani
         (λ a. record { opens = refl; moves = λ moved. refl }) h.is refl refl (λ from bytes e. e)
         (Watched h.time ∷ []) refl (tt, tt)
 
+    -- ---- a drain begins
+    draining_keeps : (h : BeginsDrain stores sources old.state new) →
+        IsKept programs how (server_did programs old (Drain_begun h) added)
+    draining_keeps h =
+        same_keeps (Drain_begun h) refl (λ port. refl) (λ port transfer r. r)
+        (λ a. record { opens = refl; moves = λ moved. refl }) h.is refl refl (λ from bytes e. e)
+        [] refl tt
+
     -- ---- the store is set
     store_keeps : (h : SetsStore stores sources old.state new) →
         IsKept programs how (server_did programs old (Store_set h) added)
@@ -366,3 +374,5 @@ module _ {S F D G K : Type 0} {stores : StoreMeaning S D} {sources : SourceMeani
   serves_keep answers_keep old new (Transfer_closed h) added kept fresh events take =
       closing_keeps programs old kept h added (silent_by old new kept added events take (Printed _ ∷ [])
       (ap (λ (s : LoopState S F D). s.events) h.is) (printed_silent _))
+  serves_keep answers_keep old new (Drain_begun h) added kept fresh events take =
+      draining_keeps old new kept added events take h

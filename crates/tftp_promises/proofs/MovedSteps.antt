@@ -20,7 +20,7 @@ use Rattle.tftp_server.specs.Request.{Came, Nothing, Error_reply, A_transfer, le
 use Rattle.tftp_server.specs.State.{TransferState}
 use Rattle.tftp_loop.specs.Steps.{LoopState, LoopStep, Waited, At_port, Request_received, No_request_found}
 use Rattle.tftp_loop.specs.Steps.{Request_not_received, Request_noted, Request_answered, Request_lost, Clock_read}
-use Rattle.tftp_loop.specs.Steps.{Store_set, Transfer_closed}
+use Rattle.tftp_loop.specs.Steps.{Store_set, Drain_begun, Transfer_closed}
 use Rattle.tftp_loop.specs.Steps.{ServesPort, AnswersRequest, PortStep, A_datagram, A_lost_datagram, A_late_datagram}
 use Rattle.tftp_loop.specs.Steps.{Nothing_found, A_failed_receive, A_timeout, A_missed_timeout, Work, PortState}
 use Rattle.tftp_loop.specs.Run.{Run}
@@ -134,6 +134,7 @@ module _ {S F D G K : Type 0} {stores : StoreMeaning S D} {sources : SourceMeani
   server_more a (Clock_read h) moved none = begins_itself moved.bytes
   server_more a (Store_set h) moved none = begins_itself moved.bytes
   server_more a (Transfer_closed h) moved none = begins_itself moved.bytes
+  server_more a (Drain_begun h) moved none = begins_itself moved.bytes
 
   -- ---- where a step opens transfers
   -- the port of a transfer that comes
@@ -168,6 +169,7 @@ module _ {S F D G K : Type 0} {stores : StoreMeaning S D} {sources : SourceMeani
   opens_none (Clock_read h) a n = refl
   opens_none (Store_set h) a n = refl
   opens_none (Transfer_closed h) a n = refl
+  opens_none (Drain_begun h) a n = refl
 
   -- a request that opens no transfer leaves the transfers where they were
   pub answer_places_none : (answers : AnswersRequest stores sources old new) (port : ℕ) →

@@ -16,7 +16,7 @@ use Rattle.tftp_loop.specs.Run.{Run}
 use Rattle.tftp_loop.specs.Run.Run.{Start, Then}
 use Rattle.tftp_loop.specs.Steps.{LoopState, LoopStep, Waited, At_port, Request_received, No_request_found}
 use Rattle.tftp_loop.specs.Steps.{Request_not_received, Request_noted, Request_answered, Request_lost, Clock_read}
-use Rattle.tftp_loop.specs.Steps.{Store_set, Transfer_closed, AnswersRequest}
+use Rattle.tftp_loop.specs.Steps.{Store_set, Drain_begun, Transfer_closed, AnswersRequest}
 use Rattle.tftp_rules.specs.Machine.{At_server, Endpoint}
 use Rattle.tftp_promises.specs.Openings.{above, is_ours, our_ports, ours_by, place, total}
 use Rattle.tftp_promises.specs.Order.{Programs, requests_at}
@@ -118,6 +118,7 @@ module _ {S F D G K : Type 0} {stores : StoreMeaning S D} {sources : SourceMeani
   placed_cases run (Clock_read h) a c = absurd (nothing_in a c)
   placed_cases run (Store_set h) a c = absurd (nothing_in a c)
   placed_cases run (Transfer_closed h) a c = absurd (nothing_in a c)
+  placed_cases run (Drain_begun h) a c = absurd (nothing_in a c)
 
   -- of all that a run opened
   pub place_cases : {first last : LoopState S F D} (run : Run (LoopStep stores sources) first last) (a : Endpoint) →
@@ -268,6 +269,7 @@ module _ {S F D G K : Type 0} {stores : StoreMeaning S D} {sources : SourceMeani
   ours_opened (Clock_read h) port c = c
   ours_opened (Store_set h) port c = c
   ours_opened (Transfer_closed h) port c = c
+  ours_opened (Drain_begun h) port c = c
 
   pub ours_among : {first last : LoopState S F D} (run : Run (LoopStep stores sources) first last) (port : ℕ) →
       Contains (our_ports programs run) port → Contains (opened_ports run) port
@@ -314,3 +316,4 @@ module _ {S F D G K : Type 0} {stores : StoreMeaning S D} {sources : SourceMeani
     not_again (Clock_read h) added fresh a c now = nothing_in a now
     not_again (Store_set h) added fresh a c now = nothing_in a now
     not_again (Transfer_closed h) added fresh a c now = nothing_in a now
+    not_again (Drain_begun h) added fresh a c now = nothing_in a now

@@ -24,6 +24,7 @@ use Rattle.tftp_loop.specs.Steps.PortStep.{A_timeout, A_missed_timeout, Work}
 use Rattle.tftp_loop.specs.Steps.LoopStep.{Waited, At_port, Request_received, No_request_found, Request_not_received}
 use Rattle.tftp_loop.specs.Steps.LoopStep.{Request_noted, Request_answered, Request_lost, Clock_read, Store_set}
 use Rattle.tftp_loop.specs.Steps.LoopStep.{Transfer_closed}
+use Rattle.tftp_loop.specs.Steps.LoopStep.{Drain_begun}
 use Rattle.tftp_loop.specs.declared.serving.LoopConfig.{LoopConfig}
 use Rattle.tftp_promises.specs.Timers.{HasOneTimerEach, timer_ports}
 use Rattle.tftp_promises.proofs.PortCounts.{hit, hit_same, hit_other, hits, hits_push, hits_map, hits_swap_removed}
@@ -204,6 +205,7 @@ module _ {S F D : Type 0} (stores : StoreMeaning S D) (sources : SourceMeaning F
       subst IsMatched (sym d.is)
       (closes_matched old.timers old.server.held d.index d.timer d.within d.is_timer
       (was_there (at d.timer.port old.server.held) d.taken d.is_taken) matched)
+  step_matched old new (Drain_begun d) matched = subst IsMatched (sym d.is) matched
 
   run_matched : {first now : LoopState S F D} → Run (LoopStep stores sources) first now → IsMatched first → IsMatched now
   run_matched Start matched = matched

@@ -18,7 +18,7 @@ use Rattle.tftp_loop.specs.Run.{Run}
 use Rattle.tftp_loop.specs.Run.Run.{Start, Then}
 use Rattle.tftp_loop.specs.Steps.{LoopState, LoopStep, Waited, At_port, Request_received, No_request_found}
 use Rattle.tftp_loop.specs.Steps.{Request_not_received, Request_noted, Request_answered, Request_lost, Clock_read}
-use Rattle.tftp_loop.specs.Steps.{Store_set, Transfer_closed}
+use Rattle.tftp_loop.specs.Steps.{Store_set, Drain_begun, Transfer_closed}
 use Rattle.tftp_promises.specs.Alone.{HasNothing, IsPassedOver, OthersHaveNothing, alone, heard_with, just_asking}
 use Rattle.tftp_promises.specs.AnyFiles.{IsEnd, IsOurs, KeepAnyFiles, ProgramEnd, client_end, has_of, peer_of}
 use Rattle.tftp_promises.specs.Joined.{AreJoined}
@@ -173,6 +173,7 @@ module _ {S F D G K : Type 0} {stores : StoreMeaning S D} {sources : SourceMeani
   ours_by_same (Clock_read h) = refl
   ours_by_same (Store_set h) = refl
   ours_by_same (Transfer_closed h) = refl
+  ours_by_same (Drain_begun h) = refl
 
   ours_same : {first last : LoopState S F D} (run : Run (LoopStep stores sources) first last) →
       our_ports both run ≡ our_ports less run

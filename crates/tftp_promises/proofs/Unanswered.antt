@@ -20,7 +20,7 @@ use Rattle.tftp_loop.specs.Run.{Run}
 use Rattle.tftp_loop.specs.Run.Run.{Start, Then}
 use Rattle.tftp_loop.specs.Steps.{LoopStep, LoopState, Waited, At_port, Request_received, No_request_found}
 use Rattle.tftp_loop.specs.Steps.{Request_not_received, Request_noted, Request_answered, Request_lost, Clock_read}
-use Rattle.tftp_loop.specs.Steps.{Store_set, Transfer_closed}
+use Rattle.tftp_loop.specs.Steps.{Store_set, Drain_begun, Transfer_closed}
 use Rattle.tftp_rules.specs.Machine.{Endpoint}
 use Rattle.tftp_rules.specs.OpenEnds.{OpenEnd, has_failed, open_view, peer_of}
 use Rattle.tftp_rules.specs.Shows.{EndView, IsAnswering, IsInService, NoneAnswers}
@@ -89,6 +89,7 @@ module _ {S F D : Type 0} {stores : StoreMeaning S D} {sources : SourceMeaning F
   removed_closed {old = old} (Transfer_closed x) port t removes =
       taken_closed t (at x.timer.port old.server.held) x.taken (ap (λ (p : ℕ). at p old.server.held) (sym removes.0)
       ∙ removes.1) x.is_taken
+  removed_closed (Drain_begun x) port t removes = absurd removes
 
 -- ---- the views
 -- what has closed is over
