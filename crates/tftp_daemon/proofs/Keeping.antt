@@ -27,7 +27,7 @@ use Rattle.tftp_loop.specs.Steps.PortStep.{A_datagram, A_lost_datagram, A_late_d
 use Rattle.tftp_loop.specs.Steps.PortStep.{A_failed_receive, A_timeout, A_missed_timeout, Work}
 use Rattle.tftp_loop.specs.Steps.LoopStep.{Waited, At_port, Request_received, No_request_found, Request_not_received}
 use Rattle.tftp_loop.specs.Steps.LoopStep.{Request_noted, Request_answered, Request_lost, Clock_read, Store_set}
-use Rattle.tftp_loop.specs.Steps.LoopStep.{Transfer_closed}
+use Rattle.tftp_loop.specs.Steps.LoopStep.{Drain_begun, Transfer_closed}
 use Rattle.tftp_daemon.specs.Leaves.{RunLeaves}
 
 -- a relation that each call of a store keeps
@@ -171,6 +171,7 @@ module _ {S F D : Type 0} (Same : S → S → Type 0) (meaning : StoreMeaning S 
       (keeps.behind old.server.store d.behind.between d.behind.port)
       (keeps.behind d.behind.between d.store d.behind.longest))
   leaves_so old new (Transfer_closed d) = stays (ap store_of d.is)
+  leaves_so old new (Drain_begun d) = stays (ap store_of d.is)
 
   pub run_leaves : RunLeaves Same meaning sources
   run_leaves old new Start = keeps.itself old.server.store

@@ -31,7 +31,7 @@ use Rattle.tftp_loop.specs.Steps.PortStep.{A_datagram, A_late_datagram, A_lost_d
 use Rattle.tftp_loop.specs.Steps.PortStep.{A_failed_receive, A_timeout, A_missed_timeout, Work}
 use Rattle.tftp_loop.specs.Steps.LoopStep.{Waited, At_port, Request_received, No_request_found, Request_not_received}
 use Rattle.tftp_loop.specs.Steps.LoopStep.{Request_noted, Request_answered, Request_lost, Clock_read, Store_set}
-use Rattle.tftp_loop.specs.Steps.LoopStep.{Transfer_closed}
+use Rattle.tftp_loop.specs.Steps.LoopStep.{Drain_begun, Transfer_closed}
 use Rattle.tftp_daemon.specs.Leaves.{NoneStores, RunKeepsHeld, RunLeaves, StoresOnly}
 
 module _ {F D : Type 0} where
@@ -208,6 +208,7 @@ module _ {S F D : Type 0} (Admits : S → Type 0) (May : List ℕ → Type 0) (m
       subst (AreFine May) (sym (ap held_in d.is))
       (All-map-remove_entry (is_at (nat_cmp d.timer.port)) (λ (e : ℕ × TransferState F D). e.1) (IsFine May)
       old.server.held fine)
+  does_fine old new (Drain_begun d) admits fine = subst (AreFine May) (sym (ap held_in d.is)) fine
 
   module _ {Same : S → S → Type 0} (leaves : RunLeaves Same meaning sources)
       (keeps : (a b : S) → Same a b → Admits a → Admits b) where

@@ -49,8 +49,8 @@ abbrev pub NamesListen : List ℕ → Listen → Type 0
 NamesListen word (At endpoint) = Names word (Some endpoint)
 NamesListen word Handed = word ≡ codes "stdin"
 
--- the configuration has the folder, the address, the ports, the limits, the age and the flags that
--- were read
+-- the configuration has the folder, the address, the ports, the limits, the age, the end and the
+-- flags that were read
 pub record NamesServer (read : Reads) (config : DaemonConfig) : Type 0 where
   pub root : read.word (codes "ROOT") ≡ Some config.root.now
   pub listen : (word : List ℕ) × (read.word (codes "listen") ≡ Some word)
@@ -61,4 +61,5 @@ pub record NamesServer (read : Reads) (config : DaemonConfig) : Type 0 where
   pub uploads : read.word (codes "uploads") ≡ option_map (λ folder. folder.now) config.uploads
   pub longest : IsNumber 32 (read.text (codes "longest")) config.longest
   pub ending : EndsAs read config.ending
+  pub drain : read.word (codes "drain") ≡ option_map (λ path. path.now) config.drain
   pub logs : IsFlag (read.text (codes "log")) config.logs

@@ -1,6 +1,6 @@
 -- What the program did for the words of a command line (own).
 use Rattle.std.specs.Prelude.{ℕ, ◌≡◌, ◌≢◌, ◌⊎◌, List, [], Option, Some, None, Result, Ok, Err}
-use Rattle.std.specs.Prelude.{option_map}
+use Rattle.std.specs.Prelude.{option_map, is_some}
 use Rattle.tftp_ends.specs.declared.endpoint.Endpoint.{Endpoint}
 use Rattle.tftp_file.specs.Path.{path_of_name}
 use Rattle.tftp_file.specs.Source.{SourceMeaning}
@@ -36,6 +36,7 @@ service_at config at = record {
   ports = config.ports;
   ending = config.ending;
   longest = config.longest;
+  drains = is_some config.drain;
   logs = config.logs;
   has_priority = config.has_priority;
 }

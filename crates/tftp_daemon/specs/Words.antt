@@ -55,9 +55,11 @@ abbrev pub with_ending : App → App
 with_ending app =
     with_rule
     (with_rule
+    (with_rule
     (with_rule app (by_default (codes "1") (within (codes "transfers") 1 4294967295)))
     (by_default (codes "1000000") (within (codes "rounds") 1 4294967295)))
-    (flag_rule (codes "forever"))
+    (flag_rule (codes "forever")))
+    (option_rule (codes "drain"))
 
 -- `tftpd` without arguments
 abbrev pub bare_app : App

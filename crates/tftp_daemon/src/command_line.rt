@@ -70,6 +70,8 @@ const ROUNDS: &str = "rounds";
 
 const FOREVER: &str = "forever";
 
+const DRAIN: &str = "drain";
+
 /// The configuration of a command line, or the status if there is nothing to serve.
 pub(crate) type Asked<'a> = std::result::Result<DaemonConfig<'a>, u8>;
 
@@ -264,6 +266,7 @@ fn service<'a>(
         ports,
         ending,
         longest: matches.get_one::<u32>(LONGEST),
+        drain: matches.get_str(DRAIN),
         logs: is_set(matches, "log"),
         has_priority: errors.has_priority(),
     })
@@ -521,7 +524,14 @@ fn with_ending<'a>(alloc: Global, command: Command<'a>) -> Result<Command<'a>>
         FOREVER,
         "Ends by no count of transfers or waits; not beside --transfers or --rounds",
     );
-    Ok(command.arg(forever)?)
+    let command = command.arg(forever)?;
+    let drain = option(
+        alloc,
+        DRAIN,
+        "FILE",
+        "Takes no new request once this file is there, and ends when no transfer is open",
+    );
+    Ok(command.arg(drain)?)
 }
 
 /// The argument for the number of closed transfers.

@@ -5,6 +5,7 @@ ghost use Rattle.tftp_server.specs.Config.{IsConfig};
 ghost use Rattle.tftp_daemon.specs.Configured.{IsServerOf, IsUploads, ListensAt, MayServe};
 ghost use Rattle.tftp_daemon.specs.Configured.{RunsService, service_at, status_of};
 
+use crate::drain_file::DrainFile;
 use crate::listen::Listen;
 use std::alloc::Global;
 use std::io::{self, ErrorKind};
@@ -15,7 +16,7 @@ use tftp_file::Source;
 use tftp_folder::{FolderSource, FolderStore};
 use tftp_handed::{HandedFault, HandedSocket, HandedUdp, Input};
 use tftp_lines::{Reason, reason_of};
-use tftp_loop::{Ending, LoopConfig, LoopFault, PortRange, ServerUdp};
+use tftp_loop::{DrainSignal, Ending, LoopConfig, LoopFault, PortRange, ServerUdp};
 use tftp_server::{Config, Server, Store};
 use tftp_sockets::Journal;
 
@@ -39,6 +40,8 @@ pub(crate) struct DaemonConfig<'a> {
     /// The age of a transfer, in seconds, behind which its datagrams are dropped; `None` for no
     /// limit.
     pub(crate) longest: Option<u32>,
+    /// The file that has the server drain once it is there; `None` if none does.
+    pub(crate) drain: Option<&'a str>,
     /// Whether there is a log.
     pub(crate) logs: bool,
     /// Whether a warning of the log begins with its priority.
@@ -55,6 +58,7 @@ impl DaemonConfig<'_> {
             ports: self.ports,
             ending: self.ending,
             longest: self.longest,
+            drains: self.drain.is_some(),
             logs: self.logs,
             has_priority: self.has_priority,
         }
@@ -76,8 +80,8 @@ pub(crate) enum DaemonFault {
     Loop(LoopFault),
 }
 
-/// Serves until the configured number of transfers has closed, or of waits is over. Standard input
-/// is closed again, unless requests arrive there.
+/// Serves until the configured number of transfers has closed, or of waits is over, or until the
+/// server has drained. Standard input is closed again, unless requests arrive there.
 pub(crate) fn serve<R: Files + Clone + Drop + ServerUdp + Clock + Print + Eprint>(
     rt: &R,
     alloc: Global,
@@ -141,7 +145,11 @@ fn serve_at<N: ServerUdp + Clock + Print + Eprint, R: Files + Clone + Drop>(
         result.1.events }
 {
     match open_server(files, alloc, config) {
-        Ok(server) => serve_loop(net, alloc, server, &config.service_at(at), journal),
+        Ok(server) => {
+            let signal = DrainFile::new(files, config.drain);
+            let service = config.service_at(at);
+            serve_loop(net, alloc, server, &service, &signal, journal)
+        }
         Err(fault) => (Err(fault), journal),
     }
 }
@@ -202,18 +210,19 @@ fn fault_of(error: &io::Error, other: DaemonFault) -> DaemonFault {
 }
 
 /// Serves from the request port.
-fn serve_loop<N: ServerUdp + Clock + Print + Eprint, R: Files + Drop>(
+fn serve_loop<N: ServerUdp + Clock + Print + Eprint, R: Files + Drop, D: DrainSignal>(
     rt: &N,
     alloc: Global,
     server: Server<FolderStore<R>>,
     service: &LoopConfig,
+    signal: &D,
     journal: Journal,
 ) -> (Result<(), DaemonFault>, Journal)
     ensures { RunsService ⟦<FolderStore<R> as Store>⟧.meaning
         ⟦<FolderSource<R::File> as Source>⟧.meaning service.now server (status_of result.0)
         journal.events result.1.events }
 {
-    let (served, journal) = tftp_loop::serve(rt, alloc, server, service, journal);
+    let (served, journal) = tftp_loop::serve(rt, alloc, server, service, signal, journal);
     match served {
         Ok(()) => (Ok(()), journal),
         Err(fault) => (Err(DaemonFault::Loop(fault)), journal),

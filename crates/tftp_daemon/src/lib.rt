@@ -5,6 +5,7 @@
 
 mod command_line;
 mod daemon;
+mod drain_file;
 mod error_output;
 pub mod laws;
 mod listen;
