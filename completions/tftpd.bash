@@ -4,10 +4,15 @@ _tftpd() {
     local options
     COMPREPLY=()
     options='--listen --ports --max-block --max-file --retries --cap --longest --overwrite --read-only
-        --uploads --transfers --rounds --forever --log --help -h --version -V'
+        --uploads --transfers --rounds --forever --drain --log --help -h --version -V'
     case $3 in
     --listen)
         mapfile -t COMPREPLY < <(compgen -W stdin -- "$2")
+        return
+        ;;
+    --drain)
+        compopt -o filenames 2> /dev/null
+        mapfile -t COMPREPLY < <(compgen -f -- "$2")
         return
         ;;
     --ports | --max-block | --max-file | --retries | --cap | --longest | --uploads | --transfers | --rounds)

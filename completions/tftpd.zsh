@@ -15,6 +15,7 @@ _arguments \
   '(--forever)--transfers=[end after so many closed transfers]:transfers:' \
   '(--forever)--rounds=[end after so many waits]:waits:' \
   '(--transfers --rounds)--forever[end by no count of transfers or waits]' \
+  '--drain=[file whose appearance ends it once no transfer is open]:file:_files' \
   '--log[write a line for each request and each close]' \
   '(-h --help)'{-h,--help}'[print help]' \
   '(-V --version)'{-V,--version}'[print version]' \

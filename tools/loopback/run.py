@@ -23,6 +23,7 @@ from typing import Any, Optional
 import both_programs
 import client_alone
 import command_lines
+import draining
 import handed_over
 import options
 import served_disk
@@ -35,8 +36,9 @@ from lib.programs import programs
 from lib.stalls import LIMIT as STALL, Stalls
 
 HERE = Path(__file__).resolve()
-MODULES = [both_programs, server_alone, server_loop, served_folder, served_disk, client_alone, command_lines, options, handed_over]
-TESTS_AT_LEAST = 110
+MODULES = [both_programs, server_alone, server_loop, served_folder, served_disk, client_alone, command_lines, options, handed_over,
+           draining]
+TESTS_AT_LEAST = 116
 AT_ONCE = 8
 # The longest time of a test, and of all together, in seconds, however slow the host is
 TEST_LIMIT = float(os.environ.get("LOOPBACK_SECONDS", "600"))
