@@ -43,14 +43,15 @@ class Headline(NamedTuple):
 
 COMMANDS = {
     # of the runs
-    "WordsConfigure": "the words name this folder, address, range of ports, limits and flags",
+    "WordsConfigure": "the words name this folder, address, range of ports, limits, file of a drain and flags",
     "WordsName": "the words name this job: its direction, server, names, mode and options",
     "AskForText": "the words ask for the help or the version",
     "IsServerOf": "a server with the limits of the configuration, which are valid, and no transfer",
     "status_of": "0, or 2 for a fault; of a client's end, the number of its kind",
     "EndsUnbound": "a fault of the request port, after which nothing was noted",
     "IsBoundTo": "at this address, and at this port, or at any for 0",
-    "EndsBy": "without a fault so many transfers closed or waits are over, and with one the loop stopped for it",
+    "EndsBy": "without a fault so many transfers closed or waits are over or it has drained, and with one the loop stopped "
+              "for it",
     "listening": "the line of the request port was printed",
     "LoopStep": "a step of the server's loop, by the tables of the standard: what it notes, and what it leaves",
     "at_start": "the loop before its first step, with no transfer",

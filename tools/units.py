@@ -2,8 +2,8 @@
 """Tries the units of packaging/ under a systemd of their own: units.py [FOLDER]
 
 Debian's systemd is PID 1 of a container with a network of its own, in which what `make install` installs is at
-/usr/local. Its units are started, asked over a link by another host, killed, handed their port, given a folder to write
-to, and spread over eight ports; Debian's package is installed, upgraded and removed. It takes the four programs of bin/.
+/usr/local. Its units are started, asked over a link by another host, killed, drained, handed their port, given a folder to
+write to, and spread over eight ports; Debian's package is installed, upgraded and removed. It takes the four programs of bin/.
 FOLDER (out/debian) is where the container's files are made, once, from Debian's archive; a run leaves no change in it. It
 needs root, and debootstrap, systemd-nspawn, ip, nft and unshare. It is run by hand, and not by the gate. The last line is a count; the status is 1 if a trial failed.
 """
@@ -31,6 +31,41 @@ BIND = f"{1 << 10:016x}"
 NOTHING = "0" * 16
 # No interface has it at first
 LATE = "192.0.2.9"
+# A client of this script, with the folder of lib/ and the server's address as words: it begins a get, and goes on once it
+# is told to
+HOLDS = """
+import socket, sys
+sys.path.append(sys.argv[1])
+from lib.packets import ack, rrq
+udp = socket.socket(socket.AF_INET, socket.SOCK_DGRAM)
+udp.settimeout(60)
+udp.sendto(rrq("a", timeout=255), (sys.argv[2], 69))
+peer, length, count = udp.recvfrom(600)[1], 0, 0
+print("begun", flush=True)
+sys.stdin.readline()
+while length == 512 * count:
+    udp.sendto(ack(count), peer)
+    count, length = count + 1, length + len(udp.recv(600)) - 4
+udp.sendto(ack(count), peer)
+print(length)
+"""
+# Clients that ask once each within two seconds; of each answer the sender is told that it is enough
+MANY_ASK = """
+import select, socket, sys, time
+sys.path.append(sys.argv[1])
+from lib.packets import error, rrq
+waiting, answered, end = [], 0, time.monotonic() + 40
+print("begun", flush=True)
+while answered < 64 and time.monotonic() < end:
+    if len(waiting) + answered < 64:
+        waiting.append(socket.socket(socket.AF_INET, socket.SOCK_DGRAM))
+        waiting[-1].sendto(rrq("a"), (sys.argv[2], 69))
+    for udp in select.select(waiting, [], [], 0.03)[0]:
+        udp.sendto(error(0, "enough"), udp.recvfrom(600)[1])
+        waiting.remove(udp)
+        answered += 1
+print(answered, "of 64")
+"""
 APART = ["unshare", "--net", "--mount", "--pid", "--fork", "--kill-child", "--mount-proc"]
 
 
@@ -194,6 +229,11 @@ class Container:
         expect(is_whole, done.returncode == 0, f"whether the file is whole where {done} says so")
         return is_whole
 
+    def client_of(self, script) -> "subprocess.Popen[str]":
+        """Starts a script at the client's host."""
+        words = self.client.words(sys.executable, "-c", script, str(TOP / "tools"), SERVER)
+        return subprocess.Popen(words, stdin=subprocess.PIPE, stdout=subprocess.PIPE, text=True)
+
     def put(self, name, port=69) -> str:
         """What the client says that puts the file."""
         words = [TOP / "bin/tftp", "put", f"{SERVER}:{port}", self.room / "a", name, "--blksize", network.BLOCK]
@@ -232,6 +272,39 @@ def try_kill(it) -> None:
     until("another process serves", lambda: it.property("tftpd", "MainPID") not in ("0", before) and it.is_served())
 
 
+def drained(it, unit, verb) -> None:
+    """A stop or a restart finishes the get that is in flight, and ends with status 0."""
+    before, since = it.property(unit, "MainPID"), it.run("date +%s").strip()
+    journal = f"journalctl --quiet --output=cat --unit={unit}.service --since=@{since}"
+    with it.client_of(HOLDS) as held:
+        expect(held.stdout.readline(), "begun\n", "what the client says")
+        it.run(f"systemctl --no-block {verb} {unit}")
+        until("it drains", lambda: "draining: 1 transfers open" in it.run(journal).splitlines())
+        expect(it.property(unit, "ActiveState"), "deactivating", f"{unit} while it drains")
+        told = held.communicate("\n", timeout=PATIENCE)[0]
+    expect(told, f"{len(it.content)}\n", "what the client says at its end")
+    until("the process has ended", lambda: it.property(unit, "MainPID") != before)
+    found = [line for line in it.run(journal).splitlines() if "Main process exited" in line or "Failed" in line]
+    expect(found, [], f"how {unit} ended")
+
+
+def try_drain(it) -> None:
+    """A stop finishes what is open, for half a minute at most; one without transfers takes no time."""
+    drained(it, "tftpd", "restart")
+    until("port 69 is served", it.is_served)
+    began = time.monotonic()
+    it.run("systemctl restart tftpd")
+    expect(time.monotonic() - began < 10, True, "whether a restart takes no time without transfers")
+    until("port 69 is served", it.is_served)
+    with it.client_of(HOLDS) as held:
+        expect(held.stdout.readline(), "begun\n", "what the client says")
+        began = time.monotonic()
+        it.run("systemctl restart tftpd")
+        expect(25 < time.monotonic() - began < 60, True, "whether half a minute is the limit")
+        held.kill()
+    until("port 69 is served", it.is_served)
+
+
 def try_late_address(it) -> None:
     """It is started again and again, more often than systemd's limit of five, until its address is there."""
     line = network.started_by("tftpd.service")
@@ -264,6 +337,12 @@ def try_socket(it) -> None:
     for verb in ["stop", "restart"]:
         it.told(f"systemctl {verb} tftpd-socket")
         expect(it.is_served(), True, f"whether a request is answered that comes after a {verb}")
+    drained(it, "tftpd-socket", "restart")
+    with it.client_of(MANY_ASK) as many:
+        expect(many.stdout.readline(), "begun\n", "what the clients say")
+        it.run("systemctl restart tftpd-socket")
+        told = many.communicate(timeout=PATIENCE)[0]
+    expect(told, "64 of 64\n", "how many clients are answered that ask once, during a restart")
     it.run("systemctl disable --now tftpd.socket; systemctl stop tftpd-socket; systemctl enable --now tftpd")
     until("port 69 is served", it.is_served)
 
@@ -347,7 +426,7 @@ def try_package(it) -> None:
     expect(left, "", "the files that a purge leaves")
 
 
-TRIALS = [try_no_folder, try_reading, try_kill, try_socket, try_late_address, try_writing, try_instances, try_grade, try_package]
+TRIALS = [try_no_folder, try_reading, try_kill, try_drain, try_socket, try_late_address, try_writing, try_instances, try_grade, try_package]
 
 
 def run(folder) -> int:
