@@ -1,0 +1,101 @@
+-- What is printed grows line by line.
+use Rattle.std.proofs.Common.{◌≡◌, ◌≢◌, ◌||◌, ◌∙◌, ℕ, Bool, true, false, List, [], ◌∷◌, ◌++◌, refl, sym, ap}
+use Rattle.std.proofs.Common.{if◌then◌else◌, append_assoc, subst, arith}
+use Rattle.std.proofs.lemmas.List.{append-nil}
+use Rattle.std.proofs.lemmas.List.Elements.{All-append, All-nil}
+use Rattle.std.proofs.lemmas.Grind.{common_steps}
+use Rattle.tftp_supervisor.specs.Lines.{HasNoEnd, all_marked, ended, has_any, line_passed, marked, passed, text_of}
+use Rattle.tftp_supervisor.specs.Output.{PassesOn, Takes}
+use Rattle.tftp_supervisor.specs.Output.Takes.{Begins, Ends}
+use Rattle.tftp_supervisor.specs.declared.output.Output.{Output}
+
+-- the text of one more line
+text_more : (lines : List (List ℕ)) (line : List ℕ) → text_of (lines ++ line ∷ []) ≡ text_of lines ++ ended line
+text_more [] line = append-nil (ended line)
+text_more (first ∷ lines) line =
+    ap (λ (t : List ℕ). ended first ++ t) (text_more lines line) ∙ sym (append_assoc (ended first) (text_of lines) (ended line))
+
+marked_more : (server : ℕ) (lines : List (List ℕ)) (line : List ℕ)
+    → all_marked server (lines ++ line ∷ []) ≡ all_marked server lines ++ marked server line
+marked_more server [] line = append-nil (marked server line)
+marked_more server (first ∷ lines) line =
+    ap (λ (t : List ℕ). marked server first ++ t) (marked_more server lines line)
+    ∙ sym (append_assoc (marked server first) (all_marked server lines) (marked server line))
+
+-- what is printed of one more line
+passed_more : (announced has_printed : Bool) (server : ℕ) (lines : List (List ℕ)) (line : List ℕ)
+    → passed announced has_printed server (lines ++ line ∷ [])
+    ≡ passed announced has_printed server lines ++ line_passed announced (has_printed || has_any lines) server line
+passed_more announced true server lines line = marked_more server lines line
+passed_more announced false server [] line = append-nil (if announced then [] else ended line)
+passed_more announced false server (first ∷ lines) line =
+    ap (λ (t : List ℕ). (if announced then [] else ended first) ++ t) (marked_more server lines line)
+    ∙ sym (append_assoc (if announced then [] else ended first) (all_marked server lines) (marked server line))
+
+any_more : (has_printed : Bool) (lines : List (List ℕ)) (line : List ℕ)
+    → (has_printed || has_any (lines ++ line ∷ [])) ≡ true
+any_more true lines line = refl
+any_more false [] line = refl
+any_more false (first ∷ lines) line = refl
+
+nothing_printed : (announced has_printed : Bool) (server : ℕ) → passed announced has_printed server [] ≡ []
+nothing_printed announced true server = refl
+nothing_printed announced false server = refl
+
+same_printed : (has_printed : Bool) → has_printed ≡ (has_printed || false)
+same_printed true = refl
+same_printed false = refl
+
+-- nothing was taken
+pub passes_nothing : (announced : Bool) (old : Output) → HasNoEnd old.begun.items
+    → PassesOn announced [] old old []
+passes_nothing announced old begun = record {
+  lines = [];
+  taken = append-nil old.begun.items;
+  whole = All-nil HasNoEnd;
+  begun = begun;
+  out_is = sym (nothing_printed announced old.has_printed old.server);
+  has_printed = same_printed old.has_printed;
+  server = refl;
+}
+
+-- one more byte was taken
+pub passes_more : (announced : Bool) (bytes : List ℕ) (byte : ℕ) (old middle new : Output) (before after : List ℕ)
+    → PassesOn announced bytes old middle before → Takes announced byte middle new before after
+    → PassesOn announced (bytes ++ byte ∷ []) old new after
+passes_more announced bytes byte old middle new before after passes (Begins other begun printed server same) = record {
+  lines = passes.lines;
+  taken =
+      sym (append_assoc old.begun.items bytes (byte ∷ [])) ∙ ap (λ (t : List ℕ). t ++ byte ∷ []) passes.taken
+      ∙ append_assoc (text_of passes.lines) middle.begun.items (byte ∷ [])
+      ∙ ap (λ (t : List ℕ). text_of passes.lines ++ t) (sym begun);
+  whole = passes.whole;
+  begun =
+      subst HasNoEnd (sym begun)
+      (All-append (λ (b : ℕ). b ≢ 10) middle.begun.items (byte ∷ []) passes.begun (grind (arith, common_steps, other)));
+  out_is = same ∙ passes.out_is;
+  has_printed = printed ∙ passes.has_printed;
+  server = server ∙ passes.server;
+}
+passes_more announced bytes byte old middle new before after passes (Ends is begun printed server grows) = record {
+  lines = passes.lines ++ middle.begun.items ∷ [];
+  taken =
+      sym (append_assoc old.begun.items bytes (byte ∷ [])) ∙ ap (λ (t : List ℕ). t ++ byte ∷ []) passes.taken
+      ∙ append_assoc (text_of passes.lines) middle.begun.items (byte ∷ [])
+      ∙ ap (λ (b : ℕ). text_of passes.lines ++ (middle.begun.items ++ b ∷ [])) is
+      ∙ sym (text_more passes.lines middle.begun.items)
+      ∙ sym (append-nil (text_of (passes.lines ++ middle.begun.items ∷ [])))
+      ∙ ap (λ (t : List ℕ). text_of (passes.lines ++ middle.begun.items ∷ []) ++ t) (sym begun);
+  whole = All-append HasNoEnd passes.lines (middle.begun.items ∷ []) passes.whole (grind (arith, common_steps, passes.begun));
+  begun = subst HasNoEnd (sym begun) (All-nil (λ (b : ℕ). b ≢ 10));
+  out_is =
+      grows
+      ∙ ap (λ (t : List ℕ). t ++ line_passed announced middle.has_printed middle.server middle.begun.items) passes.out_is
+      ∙ ap (λ (p : Bool). passed announced old.has_printed old.server passes.lines
+      ++ line_passed announced p middle.server middle.begun.items) passes.has_printed
+      ∙ ap (λ (s : ℕ). passed announced old.has_printed old.server passes.lines
+      ++ line_passed announced (old.has_printed || has_any passes.lines) s middle.begun.items) passes.server
+      ∙ sym (passed_more announced old.has_printed old.server passes.lines middle.begun.items);
+  has_printed = printed ∙ sym (any_more old.has_printed passes.lines middle.begun.items);
+  server = server ∙ passes.server;
+}

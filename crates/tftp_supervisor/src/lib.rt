@@ -1,0 +1,15 @@
+//! Several servers at one socket, each a process of its own, and the supervisor that starts them and
+//! prints their lines.
+//!
+//! It receives and sends no datagram, and reads none.
+//!
+//! Begin with [`Supervise::supervise`].
+#![tactic(auto)]
+
+mod fault;
+mod output;
+mod server;
+mod supervisor;
+
+pub use fault::SupervisorFault;
+pub use supervisor::Supervise;
