@@ -48,7 +48,7 @@ fn run(rt: &HostRuntime) -> Result<(), &'static str> {
     match served {
         Ok(()) => Ok(()),
         Err(LoopFault::Socket(_)) => Err("serve_memory: socket fault"),
-        Err(LoopFault::Output) => Err("serve_memory: output fault"),
+        Err(LoopFault::Output | LoopFault::NoReader) => Err("serve_memory: output fault"),
         Err(LoopFault::Memory) => Err(NO_MEMORY),
     }
 }

@@ -15,7 +15,7 @@ use Rattle.tftp_loop.specs.WholeRun.{EndsBy, IsOver}
 use Rattle.tftp_loop.specs.Steps.{LoopState, Timer, is_draining}
 use Rattle.tftp_loop.specs.Steps.LoopStep.{No_request_found, Request_not_received, Drain_begun}
 use Rattle.tftp_loop.specs.declared.drain.Drain.TheVariants.{Awaited, Begun}
-use Rattle.tftp_loop.specs.LoopStates.{FailsToPrint, IsEmptied, WorksRound, Work_by, loop_state, pending_in, state_of, timer_of}
+use Rattle.tftp_loop.specs.LoopStates.{StopsRunning, IsEmptied, WorksRound, Work_by, loop_state, pending_in, state_of, timer_of}
 use Rattle.tftp_loop.specs.MayWait.{AnswersPending, AreSettled, AreTried, HandlesReceived, Concluded, Kept}
 use Rattle.tftp_loop.specs.MayWait.{HasFew, HasTriedRequests, IsSettled, ReceivedFew, reads_of}
 use Rattle.tftp_loop.proofs.LoopRuns.{Runs, same_state}
@@ -239,7 +239,7 @@ is_over buffer d (inr (inr emptied)) = inr (inr (record {
 
 pub ends_by : {S F D A : Type 0} (result : Result A LoopFault) (buffer : List ℕ) (d : ServerLoop S F D)
     → OnOk result ((d.left ≡ 0) ⊎ ((d.rounds ≡ 0) ⊎ IsEmptied d))
-    → IfErr result (λ fault. FailsToPrint fault d.journal.events) → EndsBy result (state_of buffer d)
+    → IfErr result (λ fault. StopsRunning fault d.journal.events) → EndsBy result (state_of buffer d)
 ends_by (Ok done) buffer d ends fails = is_over buffer d ends
 ends_by (Err fault) buffer d ends fails = inr fails
 

@@ -77,9 +77,13 @@ abbrev pub FailsToBind : LoopFault → List Event → List Event → Type 0
 FailsToBind (faults.Socket reason) before after = after ≡ before
 FailsToBind _ before after = ⊥
 
--- why a server whose port is bound stops: no memory for its buffers, or a line is not printed
+-- why a running server stops: nobody reads what it prints, or a line is not printed
+abbrev pub StopsRunning : LoopFault → List Event → Type 0
+StopsRunning fault events = (fault ≡ faults.NoReader) ⊎ FailsToPrint fault events
+
+-- why a server whose port is bound stops: no memory for its buffers, or as a running one
 abbrev pub StopsServing : LoopFault → List Event → Type 0
-StopsServing fault events = (fault ≡ faults.Memory) ⊎ FailsToPrint fault events
+StopsServing fault events = (fault ≡ faults.Memory) ⊎ StopsRunning fault events
 
 -- the pending datagram, from its length and the buffer that it is in
 abbrev pub pending_in : Option (Endpoint × ℕ) → List ℕ → Option (Endpoint × List ℕ)

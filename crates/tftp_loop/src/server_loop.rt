@@ -6,7 +6,7 @@ ghost use Rattle.std.specs.List.{list_any};
 ghost use Rattle.tftp_sockets.specs.Quiet.{is_among};
 ghost use Rattle.tftp_loop.specs.Steps.{drain_of, marked_by, set_by};
 ghost use Rattle.tftp_loop.specs.LoopStates.{FailsToPrint, OnlyWorks, OnlyServes, ServesRounds};
-ghost use Rattle.tftp_loop.specs.LoopStates.{IsEmptied, WorksRound};
+ghost use Rattle.tftp_loop.specs.LoopStates.{IsEmptied, StopsRunning, WorksRound};
 ghost use Rattle.tftp_loop.specs.MayWait.{ClosesPort, Finishes, HasRead, HasSlept, HasWoken};
 ghost use Rattle.tftp_loop.specs.MayWait.{AwaitTurn, HasFew, HaveTurned, before_turn};
 ghost use Rattle.tftp_loop.specs.MayWait.{IsOpenAt, IsSurveyOf, UnlessClosed};
@@ -158,7 +158,7 @@ impl<S: ServedStore<Reason> + Drop> ServerLoop<S> {
             request.new self.new }
         ensures end { OnOk result ((self.new.left ≡ 0) ⊎ ((self.new.rounds ≡ 0)
             ⊎ IsEmptied self.new)) }
-        ensures fault { IfErr result (λ fault. FailsToPrint fault self.new.journal.events) }
+        ensures fault { IfErr result (λ fault. StopsRunning fault self.new.journal.events) }
     {
         self.take_round(rt, signal, request, datagram)?;
         while self.rounds > 0 {
@@ -169,6 +169,9 @@ impl<S: ServedStore<Reason> + Drop> ServerLoop<S> {
                 return Ok(());
             }
             self.wait(rt, reports);
+            if rt.has_no_reader() {
+                return Err(LoopFault::NoReader);
+            }
             self.take_round(rt, signal, request, datagram)?;
         }
         Ok(())

@@ -38,6 +38,10 @@ pub trait ServerUdp {
     /// when out of memory.
     fn order(&self, alloc: Global, range: PortRange) -> io::Result<PortOrder>
         ensures { IfOk result (IsOrderOf range) };
+
+    /// Whether the server is to end because nobody reads what it prints any more. It is asked after
+    /// each wait.
+    fn has_no_reader(&self) -> bool;
 }
 
 impl<N: Net + RandomSource> ServerUdp for N {
@@ -55,5 +59,10 @@ impl<N: Net + RandomSource> ServerUdp for N {
 
     fn order(&self, alloc: Global, range: PortRange) -> io::Result<PortOrder> {
         PortOrder::new(self, alloc, range)
+    }
+
+    /// A server alone goes on until it has a line to print.
+    fn has_no_reader(&self) -> bool {
+        false
     }
 }

@@ -63,6 +63,8 @@ pub enum LoopFault {
     Socket(Reason),
     /// A line could not be printed.
     Output,
+    /// Nobody reads what the server prints any more, as [`ServerUdp::has_no_reader`] has it.
+    NoReader,
     /// Out of memory.
     Memory,
 }
@@ -72,8 +74,8 @@ pub enum LoopFault {
 /// It returns `Ok` only at that end: so many transfers closed, or so many waits are over; or, if the
 /// configuration has it drain, once the signal was given and what was open then has closed.
 /// `Socket` is returned only if no port was bound and nothing done, `Output` only if the last event
-/// is the line that could not be printed. If the configuration has a range of ports, each transfer
-/// that opens has one of them.
+/// is the line that could not be printed, `NoReader` only by a `rt` with such an output. If the
+/// configuration has a range of ports, each transfer that opens has one of them.
 pub fn serve<N: ServerUdp + Clock + Print + Eprint, S: ServedStore<Reason> + Drop, D: DrainSignal>(
     rt: &N,
     alloc: Global,

@@ -30,5 +30,5 @@ returns-in-Err g c =
           (listening sockets.requests.ip sockets.requests.port c.args.journal.events);
       run = Start;
       noted = line;
-      ends = inr (record { is_output = refl; line = _; earlier = c.args.journal.events; last = refl });
+      ends = inr (inr (record { is_output = refl; line = _; earlier = c.args.journal.events; last = refl }));
     }

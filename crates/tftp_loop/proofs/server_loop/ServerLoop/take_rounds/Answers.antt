@@ -26,3 +26,7 @@ returns-in_err-take_round-2-clause-serves g c =
     onward c.loop-self.invariant.serves
     (onward (c.wait.ensures.serves c.loop-self.request)
     (runs_as g.S.Store.meaning g.S.Source.Source.meaning c.take_round-in-loop-self.ensures.works))
+
+pub returns-then-has_no_reader-clause-serves : goal.returns-then-has_no_reader-clause-serves
+returns-then-has_no_reader-clause-serves g c =
+    onward c.loop-self.invariant.serves (c.wait.ensures.serves c.loop-self.request)
