@@ -7,9 +7,11 @@
 #![tactic(auto)]
 
 mod fault;
+mod reader;
 mod socket;
 mod udp;
 
 pub use fault::HandedFault;
+pub use reader::OutputReader;
 pub use socket::{HandedSocket, Input, standard_input};
 pub use udp::HandedUdp;

@@ -41,6 +41,11 @@ impl HandedSocket {
         }
     }
 
+    /// The descriptor of the socket, to be handed over to other servers.
+    pub fn into_descriptor(self) -> OwnedFd {
+        OwnedFd::from(self.udp)
+    }
+
     /// Where the socket is bound.
     pub fn endpoint(&self) -> Endpoint
         ensures { result ≡ self.now.endpoint }

@@ -1,5 +1,6 @@
 //! The UDP sockets of a server whose request port was handed over.
 
+use crate::reader::{OutputReader, watch_output};
 use crate::socket::HandedSocket;
 use mio::Poll;
 use std::alloc::Global;
@@ -11,18 +12,61 @@ use tftp_ends::Endpoint;
 use tftp_loop::{PortOrder, PortRange, ServerUdp};
 use tftp_sockets::{Journal, ServerSocket};
 
+/// The priority of a warning, for a standard error that is systemd's journal.
+const WARNING: &str = "<4>";
+
 /// A runtime whose request port, bound where the socket is that was handed over, is this socket. All
-/// else is the runtime's own.
+/// else is the runtime's own; but as one of several servers it has no reader any more once its
+/// standard output, a pipe, has none.
 #[derive(Drop)]
 pub struct HandedUdp<'a, N> {
     rt: &'a N,
     socket: HandedSocket,
+    /// Which server this is, if it is one of several.
+    several: Option<OneOfSeveral>,
+}
+
+/// A server of several.
+#[derive(Drop)]
+struct OneOfSeveral {
+    /// Which of them it is, counted from 1.
+    server: u8,
+    /// The reader of what it prints.
+    reader: OutputReader,
+    alloc: Global,
 }
 
 impl<'a, N> HandedUdp<'a, N> {
     /// This runtime, with this socket.
     pub fn new(rt: &'a N, socket: HandedSocket) -> HandedUdp<'a, N> {
-        HandedUdp { rt, socket }
+        HandedUdp {
+            rt,
+            socket,
+            several: None,
+        }
+    }
+
+    /// This runtime, with this socket, as one of several servers. Its lines on standard error say
+    /// which one it is, and it ends once nobody reads its standard output: its supervisor does.
+    pub fn one_of_several(
+        rt: &'a N,
+        alloc: Global,
+        socket: HandedSocket,
+        server: u8,
+    ) -> io::Result<HandedUdp<'a, N>>
+    where
+        N: ServerUdp,
+    {
+        let several = OneOfSeveral {
+            server,
+            reader: OutputReader::new(rt, alloc)?,
+            alloc,
+        };
+        Ok(HandedUdp {
+            rt,
+            socket,
+            several: Some(several),
+        })
     }
 }
 
@@ -39,12 +83,24 @@ impl<N: ServerUdp> ServerUdp for HandedUdp<'_, N> {
         self.rt.bind_noted(journal, at)
     }
 
+    /// A poll that the loss of the reader of standard output wakes, too.
     fn poll(&self) -> io::Result<Poll> {
-        self.rt.poll()
+        let poll = self.rt.poll()?;
+        if self.several.is_some() {
+            watch_output(poll.registry())?;
+        }
+        Ok(poll)
     }
 
     fn order(&self, alloc: Global, range: PortRange) -> io::Result<PortOrder> {
         self.rt.order(alloc, range)
+    }
+
+    fn has_no_reader(&self) -> bool {
+        match &self.several {
+            Some(several) => several.reader.has_gone(),
+            None => self.rt.has_no_reader(),
+        }
     }
 }
 
@@ -108,6 +164,22 @@ impl<N: Eprint> Eprint for HandedUdp<'_, N> {
     }
 
     fn eprintln<D: Display + Drop>(&self, value: D) -> io::Result<()> {
-        self.rt.eprintln(value)
+        match &self.several {
+            Some(several) => several.eprintln(self.rt, value),
+            None => self.rt.eprintln(value),
+        }
+    }
+}
+
+impl OneOfSeveral {
+    /// Writes a line with which server it is of. The priority of a warning, where it has one, stays
+    /// before all else.
+    fn eprintln<E: Eprint, D: Display + Drop>(&self, rt: &E, value: D) -> io::Result<()> {
+        let text = format!(in self.alloc; "{value}")?;
+        let server = self.server;
+        match text.as_str().strip_prefix(WARNING) {
+            Some(line) => eprintln!(rt; "{WARNING}server {server}: {line}"),
+            None => eprintln!(rt; "server {server}: {text}"),
+        }
     }
 }
