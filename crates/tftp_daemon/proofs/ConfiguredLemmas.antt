@@ -1,5 +1,5 @@
 -- What a status says, and what was done for words.
-use Rattle.std.proofs.Common.{◌≡◌, ◌∙◌, ℕ, List, arith, inl, inr, sym, subst}
+use Rattle.std.proofs.Common.{◌≡◌, ◌≤◌, ◌∙◌, ℕ, List, arith, inl, inr, sym, subst}
 use Rattle.std.specs.Prelude.{Result, Ok, Err, IfOk, IfErr}
 use Rattle.tftp_ends.specs.declared.endpoint.Endpoint.{Endpoint}
 use Rattle.tftp_file.specs.Source.{SourceMeaning}
@@ -24,11 +24,12 @@ module _ {R G H F D : Type 0} {meaning : StoreMeaning (FolderStore R G H) D} {so
   -- a server ran with the configuration of the loop that has its request port there
   pub serves_at : {config : DaemonConfig} {at : Endpoint} {service : LoopConfig}
       {server : ServerState (FolderStore R G H) F D} {status : ℕ} → service ≡ service_at config at
-      → ListensAt config.listen at → IsServerOf config server
+      → config.place.servers ≤ 1 → ListensAt config.listen at → IsServerOf config server
       → RunsService meaning sources service server status before after
       → MayServe meaning sources config status before after
-  serves_at {config} {at} {service} {server} {status} same listens is runs =
+  serves_at {config} {at} {service} {server} {status} same alone listens is runs =
       inr (record {
+        alone = alone;
         at = at;
         listens = listens;
         server = server;
@@ -42,10 +43,12 @@ module _ {R G H F D : Type 0} {meaning : StoreMeaning (FolderStore R G H) D} {so
       → IfOk asked (WordsConfigure words) → IfErr asked (λ n. n ≡ 0 → AskForText tftpd_app words)
       → IfOk asked (λ config. MayServe meaning sources config status before after) → IfErr asked (λ _. after ≡ before)
       → IfErr asked (λ n. status ≡ n) → ServesWords meaning sources words status before after
-  serves_words words (Ok config) names asks (inl none) same is =
-      inl (none.0, λ zero. absurd (let two = none.1 in omega arith))
+  serves_words words (Ok config) names asks (inl (none, inl two)) same is =
+      inl (none, λ zero. absurd (omega (arith, two, zero)))
+  serves_words words (Ok config) names asks (inl (none, inr several)) same is =
+      inl (none, λ zero. inr (config, names, several))
   serves_words words (Ok config) names asks (inr serves) same is = inr (config, names, serves)
-  serves_words words (Err n) names asks runs same is = inl (same, λ zero. asks (sym is ∙ zero))
+  serves_words words (Err n) names asks runs same is = inl (same, λ zero. inl (asks (sym is ∙ zero)))
 
   -- nothing was done, with a status of 2
   pub done_nothing : (words : List (List ℕ)) {status : ℕ} → after ≡ before → status ≡ 2

@@ -7,6 +7,7 @@ use Rattle.tftp_sockets.specs.Address.{Names}
 use Rattle.tftp_loop.specs.declared.port_order.PortRange.{PortRange}
 use Rattle.tftp_loop.specs.declared.serving.Ending.{Ending}
 use Rattle.tftp_daemon.specs.declared.daemon.DaemonConfig.{DaemonConfig}
+use Rattle.tftp_daemon.specs.declared.daemon.Place.{Place}
 use Rattle.tftp_daemon.specs.declared.listen.Listen.{Listen}
 use Rattle.tftp_daemon.specs.declared.listen.Listen.TheVariants.{At, Handed}
 
@@ -49,8 +50,13 @@ abbrev pub NamesListen : List ℕ → Listen → Type 0
 NamesListen word (At endpoint) = Names word (Some endpoint)
 NamesListen word Handed = word ≡ codes "stdin"
 
--- the configuration has the folder, the address, the ports, the limits, the age, the end and the
--- flags that were read
+-- how many servers there are, and which this is, as they were read
+pub record NamesPlace (read : Reads) (place : Place) : Type 0 where
+  pub servers : IsNumber 8 (read.text (codes "servers")) (Some place.servers)
+  pub server : IsNumber 8 (read.text (codes "server")) place.server
+
+-- the configuration has the folder, the address, the ports, the limits, the age, the end, the flags
+-- and the number of servers that were read, and which of several it is
 pub record NamesServer (read : Reads) (config : DaemonConfig) : Type 0 where
   pub root : read.word (codes "ROOT") ≡ Some config.root.now
   pub listen : (word : List ℕ) × (read.word (codes "listen") ≡ Some word)
@@ -63,3 +69,4 @@ pub record NamesServer (read : Reads) (config : DaemonConfig) : Type 0 where
   pub ending : EndsAs read config.ending
   pub drain : read.word (codes "drain") ≡ option_map (λ path. path.now) config.drain
   pub logs : IsFlag (read.text (codes "log")) config.logs
+  pub place : NamesPlace read config.place

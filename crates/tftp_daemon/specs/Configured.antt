@@ -1,5 +1,5 @@
 -- What the program did for the words of a command line (own).
-use Rattle.std.specs.Prelude.{ℕ, ◌≡◌, ◌≢◌, ◌⊎◌, List, [], Option, Some, None, Result, Ok, Err}
+use Rattle.std.specs.Prelude.{ℕ, ◌≡◌, ◌≢◌, ◌≤◌, ◌⊎◌, List, [], Option, Some, None, Result, Ok, Err}
 use Rattle.std.specs.Prelude.{option_map, is_some}
 use Rattle.tftp_ends.specs.declared.endpoint.Endpoint.{Endpoint}
 use Rattle.tftp_file.specs.Path.{path_of_name}
@@ -41,6 +41,14 @@ service_at config at = record {
   has_priority = config.has_priority;
 }
 
+-- the configuration is that of several servers, each a process of its own
+abbrev pub IsOfSeveral : DaemonConfig → Type 0
+IsOfSeveral config = 2 ≤ config.place.servers
+
+-- the words ask for several servers
+abbrev pub AskForSeveral : List (List ℕ) → Type 0
+AskForSeveral words = (config : DaemonConfig) × WordsConfigure words config × IsOfSeveral config
+
 -- the folder that takes all writes is the one that is named, if one is
 abbrev pub IsUploads : Option (List ℕ) → Option (List ℕ) → Type 0
 IsUploads None uploads = uploads ≡ None
@@ -69,22 +77,25 @@ module _ {R G H F D : Type 0} where
     -- a server of the configuration ran
     pub record ServesConfig (config : DaemonConfig) (status : ℕ) (before after : List Event)
         : Type 0 where
+      pub alone : config.place.servers ≤ 1
       pub at : Endpoint
       pub listens : ListensAt config.listen at
       pub server : ServerState (FolderStore R G H) F D
       pub is_server : IsServerOf config server
       pub runs : RunsService (service_at config at) server status before after
 
-    -- nothing was done over UDP, as without the folder, with a status of 2; or a server of the
-    -- configuration ran
+    -- nothing was done over UDP, as without the folder, with a status of 2, or with another by the
+    -- supervisor of several servers; or a server of the configuration ran
     abbrev pub MayServe : DaemonConfig → ℕ → List Event → List Event → Type 0
     MayServe config status before after =
-        ((after ≡ before) × (status ≡ 2)) ⊎ ServesConfig config status before after
+        ((after ≡ before) × ((status ≡ 2) ⊎ IsOfSeveral config))
+        ⊎ ServesConfig config status before after
 
-    -- nothing was done over UDP, with a status of 0 only if the words ask for the help or the
-    -- version; or a server ran with the configuration that the words name, whatever the status
+    -- nothing was done over UDP, with a status of 0 only if the words ask for the help, the version
+    -- or several servers; or a server ran with the configuration that the words name, whatever the
+    -- status
     abbrev pub ServesWords : List (List ℕ) → ℕ → List Event → List Event → Type 0
     ServesWords words status before after =
-        ((after ≡ before) × (status ≡ 0 → AskForText tftpd_app words))
+        ((after ≡ before) × (status ≡ 0 → AskForText tftpd_app words ⊎ AskForSeveral words))
         ⊎ ((config : DaemonConfig) × WordsConfigure words config
         × ServesConfig config status before after)

@@ -2,3 +2,4 @@ pub mod Leaves
 pub mod CommandLine
 pub mod Words
 pub mod Configured
+pub mod Servers

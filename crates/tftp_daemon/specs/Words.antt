@@ -61,6 +61,12 @@ with_ending app =
     (flag_rule (codes "forever")))
     (option_rule (codes "drain"))
 
+-- with the number of servers, and which of them it is
+abbrev pub with_servers : App → App
+with_servers app =
+    with_rule (with_rule app (by_default (codes "1") (within (codes "servers") 1 64)))
+    (within (codes "server") 1 64)
+
 -- `tftpd` without arguments
 abbrev pub bare_app : App
 bare_app = on_top (λ top. record top { has_version = true }) (new_app (codes "tftpd"))
@@ -68,7 +74,7 @@ bare_app = on_top (λ top. record top { has_version = true }) (new_app (codes "t
 -- `tftpd`
 abbrev pub tftpd_app : App
 tftpd_app =
-    with_rule (with_ending (with_writes (with_limits (with_places bare_app))))
+    with_rule (with_servers (with_ending (with_writes (with_limits (with_places bare_app)))))
     (flag_rule (codes "log"))
 
 -- ---- the configuration

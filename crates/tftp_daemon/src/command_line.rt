@@ -12,12 +12,12 @@ ghost use Rattle.tftp_arguments.specs.Fault.{AskForText};
 ghost use Rattle.tftp_arguments.specs.Read.{IsNumber, read_in, read_of};
 ghost use Rattle.tftp_arguments.specs.Rules.{HasRule, IsApp, by_default, flag_rule, within};
 ghost use Rattle.tftp_daemon.specs.CommandLine.{ConfiguresAs, EndsAs, NamesPorts, NamesServer};
-ghost use Rattle.tftp_daemon.specs.CommandLine.{PortsAs};
+ghost use Rattle.tftp_daemon.specs.CommandLine.{NamesPlace, PortsAs};
 ghost use Rattle.tftp_daemon.specs.Words.{WordsConfigure, any_number, bare_app};
 ghost use Rattle.tftp_daemon.specs.Words.{option_rule, tftpd_app, with_ending, with_limits};
-ghost use Rattle.tftp_daemon.specs.Words.{with_places, with_writes};
+ghost use Rattle.tftp_daemon.specs.Words.{with_places, with_servers, with_writes};
 
-use crate::daemon::DaemonConfig;
+use crate::daemon::{DaemonConfig, Place};
 use crate::error_output::ErrorOutput;
 use crate::listen::Listen;
 use crate::shown::Shown;
@@ -47,6 +47,14 @@ const FOREVER_TRANSFERS: &str =
 const FOREVER_ROUNDS: &str =
     "the argument '--forever' cannot be used with '--rounds <1..4294967295>'";
 
+const SERVERS_SERVER: &str =
+    "the argument '--servers <1..64>' cannot be used with '--server <1..64>'";
+
+/// An option that another one needs.
+const SERVERS_FOREVER: &str = "more than one of '--servers <1..64>' needs '--forever'";
+
+const SERVER_STDIN: &str = "the argument '--server <1..64>' needs '--listen stdin'";
+
 const READ_ONLY_UPLOADS: &str =
     "the argument '--read-only' cannot be used with '--uploads <FOLDER>'";
 
@@ -55,6 +63,8 @@ const NO_ADDRESS: &str =
     "for '--listen <ADDR:PORT|stdin>': neither an IPv4 address and a port nor 'stdin'";
 
 const NO_PORTS: &str = "for '--ports <A:B>': not two ports from 1 to 65535, the lower first";
+
+const FEW_PORTS: &str = "for '--ports <A:B>': fewer ports than servers";
 
 const LISTEN: &str = "listen";
 
@@ -71,6 +81,10 @@ const ROUNDS: &str = "rounds";
 const FOREVER: &str = "forever";
 
 const DRAIN: &str = "drain";
+
+const SERVERS: &str = "servers";
+
+const SERVER: &str = "server";
 
 /// The configuration of a command line, or the status if there is nothing to serve.
 pub(crate) type Asked<'a> = std::result::Result<DaemonConfig<'a>, u8>;
@@ -132,9 +146,12 @@ fn read_matches<'a, P: Print + Eprint>(
     if let Some(message) = excluded(matches) {
         return Ok(Err(report_conflict(rt, command, message)?));
     }
-    let Ok(ports) = port_range(matches) else {
-        let word = matches.get_str(PORTS);
-        return Ok(Err(report_invalid(rt, alloc, command, word, NO_PORTS)?));
+    let ports = match port_range(matches) {
+        Ok(ports) => ports,
+        Err(NoPorts(why)) => {
+            let word = matches.get_str(PORTS);
+            return Ok(Err(report_invalid(rt, alloc, command, word, why)?));
+        }
     };
     match service(matches, ports, errors) {
         Some(service) => Ok(Ok(service)),
@@ -159,7 +176,28 @@ fn excluded(matches: &ArgMatches<'_>) -> Option<&'static str> {
     if is_set(matches, READ_ONLY) && matches.get_str(UPLOADS).is_some() {
         return Some(READ_ONLY_UPLOADS);
     }
+    excluded_of_servers(matches)
+}
+
+/// As [`excluded`], of the options for several servers.
+fn excluded_of_servers(matches: &ArgMatches<'_>) -> Option<&'static str> {
+    if server_count(matches) > 1 {
+        if is_given(matches, SERVER) {
+            return Some(SERVERS_SERVER);
+        }
+        if !is_set(matches, FOREVER) {
+            return Some(SERVERS_FOREVER);
+        }
+    }
+    if is_given(matches, SERVER) && matches.get_str(LISTEN) != Some("stdin") {
+        return Some(SERVER_STDIN);
+    }
     None
+}
+
+/// The number of servers that are to start.
+fn server_count(matches: &ArgMatches<'_>) -> u8 {
+    matches.get_one::<u8>(SERVERS).unwrap_or(1)
 }
 
 /// Whether an option is among the words, and has not its default.
@@ -195,9 +233,9 @@ fn report_invalid<P: Print + Eprint>(
     Ok(print_usage(rt, &error))
 }
 
-/// The value of `--ports` is no range of ports.
+/// The value of `--ports` is no range of ports, or too small a one, for this reason.
 #[derive(Clone, Copy)]
-struct NoPorts;
+struct NoPorts(&'static str);
 
 /// The ports of transfers, or `None` if the system chooses.
 fn port_range(matches: &ArgMatches<'_>) -> std::result::Result<Option<PortRange>, NoPorts>
@@ -207,9 +245,19 @@ fn port_range(matches: &ArgMatches<'_>) -> std::result::Result<Option<PortRange>
         return Ok(None);
     };
     match ports_in(word) {
-        Some(range) => Ok(Some(range)),
-        None => Err(NoPorts),
+        Some(range) => {
+            if has_fewer(range, server_count(matches)) {
+                return Err(NoPorts(FEW_PORTS));
+            }
+            Ok(Some(range))
+        }
+        None => Err(NoPorts(NO_PORTS)),
     }
+}
+
+/// Whether a range has fewer ports than there are servers.
+fn has_fewer(range: PortRange, servers: u8) -> bool {
+    range.last.saturating_sub(range.first) < u16::from(servers.saturating_sub(1))
 }
 
 /// The range in a word `A:B`, from 1 to 65535 and A at most B; else `None`.
@@ -257,6 +305,7 @@ fn service<'a>(
     let listen = Listen::named(matches.get_str(LISTEN)?)?;
     let config = config(matches)?;
     let ending = ending(matches)?;
+    let place = place(matches)?;
     Some(DaemonConfig {
         root,
         config,
@@ -268,7 +317,18 @@ fn service<'a>(
         longest: matches.get_one::<u32>(LONGEST),
         drain: matches.get_str(DRAIN),
         logs: is_set(matches, "log"),
+        place,
         has_priority: errors.has_priority(),
+    })
+}
+
+/// How many servers there are, and which this is.
+fn place(matches: &ArgMatches<'_>) -> Option<Place>
+    ensures { IfSome result (NamesPlace (read_of matches.now)) }
+{
+    Some(Place {
+        servers: matches.get_one::<u8>(SERVERS)?,
+        server: matches.get_one::<u8>(SERVER),
     })
 }
 
@@ -347,6 +407,7 @@ fn command<'a>(alloc: Global, texts: &'a Texts) -> Result<Command<'a>>
     let command = with_limits(alloc, command, texts)?;
     let command = with_writes(alloc, command)?;
     let command = with_ending(alloc, command)?;
+    let command = with_servers(alloc, command)?;
     let log = flag(
         alloc,
         "log",
@@ -562,4 +623,39 @@ fn rounds<'a>(alloc: Global) -> Arg<'a>
         "Ends after so many waits, each of a second at most, 1 to 4294967295",
     );
     rounds.default_value("1000000")
+}
+
+/// Adds the number of servers, and which of them this is.
+fn with_servers<'a>(alloc: Global, command: Command<'a>) -> Result<Command<'a>>
+    ensures { (app : App) → IsApp app command.entry → IfOk result (IsApp (with_servers app)) }
+{
+    let command = command.arg(servers(alloc))?;
+    Ok(command.arg(server(alloc))?)
+}
+
+/// The argument for the number of servers.
+fn servers<'a>(alloc: Global) -> Arg<'a>
+    ensures { HasRule (by_default (codes "1") (within (codes "servers") 1 64)) result }
+{
+    let servers = number(
+        alloc,
+        SERVERS,
+        "1..64",
+        value_parser!(u8).range(1..=64),
+        "Starts so many servers at one request port, for as many processors, 1 to 64; with --forever",
+    );
+    servers.default_value("1")
+}
+
+/// The argument for which of several servers this is.
+fn server<'a>(alloc: Global) -> Arg<'a>
+    ensures { HasRule (within (codes "server") 1 64) result }
+{
+    number(
+        alloc,
+        SERVER,
+        "1..64",
+        value_parser!(u8).range(1..=64),
+        "Is this one of several servers, as --servers starts them; with --listen stdin",
+    )
 }

@@ -7,8 +7,10 @@ ghost use Rattle.tftp_daemon.specs.Configured.{RunsService, service_at, status_o
 
 use crate::drain_file::DrainFile;
 use crate::listen::Listen;
-use std::alloc::Global;
+use crate::servers::supervise;
+use std::alloc::{AllocError, Global};
 use std::io::{self, ErrorKind};
+use std::process::ExitStatus;
 use std::rt::Files;
 use std::time::Clock;
 use tftp_ends::Endpoint;
@@ -19,6 +21,7 @@ use tftp_lines::{Reason, reason_of};
 use tftp_loop::{DrainSignal, Ending, LoopConfig, LoopFault, PortRange, ServerUdp};
 use tftp_server::{Config, Server, Store};
 use tftp_sockets::Journal;
+use tftp_supervisor::Supervise;
 
 /// The configuration of `tftpd`.
 #[derive(Clone, Copy)]
@@ -44,8 +47,19 @@ pub(crate) struct DaemonConfig<'a> {
     pub(crate) drain: Option<&'a str>,
     /// Whether there is a log.
     pub(crate) logs: bool,
+    /// How many servers there are, and which this is.
+    pub(crate) place: Place,
     /// Whether a warning of the log begins with its priority.
     pub(crate) has_priority: bool,
+}
+
+/// How many servers a command line starts, and which of several it is.
+#[derive(Clone, Copy)]
+pub(crate) struct Place {
+    /// The number of servers that are to start.
+    pub(crate) servers: u8,
+    /// Which of several servers this is, counted from 1, if it is one of several.
+    pub(crate) server: Option<u8>,
 }
 
 impl DaemonConfig<'_> {
@@ -78,11 +92,23 @@ pub(crate) enum DaemonFault {
     Memory,
     /// Serving failed.
     Loop(LoopFault),
+    /// A server of several could not be started, for this reason.
+    Start(Reason),
+    /// This server of several ended so.
+    Server(u8, ExitStatus),
+    /// The words for a server do not name its configuration.
+    Words,
+}
+
+impl From<AllocError> for DaemonFault {
+    fn from(_: AllocError) -> DaemonFault {
+        DaemonFault::Memory
+    }
 }
 
 /// Serves until the configured number of transfers has closed, or of waits is over, or until the
-/// server has drained. Standard input is closed again, unless requests arrive there.
-pub(crate) fn serve<R: Files + Clone + Drop + ServerUdp + Clock + Print + Eprint>(
+/// server has drained; of several servers it is the supervisor, and serves nothing itself.
+pub(crate) fn serve<R: Files + Clone + Drop + ServerUdp + Clock + Print + Eprint + Supervise>(
     rt: &R,
     alloc: Global,
     config: &DaemonConfig<'_>,
@@ -90,6 +116,42 @@ pub(crate) fn serve<R: Files + Clone + Drop + ServerUdp + Clock + Print + Eprint
     journal: Journal,
 ) -> (Result<(), DaemonFault>, Journal)
     requires { IsConfig config.now.config }
+    ensures status { status_of result.0 ≤ 2 }
+    ensures runs { MayServe ⟦<FolderStore<R> as Store>⟧.meaning
+        ⟦<FolderSource<R::File> as Source>⟧.meaning config.now (status_of result.0) journal.events
+        result.1.events }
+{
+    if config.place.servers > 1 {
+        return (supervise_checked(rt, alloc, config, input), journal);
+    }
+    serve_alone(rt, alloc, config, input, journal)
+}
+
+/// Supervises several servers, if the folder can be served: else each of them would say so.
+fn supervise_checked<R: Files + Clone + Drop + Print + Eprint + Supervise>(
+    rt: &R,
+    alloc: Global,
+    config: &DaemonConfig<'_>,
+    input: Input,
+) -> Result<(), DaemonFault>
+    requires { IsConfig config.now.config }
+{
+    match open_server(rt, alloc, config) {
+        Ok(_) => supervise(rt, alloc, config, input),
+        Err(fault) => Err(fault),
+    }
+}
+
+/// Serves alone. Standard input is closed again, unless requests arrive there.
+fn serve_alone<R: Files + Clone + Drop + ServerUdp + Clock + Print + Eprint>(
+    rt: &R,
+    alloc: Global,
+    config: &DaemonConfig<'_>,
+    input: Input,
+    journal: Journal,
+) -> (Result<(), DaemonFault>, Journal)
+    requires valid { IsConfig config.now.config }
+    requires alone { config.now.place.servers ≤ 1 }
     ensures status { status_of result.0 ≤ 2 }
     ensures runs { MayServe ⟦<FolderStore<R> as Store>⟧.meaning
         ⟦<FolderSource<R::File> as Source>⟧.meaning config.now (status_of result.0) journal.events
@@ -113,6 +175,7 @@ fn serve_handed<R: Files + Clone + Drop + ServerUdp + Clock + Print + Eprint>(
     journal: Journal,
 ) -> (Result<(), DaemonFault>, Journal)
     requires valid { IsConfig config.now.config }
+    requires alone { config.now.place.servers ≤ 1 }
     requires handed { config.now.listen ≡ Listen.Handed }
     ensures status { status_of result.0 ≤ 2 }
     ensures runs { MayServe ⟦<FolderStore<R> as Store>⟧.meaning
@@ -122,9 +185,28 @@ fn serve_handed<R: Files + Clone + Drop + ServerUdp + Clock + Print + Eprint>(
     match HandedSocket::new(input) {
         Ok(socket) => {
             let at = socket.endpoint();
-            serve_at(&HandedUdp::new(rt, socket), rt, alloc, config, at, journal)
+            match handed_udp(rt, alloc, config, socket) {
+                Ok(net) => serve_at(&net, rt, alloc, config, at, journal),
+                Err(error) => {
+                    let reason = reason_of(&error);
+                    (Err(DaemonFault::Loop(LoopFault::Socket(reason))), journal)
+                }
+            }
         }
         Err(fault) => (Err(DaemonFault::Handed(fault)), journal),
+    }
+}
+
+/// The sockets of a server whose request port was handed over, alone or as one of several.
+fn handed_udp<'a, N: ServerUdp>(
+    rt: &'a N,
+    alloc: Global,
+    config: &DaemonConfig<'_>,
+    socket: HandedSocket,
+) -> io::Result<HandedUdp<'a, N>> {
+    match config.place.server {
+        Some(server) => HandedUdp::one_of_several(rt, alloc, socket, server),
+        None => Ok(HandedUdp::new(rt, socket)),
     }
 }
 
@@ -138,6 +220,7 @@ fn serve_at<N: ServerUdp + Clock + Print + Eprint, R: Files + Clone + Drop>(
     journal: Journal,
 ) -> (Result<(), DaemonFault>, Journal)
     requires valid { IsConfig config.now.config }
+    requires alone { config.now.place.servers ≤ 1 }
     requires listens { ListensAt config.now.listen at }
     ensures status { status_of result.0 ≤ 2 }
     ensures runs { MayServe ⟦<FolderStore<R> as Store>⟧.meaning

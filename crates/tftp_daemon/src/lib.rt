@@ -10,6 +10,7 @@ mod error_output;
 pub mod laws;
 mod listen;
 mod program;
+mod servers;
 mod shown;
 
 pub use program::{tftpd_command, tftpd_with_journal, tftpd_words};

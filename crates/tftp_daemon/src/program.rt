@@ -23,11 +23,15 @@ use tftp_lines::Reason;
 use tftp_loop::{LoopFault, ServerUdp};
 use tftp_server::Store;
 use tftp_sockets::Journal;
+use tftp_supervisor::Supervise;
 
 /// Runs `tftpd` with the program's own command line, and this standard input, and returns its status.
 ///
 /// See [`tftpd_words`].
-pub fn tftpd_command<R: Runtime + AllocGlobal + Net + RandomSource>(rt: &R, input: Input) -> u8
+pub fn tftpd_command<R: Runtime + AllocGlobal + Net + RandomSource + Supervise>(
+    rt: &R,
+    input: Input,
+) -> u8
     ensures { result ≤ 2 }
 {
     match own_words(rt) {
@@ -43,7 +47,7 @@ pub fn tftpd_command<R: Runtime + AllocGlobal + Net + RandomSource>(rt: &R, inpu
 /// input that is no request port where it is to be one, and output that cannot be written, each
 /// reported on standard error, and when out of memory. A second line names the folder or the address
 /// that was refused, and why.
-pub fn tftpd_words<R: Runtime + AllocGlobal + Net + RandomSource, S: AsStr>(
+pub fn tftpd_words<R: Runtime + AllocGlobal + Net + RandomSource + Supervise, S: AsStr>(
     rt: &R,
     words: &[S],
     input: Input,
@@ -57,7 +61,7 @@ pub fn tftpd_words<R: Runtime + AllocGlobal + Net + RandomSource, S: AsStr>(
 /// As [`tftpd_words`], with a journal of what it does over UDP: nothing, as for `--help`, or a run
 /// of one server with the configuration that the words name. With a status of 0 that server served
 /// to its end, or the words ask for the help or the version.
-pub fn tftpd_with_journal<R: Runtime + AllocGlobal + Net + RandomSource, S: AsStr>(
+pub fn tftpd_with_journal<R: Runtime + AllocGlobal + Net + RandomSource + Supervise, S: AsStr>(
     rt: &R,
     words: &[S],
     input: Input,
@@ -78,7 +82,11 @@ pub fn tftpd_with_journal<R: Runtime + AllocGlobal + Net + RandomSource, S: AsSt
 }
 
 /// Reads the words, and serves by them.
-fn serve_texts<'a, R: Files + Clone + Drop + ServerUdp + Clock + Print + Eprint, S: AsStr>(
+fn serve_texts<
+    'a,
+    R: Files + Clone + Drop + ServerUdp + Clock + Print + Eprint + Supervise,
+    S: AsStr,
+>(
     rt: &R,
     alloc: Global,
     texts: &'a Texts,
@@ -99,7 +107,7 @@ fn serve_texts<'a, R: Files + Clone + Drop + ServerUdp + Clock + Print + Eprint,
 }
 
 /// Serves by the words read.
-fn serve_asked<R: Files + Clone + Drop + ServerUdp + Clock + Print + Eprint>(
+fn serve_asked<R: Files + Clone + Drop + ServerUdp + Clock + Print + Eprint + Supervise>(
     rt: &R,
     alloc: Global,
     asked: &Asked<'_>,
@@ -122,7 +130,7 @@ fn serve_asked<R: Files + Clone + Drop + ServerUdp + Clock + Print + Eprint>(
 }
 
 /// Serves by a configuration, reports a fault, and returns the status.
-fn serve_config<R: Files + Clone + Drop + ServerUdp + Clock + Print + Eprint>(
+fn serve_config<R: Files + Clone + Drop + ServerUdp + Clock + Print + Eprint + Supervise>(
     rt: &R,
     alloc: Global,
     config: &DaemonConfig<'_>,
@@ -158,7 +166,10 @@ fn report<R: Eprint>(
 
 /// Prints a fault. A second line has what was refused, and why, if that is known.
 fn print_fault<R: Eprint>(rt: &R, config: &DaemonConfig<'_>, fault: DaemonFault) -> io::Result<()> {
-    rt.eprintln(first_line(fault))?;
+    match config.place.server {
+        Some(server) => eprintln!(rt; "server {server}: {}", first_line(fault))?,
+        None => rt.eprintln(first_line(fault))?,
+    }
     match fault {
         DaemonFault::Root(reason) => eprintln!(rt; "tftpd: {}: {reason}", Shown(config.root)),
         DaemonFault::Uploads(reason) => print_uploads(rt, config.uploads.unwrap_or(""), reason),
@@ -169,6 +180,12 @@ fn print_fault<R: Eprint>(rt: &R, config: &DaemonConfig<'_>, fault: DaemonFault)
         DaemonFault::Loop(LoopFault::Output) => {
             rt.eprintln("tftpd: standard output: cannot be written")
         }
+        DaemonFault::Loop(LoopFault::NoReader) => {
+            rt.eprintln("tftpd: standard output: nobody reads it any more")
+        }
+        DaemonFault::Start(reason) => eprintln!(rt; "tftpd: a server did not start: {reason}"),
+        DaemonFault::Server(server, status) => eprintln!(rt; "tftpd: server {server}: {status}"),
+        DaemonFault::Words => rt.eprintln("tftpd: a server did not start: its words"),
         DaemonFault::Memory | DaemonFault::Loop(LoopFault::Memory) => Ok(()),
     }
 }
@@ -178,7 +195,10 @@ fn first_line(fault: DaemonFault) -> &'static str {
     match fault {
         DaemonFault::Root(_) | DaemonFault::Uploads(_) => "tftpd: file fault",
         DaemonFault::Handed(_) | DaemonFault::Loop(LoopFault::Socket(_)) => "tftpd: socket fault",
-        DaemonFault::Loop(LoopFault::Output) => "tftpd: output fault",
+        DaemonFault::Loop(LoopFault::Output | LoopFault::NoReader) => "tftpd: output fault",
+        DaemonFault::Start(_) | DaemonFault::Server(..) | DaemonFault::Words => {
+            "tftpd: server fault"
+        }
         DaemonFault::Memory | DaemonFault::Loop(LoopFault::Memory) => "tftpd: out of memory",
     }
 }

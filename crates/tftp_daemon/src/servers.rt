@@ -1,0 +1,338 @@
+//! Several servers at one request port: their command lines, and their supervisor.
+
+ghost use Rattle.std.specs.Prelude.{◌≡◌, map, option_map, Some, IfOk, IfSome, IsTrue};
+ghost use Rattle.tftp_daemon.specs.Servers.{IsPart, IsServer, NamesServerOf, PartOf, start_of};
+
+use crate::command_line::{Texts, read_words};
+use crate::daemon::{DaemonConfig, DaemonFault};
+use crate::error_output::ErrorOutput;
+use crate::listen::Listen;
+use std::alloc::{AllocError, Global};
+use std::convert::AsStr;
+use std::os::fd::OwnedFd;
+use tftp_handed::{HandedSocket, Input};
+use tftp_lines::reason_of;
+use tftp_loop::{LoopFault, PortRange};
+use tftp_sockets::address_of;
+use tftp_supervisor::{Supervise, SupervisorFault};
+
+/// Starts the servers of a configuration at one request port, and supervises them until they have
+/// ended.
+pub(crate) fn supervise<R: Supervise + Print + Eprint>(
+    rt: &R,
+    alloc: Global,
+    config: &DaemonConfig<'_>,
+    input: Input,
+) -> Result<(), DaemonFault> {
+    let socket = shared_socket(rt, config, input)?;
+    let servers = command_lines(rt, alloc, config)?;
+    match rt.supervise(&socket, servers.as_slice()) {
+        Ok(()) => Ok(()),
+        Err(fault) => Err(fault_of(fault)),
+    }
+}
+
+/// The fault of a supervisor.
+fn fault_of(fault: SupervisorFault) -> DaemonFault {
+    match fault {
+        SupervisorFault::Ended(server, status) => DaemonFault::Server(server, status),
+        SupervisorFault::System(error) => DaemonFault::Start(reason_of(&error)),
+        SupervisorFault::Output => DaemonFault::Loop(LoopFault::Output),
+        SupervisorFault::Memory => DaemonFault::Memory,
+    }
+}
+
+/// The socket of the request port: bound here, or handed over.
+fn shared_socket<R: Supervise>(
+    rt: &R,
+    config: &DaemonConfig<'_>,
+    input: Input,
+) -> Result<OwnedFd, DaemonFault> {
+    match config.listen {
+        Listen::At(at) => match rt.bind_shared(address_of(at)) {
+            Ok(socket) => Ok(socket),
+            Err(error) => Err(DaemonFault::Loop(LoopFault::Socket(reason_of(&error)))),
+        },
+        Listen::Handed => match HandedSocket::new(input) {
+            Ok(socket) => Ok(socket.into_descriptor()),
+            Err(fault) => Err(DaemonFault::Handed(fault)),
+        },
+    }
+}
+
+/// The command lines of the servers of a configuration.
+fn command_lines<P: Print + Eprint>(
+    rt: &P,
+    alloc: Global,
+    config: &DaemonConfig<'_>,
+) -> Result<Vec<Vec<String>>, DaemonFault> {
+    let texts = Texts::new(alloc)?;
+    let mut lines = Vec::new(alloc);
+    for server in 1..=config.place.servers {
+        let line = command_line_of(rt, alloc, &texts, config, server)?;
+        if lines.push(line).is_err() {
+            return Err(DaemonFault::Memory);
+        }
+    }
+    Ok(lines)
+}
+
+/// The command line of a server, which names its configuration: it is read, and compared.
+fn command_line_of<P: Print + Eprint>(
+    rt: &P,
+    alloc: Global,
+    texts: &Texts,
+    config: &DaemonConfig<'_>,
+    server: u8,
+) -> Result<Vec<String>, DaemonFault>
+    ensures { IfOk result (λ words. NamesServerOf config.now server
+        (map ⟦<String as AsStr>⟧.text words.items)) }
+{
+    let words = words_of(alloc, config, server)?;
+    if names(rt, alloc, texts, config, server, words.as_slice()) {
+        Ok(words)
+    } else {
+        Err(DaemonFault::Words)
+    }
+}
+
+/// Whether these words name a server of the configuration.
+fn names<P: Print + Eprint>(
+    rt: &P,
+    alloc: Global,
+    texts: &Texts,
+    config: &DaemonConfig<'_>,
+    server: u8,
+    words: &[String],
+) -> bool
+    ensures { IsTrue result → NamesServerOf config.now server
+        (map ⟦<String as AsStr>⟧.text words.now) }
+{
+    match read_words(rt, alloc, texts, words, ErrorOutput::Other) {
+        Ok(Ok(own)) => is_server(&own, config, server),
+        _ => false,
+    }
+}
+
+/// The words for a server of the configuration. Behind `--` stands the folder, whatever its name
+/// begins with.
+fn words_of(
+    alloc: Global,
+    config: &DaemonConfig<'_>,
+    server: u8,
+) -> Result<Vec<String>, AllocError> {
+    let mut words = Vec::new(alloc);
+    add(&mut words, format!(in alloc; "tftpd")?)?;
+    add(&mut words, format!(in alloc; "--listen=stdin")?)?;
+    add(&mut words, format!(in alloc; "--server={server}")?)?;
+    add_ports(alloc, &mut words, config, server)?;
+    add_limits(alloc, &mut words, config)?;
+    add_writes(alloc, &mut words, config)?;
+    if let Some(seconds) = config.longest {
+        add(&mut words, format!(in alloc; "--longest={seconds}")?)?;
+    }
+    if let Some(path) = config.drain {
+        add(&mut words, format!(in alloc; "--drain={path}")?)?;
+    }
+    add(&mut words, format!(in alloc; "--forever")?)?;
+    if config.logs {
+        add(&mut words, format!(in alloc; "--log")?)?;
+    }
+    add(&mut words, format!(in alloc; "--")?)?;
+    add(&mut words, String::from_str(alloc, config.root)?)?;
+    Ok(words)
+}
+
+/// Adds a word.
+fn add(words: &mut Vec<String>, word: String) -> Result<(), AllocError> {
+    match words.push(word) {
+        Ok(()) => Ok(()),
+        Err(error) => Err(AllocError::from(error)),
+    }
+}
+
+/// Adds the server's part of the ports.
+fn add_ports(
+    alloc: Global,
+    words: &mut Vec<String>,
+    config: &DaemonConfig<'_>,
+    server: u8,
+) -> Result<(), AllocError> {
+    let Some(range) = config.ports else {
+        return Ok(());
+    };
+    match part_of(range, config.place.servers, server) {
+        Some(part) => {
+            let (first, last) = (part.first, part.last);
+            add(words, format!(in alloc; "--ports={first}:{last}")?)
+        }
+        None => Ok(()),
+    }
+}
+
+/// Adds the limits of transfers.
+fn add_limits(
+    alloc: Global,
+    words: &mut Vec<String>,
+    config: &DaemonConfig<'_>,
+) -> Result<(), AllocError> {
+    let max_block = config.config.limits.max_block;
+    let max_file = config.config.limits.max_file;
+    let retries = config.config.retries;
+    let cap = config.config.cap;
+    add(words, format!(in alloc; "--max-block={max_block}")?)?;
+    add(words, format!(in alloc; "--max-file={max_file}")?)?;
+    add(words, format!(in alloc; "--retries={retries}")?)?;
+    add(words, format!(in alloc; "--cap={cap}")?)
+}
+
+/// Adds what is said of writes.
+fn add_writes(
+    alloc: Global,
+    words: &mut Vec<String>,
+    config: &DaemonConfig<'_>,
+) -> Result<(), AllocError> {
+    if config.config.overwrite {
+        add(words, format!(in alloc; "--overwrite")?)?;
+    }
+    if config.read_only {
+        add(words, format!(in alloc; "--read-only")?)?;
+    }
+    match config.uploads {
+        Some(folder) => add(words, format!(in alloc; "--uploads={folder}")?),
+        None => Ok(()),
+    }
+}
+
+/// Whether this is the configuration of a server of another one.
+fn is_server(own: &DaemonConfig<'_>, config: &DaemonConfig<'_>, server: u8) -> bool
+    ensures { IsTrue result → IsServer config.now server own.now }
+{
+    if !is_place(own, server) || !has_same_paths(own, config) {
+        return false;
+    }
+    if !has_same_settings(own, config) || !has_same_end(own, config) {
+        return false;
+    }
+    has_part(own.ports, config.ports, config.place.servers, server)
+}
+
+/// Whether this is the configuration of this server of several.
+fn is_place(own: &DaemonConfig<'_>, server: u8) -> bool
+    ensures listen { IsTrue result → own.now.listen ≡ Listen.Handed }
+    ensures servers { IsTrue result → own.now.place.servers ≡ 1 }
+    ensures server { IsTrue result → own.now.place.server ≡ Some server }
+{
+    match own.place.server {
+        Some(place) => is_handed(own.listen) && own.place.servers == 1 && place == server,
+        None => false,
+    }
+}
+
+/// Whether the folders of two configurations are the same, and the file that has them drain.
+fn has_same_paths(own: &DaemonConfig<'_>, config: &DaemonConfig<'_>) -> bool
+    ensures root { IsTrue result → own.now.root.now ≡ config.now.root.now }
+    ensures uploads { IsTrue result → option_map (λ folder. folder.now) own.now.uploads
+        ≡ option_map (λ folder. folder.now) config.now.uploads }
+    ensures drain { IsTrue result → option_map (λ path. path.now) own.now.drain
+        ≡ option_map (λ path. path.now) config.now.drain }
+{
+    own.root == config.root
+        && is_same_path(own.uploads, config.uploads)
+        && is_same_path(own.drain, config.drain)
+}
+
+/// Whether two paths that may be given are the same.
+fn is_same_path(own: Option<&str>, other: Option<&str>) -> bool
+    ensures { IsTrue result → option_map (λ path. path.now) own.entry
+        ≡ option_map (λ path. path.now) other.entry }
+{
+    match (own, other) {
+        (Some(own), Some(other)) => own == other,
+        (None, None) => true,
+        _ => false,
+    }
+}
+
+/// Whether the limits and the flags of two configurations are the same.
+fn has_same_settings(own: &DaemonConfig<'_>, config: &DaemonConfig<'_>) -> bool
+    ensures limits { IsTrue result → own.now.config ≡ config.now.config }
+    ensures read_only { IsTrue result → own.now.read_only ≡ config.now.read_only }
+    ensures logs { IsTrue result → own.now.logs ≡ config.now.logs }
+{
+    own.config == config.config && own.read_only == config.read_only && own.logs == config.logs
+}
+
+/// Whether two servers end alike, and their transfers.
+fn has_same_end(own: &DaemonConfig<'_>, config: &DaemonConfig<'_>) -> bool
+    ensures transfers { IsTrue result → own.now.ending.transfers ≡ config.now.ending.transfers }
+    ensures rounds { IsTrue result → own.now.ending.rounds ≡ config.now.ending.rounds }
+    ensures longest { IsTrue result → own.now.longest ≡ config.now.longest }
+{
+    own.ending.transfers == config.ending.transfers
+        && own.ending.rounds == config.ending.rounds
+        && is_same_age(own.longest, config.longest)
+}
+
+/// Whether two ages that may be given are the same.
+fn is_same_age(own: Option<u32>, other: Option<u32>) -> bool
+    ensures { IsTrue result → own ≡ other }
+{
+    match (own, other) {
+        (Some(own), Some(other)) => own == other,
+        (None, None) => true,
+        _ => false,
+    }
+}
+
+/// Whether requests arrive at standard input.
+fn is_handed(listen: Listen) -> bool
+    ensures { IsTrue result → listen ≡ Listen.Handed }
+{
+    match listen {
+        Listen::At(_) => false,
+        Listen::Handed => true,
+    }
+}
+
+/// Whether these are the server's part of the ports.
+fn has_part(own: Option<PortRange>, ports: Option<PortRange>, servers: u8, server: u8) -> bool
+    ensures { IsTrue result → PartOf ports servers server own }
+{
+    match (own, ports) {
+        (None, None) => true,
+        (Some(own), Some(range)) => is_part(own, range, servers, server),
+        _ => false,
+    }
+}
+
+/// Whether this is the server's part of a range.
+fn is_part(own: PortRange, range: PortRange, servers: u8, server: u8) -> bool
+    ensures { IsTrue result → IsPart range servers server own }
+{
+    match part_of(range, servers, server) {
+        Some(part) => own.first == part.first && own.last == part.last,
+        None => false,
+    }
+}
+
+/// The server's part of a range, if it has one: it begins behind that of the server before.
+fn part_of(range: PortRange, servers: u8, server: u8) -> Option<PortRange>
+    ensures { IfSome result (IsPart range servers server) }
+{
+    let first = start_of(range, servers, server.checked_sub(1)?)?;
+    let next = start_of(range, servers, server)?;
+    Some(PortRange {
+        first: u16::try_from(first).ok()?,
+        last: u16::try_from(next.checked_sub(1)?).ok()?,
+    })
+}
+
+/// The first port behind the parts of the first `before` servers.
+fn start_of(range: PortRange, servers: u8, before: u8) -> Option<u32>
+    ensures { IfSome result (λ start. start ≡ start_of range servers before) }
+{
+    let count = u32::from(range.last).checked_sub(u32::from(range.first))? + 1;
+    let behind = (count * u32::from(before)).checked_div(u32::from(servers))?;
+    Some(u32::from(range.first) + behind)
+}
