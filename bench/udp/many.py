@@ -3,7 +3,8 @@
 
 Clients and servers are two hosts in network namespaces, joined by a link. The clients are many.c, each at an address of
 its own, in four processes at any processor; each reads a file of FILE bytes, which is in memory, and compares it. The
-servers have 1, 2 and then 4 processors, at which the system places them. Several tftpd are behind packaging/tftpd.nft.
+servers have 1, 2 and then 4 processors, at which the system places them. Several tftpd are behind packaging/tftpd.nft, or
+are started by --servers.
 README.md says which servers are looked for. What is measured precedes other work. It needs root, cc, ip and nft.
 """
 import os
@@ -27,10 +28,13 @@ SERVER, FIRST = "192.0.2.1", "198.51.100.20"
 FILE = {512: 500_000 // SHORTER, 1428: 2_000_000 // SHORTER}
 CLIENTS = [64, 200]
 SEVERAL = [1, 2, 4, 8]
+# behind one port by --servers
+TOGETHER = [2, 4]
 # the processors of the servers
 PLACES = {1: "0", 2: "0-1", 4: "0-3"}
-# a request waits no longer for a server to start
+# a request waits no longer for a server to start, and the next one for servers to end with their supervisor
 START = 0.5
+END = 0.2
 
 
 def nft(count) -> str:
@@ -61,6 +65,9 @@ class Bench:
             return [[*words, f"{SERVER}:69"]]
         return [[*words, f"0.0.0.0:{6901 + place}"] for place in range(count)]
 
+    def together(self, count) -> list[list[str]]:
+        return [[*self.ours(1)[0], "--servers", str(count)]]
+
     def measure(self, name, commands, rules, block, clients, place) -> tuple[float, float, int]:
         """MB/s, the servers' processor seconds a GiB, and how many files were whole."""
         self.server.rules(rules)
@@ -77,6 +84,7 @@ class Bench:
         for process in running:
             process.terminate()
             process.wait()
+        time.sleep(END)
         count, whole, seconds, *_ = done.stdout.split()
         return int(count) / 1e6 / float(seconds), spent * GIB / max(int(count), 1), int(whole)
 
@@ -84,6 +92,8 @@ class Bench:
         cases = {name: (commands, "") for name, commands in self.peers().items()}
         for count in SEVERAL:
             cases[f"{count} tftpd"] = self.ours(count), nft(count) if count > 1 else ""
+        for count in TOGETHER:
+            cases[f"--servers {count}"] = self.together(count), ""
         found = {name: [] for name in cases}
         for _ in range(rounds):
             for name, case in cases.items():

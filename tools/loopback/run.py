@@ -30,6 +30,7 @@ import served_disk
 import served_folder
 import server_alone
 import server_loop
+import several_servers
 from scene import Scene
 from lib.addresses import own_network
 from lib.programs import programs
@@ -37,7 +38,7 @@ from lib.stalls import LIMIT as STALL, Stalls
 
 HERE = Path(__file__).resolve()
 MODULES = [both_programs, server_alone, server_loop, served_folder, served_disk, client_alone, command_lines, options, handed_over,
-           draining]
+           draining, several_servers]
 TESTS_AT_LEAST = 116
 AT_ONCE = 8
 # The longest time of a test, and of all together, in seconds, however slow the host is

@@ -98,7 +98,7 @@ class Server:
         found = re.fullmatch(r"listening ((\d+\.\d+\.\d+\.\d+):(\d+))\n", line)
         expect(bool(found), True, f"the first line of the server, {line!r}")
         self.word, self.address = found[1], (found[2], int(found[3]))
-        if "--log" in process.args:
+        if "--log" in process.args and "--servers" not in process.args:
             expect(next_line(process.stderr), line, "the first line of the log")
 
     def has_closed(self, *outcomes) -> list[str]:
