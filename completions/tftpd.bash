@@ -4,7 +4,7 @@ _tftpd() {
     local options
     COMPREPLY=()
     options='--listen --ports --max-block --max-file --retries --cap --longest --overwrite --read-only
-        --uploads --transfers --rounds --forever --drain --log --help -h --version -V'
+         --uploads --transfers --rounds --forever --drain --servers --server --log --help -h --version -V'
     case $3 in
     --listen)
         mapfile -t COMPREPLY < <(compgen -W stdin -- "$2")
@@ -15,7 +15,8 @@ _tftpd() {
         mapfile -t COMPREPLY < <(compgen -f -- "$2")
         return
         ;;
-    --ports | --max-block | --max-file | --retries | --cap | --longest | --uploads | --transfers | --rounds)
+    --ports | --max-block | --max-file | --retries | --cap | --longest | --uploads | --transfers | --rounds | \
+        --servers | --server)
         return
         ;;
     esac

@@ -16,6 +16,8 @@ _arguments \
   '(--forever)--rounds=[end after so many waits]:waits:' \
   '(--transfers --rounds)--forever[end by no count of transfers or waits]' \
   '--drain=[file whose appearance ends it once no transfer is open]:file:_files' \
+  '(--server)--servers=[servers that are started at the one port]:servers, 1 to 64:' \
+  '(--servers)--server=[which of several servers this is]:server, 1 to 64:' \
   '--log[write a line for each request and each close]' \
   '(-h --help)'{-h,--help}'[print help]' \
   '(-V --version)'{-V,--version}'[print version]' \
