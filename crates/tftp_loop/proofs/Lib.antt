@@ -5,6 +5,7 @@ pub mod ListLemmas
 pub mod LoopRuns
 pub mod NoteLemmas
 pub mod RequestRuns
+pub mod Reserving
 pub mod OrderLemmas
 pub mod PortTurns
 pub mod TurnLemmas

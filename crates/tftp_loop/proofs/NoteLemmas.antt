@@ -1,16 +1,19 @@
 -- A note of a pending datagram reads no port.
 use Rattle.std.proofs.Common.{◌≡◌, ℕ, Bool, List, refl}
+use Rattle.tftp_file.specs.Source.{SourceMeaning}
 use Rattle.tftp_ends.specs.declared.endpoint.Endpoint.{Endpoint}
+use Rattle.tftp_store.specs.Store.{StoreMeaning}
 use Rattle.tftp_sockets.specs.Quiet.{drained_by, tried_by}
 use Rattle.tftp_loop.specs.Steps.{LoopState, RequestNote, Found_no_port, Found_port, Found_no_memory, note_event}
 
-module _ {S F D : Type 0} {s : LoopState S F D} {from : Endpoint} {bytes : List ℕ} (port : ℕ) (before : Bool) where
-  pub note_tried : (note : RequestNote s from bytes) → tried_by port (note_event note) before ≡ before
+module _ {S F D : Type 0} {meaning : StoreMeaning S D} {sources : SourceMeaning F} {s : LoopState S F D}
+    {from : Endpoint} {bytes : List ℕ} (port : ℕ) (before : Bool) where
+  pub note_tried : (note : RequestNote meaning sources s from bytes) → tried_by port (note_event note) before ≡ before
   note_tried (Found_no_port opens at within) = refl
   note_tried (Found_port opens at within) = refl
-  note_tried (Found_no_memory needs) = refl
+  note_tried (Found_no_memory lacks) = refl
 
-  pub note_drained : (note : RequestNote s from bytes) → drained_by port (note_event note) before ≡ before
+  pub note_drained : (note : RequestNote meaning sources s from bytes) → drained_by port (note_event note) before ≡ before
   note_drained (Found_no_port opens at within) = refl
   note_drained (Found_port opens at within) = refl
-  note_drained (Found_no_memory needs) = refl
+  note_drained (Found_no_memory lacks) = refl

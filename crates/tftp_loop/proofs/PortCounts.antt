@@ -60,7 +60,7 @@ module _ (port : ℕ) where
 
 module _ {S F D : Type 0} (meaning : StoreMeaning S D) (sources : SourceMeaning F) where
   note_since : {s : LoopState S F D} {from : Endpoint} {bytes : List ℕ} (n : ℕ)
-      (note : RequestNote s from bytes) → since_by (note_event note) n ≡ n
+      (note : RequestNote meaning sources s from bytes) → since_by (note_event note) n ≡ n
   note_since n (Found_no_port opens port within) = refl
   note_since n (Found_port opens port within) = refl
   note_since n (Found_no_memory lacks) = refl

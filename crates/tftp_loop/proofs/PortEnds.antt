@@ -16,6 +16,8 @@ use Rattle.tftp_server.specs.State.{TransferState, ServerState, at, is_closed, i
 use Rattle.tftp_server.specs.Steps.{KeepsHeld, with_end}
 use Rattle.tftp_server.specs.Work.{WorksAt}
 use Rattle.tftp_sockets.specs.Watch.{deadline_of}
+use Rattle.tftp_loop.specs.Run.{Run}
+use Rattle.tftp_loop.specs.Run.Run.{Start, Then}
 use Rattle.tftp_loop.specs.Steps.{Timer, PortState, PortStep, deadline_by, marked_as, restarted, timer_after}
 use Rattle.tftp_loop.specs.Steps.PortStep.{A_datagram, A_lost_datagram, A_late_datagram, Nothing_found}
 use Rattle.tftp_loop.specs.Steps.PortStep.{A_failed_receive, A_timeout, A_missed_timeout, Work}
@@ -153,6 +155,12 @@ module _ {S F D : Type 0} (meaning : StoreMeaning S D) (sources : SourceMeaning 
   same_config now old new (A_timeout d) = ap (λ (s : ServerState S F D). s.config) d.times_out.rest
   same_config now old new (A_missed_timeout d) = ap (λ (s : ServerState S F D). s.config) d.server
   same_config now old new (Work d) = d.works.config
+
+  pub config_along : (now : ℕ) (old new : PortState S F D) → Run (PortStep meaning sources now) old new
+      → new.server.config ≡ old.server.config
+  config_along now old new Start = refl
+  config_along now old new (Then {middle} run does) =
+      same_config now middle new does ∙ config_along now old middle run
 
   -- the transfer is held still, and its end changed so
   pub record AtTransfer (Idle Silent : Type 0) (now : ℕ) (old new : PortState S F D)

@@ -22,9 +22,9 @@ use Rattle.tftp_loop.specs.PortOrder.{IsOneOf}
 use Rattle.tftp_loop.specs.PortPool.{Binds, TriesInVain, TriesPorts}
 use Rattle.tftp_loop.specs.Run.{Run}
 use Rattle.tftp_loop.specs.Run.Run.{Start, Then}
-use Rattle.tftp_loop.specs.MayOpen.{MayOpen, NeedsMemory}
+use Rattle.tftp_loop.specs.MayOpen.{LacksMemoryToOpen, MayOpen}
 use Rattle.tftp_loop.specs.Steps.{LoopState, AnswersRequest, IsSet, LosesRequest, NotesRequest, RequestLoss}
-use Rattle.tftp_loop.specs.Steps.{RequestNote, Found_no_port, Found_port, Found_no_memory, No_memory, No_port}
+use Rattle.tftp_loop.specs.Steps.{RequestNote, Found_no_port, Found_port, Found_no_memory, No_memory_to_open, No_port}
 use Rattle.tftp_loop.specs.Steps.{Same_port, SetsStore, after_request, is_taken, note_event, with_timer}
 use Rattle.tftp_loop.specs.Steps.{answering_port, is_draining}
 use Rattle.tftp_loop.specs.Steps.LoopStep.{Request_noted, Request_received, Request_answered, Request_lost, Store_set}
@@ -126,7 +126,7 @@ module _ {S F D : Type 0} (meaning : StoreMeaning S D) (sources : SourceMeaning 
 
   -- a note
   noted_as : (s t : LoopState S F D) (from : Endpoint) (bytes : List ℕ) → s.pending ≡ Some (from, bytes)
-      → (note : RequestNote s from bytes) → t ≡ record s { events = Quiet (note_event note) ∷ s.events }
+      → (note : RequestNote meaning sources s from bytes) → t ≡ record s { events = Quiet (note_event note) ∷ s.events }
       → Prepares meaning sources s t
   noted_as s t from bytes pending note is =
       Notes_it (record { from = from; bytes = bytes; pending = pending; note = note; is = is })
@@ -154,7 +154,7 @@ module _ {S F D : Type 0} (meaning : StoreMeaning S D) (sources : SourceMeaning 
 
   -- the datagram was lost, and nothing changed
   pub loses_as : (s t : LoopState S F D) (from : Endpoint) (bytes : List ℕ) → s.pending ≡ Some (from, bytes) →
-      RequestLoss s from bytes → t ≡ record s { pending = None }
+      RequestLoss meaning sources s from bytes → t ≡ record s { pending = None }
       → Concludes meaning sources s t
   loses_as s t from bytes pending why is = record {
     middle = s;
@@ -164,13 +164,13 @@ module _ {S F D : Type 0} (meaning : StoreMeaning S D) (sources : SourceMeaning 
 
   -- memory was refused, and the datagram was lost
   pub loses_for_memory : (s t : LoopState S F D) (from : Endpoint) (bytes : List ℕ) → s.pending ≡ Some (from, bytes) →
-      NeedsMemory s.server from bytes → t ≡ record s { pending = None; events = Quiet Out_of_memory ∷ s.events }
-      → Concludes meaning sources s t
-  loses_for_memory s t from bytes pending needs is =
+      LacksMemoryToOpen meaning sources s.server from bytes
+      → t ≡ record s { pending = None; events = Quiet Out_of_memory ∷ s.events } → Concludes meaning sources s t
+  loses_for_memory s t from bytes pending lacks is =
       let m : LoopState S F D = record s { events = Quiet Out_of_memory ∷ s.events } in
       prepares_first s m t
-      (once (noted_as s m from bytes pending (Found_no_memory needs) refl))
-      (loses_as m t from bytes pending (No_memory needs (record { earlier = s.events; is = refl })) is)
+      (once (noted_as s m from bytes pending (Found_no_memory lacks) refl))
+      (loses_as m t from bytes pending (No_memory_to_open lacks (record { earlier = s.events; is = refl })) is)
 
   -- no port was found, and the datagram was lost
   pub tries_in_vain : (s t : LoopState S F D) (from : Endpoint) (bytes : List ℕ) (fs : List Event) →
@@ -198,13 +198,13 @@ module _ {S F D : Type 0} (meaning : StoreMeaning S D) (sources : SourceMeaning 
       s.pending ≡ Some (from, bytes)
       → set ≡ record s.server { store = set.store } → meaning.stored set.store ≡ meaning.stored s.server.store →
       IsSet meaning s.server.store set.store
-      → MayOpen set from bytes →
+      → LacksMemoryToOpen meaning sources set from bytes →
       t ≡ record s { server = set; pending = None; events = Quiet Out_of_memory ∷ s.events }
       → Concludes meaning sources s t
-  sets_and_loses s t from bytes set pending rest same behind opens is =
+  sets_and_loses s t from bytes set pending rest same behind lacks is =
       prepares_first s (record s { server = set }) t
       (once (Sets_store (set_as s set rest same behind)))
-      (loses_for_memory (record s { server = set }) t from bytes pending (inr opens) is)
+      (loses_for_memory (record s { server = set }) t from bytes pending lacks is)
 
   -- the store was set, and an admission was carried out and answered
   pub sets_and_answers : (s t : LoopState S F D) (from : Endpoint) (bytes : List ℕ) (tid : ℕ)

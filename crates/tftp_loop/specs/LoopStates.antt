@@ -1,6 +1,6 @@
 -- The loop's own values as states of its run.
-use Rattle.std.specs.Prelude.{ℕ, ◌≡◌, ◌≢◌, ◌⊎◌, ⊤, false, List, [], ◌∷◌, map, take, Option, Some, None}
-use Rattle.std.specs.Prelude.{IfSome}
+use Rattle.std.specs.Prelude.{ℕ, ◌≡◌, ◌≢◌, ◌≤◌, ◌⊎◌, ⊤, false, List, [], ◌∷◌, map, take, Option, Some, None}
+use Rattle.std.specs.Prelude.{IfSome, vec_capacity}
 use Rattle.tftp_file.specs.Source.{SourceMeaning}
 use Rattle.tftp_ends.specs.declared.endpoint.Endpoint.{Endpoint}
 use Rattle.tftp_store.specs.Store.{StoreMeaning}
@@ -16,6 +16,8 @@ use Rattle.tftp_ends.specs.declared.outcome.Outcome.{Outcome}
 use Rattle.tftp_lines.specs.Printed.{line_text}
 use Rattle.tftp_lines.specs.declared.printed.Printed.TheVariants.{Closed}
 use Rattle.tftp_loop.specs.declared.drain.Drain.TheVariants.{Begun}
+use Rattle.tftp_loop.specs.declared.reserved.Reserved.{Reserved}
+use Rattle.tftp_loop.specs.declared.reserved.TheConstants.{LONGEST_ANSWER}
 use Rattle.tftp_loop.specs.declared.transfer_port.TransferSocket.{TransferSocket}
 use Rattle.tftp_loop.specs.PortOrder.{IsOneOf}
 use Rattle.tftp_loop.specs.Run.{Run}
@@ -90,6 +92,12 @@ abbrev pub pending_in : Option (Endpoint × ℕ) → List ℕ → Option (Endpoi
 pending_in None buffer = None
 pending_in (Some pending) buffer = Some (pending.0, take pending.1 buffer)
 
+-- a list of so many ports and an answer of so many bytes have room for this many transfers and the
+-- longest answer
+pub record RoomFor (cap ports answer : ℕ) : Type 0 where
+  pub each : cap ≤ ports
+  pub longest : LONGEST_ANSWER ≤ answer
+
 module _ {S F D : Type 0} where
   -- the state of a daemon with this datagram pending, if there is one
   abbrev pub loop_state : Option (Endpoint × List ℕ) → ServerLoop S F D → LoopState S F D
@@ -150,6 +158,10 @@ module _ {S F D : Type 0} where
     abbrev pub WorksRound : List ℕ → ServerLoop S F D → List ℕ → ServerLoop S F D → Type 0
     WorksRound before old after new = Run Works (state_of before old) (state_of after new)
 
+  -- there is room for the ports of as many transfers as the server may hold, and for its answers
+  abbrev pub HasRoom : ServerLoop S F D → Type 0
+  HasRoom d = RoomFor d.server.config.cap (vec_capacity d.ports) (vec_capacity d.out)
+
   -- the answer to a datagram of the request port was sent, and a transfer that opened has its port,
   -- one of the range, if there is one, and not the request port
   pub record HasAnswered (from : Endpoint) (opened : Opened) (sent : List ℕ)
@@ -170,6 +182,7 @@ module _ {S F D : Type 0} where
     pub drain : new.drain ≡ old.drain
     pub left_to_close : new.left ≡ old.left
     pub rounds : new.rounds ≡ old.rounds
+    pub room : HasRoom old → HasRoom new
     pub events : new.journal.events
         ≡ replied (answering_port old.sockets.requests.port opened.tid) opened.to sent
         old.journal.events
@@ -180,3 +193,8 @@ module _ {S F D : Type 0} where
     pub admits : Admits server from bytes admission.ask
     pub same_from : admission.from ≡ from
     pub same_bytes : admission.bytes ≡ bytes
+
+-- reserved: room for the ports of so many transfers, none yet, and for the longest answer
+pub record IsReserved (cap : ℕ) (reserved : Reserved) : Type 0 where
+  pub none : reserved.ports.items ≡ []
+  pub room : RoomFor cap (vec_capacity reserved.ports) (vec_capacity reserved.answer)

@@ -30,7 +30,7 @@ use Rattle.tftp_loop.specs.Steps.{Timer, PortState, LoopState, AnswersRequest, C
 use Rattle.tftp_loop.specs.Steps.{LosesRequest}
 use Rattle.tftp_loop.specs.Steps.{NotesRequest, SetsStore, deadline_by, next_look, marked_by}
 use Rattle.tftp_loop.specs.Steps.{is_draining, reads_requests, round_end, set_by}
-use Rattle.tftp_loop.specs.LoopStates.{OnlyServesPort, close_reported, loop_state, state_of, timer_of}
+use Rattle.tftp_loop.specs.LoopStates.{HasRoom, OnlyServesPort, close_reported, loop_state, state_of, timer_of}
 
 -- ---- timers
 
@@ -254,6 +254,7 @@ module _ {S F D : Type 0} where
     pub drain : new.drain ≡ old.drain
     pub left : new.left ≡ old.left
     pub rounds : new.rounds ≡ old.rounds
+    pub room : HasRoom old → HasRoom new
     pub events : new.journal.events ≡ Watched new.sockets.watch.now ∷ old.journal.events
 
   -- a wait of so long was noted, which reported these ports
@@ -271,6 +272,7 @@ module _ {S F D : Type 0} where
     pub drain : new.drain ≡ old.drain
     pub left : new.left ≡ old.left
     pub rounds : new.rounds ≡ old.rounds
+    pub room : HasRoom old → HasRoom new
     pub events : new.journal.events
         ≡ Quiet (Woke ports) ∷ Quiet (Slept millis) ∷ old.journal.events
 
@@ -294,6 +296,7 @@ module _ {S F D : Type 0} where
     pub drain : new.drain ≡ old.drain
     pub left : new.left ≡ old.left
     pub rounds : new.rounds ≡ old.rounds - 1
+    pub room : HasRoom old → HasRoom new
     pub events : new.journal.events ≡ Watched new.sockets.watch.now ∷ old.journal.events
 
   -- what a turn leaves of a port at this time: it was read, or it is not due unless it has closed
@@ -322,6 +325,7 @@ module _ {S F D : Type 0} where
         ≡ close_reported port.socket.udp.port port.socket.peer closed old.journal.events
     pub rest : new
         ≡ record old { ports = new.ports; journal = new.journal; left = old.left - 1 }
+    pub room : HasRoom old → HasRoom new
 
   module _ (meaning : StoreMeaning S D) (sources : SourceMeaning F) where
     -- a turn at the port at this index
@@ -355,7 +359,7 @@ module _ {S F D : Type 0} where
 
     -- what is done for a pending datagram before it is answered or lost: a note, or the store is set
     pub data Prepares (old new : LoopState S F D) : Type 0 where
-      Notes_it : NotesRequest old new → Prepares old new
+      Notes_it : NotesRequest meaning sources old new → Prepares old new
       Sets_store : SetsStore meaning sources old new → Prepares old new
 
     -- then it is answered or lost

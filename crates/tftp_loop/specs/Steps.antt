@@ -32,7 +32,7 @@ use Rattle.tftp_sockets.specs.Journal.Event.{Received, Watched, Elapsed, Printed
 use Rattle.tftp_sockets.specs.Journal.QuietEvent.{Empty, Failed, New_socket, No_socket, Out_of_memory}
 use Rattle.tftp_sockets.specs.Journal.QuietEvent.{Slept, Woke}
 use Rattle.tftp_sockets.specs.Quiet.{has_woken, is_among, was_tried}
-use Rattle.tftp_loop.specs.MayOpen.{MayOpen, NeedsMemory}
+use Rattle.tftp_loop.specs.MayOpen.{LacksMemoryToOpen, MayOpen}
 use Rattle.tftp_loop.specs.PortOrder.{IsOneOf}
 use Rattle.tftp_loop.specs.declared.drain.Drain.{Drain}
 use Rattle.tftp_loop.specs.declared.drain.Drain.TheVariants.{Never, Awaited, Begun}
@@ -365,7 +365,8 @@ module _ {S F D : Type 0} where
   abbrev pub is_taken : LoopState S F D → ℕ → Bool
   is_taken s port = (port == s.requests) || is_some (at port s.server.held)
 
-module _ {S F D : Type 0} (old : LoopState S F D) (from : Endpoint) (bytes : List ℕ) where
+module _ {S F D : Type 0} (meaning : StoreMeaning S D) (sources : SourceMeaning F)
+    (old : LoopState S F D) (from : Endpoint) (bytes : List ℕ) where
   -- what is noted of the pending datagram before it is answered or lost
   pub data RequestNote : Type 0 where
     -- it may open a transfer, and no socket could be bound to a port, one of the range, if there is
@@ -374,15 +375,17 @@ module _ {S F D : Type 0} (old : LoopState S F D) (from : Endpoint) (bytes : Lis
         → RequestNote
     -- it may open a transfer, and a new socket is bound to a port, one of the range, if there is one
     Found_port : MayOpen old.server from bytes → (port : ℕ) → IsOneOf old.range port → RequestNote
-    -- memory was refused
-    Found_no_memory : NeedsMemory old.server from bytes → RequestNote
+    -- memory was refused for its path, or for the transfer that it opens
+    Found_no_memory : LacksMemoryToOpen meaning sources old.server from bytes → RequestNote
 
   -- why the pending datagram is lost
   pub data RequestLoss : Type 0 where
     -- no answer can come to its sender, which is at port 0
     No_answer : from.port ≡ 0 → RequestLoss
-    -- it needs memory, and the last event is that memory was refused
-    No_memory : NeedsMemory old.server from bytes → IsLast Out_of_memory old.events → RequestLoss
+    -- memory was refused for its path, or for the transfer that it opens, and the last event is that
+    -- it was
+    No_memory_to_open : LacksMemoryToOpen meaning sources old.server from bytes
+        → IsLast Out_of_memory old.events → RequestLoss
     -- it may open a transfer, and the last event is that no socket could be bound to a port
     No_port : MayOpen old.server from bytes → (port : ℕ) → IsLast (No_socket port) old.events
         → RequestLoss
@@ -392,18 +395,20 @@ module _ {S F D : Type 0} (old : LoopState S F D) (from : Endpoint) (bytes : Lis
         → is_taken old port ≡ true → RequestLoss
 
 -- the event of a note
-abbrev pub note_event : {S F D : Type 0} {old : LoopState S F D} {from : Endpoint} {bytes : List ℕ}
-    → RequestNote old from bytes → QuietEvent
+abbrev pub note_event : {S F D : Type 0} {meaning : StoreMeaning S D} {sources : SourceMeaning F}
+    {old : LoopState S F D} {from : Endpoint} {bytes : List ℕ}
+    → RequestNote meaning sources old from bytes → QuietEvent
 note_event (Found_no_port opens port within) = No_socket port
 note_event (Found_port opens port within) = New_socket port
-note_event (Found_no_memory needs) = Out_of_memory
+note_event (Found_no_memory lacks) = Out_of_memory
 
 -- what the search for a port and for memory finds is noted of the pending datagram
-pub record NotesRequest {S F D : Type 0} (old new : LoopState S F D) : Type 0 where
+pub record NotesRequest {S F D : Type 0} (meaning : StoreMeaning S D) (sources : SourceMeaning F)
+    (old new : LoopState S F D) : Type 0 where
   pub from : Endpoint
   pub bytes : List ℕ
   pub pending : old.pending ≡ Some (from, bytes)
-  pub note : RequestNote old from bytes
+  pub note : RequestNote meaning sources old from bytes
   pub is : new ≡ record old { events = Quiet (note_event note) ∷ old.events }
 
 -- a store is set for the next transfer, its port and then its longest length: each call leaves of
@@ -563,7 +568,7 @@ module _ {S F D : Type 0} (meaning : StoreMeaning S D) (sources : SourceMeaning 
     pub from : Endpoint
     pub bytes : List ℕ
     pub pending : old.pending ≡ Some (from, bytes)
-    pub why : RequestLoss old from bytes
+    pub why : RequestLoss meaning sources old from bytes
     pub is : new ≡ record old { pending = None }
 
   -- the clock is read, directly after a wait: it never goes back, and a round lasts a second at most
@@ -617,7 +622,7 @@ module _ {S F D : Type 0} (meaning : StoreMeaning S D) (sources : SourceMeaning 
     Request_received : ReceivesRequest → LoopStep
     No_request_found : FindsNoRequest → LoopStep
     Request_not_received : FailsToReceiveRequest → LoopStep
-    Request_noted : NotesRequest old new → LoopStep
+    Request_noted : NotesRequest meaning sources old new → LoopStep
     Request_answered : AnswersRequest → LoopStep
     Request_lost : LosesRequest → LoopStep
     Clock_read : ReadsClock → LoopStep

@@ -19,6 +19,7 @@ mod port_pool;
 mod port_turn;
 mod report;
 mod requests;
+mod reserved;
 mod server_loop;
 mod server_udp;
 mod serving;

@@ -12,7 +12,7 @@ ghost use Rattle.tftp_sockets.specs.Journal.QuietEvent.{Out_of_memory};
 ghost use Rattle.tftp_loop.specs.PortOrder.{IsOneOf};
 ghost use Rattle.tftp_loop.specs.PortPool.{IsOfPool};
 ghost use Rattle.tftp_loop.specs.Steps.{IsSet, answering_port, interval_at, started, with_timer};
-ghost use Rattle.tftp_loop.specs.LoopStates.{HasAnswered, IsAdmission, WorksRound, timer_of};
+ghost use Rattle.tftp_loop.specs.LoopStates.{HasAnswered, HasRoom, IsAdmission, WorksRound, timer_of};
 ghost use Rattle.tftp_loop.specs.MayWait.{AnswersPending, HandlesReceived, HasTriedRequests};
 ghost use Rattle.tftp_loop.specs.MayWait.{HasFew, IsSettled, reads_of};
 ghost use Rattle.tftp_loop.specs.declared.port_turn.TheConstants.{MOST_AT_ONCE};
@@ -42,6 +42,8 @@ impl<S: ServedStore<Reason> + Drop> ServerLoop<S> {
     /// the server does not drain. It is the only one of its round, since an opening asks the store
     /// while transfers wait.
     pub(crate) fn take_request<N: ServerUdp + Eprint>(&mut self, rt: &N, request: &mut [u8])
+        requires settled { IsSettled self.old }
+        requires room { HasRoom self.old }
         requires first { self.old.sockets.has_received ≡ false }
         ensures works { WorksRound S.meaning S.Source.meaning request.old self.old request.new
             self.new }
@@ -49,6 +51,7 @@ impl<S: ServedStore<Reason> + Drop> ServerLoop<S> {
         ensures tried { HasTriedRequests self.new }
         ensures few { HasFew MOST_AT_ONCE self.old → HasFew MOST_AT_ONCE self.new }
         ensures rounds { self.new.rounds ≡ self.old.rounds }
+        ensures room { HasRoom self.new }
     {
         self.take_pending(rt, request);
         if !self.reads_requests() {
@@ -59,6 +62,8 @@ impl<S: ServedStore<Reason> + Drop> ServerLoop<S> {
 
     /// Handles the pending datagram of the request port, if there is one.
     fn take_pending<N: ServerUdp + Eprint>(&mut self, rt: &N, request: &[u8])
+        requires settled { IsSettled self.old }
+        requires room { HasRoom self.old }
         ensures works { WorksRound S.meaning S.Source.meaning request.now self.old request.now
             self.new }
         ensures settled { IsSettled self.old → IsSettled self.new }
@@ -66,6 +71,7 @@ impl<S: ServedStore<Reason> + Drop> ServerLoop<S> {
         ensures few { HasFew MOST_AT_ONCE self.old → HasFew MOST_AT_ONCE self.new }
         ensures asked { self.new.sockets.has_received ≡ self.old.sockets.has_received }
         ensures rounds { self.new.rounds ≡ self.old.rounds }
+        ensures room { HasRoom self.new }
     {
         let Some((from, count)) = self.pending else {
             return;
@@ -77,9 +83,12 @@ impl<S: ServedStore<Reason> + Drop> ServerLoop<S> {
 
     /// Answers the pending datagram of the request port.
     fn answer_pending<N: ServerUdp + Eprint>(&mut self, rt: &N, datagram: Datagram<'_>)
+        requires settled { IsSettled self.old }
+        requires room { HasRoom self.old }
         ensures answers { AnswersPending S.meaning S.Source.meaning datagram.entry.from
             datagram.entry.bytes.now self.old self.new }
         ensures rounds { self.new.rounds ≡ self.old.rounds }
+        ensures room { HasRoom self.new }
     {
         let Ok(admission) = self.server.admit(datagram.from, datagram.bytes) else {
             self.lose_for_memory(rt, datagram);
@@ -94,6 +103,8 @@ impl<S: ServedStore<Reason> + Drop> ServerLoop<S> {
 
     /// Receives a datagram at the request port, and handles it.
     fn receive_request<N: ServerUdp + Eprint>(&mut self, rt: &N, request: &mut [u8])
+        requires settled { IsSettled self.old }
+        requires room { HasRoom self.old }
         requires pending { self.old.pending ≡ None }
         requires reads { reads_of self.old ≡ true }
         requires first { self.old.sockets.has_received ≡ false }
@@ -103,6 +114,7 @@ impl<S: ServedStore<Reason> + Drop> ServerLoop<S> {
         ensures tried { HasTriedRequests self.new }
         ensures few { HasFew MOST_AT_ONCE self.old → HasFew MOST_AT_ONCE self.new }
         ensures rounds { self.new.rounds ≡ self.old.rounds }
+        ensures room { HasRoom self.new }
     {
         match self.sockets.requests.receive(&mut self.journal, request) {
             Receipt::Datagram(from, count) => {
@@ -126,11 +138,14 @@ impl<S: ServedStore<Reason> + Drop> ServerLoop<S> {
         count: usize,
         request: &[u8],
     )
+        requires settled { IsSettled self.old }
+        requires room { HasRoom self.old }
         requires count { count ≤ length request.now }
         requires pending { self.old.pending ≡ None }
         ensures handles { HandlesReceived S.meaning S.Source.meaning from count request.now
             self.old self.new }
         ensures rounds { self.new.rounds ≡ self.old.rounds }
+        ensures room { HasRoom self.new }
     {
         let bytes = &request[..count];
         if from.port == NO_PORT {
@@ -166,14 +181,13 @@ impl<S: ServedStore<Reason> + Drop> ServerLoop<S> {
     )
         requires admitted { IsAdmission self.old.server datagram.from datagram.bytes.now admission }
         requires may_open { asks_store admission.ask ≡ true }
+        requires room { HasRoom self.old }
+        requires reserved { vec_len self.old.ports < vec_capacity self.old.ports }
         ensures answers { AnswersPending S.meaning S.Source.meaning datagram.entry.from
             datagram.entry.bytes.now self.old self.new }
         ensures rounds { self.new.rounds ≡ self.old.rounds }
+        ensures room { HasRoom self.new }
     {
-        let Ok(()) = self.ports.try_reserve(1) else {
-            self.lose_for_memory(rt, datagram);
-            return;
-        };
         match free_spare(&mut self.sockets, &self.server) {
             Some(spare) => self.open_at(rt, datagram, admission, spare),
             None => self.open_at_new_port(rt, datagram, admission),
@@ -190,10 +204,12 @@ impl<S: ServedStore<Reason> + Drop> ServerLoop<S> {
     )
         requires admitted { IsAdmission self.old.server datagram.from datagram.bytes.now admission }
         requires may_open { asks_store admission.ask ≡ true }
+        requires room { HasRoom self.old }
         requires reserved { vec_len self.old.ports < vec_capacity self.old.ports }
         ensures answers { AnswersPending S.meaning S.Source.meaning datagram.entry.from
             datagram.entry.bytes.now self.old self.new }
         ensures rounds { self.new.rounds ≡ self.old.rounds }
+        ensures room { HasRoom self.new }
     {
         let Some(bound) = self.sockets.port_for(rt, &mut self.journal, &admission) else {
             self.lose(rt, datagram, Lost::Port(self.sockets.bind_error()));
@@ -219,10 +235,12 @@ impl<S: ServedStore<Reason> + Drop> ServerLoop<S> {
         requires port { IsOfPool self.old.sockets.pool spare }
         requires own { spare.port ≢ self.old.sockets.requests.port }
         requires free { at spare.port self.old.server.held ≡ None }
+        requires room { HasRoom self.old }
         requires reserved { vec_len self.old.ports < vec_capacity self.old.ports }
         ensures answers { AnswersPending S.meaning S.Source.meaning datagram.entry.from
             datagram.entry.bytes.now self.old self.new }
         ensures rounds { self.new.rounds ≡ self.old.rounds }
+        ensures room { HasRoom self.new }
     {
         let tid = spare.port();
         set_store(&mut self.server, &admission, tid);
@@ -275,6 +293,7 @@ impl<S: ServedStore<Reason> + Drop> ServerLoop<S> {
         ensures answers { AnswersPending S.meaning S.Source.meaning datagram.entry.from
             datagram.entry.bytes.now self.old self.new }
         ensures rounds { self.new.rounds ≡ self.old.rounds }
+        ensures room { HasRoom self.old → HasRoom self.new }
     {
         match admission.refusal() {
             Some(reply) => self.answer(rt, datagram, Some(datagram.from), reply.datagram()),
@@ -312,6 +331,7 @@ impl<S: ServedStore<Reason> + Drop> ServerLoop<S> {
         ensures rest { self.new ≡ record self.old { journal = self.new.journal } }
         ensures noted { self.new.journal.events ≡ Quiet Out_of_memory
             ∷ self.old.journal.events }
+        ensures room { HasRoom self.old → HasRoom self.new }
     {
         self.journal.out_of_memory();
         self.lose(rt, datagram, Lost::Memory);

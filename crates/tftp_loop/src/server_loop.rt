@@ -5,8 +5,8 @@ ghost use Rattle.std.specs.Prelude.{IfOk, IsTrue, length, map, false, if◌then�
 ghost use Rattle.std.specs.List.{list_any};
 ghost use Rattle.tftp_sockets.specs.Quiet.{is_among};
 ghost use Rattle.tftp_loop.specs.Steps.{drain_of, marked_by, set_by};
-ghost use Rattle.tftp_loop.specs.LoopStates.{FailsToPrint, OnlyWorks, OnlyServes, ServesRounds};
-ghost use Rattle.tftp_loop.specs.LoopStates.{IsEmptied, StopsRunning, WorksRound};
+ghost use Rattle.tftp_loop.specs.LoopStates.{FailsToPrint, HasRoom, IsEmptied, IsReserved, OnlyWorks};
+ghost use Rattle.tftp_loop.specs.LoopStates.{OnlyServes, ServesRounds, StopsRunning, WorksRound};
 ghost use Rattle.tftp_loop.specs.MayWait.{ClosesPort, Finishes, HasRead, HasSlept, HasWoken};
 ghost use Rattle.tftp_loop.specs.MayWait.{AwaitTurn, HasFew, HaveTurned, before_turn};
 ghost use Rattle.tftp_loop.specs.MayWait.{IsOpenAt, IsSurveyOf, UnlessClosed};
@@ -17,6 +17,7 @@ use crate::drain::{Drain, DrainSignal};
 use crate::log::Log;
 use crate::port_turn::{Moment, PortStatus, Turn, has_turn, take_turn_at};
 use crate::report::{log_drain, log_unsent, record_of_closed, report_close};
+use crate::reserved::Reserved;
 use crate::server_udp::ServerUdp;
 use crate::serving::{LoopConfig, LoopFault};
 use crate::sockets::Sockets;
@@ -109,7 +110,9 @@ impl<S: ServedStore<Reason> + Drop> ServerLoop<S> {
         sockets: Sockets,
         config: &LoopConfig,
         journal: Journal,
+        reserved: Reserved,
     ) -> ServerLoop<S>
+        requires { IsReserved server.config.cap reserved }
         ensures server { result.server ≡ server }
         ensures sockets { result.sockets ≡ sockets }
         ensures ports { result.ports.items ≡ [] }
@@ -119,13 +122,15 @@ impl<S: ServedStore<Reason> + Drop> ServerLoop<S> {
         ensures rounds { result.rounds ≡ config.now.ending.rounds }
         ensures longest { result.longest ≡ config.now.longest }
         ensures drain { result.drain ≡ drain_of config.now.drains }
+        ensures room { HasRoom result }
     {
+        let Reserved { ports, answer } = reserved;
         ServerLoop {
             server,
             sockets,
-            ports: Vec::new(alloc),
+            ports,
             journal,
-            out: Vec::new(alloc),
+            out: answer,
             pending: None,
             active: 0,
             left: config.ending.transfers,
@@ -151,6 +156,7 @@ impl<S: ServedStore<Reason> + Drop> ServerLoop<S> {
         request: &mut [u8],
         datagram: &mut [u8],
     ) -> Result<(), LoopFault>
+        requires room { HasRoom self.old }
         requires settled { IsSettled self.old }
         requires few { HasFew 0 self.old }
         requires first { self.old.sockets.has_received ≡ false }
@@ -185,6 +191,7 @@ impl<S: ServedStore<Reason> + Drop> ServerLoop<S> {
         request: &mut [u8],
         datagram: &mut [u8],
     ) -> Result<(), LoopFault>
+        requires room { HasRoom self.old }
         requires settled { IsSettled self.old }
         requires few { HasFew 0 self.old }
         requires first { self.old.sockets.has_received ≡ false }
@@ -193,6 +200,7 @@ impl<S: ServedStore<Reason> + Drop> ServerLoop<S> {
         ensures tended { OnOk result (1 ≤ self.new.left → IsTended self.new) }
         ensures rounds { self.new.rounds ≡ self.old.rounds }
         ensures fault { IfErr result (λ fault. FailsToPrint fault self.new.journal.events) }
+        ensures room { HasRoom self.new }
     {
         self.look_at_signal(rt, signal);
         self.take_ports(rt, request, datagram)
@@ -205,6 +213,7 @@ impl<S: ServedStore<Reason> + Drop> ServerLoop<S> {
           drain = self.new.drain;
           signal_look = self.new.signal_look;
         } }
+        ensures room { HasRoom self.old → HasRoom self.new }
     {
         let Drain::Awaited = self.drain else {
             return;
@@ -259,6 +268,7 @@ impl<S: ServedStore<Reason> + Drop> ServerLoop<S> {
         request: &mut [u8],
         datagram: &mut [u8],
     ) -> Result<(), LoopFault>
+        requires room { HasRoom self.old }
         requires settled { IsSettled self.old }
         requires few { HasFew 0 self.old }
         requires first { self.old.sockets.has_received ≡ false }
@@ -267,6 +277,7 @@ impl<S: ServedStore<Reason> + Drop> ServerLoop<S> {
         ensures tended { OnOk result (1 ≤ self.new.left → IsTended self.new) }
         ensures rounds { self.new.rounds ≡ self.old.rounds }
         ensures fault { IfErr result (λ fault. FailsToPrint fault self.new.journal.events) }
+        ensures room { HasRoom self.new }
     {
         self.take_turns(rt, Turn::Ready, datagram)?;
         if self.left == 0 {
@@ -288,6 +299,7 @@ impl<S: ServedStore<Reason> + Drop> ServerLoop<S> {
         ensures few { HasFew 0 self.new }
         ensures first { self.new.sockets.has_received ≡ false }
         ensures rounds { self.new.rounds + 1 ≡ self.old.rounds }
+        ensures room { HasRoom self.old → HasRoom self.new }
     {
         let survey = Survey::of(self.sockets.watch.now, self.ports.as_slice());
         if self.millis_to_wait(survey) > 0 {
@@ -316,6 +328,7 @@ impl<S: ServedStore<Reason> + Drop> ServerLoop<S> {
         ensures few { HasFew 0 self.new }
         ensures first { self.new.sockets.has_received ≡ false }
         ensures rounds { self.new.rounds + 1 ≡ self.old.rounds }
+        ensures room { HasRoom self.old → HasRoom self.new }
     {
         if poll_now(&mut self.sockets.poll, reports) {
             self.read_clock(clock);
@@ -332,6 +345,7 @@ impl<S: ServedStore<Reason> + Drop> ServerLoop<S> {
         ensures works { OnlyWorks S.meaning S.Source.meaning self.old self.new }
         ensures settled { IsSettled self.old → IsSettled self.new }
         ensures rest { self.new ≡ record self.old { server = self.new.server } }
+        ensures room { HasRoom self.old → HasRoom self.new }
     {
         let Some(index) = index_of(tid, self.ports.as_slice()) else {
             return;
@@ -355,6 +369,7 @@ impl<S: ServedStore<Reason> + Drop> ServerLoop<S> {
         ensures few { HasFew 0 self.new }
         ensures first { self.new.sockets.has_received ≡ false }
         ensures rounds { self.new.rounds + 1 ≡ self.old.rounds }
+        ensures room { HasRoom self.old → HasRoom self.new }
     {
         self.active = survey.active;
         self.read_clock(clock);
@@ -412,6 +427,7 @@ impl<S: ServedStore<Reason> + Drop> ServerLoop<S> {
             (map (set_by self.old.sockets.watch.now) (timers_of self.old)) }
         ensures rest { self.new
             ≡ record self.old { sockets = self.new.sockets; ports = self.new.ports } }
+        ensures room { HasRoom self.old → HasRoom self.new }
     {
         let time = self.sockets.watch.now;
         wake_all(self.ports.as_mut_slice(), time, reported);
@@ -460,6 +476,7 @@ impl<S: ServedStore<Reason> + Drop> ServerLoop<S> {
         ensures asked { self.new.sockets.has_received ≡ self.old.sockets.has_received }
         ensures rounds { self.new.rounds ≡ self.old.rounds }
         ensures fault { IfErr result (λ fault. FailsToPrint fault self.new.journal.events) }
+        ensures room { HasRoom self.old → HasRoom self.new }
     {
         // In reverse order, because a close moves the last port to the freed index.
         let mut index = self.ports.len();
@@ -492,6 +509,7 @@ impl<S: ServedStore<Reason> + Drop> ServerLoop<S> {
         ensures asked { self.new.sockets.has_received ≡ self.old.sockets.has_received }
         ensures rounds { self.new.rounds ≡ self.old.rounds }
         ensures fault { IfErr result (λ fault. FailsToPrint fault self.new.journal.events) }
+        ensures room { HasRoom self.old → HasRoom self.new }
     {
         if index >= self.ports.len() {
             return Ok(());
@@ -519,6 +537,7 @@ impl<S: ServedStore<Reason> + Drop> ServerLoop<S> {
         ensures asked { self.new.sockets.has_received ≡ self.old.sockets.has_received }
         ensures rounds { self.new.rounds ≡ self.old.rounds }
         ensures fault { IfErr result (λ fault. FailsToPrint fault self.new.journal.events) }
+        ensures room { HasRoom self.old → HasRoom self.new }
     {
         let status = self.take_turn(turn, index, buffer);
         log_unsent(rt, &self.ports[index]);
@@ -536,6 +555,7 @@ impl<S: ServedStore<Reason> + Drop> ServerLoop<S> {
         ensures takes { TakesTurn S.meaning S.Source.meaning (leaves_by turn) index self.old
             self.new }
         ensures open { UnlessClosed result (IsOpenAt index self.new) }
+        ensures room { HasRoom self.old → HasRoom self.new }
     {
         let moment = Moment {
             now: self.sockets.watch.now,
@@ -561,6 +581,7 @@ impl<S: ServedStore<Reason> + Drop> ServerLoop<S> {
         ensures asked { self.new.sockets.has_received ≡ self.old.sockets.has_received }
         ensures rounds { self.new.rounds ≡ self.old.rounds }
         ensures fault { IfErr result (λ fault. FailsToPrint fault self.new.journal.events) }
+        ensures room { HasRoom self.old → HasRoom self.new }
     {
         let port = &self.ports[index];
         let closed = record_of_closed(&mut self.server, port.socket.udp.port());

@@ -6,6 +6,7 @@ ghost use Rattle.tftp_loop.specs.WholeRun.{Serves, ServesFrom, listening};
 use crate::drain::DrainSignal;
 use crate::port_order::PortRange;
 use crate::report::log_listening;
+use crate::reserved::Reserved;
 use crate::server_loop::{Buffers, ServerLoop};
 use crate::server_udp::ServerUdp;
 use crate::sockets::Sockets;
@@ -144,7 +145,10 @@ fn run<N: ServerUdp + Clock + Print + Eprint, S: ServedStore<Reason> + Drop, D: 
     let Ok(mut buffers) = Buffers::new(alloc) else {
         return (Err(LoopFault::Memory), journal);
     };
-    let mut running = ServerLoop::new(alloc, server, sockets, config, journal);
+    let Ok(reserved) = Reserved::new(alloc, server.cap()) else {
+        return (Err(LoopFault::Memory), journal);
+    };
+    let mut running = ServerLoop::new(alloc, server, sockets, config, journal, reserved);
     let result = running.take_rounds(
         rt,
         signal,

@@ -175,7 +175,7 @@ module _ {S F D G K : Type 0} {stores : StoreMeaning S D} {sources : SourceMeani
         (Quiet (Failed old.state.requests) ∷ []) refl (tt, tt)
 
     -- ---- a note of a request
-    noting_keeps : (h : NotesRequest old.state new) →
+    noting_keeps : (h : NotesRequest stores sources old.state new) →
         IsKept programs how (server_did programs old (Request_noted h) added)
     noting_keeps h =
         same_keeps (Request_noted h) refl (λ port. refl) (λ port transfer r. r)

@@ -18,10 +18,19 @@ returns-in_default g c = record {
   ends = inl refl;
 }
 
+pub returns-in_default-new : goal.returns-in_default-new
+returns-in_default-new g c = record {
+  last = at_start c.args.config.now c.args.sockets.requests.port c.args.server c.args.journal.events;
+  run = Start;
+  noted = refl;
+  ends = inl refl;
+}
+
 pub take_rounds-result-requires : goal.take_rounds-result-requires
 take_rounds-result-requires g c = record {
   settled = starts_settled c.new-running.result c.new-running.ensures.ports;
   few = starts_few c.new-running.result c.new-running.ensures.ports;
+  room = c.new-running.ensures.room;
   first = ap (λ (s : Sockets). s.has_received) c.new-running.ensures.sockets ∙ c.requires.asked;
 }
 

@@ -1,9 +1,11 @@
-use Rattle.std.proofs.Common.{refl, ap, inl}
-use Rattle.std.specs.Prelude.{Some}
+use Rattle.std.proofs.Common.{arith, map, refl, sym, ap, inl, ◌∙◌}
+use Rattle.std.specs.Prelude.{Some, vec_capacity}
+use Rattle.std.proofs.lemmas.List.{length-map}
 use Rattle.tftp_loop.specs.declared.server_loop.ServerLoop.{ServerLoop}
-use Rattle.tftp_loop.specs.LoopStates.{loop_state}
+use Rattle.tftp_loop.specs.LoopStates.{loop_state, timer_of}
 use Rattle.tftp_loop.proofs.LoopRuns.{noted_state}
 use Rattle.tftp_loop.proofs.RequestRuns.{loses_for_memory}
+use Rattle.tftp_loop.proofs.Reserving.{has_place}
 use Rattle.tftp_loop.proofs.server_loop.ServerLoop.answer_pending.Goals as goal
 
 pub returns-in_default-clause-answers : goal.returns-in_default-clause-answers
@@ -13,3 +15,14 @@ returns-in_default-clause-answers g c =
     loses_for_memory g.S.Store.meaning g.S.Source.Source.meaning
     (loop_state (Some (d.from, d.bytes.now)) c.args.self.now) _ d.from d.bytes.now refl
     (inl c.in_default.ensures.why) (noted_state c.args.self.now c.lose_for_memory.new.self _ lost.rest lost.noted)
+
+pub open_request-requires-clause-reserved : goal.open_request-requires-clause-reserved
+open_request-requires-clause-reserved g c =
+    let d = c.args.datagram in
+    let ports = c.args.self.now.ports in
+    let long = length-map ports.items timer_of in
+    let fewer =
+    has_place c.args.self.now.server d.from d.bytes.now c.in-Ok.admission.ask (map timer_of ports.items)
+    (vec_capacity ports) c.in-Ok.ensures.admits (sym c.may_open.ensures ∙ c.if-may_open.true) c.requires.settled.kept
+    c.requires.room.each in
+    omega (arith, ports.ok.0, long, fewer)

@@ -4,7 +4,7 @@ use Rattle.tftp_loop.proofs.Receipts.{drains_as}
 use Rattle.tftp_loop.proofs.server_loop.ServerLoop.look_at_signal.Goals as goal
 
 pub returns-in_default : goal.returns-in_default
-returns-in_default g c = record { works = λ buffer. Start; rest = refl }
+returns-in_default g c = record { works = λ buffer. Start; rest = refl; room = λ has. has }
 
 pub returns-then-now-self-clause-works : goal.returns-then-now-self-clause-works
 returns-then-now-self-clause-works g c = λ buffer. Start

@@ -1,11 +1,12 @@
-use Rattle.std.proofs.Common.{map, refl, ap, ◌∙◌}
-use Rattle.tftp_server.specs.State.{at}
+use Rattle.std.proofs.Common.{arith, map, refl, ap, ◌∙◌, ℕ}
+use Rattle.tftp_server.specs.State.{ServerState, at}
 use Rattle.tftp_loop.specs.declared.server_loop.ServerLoop.{ServerLoop}
 use Rattle.tftp_loop.specs.declared.sockets.Sockets.{Sockets}
 use Rattle.std.specs.Prelude.{Some, None}
 use Rattle.tftp_loop.specs.LoopStates.{loop_state, timer_of}
 use Rattle.tftp_loop.proofs.LoopRuns.{same_state}
-use Rattle.tftp_loop.proofs.RequestRuns.{may_open, sets_and_answers, sets_and_loses, is_free, ok-err}
+use Rattle.tftp_loop.proofs.RequestRuns.{sets_and_answers, sets_and_loses, is_free, ok-err}
+use Rattle.tftp_loop.proofs.Reserving.{carried_config, lacks_to_open, memory_if_free, room_grown, room_same}
 use Rattle.tftp_loop.proofs.server_loop.ServerLoop.open_at.Goals as goal
 
 pub returns-in-Ok-clause-answers : goal.returns-in-Ok-clause-answers
@@ -33,11 +34,18 @@ returns-in-Err-clause-answers g c =
     let back = c.give_back.ensures in
     let why = c.in-Err.ensures in
     let lost = c.lose_for_memory.ensures in
+    let free =
+    ap (λ (s : ServerState _ _ _). at c.port-tid.result s.held) c.set_store.ensures.rest
+    ∙ (ap (λ (p : ℕ). at p c.args.self.now.server.held) c.port-tid.ensures ∙ c.requires.free) in
+    let is_memory =
+    memory_if_free (at c.port-tid.result c.set_store.new.server.held) c.in-Err.field-0 free why.in_use.0 why.fault in
     let s = loop_state (Some (d.from, d.bytes.now)) c.args.self.now in
     sets_and_loses g.S.Store.meaning g.S.Source.Source.meaning s _ d.from d.bytes.now c.set_store.new.server
     refl c.set_store.ensures.rest c.set_store.ensures.same c.set_store.ensures.behind
-    (may_open g.S.Store.meaning g.S.Source.Source.meaning c.args.self.now.server c.set_store.new.server
-    d.from d.bytes.now c.args.admission c.set_store.ensures.rest c.requires.admitted c.requires.may_open)
+    (lacks_to_open g.S.Store.meaning g.S.Source.Source.meaning c.args.self.now.server c.set_store.new.server
+    d.from d.bytes.now c.args.admission _ _ c.set_store.ensures.rest c.requires.admitted c.clear.ensures.len
+    (let capacity = c.clear.ensures.capacity in let longest = c.requires.room.longest in omega (arith, capacity, longest))
+    (why.why is_memory))
     (same_state _ _
     (ap (λ (d : ServerLoop _ _ _). d.sockets.requests.port) lost.rest ∙ ap (λ (s : Sockets). s.requests.port) back)
     (ap (λ (d : ServerLoop _ _ _). d.sockets.pool.range) lost.rest ∙ ap (λ (s : Sockets). s.pool.range) back)
@@ -50,3 +58,23 @@ returns-in-Err-clause-answers g c =
     (ap (λ (d : ServerLoop _ _ _). d.sockets.has_received) lost.rest ∙ ap (λ (s : Sockets). s.has_received) back)
     (ap (λ (d : ServerLoop _ _ _). d.drain) lost.rest)
     (ap (λ (d : ServerLoop _ _ _). d.left) lost.rest) (ap (λ (d : ServerLoop _ _ _). d.rounds) lost.rest) lost.noted)
+
+pub returns-in-Ok-clause-room : goal.returns-in-Ok-clause-room
+returns-in-Ok-clause-room g c =
+    let carried = c.in-Ok.ensures.carries_out in
+    let config =
+    carried_config g.S.Store.meaning g.S.Source.Source.meaning c.set_store.new.server c.args.admission.from
+    c.args.admission.bytes c.args.admission.ask c.port-tid.result _ carried.2
+    ∙ ap (λ (s : ServerState _ _ _). s.config) c.set_store.ensures.rest in
+    let capacity = c.clear.ensures.capacity in
+    let grown = c.open-opened.ensures.capacity in
+    c.answer_opened.ensures.room (room_same config (room_grown (omega (arith, capacity, grown)) c.requires.room))
+
+pub returns-in-Err-clause-room : goal.returns-in-Err-clause-room
+returns-in-Err-clause-room g c =
+    let why = c.in-Err.ensures in
+    let config =
+    ap (λ (s : ServerState _ _ _). s.config) (why.err.0 ∙ c.set_store.ensures.rest) in
+    let capacity = c.clear.ensures.capacity in
+    let grown = c.open-opened.ensures.capacity in
+    c.lose_for_memory.ensures.room (room_same config (room_grown (omega (arith, capacity, grown)) c.requires.room))

@@ -25,5 +25,6 @@ returns g c =
       drain = refl;
       left = refl;
       rounds = refl;
+      room = λ h. h;
       events = read.noted ∙ ap (λ (n : ℕ). Watched n ∷ c.args.self.now.journal.events) (sym is);
     }

@@ -25,6 +25,7 @@ returns-clause-serves g c =
       drain = c.read_clock.ensures.drain;
       left = c.read_clock.ensures.left;
       rounds = c.read_clock.ensures.rounds;
+      room = c.read_clock.ensures.room;
       events = c.read_clock.ensures.events;
     } in
     λ buffer.
@@ -53,6 +54,7 @@ returns-clause-settled g c =
       drain = c.read_clock.ensures.drain;
       left = c.read_clock.ensures.left;
       rounds = c.read_clock.ensures.rounds;
+      room = c.read_clock.ensures.room;
       events = c.read_clock.ensures.events;
     })
     c.requires.tended.settled))

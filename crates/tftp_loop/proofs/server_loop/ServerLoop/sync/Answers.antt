@@ -3,6 +3,7 @@ use Rattle.tftp_loop.specs.Run.Run.{Start}
 use Rattle.tftp_loop.specs.LoopStates.{state_of, timer_of}
 use Rattle.tftp_loop.proofs.ListLemmas.{map_is, map_within}
 use Rattle.tftp_loop.proofs.LoopRuns.{works}
+use Rattle.tftp_loop.proofs.Reserving.{room_same}
 use Rattle.tftp_loop.proofs.Visits.{works_settled}
 use Rattle.tftp_loop.proofs.server_loop.ServerLoop.sync.Goals as goal
 
@@ -31,3 +32,6 @@ returns-clause-settled g c =
     omega (arith, ports.ok.0, c.len.ensures, c.if-index-len.false) in
     λ settled. works_settled g.S.Store.meaning g.S.Source.Source.meaning c.args.self.now _ c.in-Some.index port within
     c.index-port.ensures c.work_at.ensures Rattle.std.proofs.Common.refl settled
+
+pub returns-clause-room : goal.returns-clause-room
+returns-clause-room g c = λ room. room_same c.work_at.ensures.config room

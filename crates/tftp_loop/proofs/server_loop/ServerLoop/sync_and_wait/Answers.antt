@@ -26,6 +26,7 @@ returns-then-poll_now-clause-serves g c =
       drain = c.read_clock.ensures.drain;
       left = c.read_clock.ensures.left;
       rounds = c.read_clock.ensures.rounds;
+      room = c.read_clock.ensures.room;
       events = c.read_clock.ensures.events;
     } in
     λ buffer.
@@ -46,6 +47,7 @@ returns-then-poll_now-clause-serves g c =
       drain = refl;
       left = refl;
       rounds = refl;
+      room = λ h. h;
       events = c.note_poll.ensures;
     }) c.wake.ensures
 
@@ -68,6 +70,7 @@ returns-then-poll_now-clause-settled g c =
       drain = c.read_clock.ensures.drain;
       left = c.read_clock.ensures.left;
       rounds = c.read_clock.ensures.rounds;
+      room = c.read_clock.ensures.room;
       events = c.read_clock.ensures.events;
     })
     c.requires.tended.settled)

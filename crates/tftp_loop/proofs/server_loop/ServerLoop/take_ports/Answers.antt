@@ -37,7 +37,11 @@ returns-clause-tended g c =
     c.take_turns-2.ensures.turned
 
 pub take_request-requires : goal.take_request-requires
-take_request-requires g c = record { first = c.take_turns.ensures.asked ∙ c.requires.first }
+take_request-requires g c = record {
+  settled = c.take_turns.ensures.settled;
+  room = c.take_turns.ensures.room c.requires.room;
+  first = c.take_turns.ensures.asked ∙ c.requires.first;
+}
 
 pub take_turns-requires-2-clause-few : goal.take_turns-requires-2-clause-few
 take_turns-requires-2-clause-few g c =

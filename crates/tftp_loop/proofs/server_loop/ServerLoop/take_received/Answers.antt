@@ -1,11 +1,13 @@
-use Rattle.std.proofs.Common.{arith, take, refl, ap, inl, ◌∙◌}
-use Rattle.std.specs.Prelude.{Some}
+use Rattle.std.proofs.Common.{arith, map, take, refl, sym, ap, inl, ◌∙◌}
+use Rattle.std.specs.Prelude.{Some, vec_capacity}
+use Rattle.std.proofs.lemmas.List.{length-map}
 use Rattle.tftp_loop.specs.declared.server_loop.ServerLoop.{ServerLoop}
 use Rattle.tftp_loop.specs.Steps.{No_answer}
-use Rattle.tftp_loop.specs.LoopStates.{loop_state}
+use Rattle.tftp_loop.specs.LoopStates.{loop_state, timer_of}
 use Rattle.tftp_loop.specs.MayWait.{Concluded}
 use Rattle.tftp_loop.proofs.LoopRuns.{noted_state}
 use Rattle.tftp_loop.proofs.RequestRuns.{loses_as, loses_for_memory}
+use Rattle.tftp_loop.proofs.Reserving.{has_place}
 use Rattle.tftp_loop.proofs.server_loop.ServerLoop.take_received.Goals as goal
 
 pub returns-in_default-clause-handles : goal.returns-in_default-clause-handles
@@ -26,3 +28,14 @@ returns-then-from-eq-NO_PORT-clause-handles g c =
     (loses_as g.S.Store.meaning g.S.Source.Source.meaning (loop_state (Some (c.args.from, bytes)) c.args.self.now) _
     c.args.from bytes refl (No_answer (omega (arith, none))) refl)
     c.requires.pending
+
+pub open_request-requires-clause-reserved : goal.open_request-requires-clause-reserved
+open_request-requires-clause-reserved g c =
+    let bytes = take c.args.count c.args.request.now in
+    let ports = c.args.self.now.ports in
+    let long = length-map ports.items timer_of in
+    let fewer =
+    has_place c.args.self.now.server c.args.from bytes c.in-Ok.admission.ask (map timer_of ports.items)
+    (vec_capacity ports) c.in-Ok.ensures.admits (sym c.may_open.ensures ∙ c.if-may_open.true) c.requires.settled.kept
+    c.requires.room.each in
+    omega (arith, ports.ok.0, long, fewer)

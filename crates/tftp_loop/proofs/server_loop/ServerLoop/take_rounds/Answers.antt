@@ -10,6 +10,7 @@ pub loop-self-init : goal.loop-self-init
 loop-self-init g c = record {
   serves = runs_as g.S.Store.meaning g.S.Source.Source.meaning c.take_round.ensures.works;
   tended = c.in_ok-take_round.ensures.tended;
+  room = c.take_round.ensures.room;
 }
 
 pub loop-self-preserved : goal.loop-self-preserved
@@ -19,6 +20,7 @@ loop-self-preserved g c = record {
       (onward (c.wait.ensures.serves c.loop-self.request)
       (runs_as g.S.Store.meaning g.S.Source.Source.meaning c.take_round-in-loop-self.ensures.works));
   tended = c.in_ok-take_round-2.ensures.tended;
+  room = c.take_round-in-loop-self.ensures.room;
 }
 
 pub returns-in_err-take_round-2-clause-serves : goal.returns-in_err-take_round-2-clause-serves

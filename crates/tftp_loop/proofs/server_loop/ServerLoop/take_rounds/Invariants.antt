@@ -1,5 +1,5 @@
 use Rattle.std.proofs.Common.{◌≤◌}
-use Rattle.tftp_loop.specs.LoopStates.{ServesRounds}
+use Rattle.tftp_loop.specs.LoopStates.{HasRoom, ServesRounds}
 use Rattle.tftp_loop.specs.MayWait.{IsTended}
 use Rattle.tftp_loop.proofs.server_loop.ServerLoop.take_rounds.Given as goal
 
@@ -9,6 +9,7 @@ invariant-loop-self g l =
     record {
       serves : ServesRounds g.S.Store.meaning g.S.Source.Source.meaning l.fn.request l.fn.self l.request l.self;
       tended : 1 ≤ l.self.left → IsTended l.self;
+      room : HasRoom l.self;
     }
 
 abbrev pub decreases-loop-self : goal.decreases-loop-self

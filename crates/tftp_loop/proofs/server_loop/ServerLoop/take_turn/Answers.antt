@@ -2,6 +2,8 @@ use Rattle.std.proofs.Common.{arith, sym, subst}
 use Rattle.tftp_loop.specs.LoopStates.{timer_of}
 use Rattle.tftp_loop.specs.MayWait.{IsHeld, ReceivedFew, before_turn}
 use Rattle.tftp_loop.proofs.ListLemmas.{map_is, map_within}
+use Rattle.tftp_loop.proofs.PortEnds.{config_along}
+use Rattle.tftp_loop.proofs.Reserving.{room_same}
 use Rattle.tftp_loop.proofs.Visits.{few_before}
 use Rattle.tftp_loop.proofs.Unclosed.{open_at, unless_map}
 use Rattle.tftp_loop.proofs.server_loop.ServerLoop.take_turn.Goals as goal
@@ -31,3 +33,8 @@ returns-clause-open g c =
     c.take_turn_at.new.server.held _ c.requires.within c.index_mut-port.ensures.value Rattle.std.proofs.Common.refl
     c.requires.settled stays)
     c.take_turn_at.ensures.open
+
+pub returns-clause-room : goal.returns-clause-room
+returns-clause-room g c = λ room.
+    room_same (config_along g.S.Store.meaning g.S.Source.Source.meaning c.args.self.now.sockets.watch.now _ _
+    c.take_turn_at.ensures.serves) room

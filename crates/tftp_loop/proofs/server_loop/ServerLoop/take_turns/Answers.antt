@@ -16,6 +16,7 @@ loop-index-init g c =
       waiting = λ k d l h. c.requires.few k d h;
       asked = refl;
       rounds = refl;
+      room = λ room. room;
     }
 
 pub loop-index-preserved : goal.loop-index-preserved
@@ -29,6 +30,7 @@ loop-index-preserved g c =
       waiting = λ k d l h. c.visit.ensures.waiting k d l h;
       asked = c.visit.ensures.asked ∙ i.asked;
       rounds = c.visit.ensures.rounds ∙ i.rounds;
+      room = λ room. c.visit.ensures.room (i.room room);
     }
 
 pub returns-then-self-eq0-clause-works : goal.returns-then-self-eq0-clause-works

@@ -1,5 +1,5 @@
 use Rattle.std.proofs.Common.{◌≡◌}
-use Rattle.tftp_loop.specs.LoopStates.{OnlyWorks}
+use Rattle.tftp_loop.specs.LoopStates.{HasRoom, OnlyWorks}
 use Rattle.tftp_loop.specs.MayWait.{AwaitTurn, HaveTurned, IsSettled}
 use Rattle.tftp_loop.proofs.server_loop.ServerLoop.take_turns.Given as goal
 
@@ -13,6 +13,7 @@ invariant-loop-index g l =
       waiting : AwaitTurn l.fn.turn l.index l.self;
       asked : l.self.sockets.has_received ≡ l.initial.self.sockets.has_received;
       rounds : l.self.rounds ≡ l.initial.self.rounds;
+      room : HasRoom l.initial.self → HasRoom l.self;
     }
 
 abbrev pub decreases-loop-index : goal.decreases-loop-index
