@@ -5,9 +5,7 @@ use crate::open_end::{CONFIG, EIGHT, OpenEnd, SERVER, reader};
 use std::alloc::Global;
 use std::net::{Ipv4Addr, SocketAddrV4};
 use std::process::Abort;
-use tftp_ends::{
-    End, EndConfig, EndFault, Endpoint, ErrorReply, Outcome, Outgoing, decode_packet,
-};
+use tftp_ends::{End, EndConfig, EndFault, Endpoint, ErrorReply, Outcome, Outgoing, decode_packet};
 use tftp_file::MemSource;
 use tftp_negotiate::{Asked, Limits};
 use tftp_wire::Mode;
