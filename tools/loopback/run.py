@@ -39,7 +39,7 @@ from lib.stalls import LIMIT as STALL, Stalls
 HERE = Path(__file__).resolve()
 MODULES = [both_programs, server_alone, server_loop, served_folder, served_disk, client_alone, command_lines, options, handed_over,
            draining, several_servers]
-TESTS_AT_LEAST = 116
+TESTS_AT_LEAST = 125
 AT_ONCE = 8
 # The longest time of a test, and of all together, in seconds, however slow the host is
 TEST_LIMIT = float(os.environ.get("LOOPBACK_SECONDS", "600"))

@@ -182,8 +182,9 @@ def test_lines_of_several_servers_are_whole(scene) -> None:
     """Clients by turns and at once: each close has one line, and it says which server printed it. Each server has its
     part of the ports."""
     scene.make("a", b"ABC")
-    first = free_ports(40)
-    server = serve(scene, 4, "--log", "--ports", f"{first}:{first + 39}")
+    # each server has room for all that ask at once: nothing divides requests evenly
+    first = free_ports(160)
+    server = serve(scene, 4, "--log", "--cap", "64", "--ports", f"{first}:{first + 159}")
     served, clients = Counter(), [scene.port() for _ in range(64)]
     for port in clients[:32]:
         port.send(rrq("a", **PATIENT), server.address)
@@ -192,7 +193,7 @@ def test_lines_of_several_servers_are_whole(scene) -> None:
             port.send(rrq("a", **PATIENT), server.address)
         answer, transfer = port.receive()
         expect(answer, oack(**PATIENT), "the answer")
-        served[(transfer[1] - first) // 10 + 1] += 1
+        served[(transfer[1] - first) // 40 + 1] += 1
         port.send(ack(0), transfer)
         block, transfer = port.receive()
         expect(block, data(1, b"ABC"), "the block")
@@ -201,7 +202,7 @@ def test_lines_of_several_servers_are_whole(scene) -> None:
     found = [re.fullmatch(MARKED + r"(\d+) (\d+) Complete\n", line) for line in printed]
     expect(all(found), True, f"whether each line is whole in {printed}")
     expect(Counter(int(line[1]) for line in found), served, "the lines of each server")
-    expect([(int(line[2]) - first) // 10 + 1 == int(line[1]) for line in found], [True] * 64, "whose ports they are")
+    expect([(int(line[2]) - first) // 40 + 1 == int(line[1]) for line in found], [True] * 64, "whose ports they are")
     expect(sorted(int(line[3]) for line in found), sorted(port.address[1] for port in clients), "the clients")
     server.process.kill()
     log = server.process.communicate(timeout=PATIENCE)[1].decode().splitlines()
@@ -229,10 +230,10 @@ def test_a_request_that_comes_again_reaches_another_server(scene) -> None:
     """Its first answer was lost: another server opens a second transfer. The client goes on with either, and of a put
     one draft is committed."""
     server = serve(scene, 4, "--retries", "0")
-    port, request = scene.port(), wrq("new", timeout=2)
+    port, request = scene.port(), wrq("new", timeout=6)
     port.send(request, server.address)
     answer, transfer = port.receive()
-    expect(answer, oack(timeout=2), "the answer")
+    expect(answer, oack(timeout=6), "the answer")
     both = other_transfers(port, request, server, transfer[1])
     chosen = max(both)
     port.send(data(1, b"ABC"), (transfer[0], chosen))
