@@ -120,8 +120,7 @@ HEADLINES = [
     Headline(
         "A world", "tftp_player", "WorldRuns", "WorldsAreSafe",
         "The same in memory: one server, any clients and a network that loses, repeats and reorders datagrams, after every "
-        "list of events. The law is `tftp_player::laws::every_world_is_safe`. `Event` is the one of `tftp_player` here, and "
-        "not that of a journal.",
+        "list of events. The law is `tftp_player::laws::every_world_is_safe`.",
         {"Event": "tftp_player/src/event.rt"}, WORLD),
 ]
 

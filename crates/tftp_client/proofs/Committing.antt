@@ -46,7 +46,7 @@ use Rattle.tftp_ends.specs.Text.{is_readable}
 use Rattle.tftp_ends.specs.Waiting.{reader_action, writer_action, accept_action, begin_action}
 use Rattle.tftp_ends.specs.Waiting.{begin_with_action, refusal_action, default_terms, agreed_terms}
 use Rattle.tftp_ends.specs.Waiting.{no_answer}
-use Rattle.tftp_sockets.specs.Journal.{Event}
+use Rattle.tftp_sockets.specs.Journal.{SocketEvent}
 use Rattle.tftp_client.specs.declared.transfer.Job.{Job}
 use Rattle.tftp_client.specs.Converses.{Converses, HandlesReceived, MayElapse, State, WorksOnFile}
 use Rattle.tftp_client.specs.Converses.Converses.{Begins, Receives, Waits, Times, Rests}
@@ -420,7 +420,7 @@ module _ {S K : Type 0} (sources : SourceMeaning S) (sinks : SinkMeaning K)
   ends e (Sink sink) h done = h.1 done
 
   -- the file of an end that is complete
-  pub is_committed : {port : ℕ} {kind : Kind} {job : Job} {before : List Event} {s : State} {files : Files S K}
+  pub is_committed : {port : ℕ} {kind : Kind} {job : Job} {before : List SocketEvent} {s : State} {files : Files S K}
       {count : ℕ} → RunsAs sources sinks port kind job before s files count → is_complete s.end.position.phase ≡ true
       → Kept files
   is_committed {kind = kind} {job = job} {s = s} {files = files} r done =

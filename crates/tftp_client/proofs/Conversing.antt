@@ -32,13 +32,13 @@ use Rattle.tftp_client.specs.Converses.HandlesReceived.{Answers, Loses}
 use Rattle.tftp_client.specs.Converses.MayElapse.{Stays, Elapses}
 use Rattle.tftp_client.specs.Converses.Converses.{Begins, Receives, Waits, Times, Rests}
 use Rattle.tftp_client.specs.Runs.{begun, opens}
-use Rattle.tftp_sockets.specs.Journal.{Event, answered, replied}
-use Rattle.tftp_sockets.specs.Journal.Event.{Elapsed, Sent}
+use Rattle.tftp_sockets.specs.Journal.{SocketEvent, answered, replied}
+use Rattle.tftp_sockets.specs.Journal.SocketEvent.{Elapsed, Sent}
 use Rattle.tftp_sockets.specs.Quiet.{waits}
 
 -- the answer that a call lends was sent to its destination
 pub replies : (port : ℕ) (reply : Option Reply) {to : Option Endpoint} {bytes : List ℕ}
-    {events before after : List Event}
+    {events before after : List SocketEvent}
     → after ≡ replied port to bytes events → to ≡ option_map (λ (r : Reply). r.to) reply → bytes ≡ reply_bytes reply
     → events ≡ before → after ≡ answered port reply before
 replies port None {to} {bytes} {events} sent goes lends noted =
@@ -46,10 +46,10 @@ replies port None {to} {bytes} {events} sent goes lends noted =
 replies port (Some reply) {to} {bytes} {events} sent goes lends noted =
     sent ∙ (ap (λ (t : Option Endpoint). replied port t bytes events) goes
     ∙ (ap (λ (b : List ℕ). Sent port reply.to b ∷ events) lends
-    ∙ ap (λ (es : List Event). Sent port reply.to reply.bytes ∷ es) noted))
+    ∙ ap (λ (es : List SocketEvent). Sent port reply.to reply.bytes ∷ es) noted))
 
 -- a state with these fields is that state
-pub state_is : {e e' : EndState} {now now' due due' : ℕ} {events events' : List Event} → e ≡ e' → now ≡ now'
+pub state_is : {e e' : EndState} {now now' due due' : ℕ} {events events' : List SocketEvent} → e ≡ e' → now ≡ now'
     → due ≡ due' → events ≡ events'
     → ◌≡◌ {A = State} (record { end = e; now = now; deadline = due; events = events })
     (record { end = e'; now = now'; deadline = due'; events = events' })
@@ -57,7 +57,7 @@ state_is {e} {e'} {now} {now'} {due} {due'} {events} {events'} p q r t =
     let at_end : EndState → State = λ x. record { end = x; now = now; deadline = due; events = events } in
     let at_now : ℕ → State = λ x. record { end = e'; now = x; deadline = due; events = events } in
     let at_due : ℕ → State = λ x. record { end = e'; now = now'; deadline = x; events = events } in
-    let at_events : List Event → State = λ x. record { end = e'; now = now'; deadline = due'; events = x } in
+    let at_events : List SocketEvent → State = λ x. record { end = e'; now = now'; deadline = due'; events = x } in
     ap at_end p ∙ (ap at_now q ∙ (ap at_due r ∙ ap at_events t))
 
 -- a call that succeeded was not refused
@@ -104,7 +104,7 @@ pub due_elapsed : (s : State) → deadline_at s.now s.end ≡ deadline_at s.now 
 due_elapsed s = ap (λ (t : Option Terms). deadline_of s.now (interval_of t)) (sym (timeout_terms s.end))
 
 -- an answer is no wait
-waits_answered : (port : ℕ) (reply : Option Reply) (events : List Event)
+waits_answered : (port : ℕ) (reply : Option Reply) (events : List SocketEvent)
     → waits (answered port reply events) ≡ waits events
 waits_answered port None events = refl
 waits_answered port (Some reply) events = refl
@@ -126,11 +126,11 @@ opens_open Read job length closed = true≢false (sym closed)
 opens_open Write job length closed = true≢false (sym closed)
 
 -- and then a wait begins
-pub begun_open : {s : State} (port : ℕ) (e : EndState) (before : List Event) → s ≡ begun port e before → IsOpen e
+pub begun_open : {s : State} (port : ℕ) (e : EndState) (before : List SocketEvent) → s ≡ begun port e before → IsOpen e
     → IsOpen s.end
 begun_open port e before is is_open = let Of : State → Type 0 = λ t. IsOpen t.end in subst Of (sym is) is_open
 
-pub begun_ready : {s : State} (port : ℕ) (e : EndState) (before : List Event) → s ≡ begun port e before
+pub begun_ready : {s : State} (port : ℕ) (e : EndState) (before : List SocketEvent) → s ≡ begun port e before
     → s.deadline ≡ deadline_at s.now s.end
 begun_ready port e before is = let Of : State → Type 0 = λ t. t.deadline ≡ deadline_at t.now t.end in subst Of (sym is) refl
 

@@ -10,7 +10,7 @@ use Rattle.tftp_file.specs.Sink.{SinkMeaning}
 use Rattle.tftp_file.specs.Source.{SourceMeaning}
 use Rattle.tftp_file.specs.declared.files.Files.{Files}
 use Rattle.tftp_file.specs.declared.files.Files.TheVariants.{Source, Sink}
-use Rattle.tftp_sockets.specs.Journal.{Event}
+use Rattle.tftp_sockets.specs.Journal.{SocketEvent}
 use Rattle.tftp_client.specs.declared.local.LocalFile.{LocalFile}
 use Rattle.tftp_client.specs.declared.transfer.Job.{Job}
 use Rattle.tftp_client.specs.Converses.{State}
@@ -33,7 +33,7 @@ module _ {S R F D : Type 0} {reads : read.Ghosts F} {writes : write.Ghosts F} {s
   -- the run of an end that a job opens, with N of its file
   pub runs_as : (sources : SourceMeaning S) (sinks : SinkMeaning (LocalFile R F D reads writes seeks lists))
       → ((local : LocalFile R F D reads writes seeks lists) → sinks.held local ≡ Some local.taken.holding)
-      → (job : Job) (kind : Kind) (sent length : ℕ) {port : ℕ} {before : List Event} {last : State}
+      → (job : Job) (kind : Kind) (sent length : ℕ) {port : ℕ} {before : List SocketEvent} {last : State}
       {files : Files S (LocalFile R F D reads writes seeks lists)} {count : ℕ}
       → MayOpen kind job length
       → (run : Runs sources sinks port (opens kind job length) before last files) → IsFileOf sources sinks kind run.file

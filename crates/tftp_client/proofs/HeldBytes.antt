@@ -23,7 +23,7 @@ use Rattle.tftp_ends.specs.Action.{datagram_action}
 use Rattle.tftp_ends.specs.End.{EndState, is_complete, outcome_of}
 use Rattle.tftp_ends.specs.Files.{KeepsFiles, KeepsHolding}
 use Rattle.tftp_ends.specs.Step.{Acts, Appended, DatagramStep, Done, GoesOn, Turn, after_turn}
-use Rattle.tftp_sockets.specs.Journal.{Event}
+use Rattle.tftp_sockets.specs.Journal.{SocketEvent}
 use Rattle.tftp_client.specs.declared.transfer.Job.{Job}
 use Rattle.tftp_client.specs.Converses.{Converses, HandlesReceived, MayElapse, State, WorksOnFile}
 use Rattle.tftp_client.specs.Converses.Converses.{Begins, Receives, Waits, Times, Rests}
@@ -216,7 +216,7 @@ module _ {S K : Type 0} (sources : SourceMeaning S) (sinks : SinkMeaning K) wher
           counts.2 ∙ (ap (λ (held : Holding). length held.bytes) (sym counted) ∙ ap length h.2),
         )
 
-    run_whole : {port : ℕ} {kind : Kind} {job : Job} {before : List Event} {s : State} {files : Files S K} {count : ℕ}
+    run_whole : {port : ℕ} {kind : Kind} {job : Job} {before : List SocketEvent} {s : State} {files : Files S K} {count : ℕ}
         (run : RunsAs sources sinks port kind job before s files count) → is_complete s.end.position.phase ≡ true
         → IsWhole sources sinks files count (run_moves run.runs.converses nothing_moved).bytes
     run_whole {job = job} {s = s} {files = files} {count = count} run done =
@@ -226,7 +226,7 @@ module _ {S K : Type 0} (sources : SourceMeaning S) (sinks : SinkMeaning K) wher
         (is_committed sources sinks known run done) run.counts
 
     -- of a job that is complete
-    pub is_whole : {most port : ℕ} {job : Job} {before : List Event} {s : State} {files : Files S K} {count : ℕ}
+    pub is_whole : {most port : ℕ} {job : Job} {before : List SocketEvent} {s : State} {files : Files S K} {count : ℕ}
         (transfers : Transfers sources sinks most port job before s files count)
         → is_complete s.end.position.phase ≡ true
         → IsWhole sources sinks files count (moved_by sources sinks transfers).bytes

@@ -11,7 +11,7 @@ use Rattle.tftp_arguments.specs.Fault.{AskForText}
 use Rattle.tftp_lines.specs.ClientOutcome.{status_of}
 use Rattle.tftp_lines.specs.declared.client_outcome.ClientOutcome.{ClientOutcome}
 use Rattle.tftp_lines.specs.declared.client_outcome.ClientOutcome.TheVariants as ends
-use Rattle.tftp_sockets.specs.Journal.{Event}
+use Rattle.tftp_sockets.specs.Journal.{SocketEvent}
 use Rattle.tftp_sockets.specs.Quiet.{waits}
 use Rattle.tftp_client.specs.declared.command_line.Order.{Order}
 use Rattle.tftp_client.specs.declared.transfer.Job.{Job}
@@ -28,7 +28,7 @@ if_err (Err error) P Q weaker p = weaker error p
 
 module _ {S K : Type 0} (sources : SourceMeaning S) (sinks : SinkMeaning K) where
   -- a run stopped with this outcome
-  pub stops : {most port : ℕ} {first last : State} {file files : Files S K} {after : List Event} {outcome : Outcome}
+  pub stops : {most port : ℕ} {first last : State} {file files : Files S K} {after : List SocketEvent} {outcome : Outcome}
       {end : ClientOutcome}
       → Converses sources sinks port first file last files → last.events ≡ after → EndsBy most last outcome
       → end ≡ ends.Failed outcome
@@ -38,7 +38,7 @@ module _ {S K : Type 0} (sources : SourceMeaning S) (sinks : SinkMeaning K) wher
       subst At (sym is) (record { last = last; files = files; converses = converses; events = events; ends = by })
 
   -- nothing was opened, and nothing was sent
-  pub unsent : (most : ℕ) (end : ClientOutcome) (kind : Kind) (job : Job) (length : ℕ) (before after : List Event)
+  pub unsent : (most : ℕ) (end : ClientOutcome) (kind : Kind) (job : Job) (length : ℕ) (before after : List SocketEvent)
       → status_of end ≡ 2 → after ≡ before → FailsEnd sources sinks most kind job length before after end
   unsent most (ends.Complete count) kind job length before after two same = same
   unsent most (ends.Failed outcome) kind job length before after two same = absurd (cc)
@@ -48,7 +48,7 @@ module _ {S K : Type 0} (sources : SourceMeaning S) (sinks : SinkMeaning K) wher
   unsent most ends.Memory kind job length before after two same = same
 
   -- a run that began by its request stopped
-  fails_from : (most : ℕ) (end : ClientOutcome) (kind : Kind) (job : Job) (length : ℕ) (before after : List Event)
+  fails_from : (most : ℕ) (end : ClientOutcome) (kind : Kind) (job : Job) (length : ℕ) (before after : List SocketEvent)
       {port : ℕ} {first : State} (file : Files S K)
       → MayOpen kind job length → first ≡ begun port (opens kind job length) before
       → Stops sources sinks most port first file after end → IsFileOf sources sinks kind file
@@ -67,7 +67,7 @@ module _ {S K : Type 0} (sources : SourceMeaning S) (sinks : SinkMeaning K) wher
   fails_from most ends.Memory kind job length before after file may is stopped side = absurd stopped
 
   -- the same; a request is no wait
-  pub fails : (left : ℕ) (end : ClientOutcome) (kind : Kind) (job : Job) (length : ℕ) (before after : List Event)
+  pub fails : (left : ℕ) (end : ClientOutcome) (kind : Kind) (job : Job) (length : ℕ) (before after : List SocketEvent)
       {port : ℕ} {first : State} (file : Files S K)
       → MayOpen kind job length → first ≡ begun port (opens kind job length) before
       → Stops sources sinks (left + waits first.events) port first file after end → IsFileOf sources sinks kind file
@@ -78,7 +78,7 @@ module _ {S K : Type 0} (sources : SourceMeaning S) (sinks : SinkMeaning K) wher
       (subst Within (ap (λ (s : State). left + waits s.events) is) stopped) side
 
   -- a run that began by its request
-  abbrev pub runs : {e : EndState} {before : List Event} {port port' : ℕ} {first last : State} {file files : Files S K}
+  abbrev pub runs : {e : EndState} {before : List SocketEvent} {port port' : ℕ} {first last : State} {file files : Files S K}
       → first ≡ begun port e before → IsNew sources sinks file → (port' ≡ port)
       × Converses sources sinks port first file last files
       → Runs sources sinks port' e before last files
@@ -88,7 +88,7 @@ module _ {S K : Type 0} (sources : SourceMeaning S) (sinks : SinkMeaning K) wher
       record { file = file; new = new; converses = subst At (sym run.0) (subst From is run.1) }
 
   -- the run of a job of this kind
-  pub runs_job : (job : Job) {kind : Kind} {port : ℕ} {before : List Event} {last : State} {files : Files S K}
+  pub runs_job : (job : Job) {kind : Kind} {port : ℕ} {before : List SocketEvent} {last : State} {files : Files S K}
       {count : ℕ} → job.kind ≡ kind
       → RunsAs sources sinks port kind job before last files count
       → RunsJob sources sinks port job before last files count
@@ -96,7 +96,7 @@ module _ {S K : Type 0} (sources : SourceMeaning S) (sinks : SinkMeaning K) wher
       let Of : Kind → Type 0 = λ k. RunsAs sources sinks port k job before last files count in subst Of (sym is) run
 
   -- a job of this kind failed
-  pub fails_job : (most : ℕ) (job : Job) {kind : Kind} (length : ℕ) (before after : List Event) (end : ClientOutcome)
+  pub fails_job : (most : ℕ) (job : Job) {kind : Kind} (length : ℕ) (before after : List SocketEvent) (end : ClientOutcome)
       → job.kind ≡ kind
       → FailsEnd sources sinks most kind job length before after end → FailsBy sources sinks most job before after end
   fails_job most job {kind} length before after end is failed =
@@ -104,7 +104,7 @@ module _ {S K : Type 0} (sources : SourceMeaning S) (sinks : SinkMeaning K) wher
       (length, subst Of (sym is) failed)
 
   -- a job ran, or failed, without the options that were refused
-  pub runs_again : {most : ℕ} (port : ℕ) (job other : Job) (before middle : List Event) (last : State)
+  pub runs_again : {most : ℕ} (port : ℕ) (job other : Job) (before middle : List SocketEvent) (last : State)
       (files : Files S K) (count : ℕ) → Refused sources sinks most job before middle
       → other ≡ plain job → RunsJob sources sinks port other middle last files count
       → Transfers sources sinks most port job before last files count
@@ -112,7 +112,7 @@ module _ {S K : Type 0} (sources : SourceMeaning S) (sinks : SinkMeaning K) wher
       let Of : Job → Type 0 = λ j. RunsJob sources sinks port j middle last files count in
       inr (middle, refused, subst Of is run)
 
-  pub fails_again : {most most' : ℕ} (job other : Job) (before middle after : List Event) (end : ClientOutcome)
+  pub fails_again : {most most' : ℕ} (job other : Job) (before middle after : List SocketEvent) (end : ClientOutcome)
       → Refused sources sinks most job before middle
       → other ≡ plain job → most' ≡ most → FailsBy sources sinks most' other middle after end
       → FailsTransfer sources sinks most job before after end
@@ -122,13 +122,13 @@ module _ {S K : Type 0} (sources : SourceMeaning S) (sinks : SinkMeaning K) wher
       inr (middle, refused, subst Of is (subst Within same failed))
 
   -- a client continued from this state, which is that one
-  pub goes_on : {port : ℕ} {first first' : State} {file : Files S K} {after : List Event} → first ≡ first'
+  pub goes_on : {port : ℕ} {first first' : State} {file : Files S K} {after : List SocketEvent} → first ≡ first'
       → Dallies sources sinks port first file after → Dallies sources sinks port first' file after
   goes_on {port} {file = file} {after = after} is run = let From : State
       → Type 0 = λ s. Dallies sources sinks port s file after in subst From is run
 
   -- an order was run, or there is none and nothing was done
-  pub runs_words : {before after : List Event} (words : List (List ℕ)) {status : ℕ} (ordered : Result Order ℕ)
+  pub runs_words : {before after : List SocketEvent} (words : List (List ℕ)) {status : ℕ} (ordered : Result Order ℕ)
       → IfOk ordered (λ order. WordsName words order.job)
       → IfErr ordered (λ n. n ≡ 0 → AskForText tftp_app words)
       → IfOk ordered (λ order. RunsOrder sources sinks order.job status before after)

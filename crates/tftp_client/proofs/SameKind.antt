@@ -13,7 +13,7 @@ use Rattle.tftp_ends.specs.Action.{datagram_action}
 use Rattle.tftp_ends.specs.End.{EndState}
 use Rattle.tftp_ends.specs.Files.{KeepsFiles}
 use Rattle.tftp_ends.specs.Step.{Acts, Turn}
-use Rattle.tftp_sockets.specs.Journal.{Event}
+use Rattle.tftp_sockets.specs.Journal.{SocketEvent}
 use Rattle.tftp_client.specs.declared.transfer.Job.{Job}
 use Rattle.tftp_client.specs.Converses.{Converses, HandlesReceived, State, WorksOnFile}
 use Rattle.tftp_client.specs.Converses.Converses.{Begins, Receives, Waits, Times, Rests}
@@ -73,7 +73,7 @@ module _ {S K : Type 0} (sources : SourceMeaning S) (sinks : SinkMeaning K) wher
     converses (Rests {s} {files} {files'} run work) h = works files files' work (converses run h)
 
   -- the file of a job
-  pub is_file_of : {most port : ℕ} {job : Job} {before : List Event} {s : State} {files : Files S K} {count : ℕ}
+  pub is_file_of : {most port : ℕ} {job : Job} {before : List SocketEvent} {s : State} {files : Files S K} {count : ℕ}
       → Transfers sources sinks most port job before s files count → IsOf job.kind files
   is_file_of {job = job} (inl run) = converses job.kind run.runs.converses run.side
   is_file_of {job = job} (inr again) = converses job.kind again.2.runs.converses again.2.side

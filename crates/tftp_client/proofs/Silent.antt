@@ -22,7 +22,7 @@ use Rattle.tftp_ends.specs.declared.outcome.Outcome.TheVariants.{TimedOut}
 use Rattle.tftp_ends.specs.declared.phase.Phase.{Phase}
 use Rattle.tftp_ends.specs.declared.phase.Phase.TheVariants.{Waiting}
 use Rattle.tftp_sockets.specs.Watch.{deadline_of, last_moment}
-use Rattle.tftp_sockets.specs.Journal.{Event, QuietEvent}
+use Rattle.tftp_sockets.specs.Journal.{SocketEvent, QuietEvent}
 use Rattle.tftp_sockets.specs.Journal.QuietEvent.{Empty, Failed}
 use Rattle.tftp_sockets.specs.Quiet.{waits, waits_in}
 use Rattle.tftp_client.specs.declared.transfer.Job.{Job}
@@ -157,7 +157,7 @@ module _ {S K : Type 0} {sources : SourceMeaning S} {sinks : SinkMeaning K} wher
       elapses most port timed early (silent most run quiet h early)
   silent most (Rests run works) quiet h ends = silent most run quiet h ends
 
-begins : (port : ℕ) (kind : Kind) (job : Job) (length : ℕ) (before : List Event)
+begins : (port : ℕ) (kind : Kind) (job : Job) (length : ℕ) (before : List SocketEvent)
     → Silent (job.retries + waits before) (begun port (opens kind job length) before)
 begins port Read job length before =
     inr (record {

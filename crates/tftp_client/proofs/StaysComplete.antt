@@ -22,7 +22,7 @@ use Rattle.tftp_ends.specs.Action.{datagram_action, garbled_response, packet_act
 use Rattle.tftp_ends.specs.End.{EndState, is_complete}
 use Rattle.tftp_ends.specs.Receiver.{dally_response}
 use Rattle.tftp_ends.specs.Step.{Acts, Turn, after_turn, response_turn}
-use Rattle.tftp_sockets.specs.Journal.{Event}
+use Rattle.tftp_sockets.specs.Journal.{SocketEvent}
 use Rattle.tftp_client.specs.Converses.{Converses, HandlesReceived, MayElapse, State}
 use Rattle.tftp_client.specs.Converses.Converses.{Begins, Receives, Waits, Times, Rests}
 use Rattle.tftp_client.specs.Converses.HandlesReceived.{Answers, Loses}
@@ -139,11 +139,11 @@ module _ {S K : Type 0} (sources : SourceMeaning S) (sinks : SinkMeaning K) wher
   converses moved (Rests run work) done = converses moved run done
 
   -- what a complete client did from its line on
-  pub stays_complete : {port : ℕ} {first : State} {file : Files S K} {after : List Event}
+  pub stays_complete : {port : ℕ} {first : State} {file : Files S K} {after : List SocketEvent}
       (stays : Dallies sources sinks port first file after) → IsDone first.end → IsDone stays.last.end
   stays_complete stays done = (converses nothing_moved stays.converses done).0
 
-  pub moves_nothing : {port : ℕ} {first : State} {file : Files S K} {after : List Event}
+  pub moves_nothing : {port : ℕ} {first : State} {file : Files S K} {after : List SocketEvent}
       (stays : Dallies sources sinks port first file after) → IsDone first.end → (moved : Moved)
       → run_moves stays.converses moved ≡ moved
   moves_nothing stays done moved = (converses moved stays.converses done).1

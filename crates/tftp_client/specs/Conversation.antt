@@ -2,14 +2,14 @@
 use Rattle.std.specs.Prelude.{ℕ, ◌≡◌, ◌≤◌, List, [], ◌∷◌}
 use Rattle.tftp_client.specs.declared.transfer.conversation.Conversation.{Conversation}
 use Rattle.tftp_client.specs.Converses.{IsOpen, State, deadline_at}
-use Rattle.tftp_sockets.specs.Journal.{Event}
+use Rattle.tftp_sockets.specs.Journal.{SocketEvent}
 
 -- every address of this host
 abbrev pub any_address : List ℕ
 any_address = 0 ∷ 0 ∷ 0 ∷ 0 ∷ []
 
 -- the state of a client whose program has this journal
-abbrev pub state_of : Conversation → List Event → State
+abbrev pub state_of : Conversation → List SocketEvent → State
 state_of conversation events =
     record {
       end = conversation.end;

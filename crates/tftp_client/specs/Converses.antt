@@ -16,8 +16,8 @@ use Rattle.tftp_ends.specs.declared.outcome.Outcome.{Outcome}
 use Rattle.tftp_ends.specs.declared.outcome.Outcome.TheVariants.{TimedOut}
 use Rattle.tftp_sockets.specs.Watch.{deadline_of}
 use Rattle.tftp_sockets.specs.declared.watch.TheConstants.{LONGEST_WAIT}
-use Rattle.tftp_sockets.specs.Journal.{Event, QuietEvent, answered}
-use Rattle.tftp_sockets.specs.Journal.Event.{Received, Watched, Elapsed, Quiet}
+use Rattle.tftp_sockets.specs.Journal.{SocketEvent, QuietEvent, answered}
+use Rattle.tftp_sockets.specs.Journal.SocketEvent.{Received, Watched, Elapsed, Quiet}
 use Rattle.tftp_sockets.specs.Journal.QuietEvent.{Empty, Failed, Slept}
 use Rattle.tftp_sockets.specs.Quiet.{waits}
 use Rattle.tftp_client.specs.declared.transfer.conversation.TheConstants.{MAX_WAITS}
@@ -29,7 +29,7 @@ pub record State : Type 0 where
   pub now : ℕ
   -- when the end is due for a timeout
   pub deadline : ℕ
-  pub events : List Event
+  pub events : List SocketEvent
 
 -- the end is not closed
 abbrev pub IsOpen : EndState → Type 0
@@ -43,7 +43,7 @@ EndsBy most last outcome =
     ⊎ ((outcome ≡ TimedOut) × (waits last.events ≡ most))
 
 -- the waits that a command may make, with those before it
-abbrev pub most_waits : List Event → ℕ
+abbrev pub most_waits : List SocketEvent → ℕ
 most_waits before = MAX_WAITS + waits before
 
 -- the deadline at this time, after as many seconds as the end agreed on

@@ -5,7 +5,7 @@ use Rattle.tftp_file.specs.Source.{SourceMeaning}
 use Rattle.tftp_arguments.specs.Fault.{AskForText}
 use Rattle.tftp_lines.specs.ClientOutcome.{status_of}
 use Rattle.tftp_lines.specs.declared.client_outcome.ClientOutcome.{ClientOutcome}
-use Rattle.tftp_sockets.specs.Journal.{Event}
+use Rattle.tftp_sockets.specs.Journal.{SocketEvent}
 use Rattle.tftp_client.specs.Converses.{most_waits}
 use Rattle.tftp_client.specs.Runs.{Completes, FailsTransfer}
 use Rattle.tftp_client.specs.declared.transfer.Job.{Job}
@@ -14,7 +14,7 @@ use Rattle.tftp_client.specs.Words.{WordsName, tftp_app}
 module _ {S K : Type 0} (sources : SourceMeaning S) (sinks : SinkMeaning K) where
   -- a job was run, and the program ends with this status: the job is complete, and the status is 0,
   -- or 2 if a line could not be printed; or it failed, and the status is that of its end, or that 2
-  abbrev pub RunsOrder : Job → ℕ → List Event → List Event → Type 0
+  abbrev pub RunsOrder : Job → ℕ → List SocketEvent → List SocketEvent → Type 0
   RunsOrder job status before after =
       (((status ≡ 0) ⊎ (status ≡ 2)) × Completes sources sinks job before after)
       ⊎ ((1 ≤ status) × (end : ClientOutcome) × ((status ≡ status_of end) ⊎ (status ≡ 2))
@@ -22,7 +22,7 @@ module _ {S K : Type 0} (sources : SourceMeaning S) (sinks : SinkMeaning K) wher
 
   -- nothing was done over UDP, with a status of 0 only if the words ask for the help or the
   -- version; or the job that the words name was run, whatever the status
-  abbrev pub RunsWords : List (List ℕ) → ℕ → List Event → List Event → Type 0
+  abbrev pub RunsWords : List (List ℕ) → ℕ → List SocketEvent → List SocketEvent → Type 0
   RunsWords words status before after =
       ((after ≡ before) × (status ≡ 0 → AskForText tftp_app words))
       ⊎ ((job : Job) × WordsName words job × RunsOrder job status before after)

@@ -21,8 +21,8 @@ use Rattle.tftp_lines.specs.ClientOutcome.{end_text}
 use Rattle.tftp_client.specs.Fallback.{FallsBack}
 use Rattle.tftp_lines.specs.declared.client_outcome.ClientOutcome.{ClientOutcome}
 use Rattle.tftp_lines.specs.declared.client_outcome.ClientOutcome.TheVariants as ends
-use Rattle.tftp_sockets.specs.Journal.{Event}
-use Rattle.tftp_sockets.specs.Journal.Event.{Printed, Sent}
+use Rattle.tftp_sockets.specs.Journal.{SocketEvent}
+use Rattle.tftp_sockets.specs.Journal.SocketEvent.{Printed, Sent}
 use Rattle.tftp_sockets.specs.Quiet.{waits}
 use Rattle.tftp_client.specs.declared.transfer.Job.{Job}
 use Rattle.tftp_client.specs.Converses.{Converses, EndsBy, State, deadline_at, most_waits}
@@ -30,11 +30,11 @@ use Rattle.tftp_client.specs.Moved.{Moved, nothing_moved, run_moves}
 use Rattle.tftp_client.specs.Taken.{nothing}
 
 -- a client whose end opened, once its request was sent from the port (RFC 1350, section 4)
-abbrev pub sent_from : ℕ → EndState → Endpoint → List ℕ → List Event → State
+abbrev pub sent_from : ℕ → EndState → Endpoint → List ℕ → List SocketEvent → State
 sent_from port end to bytes before =
     record { end = end; now = 0; deadline = deadline_at 0 end; events = Sent port to bytes ∷ before }
 
-abbrev pub begun : ℕ → EndState → List Event → State
+abbrev pub begun : ℕ → EndState → List SocketEvent → State
 begun port end before = sent_from port end end.position.last_sent_to end.position.last_sent before
 
 -- the options that a job asks, where the file has that length
@@ -86,14 +86,14 @@ module _ {S K : Type 0} (sources : SourceMeaning S) (sinks : SinkMeaning K) wher
   IsFileOf Write (Sink sink) = ⊥
 
   -- the program did this for an end at the port, from its request on; a received file is new then
-  pub record Runs (port : ℕ) (end : EndState) (before : List Event) (s : State)
+  pub record Runs (port : ℕ) (end : EndState) (before : List SocketEvent) (s : State)
       (files : Files S K) : Type 0 where
     pub file : Files S K
     pub new : IsNew file
     pub converses : Converses sources sinks port (begun port end before) file s files
 
   -- the run of an end from that state stopped, and is not complete; there may be so many waits
-  pub record StopsBy (most port : ℕ) (first : State) (file : Files S K) (after : List Event)
+  pub record StopsBy (most port : ℕ) (first : State) (file : Files S K) (after : List SocketEvent)
       (outcome : Outcome) : Type 0 where
     pub last : State
     pub files : Files S K
@@ -102,33 +102,33 @@ module _ {S K : Type 0} (sources : SourceMeaning S) (sinks : SinkMeaning K) wher
     pub ends : EndsBy most last outcome
 
   -- the same, of how the program ends
-  abbrev pub Stops : ℕ → ℕ → State → Files S K → List Event → ClientOutcome → Type 0
+  abbrev pub Stops : ℕ → ℕ → State → Files S K → List SocketEvent → ClientOutcome → Type 0
   Stops most port first file after (ends.Failed outcome) =
       StopsBy most port first file after outcome
   Stops most port first file after _ = ⊥
 
   -- the run of an end from its request on stopped, and is not complete
-  pub record Fails (most : ℕ) (end : EndState) (before after : List Event)
+  pub record Fails (most : ℕ) (end : EndState) (before after : List SocketEvent)
       (outcome : Outcome) : Type 0 where
     pub port : ℕ
     pub file : Files S K
     pub stops : StopsBy most port (begun port end before) file after outcome
 
   -- the run of an end of this kind, as a job opens it, stopped
-  pub record FailsAs (most : ℕ) (kind : Kind) (job : Job) (length : ℕ) (before after : List Event)
+  pub record FailsAs (most : ℕ) (kind : Kind) (job : Job) (length : ℕ) (before after : List SocketEvent)
       (outcome : Outcome) : Type 0 where
     pub may : MayOpen kind job length
     pub fails : Fails most (opens kind job length) before after outcome
     pub side : IsFileOf kind fails.file
 
   -- the same, of how the program ends; where no transfer was opened nothing was sent
-  abbrev pub FailsEnd : ℕ → Kind → Job → ℕ → List Event → List Event → ClientOutcome → Type 0
+  abbrev pub FailsEnd : ℕ → Kind → Job → ℕ → List SocketEvent → List SocketEvent → ClientOutcome → Type 0
   FailsEnd most kind job length before after (ends.Failed outcome) =
       FailsAs most kind job length before after outcome
   FailsEnd most kind job length before after _ = after ≡ before
 
   -- a job failed so
-  abbrev pub FailsBy : ℕ → Job → List Event → List Event → ClientOutcome → Type 0
+  abbrev pub FailsBy : ℕ → Job → List SocketEvent → List SocketEvent → ClientOutcome → Type 0
   FailsBy most job before after end =
       (length : ℕ) × FailsEnd most job.kind job length before after end
 
@@ -141,7 +141,7 @@ module _ {S K : Type 0} (sources : SourceMeaning S) (sinks : SinkMeaning K) wher
   IsCountOf (Source source) Netascii length count = Unit {0}
 
   -- the run of an end of this kind, as a job opens it, and N of its file
-  pub record RunsAs (port : ℕ) (kind : Kind) (job : Job) (before : List Event) (s : State)
+  pub record RunsAs (port : ℕ) (kind : Kind) (job : Job) (before : List SocketEvent) (s : State)
       (files : Files S K) (count : ℕ) : Type 0 where
     -- the length on the wire with which the end opened
     pub length : ℕ
@@ -151,7 +151,7 @@ module _ {S K : Type 0} (sources : SourceMeaning S) (sinks : SinkMeaning K) wher
     pub counts : IsCountOf files job.mode length count
 
   -- the run of a job's end
-  abbrev pub RunsJob : ℕ → Job → List Event → State → Files S K → ℕ → Type 0
+  abbrev pub RunsJob : ℕ → Job → List SocketEvent → State → Files S K → ℕ → Type 0
   RunsJob port job before s files count = RunsAs port job.kind job before s files count
 
   -- a received file holds these bytes, all of them committed, and N counts them
@@ -163,35 +163,35 @@ module _ {S K : Type 0} (sources : SourceMeaning S) (sinks : SinkMeaning K) wher
 
   -- a job failed by the run of its end, since its options were refused by ERROR 8, and may be tried
   -- without (RFC 2347)
-  pub record Refused (most : ℕ) (job : Job) (before after : List Event) : Type 0 where
+  pub record Refused (most : ℕ) (job : Job) (before after : List SocketEvent) : Type 0 where
     pub end : ClientOutcome
     pub fails : FailsBy most job before after end
     pub allowed : MayFallBack job end
 
   -- a job ran to that state, at once or without its options, once these were refused
-  abbrev pub Transfers : ℕ → ℕ → Job → List Event → State → Files S K → ℕ → Type 0
+  abbrev pub Transfers : ℕ → ℕ → Job → List SocketEvent → State → Files S K → ℕ → Type 0
   Transfers most port job before s files count =
       RunsJob port job before s files count
-      ⊎ ((middle : List Event) × Refused most job before middle
+      ⊎ ((middle : List SocketEvent) × Refused most job before middle
       × RunsJob port (plain job) middle s files count)
 
   -- what moved in the run that reached that state
-  abbrev pub moved_by : {most port : ℕ} {job : Job} {before : List Event} {s : State}
+  abbrev pub moved_by : {most port : ℕ} {job : Job} {before : List SocketEvent} {s : State}
       {files : Files S K} {count : ℕ} → Transfers most port job before s files count → Moved
   moved_by (inl run) = run_moves run.runs.converses nothing_moved
   moved_by (inr again) = run_moves again.2.runs.converses nothing_moved
 
   -- a job failed, at once or without its options, once these were refused: both runs make so many
   -- waits at most
-  abbrev pub FailsTransfer : ℕ → Job → List Event → List Event → ClientOutcome → Type 0
+  abbrev pub FailsTransfer : ℕ → Job → List SocketEvent → List SocketEvent → ClientOutcome → Type 0
   FailsTransfer most job before after end =
       FailsBy most job before after end
-      ⊎ ((middle : List Event) × Refused most job before middle
+      ⊎ ((middle : List SocketEvent) × Refused most job before middle
       × FailsBy most (plain job) middle after end)
 
   -- the client went on from that state
   pub record Dallies (port : ℕ) (first : State) (file : Files S K)
-      (after : List Event) : Type 0 where
+      (after : List SocketEvent) : Type 0 where
     pub last : State
     pub files : Files S K
     pub converses : Converses sources sinks port first file last files
@@ -199,7 +199,7 @@ module _ {S K : Type 0} (sources : SourceMeaning S) (sinks : SinkMeaning K) wher
 
   -- a job is complete: its end is, and a received file holds the bytes that moved in the run; then
   -- its line was printed, with N of the file, and from then on its end stayed (RFC 1350, section 6)
-  pub record Completes (job : Job) (before after : List Event) : Type 0 where
+  pub record Completes (job : Job) (before after : List SocketEvent) : Type 0 where
     pub port : ℕ
     pub last : State
     pub files : Files S K

@@ -8,7 +8,7 @@ use Rattle.tftp_ends.specs.End.{outcome_of}
 use Rattle.tftp_ends.specs.declared.outcome.Outcome.{Outcome}
 use Rattle.tftp_ends.specs.declared.outcome.Outcome.TheVariants.{TimedOut}
 use Rattle.tftp_sockets.specs.Watch.{last_moment}
-use Rattle.tftp_sockets.specs.Journal.{Event}
+use Rattle.tftp_sockets.specs.Journal.{SocketEvent}
 use Rattle.tftp_sockets.specs.Quiet.{waits}
 use Rattle.tftp_client.specs.declared.transfer.Job.{Job}
 use Rattle.tftp_client.specs.Converses.{Converses, IsOpen, State, wait_at}
@@ -29,7 +29,7 @@ module _ {S K : Type 0} (sources : SourceMeaning S) (sinks : SinkMeaning K) wher
   -- in silence a client whose end is open has waited at most once more than it may retransmit
   abbrev pub WaitsForEachSending : Type 0
   WaitsForEachSending =
-      (port : ℕ) (kind : Kind) (job : Job) (length : ℕ) (before : List Event) (file : Files S K)
+      (port : ℕ) (kind : Kind) (job : Job) (length : ℕ) (before : List SocketEvent) (file : Files S K)
       (s : State) (files : Files S K)
       (run : Converses sources sinks port (begun port (opens kind job length) before) file s files)
       → IsSilent run → s.now < last_moment → IsOpen s.end
@@ -38,7 +38,7 @@ module _ {S K : Type 0} (sources : SourceMeaning S) (sinks : SinkMeaning K) wher
   -- and if it is closed, it timed out
   abbrev pub TimesOut : Type 0
   TimesOut =
-      (port : ℕ) (kind : Kind) (job : Job) (length : ℕ) (before : List Event) (file : Files S K)
+      (port : ℕ) (kind : Kind) (job : Job) (length : ℕ) (before : List SocketEvent) (file : Files S K)
       (s : State) (files : Files S K) (outcome : Outcome)
       (run : Converses sources sinks port (begun port (opens kind job length) before) file s files)
       → IsSilent run → s.now < last_moment → outcome_of s.end.position.phase ≡ Some outcome

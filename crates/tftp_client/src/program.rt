@@ -3,7 +3,7 @@
 ghost use Rattle.std.specs.Prelude.{◌≡◌, ◌≤◌, ◌+◌, ◌⊎◌, ◌∷◌, IfOk, IfErr, map};
 ghost use Rattle.tftp_lines.specs.ClientOutcome.{end_text, status_of};
 ghost use Rattle.tftp_lines.specs.declared.client_outcome.ClientOutcome.TheVariants as ends;
-ghost use Rattle.tftp_sockets.specs.Journal.Event.{Printed as Line};
+ghost use Rattle.tftp_sockets.specs.Journal.SocketEvent.{Printed as Line};
 ghost use Rattle.tftp_sockets.specs.Quiet.{waits as waits_in};
 ghost use Rattle.tftp_client.specs.Conversation.{state_of};
 ghost use Rattle.tftp_client.specs.Converses.{most_waits};

@@ -6,7 +6,7 @@ use Rattle.tftp_file.specs.Source.{SourceMeaning}
 use Rattle.tftp_server.specs.State.{ServerState}
 use Rattle.tftp_loop.specs.declared.serving.LoopConfig.{LoopConfig}
 use Rattle.tftp_store.specs.Store.{StoreMeaning}
-use Rattle.tftp_sockets.specs.Journal.{Event}
+use Rattle.tftp_sockets.specs.Journal.{SocketEvent}
 use Rattle.tftp_daemon.specs.Configured.{IsServerOf, ListensAt, MayServe, RunsService, ServesWords, service_at}
 use Rattle.tftp_arguments.specs.Fault.{AskForText}
 use Rattle.tftp_daemon.specs.Words.{WordsConfigure, tftpd_app}
@@ -14,7 +14,7 @@ use Rattle.tftp_daemon.specs.declared.daemon.DaemonConfig.{DaemonConfig}
 use Rattle.tftp_folder.specs.declared.folder_store.FolderStore.{FolderStore}
 
 module _ {R G H F D : Type 0} {meaning : StoreMeaning (FolderStore R G H) D} {sources : SourceMeaning F}
-    {before after : List Event} where
+    {before after : List SocketEvent} where
   -- what was noted is the same by another name of the status
   pub with_status : {config : DaemonConfig} {status other : ℕ} → status ≡ other
       → MayServe meaning sources config status before after

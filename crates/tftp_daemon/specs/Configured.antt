@@ -7,7 +7,7 @@ use Rattle.tftp_file.specs.Source.{SourceMeaning}
 use Rattle.tftp_store.specs.Store.{StoreMeaning}
 use Rattle.tftp_server.specs.Config.{IsConfig}
 use Rattle.tftp_server.specs.State.{ServerState}
-use Rattle.tftp_sockets.specs.Journal.{Event}
+use Rattle.tftp_sockets.specs.Journal.{SocketEvent}
 use Rattle.tftp_loop.specs.WholeRun.{Serves}
 use Rattle.tftp_loop.specs.declared.serving.LoopConfig.{LoopConfig}
 use Rattle.tftp_loop.specs.declared.serving.LoopFault.{LoopFault}
@@ -69,13 +69,13 @@ module _ {R G H F D : Type 0} where
   module _ (meaning : StoreMeaning (FolderStore R G H) D) (sources : SourceMeaning F) where
     -- a server ran over UDP, from one journal to the other, and its result has this status
     pub record RunsService (service : LoopConfig) (server : ServerState (FolderStore R G H) F D)
-        (status : ℕ) (before after : List Event) : Type 0 where
+        (status : ℕ) (before after : List SocketEvent) : Type 0 where
       pub result : Result (Unit {0}) LoopFault
       pub is_status : status ≡ status_of result
       pub serves : Serves meaning sources service server result before after
 
     -- a server of the configuration ran
-    pub record ServesConfig (config : DaemonConfig) (status : ℕ) (before after : List Event)
+    pub record ServesConfig (config : DaemonConfig) (status : ℕ) (before after : List SocketEvent)
         : Type 0 where
       pub alone : config.place.servers ≤ 1
       pub at : Endpoint
@@ -86,7 +86,7 @@ module _ {R G H F D : Type 0} where
 
     -- nothing was done over UDP, as without the folder, with a status of 2, or with another by the
     -- supervisor of several servers; or a server of the configuration ran
-    abbrev pub MayServe : DaemonConfig → ℕ → List Event → List Event → Type 0
+    abbrev pub MayServe : DaemonConfig → ℕ → List SocketEvent → List SocketEvent → Type 0
     MayServe config status before after =
         ((after ≡ before) × ((status ≡ 2) ⊎ IsOfSeveral config))
         ⊎ ServesConfig config status before after
@@ -94,7 +94,7 @@ module _ {R G H F D : Type 0} where
     -- nothing was done over UDP, with a status of 0 only if the words ask for the help, the version
     -- or several servers; or a server ran with the configuration that the words name, whatever the
     -- status
-    abbrev pub ServesWords : List (List ℕ) → ℕ → List Event → List Event → Type 0
+    abbrev pub ServesWords : List (List ℕ) → ℕ → List SocketEvent → List SocketEvent → Type 0
     ServesWords words status before after =
         ((after ≡ before) × (status ≡ 0 → AskForText tftpd_app words ⊎ AskForSeveral words))
         ⊎ ((config : DaemonConfig) × WordsConfigure words config

@@ -19,7 +19,7 @@ use Rattle.tftp_ends.specs.declared.side.Side.{Side}
 use Rattle.tftp_ends.specs.End.{EndState, is_sender, is_progress, outcome_of, terms_of}
 use Rattle.tftp_ends.specs.Opening.{serving_read, serving_write}
 use Rattle.tftp_ends.specs.Phase.{closed}
-use Rattle.tftp_ends.specs.Run.{IsOpening, Gets, Puts, Serves_read, Serves_write, Event, Datagram, Timeout, Taken}
+use Rattle.tftp_ends.specs.Run.{IsOpening, Gets, Puts, Serves_read, Serves_write, EndEvent, Datagram, Timeout, Taken}
 use Rattle.tftp_ends.specs.Run.{IsOpen, Takes, IsRun, AnswersByProgress, end_after_run, count_if, is_timeout, is_data}
 use Rattle.tftp_ends.specs.Run.{is_oack, progress_count, timeout_count, data_count, datagram_count, opened_by_data}
 use Rattle.tftp_ends.specs.Step.{Turn, after_turn, response_turn, timeout_turn, with_position}
@@ -101,7 +101,7 @@ timeout_at e (Dallying terms number Waited) o kept =
 timeout_at e (Closed terms number complete outcome) o kept = absurd (true≢false o)
 
 -- ---- the end after one step
-pub record Steps (e : EndState) (event : Event) (turn : Turn) : Type 0 where
+pub record Steps (e : EndState) (event : EndEvent) (turn : Turn) : Type 0 where
   pub kept : Kept e.role.side e.role.length turn.position.phase
   pub rises : rank e.position.phase + count_if (is_progress e.position.phase turn.position.phase)
       ≤ rank turn.position.phase
@@ -126,7 +126,7 @@ gives_back true left left' retries w w' e h = omega arith
 gives_back false left left' retries w w' e h = omega arith
 
 module _ {S K : Type 0} (sources : SourceMeaning S) (sinks : SinkMeaning K) where
-  step : (e : EndState) (event : Event) (turn : Turn) → IsOpen e → Kept e.role.side e.role.length e.position.phase →
+  step : (e : EndState) (event : EndEvent) (turn : Turn) → IsOpen e → Kept e.role.side e.role.length e.position.phase →
       Takes sources sinks e event turn → Steps e event turn
   step e (Datagram from bytes) turn o kept h =
       let m = datagram_moves sources sinks e from bytes h.0 h.1 turn o kept h.2 in

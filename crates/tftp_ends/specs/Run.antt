@@ -26,13 +26,13 @@ pub data IsOpening (e : EndState) : Type 0 where
       → e ≡ serving_write agreed peer mode retries → IsOpening e
 
 -- an event: a datagram with its sender and its bytes, or a timeout
-pub data Event : Type 0 where
-  Datagram : Endpoint → List ℕ → Event
-  Timeout : Event
+pub data EndEvent : Type 0 where
+  Datagram : Endpoint → List ℕ → EndEvent
+  Timeout : EndEvent
 
 -- an event, and the end's position and answer after it
 pub record Taken : Type 0 where
-  pub event : Event
+  pub event : EndEvent
   pub turn : Turn
 
 -- the end after some steps
@@ -61,7 +61,7 @@ is_oack (Some reply) = has_opcode 6 reply.bytes
 
 module _ {S K : Type 0} (sources : SourceMeaning S) (sinks : SinkMeaning K) where
   -- one step
-  abbrev pub Takes : EndState → Event → Turn → Type 0
+  abbrev pub Takes : EndState → EndEvent → Turn → Type 0
   Takes e (Datagram from bytes) turn =
       (files : Files S K) × (files' : Files S K)
       × DatagramStep sources sinks from bytes e files turn files'
@@ -92,7 +92,7 @@ progress_count e (taken ∷ run) =
     count_if (is_progress e.position.phase taken.turn.position.phase)
     + progress_count (after_turn e taken.turn) run
 
-abbrev pub is_timeout : Event → Bool
+abbrev pub is_timeout : EndEvent → Bool
 is_timeout (Datagram from bytes) = false
 is_timeout Timeout = true
 

@@ -5,8 +5,8 @@ use Rattle.tftp_file.specs.Source.{SourceMeaning}
 use Rattle.tftp_ends.specs.declared.endpoint.Endpoint.{Endpoint}
 use Rattle.tftp_ends.specs.Step.{Reply}
 use Rattle.tftp_store.specs.Store.{StoreMeaning}
-use Rattle.tftp_sockets.specs.Journal.{Event, answered, replied}
-use Rattle.tftp_sockets.specs.Journal.Event.{Received, Sent, Watched, Elapsed}
+use Rattle.tftp_sockets.specs.Journal.{SocketEvent, answered, replied}
+use Rattle.tftp_sockets.specs.Journal.SocketEvent.{Received, Sent, Watched, Elapsed}
 use Rattle.tftp_loop.specs.Steps.{PortState, LoopState, PortStep, LoopStep, port_state}
 use Rattle.tftp_loop.specs.Steps.PortStep.{A_datagram, A_lost_datagram, A_late_datagram, Nothing_found}
 use Rattle.tftp_loop.specs.Steps.PortStep.{A_failed_receive, A_timeout, A_missed_timeout, Work}
@@ -15,31 +15,31 @@ use Rattle.tftp_loop.specs.Steps.LoopStep.{Request_noted}
 use Rattle.tftp_loop.specs.Steps.LoopStep.{Request_answered, Request_lost, Clock_read, Store_set, Transfer_closed}
 use Rattle.tftp_loop.specs.Steps.LoopStep.{Drain_begun}
 
-pub record Adds (before after : List Event) : Type 0 where
-  pub more : List Event
+pub record Adds (before after : List SocketEvent) : Type 0 where
+  pub more : List SocketEvent
   pub is : after ≡ more ++ before
 
-pub adds_none : (es fs : List Event) → fs ≡ es → Adds es fs
+pub adds_none : (es fs : List SocketEvent) → fs ≡ es → Adds es fs
 adds_none es fs e = record { more = []; is = e }
 
-pub adds_one : (event : Event) (es fs : List Event) → fs ≡ event ∷ es → Adds es fs
+pub adds_one : (event : SocketEvent) (es fs : List SocketEvent) → fs ≡ event ∷ es → Adds es fs
 adds_one event es fs e = record { more = event ∷ []; is = e }
 
-pub adds_more : (es fs gs : List Event) → Adds es fs → Adds fs gs → Adds es gs
+pub adds_more : (es fs gs : List SocketEvent) → Adds es fs → Adds fs gs → Adds es gs
 adds_more es fs gs a b = record {
   more = b.more ++ a.more;
   is =
-      b.is ∙ (ap (λ (xs : List Event). b.more ++ xs) a.is ∙ sym (append_assoc b.more a.more es));
+      b.is ∙ (ap (λ (xs : List SocketEvent). b.more ++ xs) a.is ∙ sym (append_assoc b.more a.more es));
 }
 
-adds_to : (es fs gs : List Event) → gs ≡ fs → Adds es fs → Adds es gs
+adds_to : (es fs gs : List SocketEvent) → gs ≡ fs → Adds es fs → Adds es gs
 adds_to es fs gs e a = record { more = a.more; is = e ∙ a.is }
 
-answered_adds : (port : ℕ) (reply : Option Reply) (es : List Event) → Adds es (answered port reply es)
+answered_adds : (port : ℕ) (reply : Option Reply) (es : List SocketEvent) → Adds es (answered port reply es)
 answered_adds port None es = adds_none es es refl
 answered_adds port (Some reply) es = adds_one (Sent port reply.to reply.bytes) es _ refl
 
-replied_adds : (port : ℕ) (to : Option Endpoint) (bytes : List ℕ) (es : List Event)
+replied_adds : (port : ℕ) (to : Option Endpoint) (bytes : List ℕ) (es : List SocketEvent)
     → Adds es (replied port to bytes es)
 replied_adds port None bytes es = adds_none es es refl
 replied_adds port (Some to) bytes es = adds_one (Sent port to bytes) es _ refl

@@ -8,8 +8,8 @@ use Rattle.tftp_ends.specs.declared.endpoint.Endpoint.{Endpoint}
 use Rattle.tftp_ends.specs.Step.{Reply}
 use Rattle.tftp_server.specs.State.{TransferState, at}
 use Rattle.tftp_store.specs.Store.{StoreMeaning}
-use Rattle.tftp_sockets.specs.Journal.{Event, answered}
-use Rattle.tftp_sockets.specs.Journal.Event.{Received, Elapsed}
+use Rattle.tftp_sockets.specs.Journal.{SocketEvent, answered}
+use Rattle.tftp_sockets.specs.Journal.SocketEvent.{Received, Elapsed}
 use Rattle.tftp_loop.specs.Fair.{received_in}
 use Rattle.tftp_loop.specs.Run.{Run}
 use Rattle.tftp_loop.specs.Run.Run.{Start, Then}
@@ -25,7 +25,7 @@ use Rattle.tftp_loop.proofs.LoopStays.{all_appended, all_removed, all_set}
 use Rattle.tftp_loop.proofs.PortStays.{after_received}
 use Rattle.tftp_loop.proofs.Waits.{waited_at}
 
-answered_in : (port : ℕ) (reply : Option Reply) (es : List Event) → received_in (answered port reply es) ≡ received_in es
+answered_in : (port : ℕ) (reply : Option Reply) (es : List SocketEvent) → received_in (answered port reply es) ≡ received_in es
 answered_in port None es = refl
 answered_in port (Some reply) es = refl
 

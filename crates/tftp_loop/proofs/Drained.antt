@@ -6,20 +6,20 @@ use Rattle.tftp_file.specs.Source.{SourceMeaning}
 use Rattle.tftp_ends.specs.declared.endpoint.Endpoint.{Endpoint}
 use Rattle.tftp_ends.specs.Step.{Reply}
 use Rattle.tftp_store.specs.Store.{StoreMeaning}
-use Rattle.tftp_sockets.specs.Journal.{Event, answered, replied}
-use Rattle.tftp_sockets.specs.Journal.Event.{Received, Elapsed}
+use Rattle.tftp_sockets.specs.Journal.{SocketEvent, answered, replied}
+use Rattle.tftp_sockets.specs.Journal.SocketEvent.{Received, Elapsed}
 use Rattle.tftp_sockets.specs.Quiet.{is_drained}
 use Rattle.tftp_loop.specs.Steps.{PortState, PortStep}
 use Rattle.tftp_loop.specs.Steps.PortStep.{A_datagram, A_lost_datagram, A_late_datagram, Nothing_found}
 use Rattle.tftp_loop.specs.Steps.PortStep.{A_failed_receive, A_timeout, A_missed_timeout, Work}
 
 -- an answer receives nothing
-pub answered_drained : (r port : ℕ) (reply : Option Reply) (es : List Event) → is_drained r es ≡ true
+pub answered_drained : (r port : ℕ) (reply : Option Reply) (es : List SocketEvent) → is_drained r es ≡ true
     → is_drained r (answered port reply es) ≡ true
 answered_drained r port None es h = h
 answered_drained r port (Some reply) es h = h
 
-pub replied_drained : (r port : ℕ) (to : Option Endpoint) (bytes : List ℕ) (es : List Event) → is_drained r es ≡ true
+pub replied_drained : (r port : ℕ) (to : Option Endpoint) (bytes : List ℕ) (es : List SocketEvent) → is_drained r es ≡ true
     → is_drained r (replied port to bytes es) ≡ true
 replied_drained r port None bytes es h = h
 replied_drained r port (Some to) bytes es h = h
@@ -40,24 +40,24 @@ module _ {S F D : Type 0} (meaning : StoreMeaning S D) (sources : SourceMeaning 
   port_drained r now old new (A_datagram d) apart h =
       let received = Received old.timer.port d.from d.bytes ∷ old.events in
       let still : is_drained r received ≡ true = other_drained old.timer.port r (is_drained r old.events) apart h in
-      subst (λ (es : List Event). is_drained r es ≡ true) (sym d.handles.events)
+      subst (λ (es : List SocketEvent). is_drained r es ≡ true) (sym d.handles.events)
       (answered_drained r old.timer.port d.handles.takes.takes.turn.reply received still)
   port_drained r now old new (A_lost_datagram d) apart h =
-      subst (λ (es : List Event). is_drained r es ≡ true) (sym d.events)
+      subst (λ (es : List SocketEvent). is_drained r es ≡ true) (sym d.events)
       (other_drained old.timer.port r (is_drained r old.events) apart h)
   port_drained r now old new (A_late_datagram d) apart h =
-      subst (λ (es : List Event). is_drained r es ≡ true) (sym d.events)
+      subst (λ (es : List SocketEvent). is_drained r es ≡ true) (sym d.events)
       (other_drained old.timer.port r (is_drained r old.events) apart h)
   port_drained r now old new (Nothing_found d) apart h =
-      subst (λ (es : List Event). is_drained r es ≡ true) (sym d.events)
+      subst (λ (es : List SocketEvent). is_drained r es ≡ true) (sym d.events)
       (either_drained (old.timer.port == r) (is_drained r old.events) h)
   port_drained r now old new (A_failed_receive d) apart h =
-      subst (λ (es : List Event). is_drained r es ≡ true) (sym d.events)
+      subst (λ (es : List SocketEvent). is_drained r es ≡ true) (sym d.events)
       (other_drained old.timer.port r (is_drained r old.events) apart h)
   port_drained r now old new (A_timeout d) apart h =
       let elapsed = Elapsed old.timer.port now ∷ old.events in
-      subst (λ (es : List Event). is_drained r es ≡ true) (sym d.times_out.events)
+      subst (λ (es : List SocketEvent). is_drained r es ≡ true) (sym d.times_out.events)
       (answered_drained r old.timer.port _ elapsed h)
-  port_drained r now old new (A_missed_timeout d) apart h = subst (λ (es : List Event). is_drained r es ≡ true)
+  port_drained r now old new (A_missed_timeout d) apart h = subst (λ (es : List SocketEvent). is_drained r es ≡ true)
       (sym d.events) h
-  port_drained r now old new (Work d) apart h = subst (λ (es : List Event). is_drained r es ≡ true) (sym d.events) h
+  port_drained r now old new (Work d) apart h = subst (λ (es : List SocketEvent). is_drained r es ≡ true) (sym d.events) h

@@ -19,8 +19,8 @@ use Rattle.tftp_sockets.specs.Watch.{deadline_of, last_moment}
 use Rattle.tftp_sockets.specs.declared.watch.TheConstants.{LONGEST_WAIT}
 use Rattle.tftp_lines.specs.Printed.{line_text}
 use Rattle.tftp_lines.specs.declared.printed.Printed.TheVariants.{Closed}
-use Rattle.tftp_sockets.specs.Journal.{Event, replied}
-use Rattle.tftp_sockets.specs.Journal.Event.{Printed}
+use Rattle.tftp_sockets.specs.Journal.{SocketEvent, replied}
+use Rattle.tftp_sockets.specs.Journal.SocketEvent.{Printed}
 use Rattle.tftp_loop.specs.Run.{Run}
 use Rattle.tftp_loop.specs.Run.Run.{Start, Then}
 use Rattle.tftp_loop.specs.Steps.{Timer, PortState, LoopState, PortStep, LoopStep, Waits, answering_port}
@@ -101,7 +101,7 @@ module _ {S F D : Type 0} (meaning : StoreMeaning S D) (sources : SourceMeaning 
     closed = (
       adds.more ++ gone.closed.0,
       gone.closed.1,
-      adds.is ∙ (ap (λ (xs : List Event). adds.more ++ xs) gone.closed.2
+      adds.is ∙ (ap (λ (xs : List SocketEvent). adds.more ++ xs) gone.closed.2
           ∙ sym (append_assoc adds.more gone.closed.0 _)),
     );
     why = λ quiet. gone.why (fewer quiet);
@@ -197,7 +197,7 @@ module _ {S F D : Type 0} (meaning : StoreMeaning S D) (sources : SourceMeaning 
       ]
 
   -- another transfer opens
-  opens_lasts : (Quiet More : Type 0) (since : ℕ) (from : Endpoint) (tid : ℕ) (s : LoopState S F D) (es : List Event)
+  opens_lasts : (Quiet More : Type 0) (since : ℕ) (from : Endpoint) (tid : ℕ) (s : LoopState S F D) (es : List SocketEvent)
       (came : Came S F D) → at tid s.server.held ≡ None → AreKept s.server.held s.timers
       → (More → Quiet) → Adds s.events es → Lasts Quiet since s
       → Lasts More since (record s {
@@ -304,7 +304,7 @@ module _ {S F D : Type 0} (meaning : StoreMeaning S D) (sources : SourceMeaning 
                 ap (λ (u : LoopState S F D). u.events) d.is
                     ∙ (ap (λ (p : ℕ). line p d.timer.peer.port ∷ s.events) port_is
                     ∙ (ap (λ (p : ℕ). line timer.port p ∷ s.events) peer_is
-                    ∙ ap (λ (es : List Event). line timer.port timer.peer.port ∷ es) lasts.adds.is)),
+                    ∙ ap (λ (es : List SocketEvent). line timer.port timer.peer.port ∷ es) lasts.adds.is)),
               );
               why = λ quiet. lasts.closes (fewer quiet) d.outcome outcome_is;
             })

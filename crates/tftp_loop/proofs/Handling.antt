@@ -9,8 +9,8 @@ use Rattle.tftp_file.specs.Source.{SourceMeaning}
 use Rattle.tftp_ends.specs.declared.endpoint.Endpoint.{Endpoint}
 use Rattle.tftp_ends.specs.Step.{Reply}
 use Rattle.tftp_store.specs.Store.{StoreMeaning}
-use Rattle.tftp_sockets.specs.Journal.{Event, answered, replied}
-use Rattle.tftp_sockets.specs.Journal.Event.{Received, Elapsed}
+use Rattle.tftp_sockets.specs.Journal.{SocketEvent, answered, replied}
+use Rattle.tftp_sockets.specs.Journal.SocketEvent.{Received, Elapsed}
 use Rattle.tftp_sockets.specs.Quiet.{is_among, was_tried}
 use Rattle.tftp_loop.specs.Run.{Run}
 use Rattle.tftp_loop.specs.Run.Run.{Start, Then}
@@ -45,12 +45,12 @@ reads_so false marked on m = m
 other_untried : (port r : ℕ) (tried : Bool) → (port ≡ r → ⊥) → tried ≡ false → ((port == r) || tried) ≡ false
 other_untried port r tried apart h = ap (λ (b : Bool). b || tried) (ne_eqb port r apart) ∙ h
 
-answered_untried : (r port : ℕ) (reply : Option Reply) (es : List Event) → was_tried r es ≡ false
+answered_untried : (r port : ℕ) (reply : Option Reply) (es : List SocketEvent) → was_tried r es ≡ false
     → was_tried r (answered port reply es) ≡ false
 answered_untried r port None es h = h
 answered_untried r port (Some reply) es h = h
 
-replied_untried : (r port : ℕ) (to : Option Endpoint) (bytes : List ℕ) (es : List Event) → was_tried r es ≡ false
+replied_untried : (r port : ℕ) (to : Option Endpoint) (bytes : List ℕ) (es : List SocketEvent) → was_tried r es ≡ false
     → was_tried r (replied port to bytes es) ≡ false
 replied_untried r port None bytes es h = h
 replied_untried r port (Some to) bytes es h = h
@@ -247,7 +247,7 @@ module _ {S F D : Type 0} (meaning : StoreMeaning S D) (sources : SourceMeaning 
   same_reads s t marked requests tries (inr h) = inr (subst (λ (port : ℕ). was_tried port t.events ≡ true)
       (sym requests) (tries h))
 
-  kept_tries : (port : ℕ) (es fs : List Event) → fs ≡ es → was_tried port es ≡ true → was_tried port fs ≡ true
+  kept_tries : (port : ℕ) (es fs : List SocketEvent) → fs ≡ es → was_tried port es ≡ true → was_tried port fs ≡ true
   kept_tries port es fs same h = ap (was_tried port) same ∙ h
 
   step_reads : (s t : LoopState S F D) (does : LoopStep meaning sources s t) → IsNoWait meaning sources does → Reads s

@@ -9,8 +9,8 @@ use Rattle.tftp_ends.specs.declared.endpoint.Endpoint.{Endpoint}
 use Rattle.tftp_store.specs.Store.{StoreMeaning}
 use Rattle.tftp_server.specs.State.{TransferState, at}
 use Rattle.tftp_sockets.specs.Watch.{deadline_of}
-use Rattle.tftp_sockets.specs.Journal.{Event}
-use Rattle.tftp_sockets.specs.Journal.Event.{Received, Elapsed, Watched, Quiet}
+use Rattle.tftp_sockets.specs.Journal.{SocketEvent}
+use Rattle.tftp_sockets.specs.Journal.SocketEvent.{Received, Elapsed, Watched, Quiet}
 use Rattle.tftp_sockets.specs.Journal.QuietEvent.{Empty, Failed, Slept, Woke}
 use Rattle.tftp_sockets.specs.Quiet.{is_among, is_drained}
 use Rattle.tftp_loop.specs.Steps.{Timer, PortState, LoopState, PortStep, LoopStep, answering_port, interval_at, look_after}
@@ -35,12 +35,12 @@ pub record IsLeft (now : ℕ) (timer : Timer) : Type 0 where
   pub soon : timer.look_at ≤ now + look_after
   pub short : timer.look_at ≡ timer.deadline → (n : ℕ) → now ≤ n → deadline_of n timer.interval ≤ n + look_after
 
-pub data IsLooked (events : List Event) (now : ℕ) (timer : Timer) : Type 0 where
+pub data IsLooked (events : List SocketEvent) (now : ℕ) (timer : Timer) : Type 0 where
   Marked : timer.marked ≡ true → IsLooked events now timer
   Drained : is_drained timer.port events ≡ true → IsLooked events now timer
   Left : IsLeft now timer → IsLooked events now timer
 
-pub looked_at_rest : (timer : Timer) (events : List Event) (now : ℕ) → timer.marked ≡ false → IsLooked events now timer
+pub looked_at_rest : (timer : Timer) (events : List SocketEvent) (now : ℕ) → timer.marked ≡ false → IsLooked events now timer
     → (is_drained timer.port events ≡ true) ⊎ (timer.look_at ≤ now + look_after)
 looked_at_rest timer events now unmarked (Marked m) = absurd (let e : true ≡ false = sym m ∙ unmarked in cc)
 looked_at_rest timer events now unmarked (Drained d) = inl d
@@ -62,14 +62,14 @@ left_now now timer due look = record {
 }
 
 -- what an event leaves that drains no port of a transfer
-still : (es fs : List Event) (now : ℕ) (timer : Timer)
+still : (es fs : List SocketEvent) (now : ℕ) (timer : Timer)
     → (is_drained timer.port es ≡ true → is_drained timer.port fs ≡ true) → IsLooked es now timer
     → IsLooked fs now timer
 still es fs now timer on (Marked m) = Marked m
 still es fs now timer on (Drained d) = Drained (on d)
 still es fs now timer on (Left l) = Left l
 
-later : (es : List Event) (now n : ℕ) (timer : Timer) → now ≤ n → IsLooked es now timer → IsLooked es n timer
+later : (es : List SocketEvent) (now n : ℕ) (timer : Timer) → now ≤ n → IsLooked es now timer → IsLooked es n timer
 later es now n timer h (Marked m) = Marked m
 later es now n timer h (Drained d) = Drained d
 later es now n timer h (Left l) = Left (record {
@@ -78,12 +78,12 @@ later es now n timer h (Left l) = Left (record {
       e m (omega (arith, h, k));
 })
 
-after_datagram : (es : List Event) (now : ℕ) (progress : Bool) (timer : Timer)
+after_datagram : (es : List SocketEvent) (now : ℕ) (progress : Bool) (timer : Timer)
     → IsLooked es now (timer_after now progress timer)
 after_datagram es now true timer = Left (left_now now (timer_after now true timer) refl refl)
 after_datagram es now false timer = Marked refl
 
-after_timeout : (es fs : List Event) (now : ℕ) (timer : Timer) → timer.look_at ≡ timer.deadline
+after_timeout : (es fs : List SocketEvent) (now : ℕ) (timer : Timer) → timer.look_at ≡ timer.deadline
     → (is_drained timer.port es ≡ true → is_drained timer.port fs ≡ true)
     → IsLooked es now timer → IsLooked fs now (restarted now timer)
 after_timeout es fs now timer looked on (Marked m) = Marked m
@@ -104,13 +104,13 @@ set_left now time false timer h l =
     let soon = l.soon in
     record { soon = omega (arith, soon, h); short = λ e n k. l.short e n (omega (arith, h, k)) }
 
-set_looked : (es : List Event) (now time : ℕ) (timer : Timer) → now ≤ time → IsLooked es now timer
+set_looked : (es : List SocketEvent) (now time : ℕ) (timer : Timer) → now ≤ time → IsLooked es now timer
     → IsLooked (Watched time ∷ es) time (set_by time timer)
 set_looked es now time timer h (Marked m) = Marked m
 set_looked es now time timer h (Drained d) = Drained d
 set_looked es now time timer h (Left l) = Left (set_left now time timer.provisional timer h l)
 
-pub read_looked : (es : List Event) (now time : ℕ) (timers : List Timer) → now ≤ time → All (IsLooked es now) timers
+pub read_looked : (es : List SocketEvent) (now time : ℕ) (timers : List Timer) → now ≤ time → All (IsLooked es now) timers
     → All (IsLooked (Watched time ∷ es) time) (map (set_by time) timers)
 read_looked es now time timers h looked k d within =
     let long = length-map timers (set_by time) in
@@ -119,7 +119,7 @@ read_looked es now time timers h looked k d within =
     (set_looked es now time (slice_index_or timers k d) h (looked k d inside))
 
 -- a wait marks the ports that it reports
-woken : (es : List Event) (now millis : ℕ) (ports : List ℕ) (timer : Timer) (among : Bool)
+woken : (es : List SocketEvent) (now millis : ℕ) (ports : List ℕ) (timer : Timer) (among : Bool)
     → is_among timer.port ports ≡ among → IsLooked es now timer
     → IsLooked (Quiet (Woke ports) ∷ Quiet (Slept millis) ∷ es) now (marked_by ports timer)
 woken es now millis ports timer true e h = Marked (ap (λ (b : Bool). timer.marked || b) e ∙ or_right timer.marked true
@@ -142,23 +142,23 @@ module _ {S F D : Type 0} (meaning : StoreMeaning S D) (sources : SourceMeaning 
   at_own now old new (A_late_datagram d) h = subst (IsLooked new.events now) (sym d.timer) (Marked refl)
   at_own now old new (Nothing_found d) h =
       subst (IsLooked new.events now) (sym d.timer)
-      (Drained (subst (λ (es : List Event). is_drained old.timer.port es ≡ true) (sym d.events)
+      (Drained (subst (λ (es : List SocketEvent). is_drained old.timer.port es ≡ true) (sym d.events)
       (own_receive old.timer.port (is_drained old.timer.port old.events))))
   at_own now old new (A_failed_receive d) h = subst (IsLooked new.events now) (sym d.timer) (Marked refl)
   at_own now old new (A_timeout d) h =
       let elapsed = Elapsed old.timer.port now ∷ old.events in
       subst (IsLooked new.events now) (sym d.timer)
       (after_timeout old.events new.events now old.timer d.looked
-      (λ k. subst (λ (es : List Event). is_drained old.timer.port es ≡ true) (sym d.times_out.events)
+      (λ k. subst (λ (es : List SocketEvent). is_drained old.timer.port es ≡ true) (sym d.times_out.events)
       (answered_drained old.timer.port old.timer.port _ elapsed k)) h)
   at_own now old new (A_missed_timeout d) h =
       subst (IsLooked new.events now) (sym d.timer)
       (after_timeout old.events new.events now old.timer d.looked
-      (λ k. subst (λ (es : List Event). is_drained old.timer.port es ≡ true) (sym d.events) k) h)
+      (λ k. subst (λ (es : List SocketEvent). is_drained old.timer.port es ≡ true) (sym d.events) k) h)
   at_own now old new (Work d) h = subst (IsLooked new.events now) (sym d.timer)
-      (subst (λ (es : List Event). IsLooked es now old.timer) (sym d.events) h)
+      (subst (λ (es : List SocketEvent). IsLooked es now old.timer) (sym d.events) h)
 
-  with_looked : (es : List Event) (now : ℕ) (longest : Option ℕ) (from : Endpoint) (tid : Option ℕ) (held : List (ℕ × TransferState F D))
+  with_looked : (es : List SocketEvent) (now : ℕ) (longest : Option ℕ) (from : Endpoint) (tid : Option ℕ) (held : List (ℕ × TransferState F D))
       (timers : List Timer)
       → All (IsLooked es now) timers → All (IsLooked es now) (with_timer now longest from tid held timers)
   with_looked es now longest from None held timers h = h

@@ -12,7 +12,7 @@ use Rattle.tftp_ends.specs.End.{record_of}
 use Rattle.std.proofs.lemmas.Option.{none-some, cond_some}
 use Rattle.tftp_server.specs.State.{TransferState, ServerState, at, draft_of, is_closed, taken_of, without}
 use Rattle.tftp_sockets.specs.declared.port.Port.{Port}
-use Rattle.tftp_sockets.specs.Journal.{Event}
+use Rattle.tftp_sockets.specs.Journal.{SocketEvent}
 use Rattle.tftp_loop.specs.declared.transfer_port.TransferSocket.{TransferSocket}
 use Rattle.tftp_loop.specs.Run.{Run}
 use Rattle.tftp_loop.specs.Run.Run.{Start, Then}
@@ -48,7 +48,7 @@ same_state {S} {F} {D} s t a r o b c d e l w f q n g h k = λ i. record {
 }
 
 -- the state of a daemon whose journal alone changed
-pub noted_state : {S F D : Type 0} (old new : ServerLoop S F D) (events : List Event)
+pub noted_state : {S F D : Type 0} (old new : ServerLoop S F D) (events : List SocketEvent)
     → new ≡ record old { journal = new.journal } → new.journal.events ≡ events
     → loop_state None new ≡ record (loop_state None old) { events = events }
 noted_state {S} {F} {D} old new events is noted =
@@ -116,7 +116,7 @@ module _ {S F D : Type 0} (meaning : StoreMeaning S D) (sources : SourceMeaning 
 
   -- the same, for a list of ports
   pub at_place : (s : LoopState S F D) (ports : List (Port TransferSocket)) (index : ℕ)
-      (port port' : Port TransferSocket) (server : ServerState S F D) (es : List Event)
+      (port port' : Port TransferSocket) (server : ServerState S F D) (es : List SocketEvent)
       → s.timers ≡ map timer_of ports → index < length ports → port ≡ slice_index_or ports index port
       → Run (PortStep meaning sources s.now) (here meaning sources s.now s.server (timer_of port) s.events)
       (here meaning sources s.now server (timer_of port') es)
@@ -143,7 +143,7 @@ module _ {S F D : Type 0} (meaning : StoreMeaning S D) (sources : SourceMeaning 
 
   -- a transfer was taken that had an outcome
   closes_with : (s : LoopState S F D) (index : ℕ) (timer : Timer) (t : Record × Option D) (outcome : Option Outcome)
-      (server : ServerState S F D) (es : List Event)
+      (server : ServerState S F D) (es : List SocketEvent)
       → 1 ≤ s.left → index < length s.timers → timer ≡ slice_index_or s.timers index timer
       → taken_of (at timer.port s.server.held) ≡ Some t → t.0.outcome ≡ outcome → IsSome outcome
       → server.held ≡ without timer.port s.server.held
@@ -186,7 +186,7 @@ module _ {S F D : Type 0} (meaning : StoreMeaning S D) (sources : SourceMeaning 
 
   -- a transfer was taken
   closes_by : (s : LoopState S F D) (index : ℕ) (timer : Timer) (o : Option (Record × Option D))
-      (server : ServerState S F D) (es : List Event)
+      (server : ServerState S F D) (es : List SocketEvent)
       → 1 ≤ s.left → index < length s.timers → timer ≡ slice_index_or s.timers index timer
       → taken_of (at timer.port s.server.held) ≡ o → IsSome o
       → server.held ≡ (if is_some (option_map (λ (t : Record × Option D). t.0) o) then without timer.port s.server.held
@@ -203,7 +203,7 @@ module _ {S F D : Type 0} (meaning : StoreMeaning S D) (sources : SourceMeaning 
       (outcome_taken (at timer.port s.server.held) t taken) held rest printed
 
   pub closes : (s : LoopState S F D) (index : ℕ) (timer : Timer) (tid : ℕ) (closed : Option Record)
-      (server : ServerState S F D) (es : List Event)
+      (server : ServerState S F D) (es : List SocketEvent)
       → 1 ≤ s.left → index < length s.timers → timer ≡ slice_index_or s.timers index timer → tid ≡ timer.port
       → closed ≡ option_map (λ (t : Record × Option D). t.0) (taken_of (at tid s.server.held)) → IsSome closed
       → server.held ≡ (if is_some closed then without tid s.server.held else s.server.held)

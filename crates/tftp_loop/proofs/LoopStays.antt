@@ -9,8 +9,8 @@ use Rattle.tftp_ends.specs.declared.endpoint.Endpoint.{Endpoint}
 use Rattle.tftp_store.specs.Store.{StoreMeaning}
 use Rattle.tftp_server.specs.State.{TransferState, ServerState, at, with_new, without}
 use Rattle.tftp_server.specs.Request.{Came, Left, Nothing, Error_reply, A_transfer, left_by}
-use Rattle.tftp_sockets.specs.Journal.{Event, replied}
-use Rattle.tftp_sockets.specs.Journal.Event.{Received, Quiet}
+use Rattle.tftp_sockets.specs.Journal.{SocketEvent, replied}
+use Rattle.tftp_sockets.specs.Journal.SocketEvent.{Received, Quiet}
 use Rattle.tftp_sockets.specs.Journal.QuietEvent.{Empty, Failed}
 use Rattle.tftp_sockets.specs.Quiet.{was_tried}
 use Rattle.tftp_loop.specs.Run.{Run}
@@ -170,7 +170,7 @@ module _ {S F D : Type 0} (meaning : StoreMeaning S D) (sources : SourceMeaning 
       (IsSome (at timer.port old) → IsSome (at timer.port new)) → IsHeld old timer → IsHeld new timer
   other_held old new timer there h = record { there = there h.there; look = h.look }
 
-  pub other_read : (es fs : List Event) (timer : Timer) → KeepsTries es fs → IsRead es timer → IsRead fs timer
+  pub other_read : (es fs : List SocketEvent) (timer : Timer) → KeepsTries es fs → IsRead es timer → IsRead fs timer
   other_read es fs timer tries h marked = tries timer.port (h marked)
 
   -- a step at a port
@@ -255,7 +255,7 @@ module _ {S F D : Type 0} (meaning : StoreMeaning S D) (sources : SourceMeaning 
       (looks_first now (interval_at (at tid (with_new tid transfer old.held)))) kept
 
   answered_read : (now : ℕ) (longest : Option ℕ) (from : Endpoint) (tid : ℕ) (old : ServerState S F D) (timers : List Timer)
-      (came : Came S F D) (es fs : List Event) → KeepsTries es fs
+      (came : Came S F D) (es fs : List SocketEvent) → KeepsTries es fs
       → All (IsRead es) timers →
       All (IsRead fs) (with_timer now longest from (left_by came old from tid).opened.tid
       (left_by came old from tid).new.held timers)
@@ -275,7 +275,7 @@ module _ {S F D : Type 0} (meaning : StoreMeaning S D) (sources : SourceMeaning 
   still_tried false pending P f h = absurd (let g : false ≡ true = h in cc)
 
   -- the request port was read
-  asks_keep : (s : LoopState S F D) (pending : Option (Endpoint × List ℕ)) (marked asked : Bool) (event : Event)
+  asks_keep : (s : LoopState S F D) (pending : Option (Endpoint × List ℕ)) (marked asked : Bool) (event : SocketEvent)
       → ((q : ℕ) → was_tried q (event ∷ s.events) ≡ ((s.requests == q) || was_tried q s.events))
       → Keeps s (record s { pending = pending; marked = marked; asked = asked; events = event ∷ s.events })
   asks_keep s pending marked asked event reads =

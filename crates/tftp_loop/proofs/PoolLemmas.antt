@@ -5,8 +5,8 @@ use Rattle.std.specs.Prelude.{All, IfSome, IsSome, MatchOption}
 use Rattle.std.specs.List.{range_with_len}
 use Rattle.std.proofs.lemmas.List.Elements.{All-nil, All-cons, All-head, All-tail, All-same, All-append, All-push}
 use Rattle.std.proofs.lemmas.List.Sorted.{All-permutation, length_permutation}
-use Rattle.tftp_sockets.specs.Journal.{Event}
-use Rattle.tftp_sockets.specs.Journal.Event.{Quiet}
+use Rattle.tftp_sockets.specs.Journal.{SocketEvent}
+use Rattle.tftp_sockets.specs.Journal.SocketEvent.{Quiet}
 use Rattle.tftp_sockets.specs.Journal.QuietEvent.{New_socket, No_socket}
 use Rattle.tftp_loop.specs.Run.Run.{Start, Then}
 use Rattle.tftp_loop.specs.PortOrder.{HasPorts, IsOneOf, IsOrderOf, Turns, coming, ports_of}
@@ -89,15 +89,15 @@ next_some old new None has turns =
 next_some old new (Some port) has turns = refl
 
 -- ---- what the journal says of ports that were tried
-pub binds : {range : Option PortRange} (port : ℕ) (es fs gs : List Event) → gs ≡ Quiet (New_socket port) ∷ fs
+pub binds : {range : Option PortRange} (port : ℕ) (es fs gs : List SocketEvent) → gs ≡ Quiet (New_socket port) ∷ fs
     → TriesPorts range es fs → Binds range es gs port
 binds port es fs gs is tries = record { between = fs; earlier = tries; is = is }
 
-pub tried_more : {range : Option PortRange} (port : ℕ) (es fs gs : List Event) → IsOneOf range port
+pub tried_more : {range : Option PortRange} (port : ℕ) (es fs gs : List SocketEvent) → IsOneOf range port
     → gs ≡ Quiet (No_socket port) ∷ fs → TriesPorts range es fs → TriesPorts range es gs
 tried_more port es fs gs within is tries = Then tries (record { port = port; within = within; is = is })
 
-pub in_vain : {range : Option PortRange} (port : ℕ) (es fs gs : List Event) → IsOneOf range port
+pub in_vain : {range : Option PortRange} (port : ℕ) (es fs gs : List SocketEvent) → IsOneOf range port
     → gs ≡ Quiet (No_socket port) ∷ fs → TriesPorts range es fs → TriesInVain range es gs
 in_vain port es fs gs within is tries =
     record { between = fs; earlier = tries; last = record { port = port; within = within; is = is } }

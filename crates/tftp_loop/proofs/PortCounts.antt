@@ -9,8 +9,8 @@ use Rattle.tftp_ends.specs.declared.endpoint.Endpoint.{Endpoint}
 use Rattle.tftp_ends.specs.Step.{Reply}
 use Rattle.tftp_server.specs.State.{TransferState, at}
 use Rattle.tftp_store.specs.Store.{StoreMeaning}
-use Rattle.tftp_sockets.specs.Journal.{Event, answered, replied}
-use Rattle.tftp_sockets.specs.Journal.Event.{Received, Elapsed}
+use Rattle.tftp_sockets.specs.Journal.{SocketEvent, answered, replied}
+use Rattle.tftp_sockets.specs.Journal.SocketEvent.{Received, Elapsed}
 use Rattle.tftp_loop.specs.Fair.{received_since, since_by}
 use Rattle.tftp_loop.specs.MayWait.{AreKept}
 use Rattle.tftp_loop.specs.Run.{Run}
@@ -38,21 +38,21 @@ none_more n = omega arith
 
 -- ---- the events of one step
 module _ (port : ℕ) where
-  answered_since : (p : ℕ) (reply : Option Reply) (es : List Event) →
+  answered_since : (p : ℕ) (reply : Option Reply) (es : List SocketEvent) →
       received_since port (answered p reply es) ≡ received_since port es
   answered_since p None es = refl
   answered_since p (Some reply) es = refl
 
-  replied_since : (p : ℕ) (to : Option Endpoint) (bytes : List ℕ) (es : List Event) →
+  replied_since : (p : ℕ) (to : Option Endpoint) (bytes : List ℕ) (es : List SocketEvent) →
       received_since port (replied p to bytes es) ≡ received_since port es
   replied_since p None bytes es = refl
   replied_since p (Some to) bytes es = refl
 
-  one_more : (p : ℕ) (from : Endpoint) (bytes : List ℕ) (es : List Event) → p ≡ port →
+  one_more : (p : ℕ) (from : Endpoint) (bytes : List ℕ) (es : List SocketEvent) → p ≡ port →
       received_since port (Received p from bytes ∷ es) ≡ 1 + received_since port es
   one_more p from bytes es same = ap (λ (b : Bool). (if b then 1 else 0) + received_since port es) (eq-eqb p port same)
 
-  no_more : (p : ℕ) (from : Endpoint) (bytes : List ℕ) (es : List Event) → (p ≡ port → ⊥) →
+  no_more : (p : ℕ) (from : Endpoint) (bytes : List ℕ) (es : List SocketEvent) → (p ≡ port → ⊥) →
       received_since port (Received p from bytes ∷ es) ≡ received_since port es
   no_more p from bytes es apart =
       ap (λ (b : Bool). (if b then 1 else 0) + received_since port es) (ne_eqb p port apart)

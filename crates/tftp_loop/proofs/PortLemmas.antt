@@ -20,11 +20,11 @@ use Rattle.tftp_server.specs.Steps.{TakesDatagramLent, TimesOutLent, DatagramFau
 use Rattle.tftp_server.specs.Shortage.{LacksMemoryAt}
 use Rattle.tftp_server.specs.declared.fault.ServerFault.{ServerFault}
 use Rattle.tftp_server.specs.declared.fault.ServerFault.TheVariants.{Memory}
-use Rattle.tftp_sockets.specs.Journal.{Event, replied, answered}
+use Rattle.tftp_sockets.specs.Journal.{SocketEvent, replied, answered}
 use Rattle.tftp_loop.specs.Steps.{AnswersDatagram, LosesDatagram, AnswersTimeout}
 
 -- the answer that an end lends, sent to the endpoint of the step, is the reply of its turn
-pub answered_lent : (port : ℕ) (reply : Option Reply) (to : Option Endpoint) (bytes : List ℕ) (events : List Event)
+pub answered_lent : (port : ℕ) (reply : Option Reply) (to : Option Endpoint) (bytes : List ℕ) (events : List SocketEvent)
     → to ≡ option_map (λ (r : Reply). r.to) reply → bytes ≡ reply_bytes reply →
     replied port to bytes events ≡ answered port reply events
 answered_lent port None to bytes events t b = ap (λ (o : Option Endpoint). replied port o bytes events) t
@@ -70,7 +70,7 @@ module _ {S F D : Type 0} (meaning : StoreMeaning S D) (sources : SourceMeaning 
       ap (at tid) takes.held ∙ set_found (is_at (nat_cmp tid)) takes.transfer takes.next old.held takes.found
 
   -- the transfer handled a datagram, and its answer was sent from the port
-  pub handled : (port : ℕ) (from : Endpoint) (bytes : List ℕ) (before after : List Event) (sent : List ℕ)
+  pub handled : (port : ℕ) (from : Endpoint) (bytes : List ℕ) (before after : List SocketEvent) (sent : List ℕ)
       → tid ≡ port → (takes : TakesDatagramLent meaning sources tid from bytes old new step outgoing)
       → new ≡ record old { store = new.store; held = new.held } → sent ≡ lent outgoing takes.next.end
       → after ≡ replied port step.to sent before → AnswersDatagram meaning sources port from bytes old new before after
@@ -127,7 +127,7 @@ module _ {S F D : Type 0} (tid : ℕ) (old new : ServerState S F D) (step : Step
       ap (at tid) t.held ∙ set_found (is_at (nat_cmp tid)) t.transfer (with_end t.end t.transfer) old.held t.found
 
   -- the transfer timed out, and its datagram was sent from the port
-  pub timed_out : (port : ℕ) (before after : List Event) (sent : List ℕ) → tid ≡ port →
+  pub timed_out : (port : ℕ) (before after : List SocketEvent) (sent : List ℕ) → tid ≡ port →
       (t : TimesOutLent tid old.held new.held step outgoing)
       → new ≡ record old { held = new.held } → sent ≡ lent outgoing t.end → after ≡ replied port step.to sent before →
       AnswersTimeout port old new before after step

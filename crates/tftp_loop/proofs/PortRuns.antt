@@ -7,8 +7,8 @@ use Rattle.tftp_ends.specs.declared.endpoint.Endpoint.{Endpoint}
 use Rattle.tftp_ends.specs.declared.record.Step.{Step}
 use Rattle.tftp_store.specs.Store.{StoreMeaning}
 use Rattle.tftp_server.specs.State.{ServerState, at, is_open}
-use Rattle.tftp_sockets.specs.Journal.{Event}
-use Rattle.tftp_sockets.specs.Journal.Event.{Received, Elapsed, Quiet}
+use Rattle.tftp_sockets.specs.Journal.{SocketEvent}
+use Rattle.tftp_sockets.specs.Journal.SocketEvent.{Received, Elapsed, Quiet}
 use Rattle.tftp_sockets.specs.Journal.QuietEvent.{Empty, Failed}
 use Rattle.tftp_sockets.specs.Quiet.{was_tried}
 use Rattle.tftp_loop.specs.Run.{Run}
@@ -20,34 +20,34 @@ use Rattle.tftp_loop.specs.Steps.PortStep.{A_failed_receive, A_timeout, A_missed
 use Rattle.tftp_loop.proofs.RunLemmas.{once, idle, onward}
 
 module _ {S F D : Type 0} (meaning : StoreMeaning S D) (sources : SourceMeaning F) (now : ℕ) where
-  abbrev pub here : ServerState S F D → Timer → List Event → PortState S F D
+  abbrev pub here : ServerState S F D → Timer → List SocketEvent → PortState S F D
   here server timer events = record { server = server; timer = timer; events = events }
 
   abbrev Runs : PortState S F D → PortState S F D → Type 0
   Runs = Run (PortStep meaning sources now)
 
   -- nothing was received
-  pub finds_nothing : (server : ServerState S F D) (timer timer' : Timer) (es es' : List Event) →
+  pub finds_nothing : (server : ServerState S F D) (timer timer' : Timer) (es es' : List SocketEvent) →
       es' ≡ Quiet (Empty timer.port) ∷ es → timer' ≡ marked_as false timer
       → Runs (here server timer es) (here server timer' es')
   finds_nothing server timer timer' es es' noted timed =
       once (Nothing_found (record { server = refl; timer = timed; events = noted }))
 
   -- a receive failed
-  pub fails_to_receive : (server : ServerState S F D) (timer timer' : Timer) (es es' : List Event) →
+  pub fails_to_receive : (server : ServerState S F D) (timer timer' : Timer) (es es' : List SocketEvent) →
       es' ≡ Quiet (Failed timer.port) ∷ es → timer' ≡ marked_as true timer
       → Runs (here server timer es) (here server timer' es')
   fails_to_receive server timer timer' es es' noted timed =
       once (A_failed_receive (record { server = refl; timer = timed; events = noted }))
 
   -- a datagram was received, handled and answered
-  pub receives : (old new : ServerState S F D) (timer timer' : Timer) (es before es' : List Event) (from : Endpoint)
+  pub receives : (old new : ServerState S F D) (timer timer' : Timer) (es before es' : List SocketEvent) (from : Endpoint)
       (bytes : List ℕ) (step : Step)
       → now ≤ timer.age_limit → timer.received < most_in_round → before ≡ Received timer.port from bytes ∷ es →
       AnswersDatagram meaning sources timer.port from bytes old new before es' step
       → timer' ≡ timer_after now step.progress timer → Runs (here old timer es) (here new timer' es')
   receives old new timer timer' es before es' from bytes step in_time few noted handles timed =
-      let At : List Event → Type 0 =
+      let At : List SocketEvent → Type 0 =
       λ before. AnswersDatagram meaning sources timer.port from bytes old new before es' step in
       once (A_datagram (record {
         few = few;
@@ -60,7 +60,7 @@ module _ {S F D : Type 0} (meaning : StoreMeaning S D) (sources : SourceMeaning 
       }))
 
   -- a datagram was received and lost
-  pub receives_lost : (old new : ServerState S F D) (timer timer' : Timer) (es before es' : List Event)
+  pub receives_lost : (old new : ServerState S F D) (timer timer' : Timer) (es before es' : List SocketEvent)
       (from : Endpoint) (bytes : List ℕ)
       → now ≤ timer.age_limit → timer.received < most_in_round → before ≡ Received timer.port from bytes ∷ es → LosesDatagram meaning sources timer.port from bytes old new →
       es' ≡ before → timer' ≡ timer_after now false timer
@@ -77,7 +77,7 @@ module _ {S F D : Type 0} (meaning : StoreMeaning S D) (sources : SourceMeaning 
       }))
 
   -- a datagram was received too late, and dropped
-  pub receives_late : (server : ServerState S F D) (timer timer' : Timer) (es before : List Event) (from : Endpoint)
+  pub receives_late : (server : ServerState S F D) (timer timer' : Timer) (es before : List SocketEvent) (from : Endpoint)
       (bytes : List ℕ) → timer.age_limit < now → timer.received < most_in_round
       → before ≡ Received timer.port from bytes ∷ es → timer' ≡ timer_after now false timer
       → Runs (here server timer es) (here server timer' before)
@@ -93,7 +93,7 @@ module _ {S F D : Type 0} (meaning : StoreMeaning S D) (sources : SourceMeaning 
       }))
 
   -- the file of the transfer worked, or did not
-  pub then_works : (start : PortState S F D) (old new : ServerState S F D) (timer : Timer) (es : List Event) (tid : ℕ)
+  pub then_works : (start : PortState S F D) (old new : ServerState S F D) (timer : Timer) (es : List SocketEvent) (tid : ℕ)
       → Runs start (here old timer es) → tid ≡ timer.port → (new ≡ old) ⊎ WorksAtPort meaning sources tid old new →
       Runs start (here new timer es)
   then_works start old new timer es tid r same (inl e) =
@@ -103,14 +103,14 @@ module _ {S F D : Type 0} (meaning : StoreMeaning S D) (sources : SourceMeaning 
       Then r (Work (record { works = subst At same w; timer = refl; events = refl }))
 
   -- a timeout was delivered, and what was sent again
-  pub elapses : (old new : ServerState S F D) (timer timer' : Timer) (es before es' : List Event) (tid : ℕ)
+  pub elapses : (old new : ServerState S F D) (timer timer' : Timer) (es before es' : List SocketEvent) (tid : ℕ)
       (step : Step)
       → timer.deadline ≤ now → was_tried timer.port es ≡ true → timer.look_at ≡ timer.deadline
       → before ≡ Elapsed tid now ∷ es → tid ≡ timer.port
       → AnswersTimeout timer.port old new before es' step → timer' ≡ restarted now timer
       → Runs (here old timer es) (here new timer' es')
   elapses old new timer timer' es before es' tid step due tried looked noted same times_out timed =
-      let At : List Event → Type 0 = λ before. AnswersTimeout timer.port old new before es' step in
+      let At : List SocketEvent → Type 0 = λ before. AnswersTimeout timer.port old new before es' step in
       once (A_timeout (record {
         step = step;
         due = due;
@@ -120,7 +120,7 @@ module _ {S F D : Type 0} (meaning : StoreMeaning S D) (sources : SourceMeaning 
         timer = timed;
       }))
 
-  pub elapses_missed : (old new : ServerState S F D) (timer timer' : Timer) (es before es' : List Event) (tid : ℕ)
+  pub elapses_missed : (old new : ServerState S F D) (timer timer' : Timer) (es before es' : List SocketEvent) (tid : ℕ)
       → timer.deadline ≤ now → timer.look_at ≡ timer.deadline → before ≡ Elapsed tid now ∷ es → tid ≡ timer.port
       → is_open (at timer.port old.held) ≡ false → new ≡ old → es' ≡ before
       → timer' ≡ restarted now timer → Runs (here old timer es) (here new timer' es')
@@ -135,7 +135,7 @@ module _ {S F D : Type 0} (meaning : StoreMeaning S D) (sources : SourceMeaning 
       }))
 
   -- a due timeout was delivered, whether or not a transfer is open
-  pub elapses_either : (old new : ServerState S F D) (timer timer' : Timer) (es before es' : List Event) (tid : ℕ)
+  pub elapses_either : (old new : ServerState S F D) (timer timer' : Timer) (es before es' : List SocketEvent) (tid : ℕ)
       (made : Option Step) (port : ℕ)
       → timer.deadline ≤ now → was_tried timer.port es ≡ true → timer.look_at ≡ timer.deadline
       → before ≡ Elapsed tid now ∷ es → tid ≡ timer.port → port ≡ timer.port

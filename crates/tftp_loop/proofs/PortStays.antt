@@ -13,8 +13,8 @@ use Rattle.tftp_server.specs.State.{TransferState, ServerState, at, with_next}
 use Rattle.tftp_server.specs.Steps.{KeepsHeld}
 use Rattle.tftp_server.specs.Work.{WorksAt}
 use Rattle.tftp_sockets.specs.Watch.{deadline_of}
-use Rattle.tftp_sockets.specs.Journal.{Event, answered, replied}
-use Rattle.tftp_sockets.specs.Journal.Event.{Received, Elapsed, Quiet}
+use Rattle.tftp_sockets.specs.Journal.{SocketEvent, answered, replied}
+use Rattle.tftp_sockets.specs.Journal.SocketEvent.{Received, Elapsed, Quiet}
 use Rattle.tftp_sockets.specs.Journal.QuietEvent.{Empty, Failed}
 use Rattle.tftp_sockets.specs.Quiet.{was_tried}
 use Rattle.tftp_loop.specs.Run.{Run}
@@ -34,27 +34,27 @@ or_left true b h = refl
 or_left false b h = absurd (let f : false ≡ true = h in cc)
 
 -- an answer is no wait
-pub answered_tries : (port : ℕ) (reply : Option Reply) (events : List Event) →
+pub answered_tries : (port : ℕ) (reply : Option Reply) (events : List SocketEvent) →
     KeepsTries events (answered port reply events)
 answered_tries port None events q h = h
 answered_tries port (Some reply) events q h = h
 
-pub replied_tries : (port : ℕ) (to : Option Endpoint) (bytes : List ℕ) (events : List Event) →
+pub replied_tries : (port : ℕ) (to : Option Endpoint) (bytes : List ℕ) (events : List SocketEvent) →
     KeepsTries events (replied port to bytes events)
 replied_tries port None bytes events q h = h
 replied_tries port (Some to) bytes events q h = h
 
-same_tries : (es fs : List Event) → fs ≡ es → KeepsTries es fs
+same_tries : (es fs : List SocketEvent) → fs ≡ es → KeepsTries es fs
 same_tries es fs e = subst (KeepsTries es) (sym e) (λ q h. h)
 
 pub own_receive : (port : ℕ) (before : Bool) → ((port == port) || before) ≡ true
 own_receive port before = or_left (port == port) before (eq-eqb port port refl)
 
 -- a port whose datagram was received was read
-pub received_tried : (port : ℕ) (from : Endpoint) (bytes : List ℕ) (es before after : List Event) →
+pub received_tried : (port : ℕ) (from : Endpoint) (bytes : List ℕ) (es before after : List SocketEvent) →
     before ≡ Received port from bytes ∷ es → KeepsTries before after → was_tried port after ≡ true
 received_tried port from bytes es before after noted tries =
-    tries port (subst (λ (fs : List Event). was_tried port fs ≡ true) (sym noted)
+    tries port (subst (λ (fs : List SocketEvent). was_tried port fs ≡ true) (sym noted)
     (own_receive port (was_tried port es)))
 
 module _ {F D : Type 0} where
@@ -133,12 +133,12 @@ module _ {S F D : Type 0} (meaning : StoreMeaning S D) (sources : SourceMeaning 
   looks_by timer after e h = subst Looks (sym e) h
 
   -- the port was read
-  read_by : (timer after : Timer) (es : List Event) → after.port ≡ timer.port → was_tried timer.port es ≡ true →
+  read_by : (timer after : Timer) (es : List SocketEvent) → after.port ≡ timer.port → was_tried timer.port es ≡ true →
       IsRead es after
   read_by timer after es same tried marked = subst (λ (p : ℕ). was_tried p es ≡ true) (sym same) tried
 
   -- a step that begins with a receive at its port
-  receives_at : (old new : PortState S F D) (event : Event)
+  receives_at : (old new : PortState S F D) (event : SocketEvent)
       → ((q : ℕ) → was_tried q (event ∷ old.events) ≡ ((old.timer.port == q) || was_tried q old.events))
       → KeepsTries (event ∷ old.events) new.events → new.timer.port ≡ old.timer.port
       → StaysHeld old.timer.port old.server.held new.server.held → (Looks old.timer → Looks new.timer) → StaysAt old new

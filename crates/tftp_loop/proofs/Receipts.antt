@@ -5,8 +5,8 @@ use Rattle.std.specs.Prelude.{All, Result, Ok, Err, IfErr, OnOk}
 use Rattle.tftp_file.specs.Source.{SourceMeaning}
 use Rattle.tftp_ends.specs.declared.endpoint.Endpoint.{Endpoint}
 use Rattle.tftp_store.specs.Store.{StoreMeaning}
-use Rattle.tftp_sockets.specs.Journal.{Event}
-use Rattle.tftp_sockets.specs.Journal.Event.{Received, Quiet}
+use Rattle.tftp_sockets.specs.Journal.{SocketEvent}
+use Rattle.tftp_sockets.specs.Journal.SocketEvent.{Received, Quiet}
 use Rattle.tftp_sockets.specs.Journal.QuietEvent.{Empty, Failed}
 use Rattle.tftp_sockets.specs.Quiet.{was_tried}
 use Rattle.tftp_loop.specs.declared.server_loop.ServerLoop.{ServerLoop}
@@ -171,7 +171,7 @@ module _ {S F D : Type 0} (meaning : StoreMeaning S D) (sources : SourceMeaning 
         then_few most handles (subst (λ (d : ServerLoop S F D). HasFew most d) (sym is) few)
 
   -- ---- a receive found nothing, or failed
-  looked_state : (before after : List ℕ) (old new : ServerLoop S F D) (ready : Bool) (event : Event) →
+  looked_state : (before after : List ℕ) (old new : ServerLoop S F D) (ready : Bool) (event : SocketEvent) →
       old.pending ≡ None
       → new ≡ record old { sockets = record old.sockets { is_ready = ready }; journal = new.journal }
       → new.journal.events ≡ event ∷ old.journal.events →

@@ -10,8 +10,8 @@ use Rattle.tftp_ends.specs.declared.endpoint.Endpoint.{Endpoint}
 use Rattle.tftp_store.specs.Store.{StoreMeaning}
 use Rattle.tftp_server.specs.State.{TransferState, ServerState, at, taken_of, with_new}
 use Rattle.tftp_server.specs.Request.{Came, Left, Nothing, Error_reply, A_transfer, left_by}
-use Rattle.tftp_sockets.specs.Journal.{Event, replied}
-use Rattle.tftp_sockets.specs.Journal.Event.{Received, Quiet}
+use Rattle.tftp_sockets.specs.Journal.{SocketEvent, replied}
+use Rattle.tftp_sockets.specs.Journal.SocketEvent.{Received, Quiet}
 use Rattle.tftp_sockets.specs.Journal.QuietEvent.{Empty, Failed}
 use Rattle.tftp_sockets.specs.Quiet.{is_among, was_tried}
 use Rattle.tftp_loop.specs.Run.{Run}
@@ -46,7 +46,7 @@ module _ {S F D : Type 0} (meaning : StoreMeaning S D) (sources : SourceMeaning 
       (was_tried q.timer.port q.events ≡ true)
       ⊎ ((q.timer.marked ≡ true) × (taken_of (at q.timer.port q.server.held) ≡ None))
 
-  tried_at : (old new : PortState S F D) → StaysAt meaning sources old new → (es : List Event) →
+  tried_at : (old new : PortState S F D) → StaysAt meaning sources old new → (es : List SocketEvent) →
       KeepsTries es new.events → was_tried old.timer.port es ≡ true → IsDueAt new
   tried_at old new stays es tries tried =
       inl (subst (λ (p : ℕ). was_tried p new.events ≡ true) (sym stays.port) (tries old.timer.port tried))
@@ -170,7 +170,7 @@ module _ {S F D : Type 0} (meaning : StoreMeaning S D) (sources : SourceMeaning 
             })
       ]
 
-  opens_due : (port now : ℕ) (longest : Option ℕ) (from : Endpoint) (tid : ℕ) (s : LoopState S F D) (es : List Event) (came : Came S F D) →
+  opens_due : (port now : ℕ) (longest : Option ℕ) (from : Endpoint) (tid : ℕ) (s : LoopState S F D) (es : List SocketEvent) (came : Came S F D) →
       at tid s.server.held ≡ None → AreKept s.server.held s.timers → IsDue port s
       → IsDue port (record s {
         server = (left_by came s.server from tid).new;
@@ -311,7 +311,7 @@ module _ {S F D : Type 0} (meaning : StoreMeaning S D) (sources : SourceMeaning 
             (sym (port_of d)) ∙ (waits.may.transfers has.0 d within).not_closed);
       })
 
-  pub reads_what_is_reported : (config : LoopConfig) (requests : ℕ) (server : ServerState S F D) (before : List Event)
+  pub reads_what_is_reported : (config : LoopConfig) (requests : ℕ) (server : ServerState S F D) (before : List SocketEvent)
       (old woken last new : LoopState S F D)
       → Run (LoopStep meaning sources) (at_start config requests server before) old →
       (waits : Waits meaning sources old woken) → Run (GoesOn meaning sources) woken last →

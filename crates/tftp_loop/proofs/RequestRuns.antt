@@ -15,8 +15,8 @@ use Rattle.tftp_server.specs.CallersFiles.{refusal}
 use Rattle.tftp_ends.specs.declared.error_reply.ErrorReply.{ErrorReply}
 use Rattle.tftp_ends.specs.Step.{error_bytes}
 use Rattle.tftp_server.specs.declared.opened.Opened.{Opened}
-use Rattle.tftp_sockets.specs.Journal.{Event, replied}
-use Rattle.tftp_sockets.specs.Journal.Event.{Received, Quiet}
+use Rattle.tftp_sockets.specs.Journal.{SocketEvent, replied}
+use Rattle.tftp_sockets.specs.Journal.SocketEvent.{Received, Quiet}
 use Rattle.tftp_sockets.specs.Journal.QuietEvent.{New_socket, Out_of_memory}
 use Rattle.tftp_loop.specs.PortOrder.{IsOneOf}
 use Rattle.tftp_loop.specs.PortPool.{Binds, TriesInVain, TriesPorts}
@@ -134,23 +134,23 @@ module _ {S F D : Type 0} (meaning : StoreMeaning S D) (sources : SourceMeaning 
   -- ports were tried for the datagram
   module _ (s : LoopState S F D) (from : Endpoint) (bytes : List ℕ) (pending : s.pending ≡ Some (from, bytes))
       (opens : MayOpen s.server from bytes) where
-    pub tried_as : {es fs : List Event} → TriesPorts s.range es fs →
+    pub tried_as : {es fs : List SocketEvent} → TriesPorts s.range es fs →
         Run (Prepares meaning sources) (record s { events = es }) (record s { events = fs })
     tried_as Start = Start
     tried_as (Then {middle} {last} run tries) =
         Then (tried_as run)
         (noted_as (record s { events = middle }) (record s { events = last }) from bytes pending
         (Found_no_port opens tries.port tries.within)
-        (ap (λ (es : List Event). record s { events = es }) tries.is))
+        (ap (λ (es : List SocketEvent). record s { events = es }) tries.is))
 
     -- and a new socket is bound
-    pub bound_as : (es fs : List Event) (port : ℕ) → IsOneOf s.range port → Binds s.range es fs port →
+    pub bound_as : (es fs : List SocketEvent) (port : ℕ) → IsOneOf s.range port → Binds s.range es fs port →
         Run (Prepares meaning sources) (record s { events = es }) (record s { events = fs })
     bound_as es fs port within binds =
         Then (tried_as binds.earlier)
         (noted_as (record s { events = binds.between }) (record s { events = fs }) from bytes pending
         (Found_port opens port within)
-        (ap (λ (gs : List Event). record s { events = gs }) binds.is))
+        (ap (λ (gs : List SocketEvent). record s { events = gs }) binds.is))
 
   -- the datagram was lost, and nothing changed
   pub loses_as : (s t : LoopState S F D) (from : Endpoint) (bytes : List ℕ) → s.pending ≡ Some (from, bytes) →
@@ -173,7 +173,7 @@ module _ {S F D : Type 0} (meaning : StoreMeaning S D) (sources : SourceMeaning 
       (loses_as m t from bytes pending (No_memory_to_open lacks (record { earlier = s.events; is = refl })) is)
 
   -- no port was found, and the datagram was lost
-  pub tries_in_vain : (s t : LoopState S F D) (from : Endpoint) (bytes : List ℕ) (fs : List Event) →
+  pub tries_in_vain : (s t : LoopState S F D) (from : Endpoint) (bytes : List ℕ) (fs : List SocketEvent) →
       s.pending ≡ Some (from, bytes) → MayOpen s.server from bytes
       → TriesInVain s.range s.events fs → t ≡ record s { pending = None; events = fs } → Concludes meaning sources s t
   tries_in_vain s t from bytes fs pending opens vain is =
@@ -183,7 +183,7 @@ module _ {S F D : Type 0} (meaning : StoreMeaning S D) (sources : SourceMeaning 
       (No_port opens vain.last.port (record { earlier = vain.between; is = vain.last.is })) is)
 
   -- a new socket is at a port that is taken, and the datagram was lost
-  pub binds_in_vain : (s t : LoopState S F D) (from : Endpoint) (bytes : List ℕ) (fs : List Event) (port : ℕ) →
+  pub binds_in_vain : (s t : LoopState S F D) (from : Endpoint) (bytes : List ℕ) (fs : List SocketEvent) (port : ℕ) →
       s.pending ≡ Some (from, bytes) → MayOpen s.server from bytes → IsOneOf s.range port
       → Binds s.range s.events fs port → is_taken s port ≡ true
       → t ≡ record s { pending = None; events = fs } → Concludes meaning sources s t

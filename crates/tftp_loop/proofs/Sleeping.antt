@@ -7,8 +7,8 @@ use Rattle.tftp_file.specs.Source.{SourceMeaning}
 use Rattle.tftp_store.specs.Store.{StoreMeaning}
 use Rattle.tftp_server.specs.State.{ServerState}
 use Rattle.tftp_sockets.specs.declared.watch.TheConstants.{LONGEST_WAIT}
-use Rattle.tftp_sockets.specs.Journal.{Event}
-use Rattle.tftp_sockets.specs.Journal.Event.{Watched}
+use Rattle.tftp_sockets.specs.Journal.{SocketEvent}
+use Rattle.tftp_sockets.specs.Journal.SocketEvent.{Watched}
 use Rattle.tftp_sockets.specs.Quiet.{is_among, is_drained}
 use Rattle.tftp_loop.specs.Run.{Run}
 use Rattle.tftp_loop.specs.Run.Run.{Start, Then}
@@ -108,7 +108,7 @@ module _ {S F D : Type 0} (meaning : StoreMeaning S D) (sources : SourceMeaning 
   step_kept s t (Drain_begun d) kept =
       (work_keeps meaning sources s t (Then Start (Work_by (Drain_begun d) tt))).kept kept
 
-  pub kept_along : (config : LoopConfig) (port : ℕ) (server : ServerState S F D) (before : List Event)
+  pub kept_along : (config : LoopConfig) (port : ℕ) (server : ServerState S F D) (before : List SocketEvent)
       (old : LoopState S F D) → Run (LoopStep meaning sources) (at_start config port server before) old
       → AreKept old.server.held old.timers
   kept_along config port server before old Start =
@@ -116,7 +116,7 @@ module _ {S F D : Type 0} (meaning : StoreMeaning S D) (sources : SourceMeaning 
   kept_along config port server before old (Then {middle} run does) =
       step_kept middle old does (kept_along config port server before middle run)
 
-  quiet_along : (config : LoopConfig) (port : ℕ) (server : ServerState S F D) (before : List Event)
+  quiet_along : (config : LoopConfig) (port : ℕ) (server : ServerState S F D) (before : List SocketEvent)
       (old : LoopState S F D) → Run (LoopStep meaning sources) (at_start config port server before) old
       → HasItsOwnPort meaning sources (at_start config port server before) old → IsQuiet old
   quiet_along config port server before old Start own = record {
@@ -180,7 +180,7 @@ look_longest now [] = omega arith
 look_longest now (timer ∷ timers) = let rest = look_longest now timers in omega (arith, rest)
 
 module _ {S F D : Type 0} (meaning : StoreMeaning S D) (sources : SourceMeaning F) where
-  pub rests_before_it_sleeps : (config : LoopConfig) (port : ℕ) (server : ServerState S F D) (before : List Event)
+  pub rests_before_it_sleeps : (config : LoopConfig) (port : ℕ) (server : ServerState S F D) (before : List SocketEvent)
       (old new : LoopState S F D) → Run (LoopStep meaning sources) (at_start config port server before) old
       → HasItsOwnPort meaning sources (at_start config port server before) old →
       (waits : Waits meaning sources old new) → 1 ≤ waits.millis →

@@ -3,8 +3,8 @@ use Rattle.std.proofs.Common.{arith, ◌≡◌, ◌≤◌, ◌+◌, ℕ, List, �
 use Rattle.tftp_file.specs.Source.{SourceMeaning}
 use Rattle.tftp_store.specs.Store.{StoreMeaning}
 use Rattle.tftp_sockets.specs.declared.journal.Journal.{Journal}
-use Rattle.tftp_sockets.specs.Journal.{Event, QuietEvent}
-use Rattle.tftp_sockets.specs.Journal.Event.{Elapsed, Received, Quiet}
+use Rattle.tftp_sockets.specs.Journal.{SocketEvent, QuietEvent}
+use Rattle.tftp_sockets.specs.Journal.SocketEvent.{Elapsed, Received, Quiet}
 use Rattle.tftp_loop.specs.declared.datagram.Datagram.{Datagram}
 use Rattle.tftp_loop.specs.declared.port_turn.PortTurn.{PortTurn}
 use Rattle.tftp_loop.specs.Fair.{ReceivesAtMost, received_in}
@@ -15,12 +15,12 @@ use Rattle.tftp_loop.specs.Steps.{PortStep}
 use Rattle.tftp_loop.proofs.RunLemmas.{onward}
 
 -- an event that is no datagram
-pub receives_none : (event : QuietEvent) (most : ℕ) (es es' : List Event) → es' ≡ Quiet event ∷ es →
+pub receives_none : (event : QuietEvent) (most : ℕ) (es es' : List SocketEvent) → es' ≡ Quiet event ∷ es →
     ReceivesAtMost most es es'
 receives_none event most es es' noted =
     let same : received_in es' ≡ received_in es = ap received_in noted in omega (arith, same)
 
-pub elapses_none : (port time : ℕ) (es before es' : List Event) → before ≡ Elapsed port time ∷ es →
+pub elapses_none : (port time : ℕ) (es before es' : List SocketEvent) → before ≡ Elapsed port time ∷ es →
     ReceivesAtMost 0 before es' → ReceivesAtMost 0 es es'
 elapses_none port time es before es' noted none =
     let same : received_in before ≡ received_in es = ap received_in noted in omega (arith, same, none)

@@ -12,8 +12,8 @@ use Rattle.tftp_server.specs.State.{TransferState, ServerState, at, taken_of}
 use Rattle.tftp_sockets.specs.Watch.{last_moment, wait_of}
 use Rattle.tftp_sockets.specs.declared.watch.TheConstants.{LONGEST_WAIT}
 use Rattle.tftp_sockets.specs.declared.port.Port.{Port}
-use Rattle.tftp_sockets.specs.Journal.{Event}
-use Rattle.tftp_sockets.specs.Journal.Event.{Watched, Quiet}
+use Rattle.tftp_sockets.specs.Journal.{SocketEvent}
+use Rattle.tftp_sockets.specs.Journal.SocketEvent.{Watched, Quiet}
 use Rattle.tftp_sockets.specs.Journal.QuietEvent.{Slept, Woke}
 use Rattle.tftp_sockets.specs.Quiet.{is_among}
 use Rattle.tftp_loop.specs.declared.transfer_port.TransferSocket.{TransferSocket}
@@ -295,8 +295,8 @@ module _ {S F D : Type 0} (meaning : StoreMeaning S D) (sources : SourceMeaning 
             (woken.drain ∙ (slept.drain ∙ reads.drain))
             (woken.left ∙ (slept.left ∙ reads.left))
             (woken.rounds ∙ ap (λ (n : ℕ). n - 1) (slept.rounds ∙ reads.rounds))
-            (woken.events ∙ ap (λ (es : List Event). Watched new.sockets.watch.now ∷ es)
-            (slept.events ∙ ap (λ (es : List Event). Quiet (Woke ports) ∷ Quiet (Slept millis) ∷ es) reads.events));
+            (woken.events ∙ ap (λ (es : List SocketEvent). Watched new.sockets.watch.now ∷ es)
+            (slept.events ∙ ap (λ (es : List SocketEvent). Quiet (Woke ports) ∷ Quiet (Slept millis) ∷ es) reads.events));
       }))
 
   -- the clock leaves what is settled

@@ -13,8 +13,8 @@ use Rattle.tftp_sockets.specs.Watch.{last_moment}
 use Rattle.tftp_sockets.specs.declared.watch.TheConstants.{LONGEST_WAIT}
 use Rattle.tftp_lines.specs.Printed.{line_text}
 use Rattle.tftp_lines.specs.declared.printed.Printed.TheVariants.{Closed}
-use Rattle.tftp_sockets.specs.Journal.{Event}
-use Rattle.tftp_sockets.specs.Journal.Event.{Printed}
+use Rattle.tftp_sockets.specs.Journal.{SocketEvent}
+use Rattle.tftp_sockets.specs.Journal.SocketEvent.{Printed}
 use Rattle.tftp_loop.specs.Run.{Run}
 use Rattle.tftp_loop.specs.Steps.{Timer, PortState, LoopState, PortStep, LoopStep, Waits}
 use Rattle.tftp_loop.specs.Steps.PortStep.{A_datagram, A_lost_datagram}
@@ -37,9 +37,9 @@ abbrev pub counted_from : ℕ → Timer → ℕ
 counted_from now timer = if timer.provisional then now + LONGEST_WAIT else now
 
 -- the line of a transfer that closed was printed between two journals
-abbrev pub PrintsClose : ℕ → ℕ → Outcome → List Event → List Event → Type 0
+abbrev pub PrintsClose : ℕ → ℕ → Outcome → List SocketEvent → List SocketEvent → Type 0
 PrintsClose port peer outcome before after =
-    (later : List Event) × (earlier : List Event)
+    (later : List SocketEvent) × (earlier : List SocketEvent)
     × (after ≡ later ++ Printed (line_text (Closed port peer outcome)) ∷ (earlier ++ before))
 
 -- how a transfer closes that receives nothing: it times out, unless it was complete or had closed

@@ -3,15 +3,15 @@
 use Rattle.std.specs.Prelude.{ℕ, ◌≡◌, ◌≢◌, ◌≤◌, ◌+◌, ◌*◌, ◌==◌, if◌then◌else◌, List, [], ◌∷◌, All}
 use Rattle.tftp_file.specs.Source.{SourceMeaning}
 use Rattle.tftp_store.specs.Store.{StoreMeaning}
-use Rattle.tftp_sockets.specs.Journal.{Event, QuietEvent}
-use Rattle.tftp_sockets.specs.Journal.Event.{Received, Sent, Watched, Elapsed, Printed, Quiet}
+use Rattle.tftp_sockets.specs.Journal.{SocketEvent, QuietEvent}
+use Rattle.tftp_sockets.specs.Journal.SocketEvent.{Received, Sent, Watched, Elapsed, Printed, Quiet}
 use Rattle.tftp_sockets.specs.Journal.QuietEvent.{Empty, Failed, New_socket, No_socket, Out_of_memory}
 use Rattle.tftp_sockets.specs.Journal.QuietEvent.{Slept, Woke}
 use Rattle.tftp_loop.specs.Run.{Run}
 use Rattle.tftp_loop.specs.Steps.{Timer, PortState, LoopState, PortStep, LoopStep, most_in_round}
 
 -- how many datagrams were received
-abbrev pub received_in : List Event → ℕ
+abbrev pub received_in : List SocketEvent → ℕ
 received_in [] = 0
 received_in (Received port from bytes ∷ events) = 1 + received_in events
 received_in (Sent port to bytes ∷ events) = received_in events
@@ -21,7 +21,7 @@ received_in (Printed line ∷ events) = received_in events
 received_in (Quiet event ∷ events) = received_in events
 
 -- at most so many datagrams were received from one journal to the other
-abbrev pub ReceivesAtMost : ℕ → List Event → List Event → Type 0
+abbrev pub ReceivesAtMost : ℕ → List SocketEvent → List SocketEvent → Type 0
 ReceivesAtMost most before after = received_in after ≤ most + received_in before
 
 -- a count since the newest wait, after this event
@@ -35,7 +35,7 @@ since_by (New_socket port) before = before
 since_by Out_of_memory before = before
 
 -- how many datagrams were received at the port since the newest wait
-abbrev pub received_since : ℕ → List Event → ℕ
+abbrev pub received_since : ℕ → List SocketEvent → ℕ
 received_since port [] = 0
 received_since port (Received p from bytes ∷ events) =
     (if p == port then 1 else 0) + received_since port events

@@ -10,8 +10,8 @@ use Rattle.tftp_server.specs.Request.{Admits, AdmissionState}
 use Rattle.tftp_server.specs.declared.opened.Opened.{Opened}
 use Rattle.tftp_sockets.specs.declared.port.Port.{Port}
 use Rattle.tftp_sockets.specs.declared.journal.Journal.{Journal}
-use Rattle.tftp_sockets.specs.Journal.{Event, replied}
-use Rattle.tftp_sockets.specs.Journal.Event.{Printed}
+use Rattle.tftp_sockets.specs.Journal.{SocketEvent, replied}
+use Rattle.tftp_sockets.specs.Journal.SocketEvent.{Printed}
 use Rattle.tftp_ends.specs.declared.outcome.Outcome.{Outcome}
 use Rattle.tftp_lines.specs.Printed.{line_text}
 use Rattle.tftp_lines.specs.declared.printed.Printed.TheVariants.{Closed}
@@ -57,34 +57,34 @@ module _ {S F D : Type 0} where
       Run (PortStep meaning sources now) (at_port old port before) (at_port new port' after)
 
 -- the journal after the close of a transfer with this outcome, if it has one
-abbrev pub close_printed : ℕ → Endpoint → Option Outcome → List Event → List Event
+abbrev pub close_printed : ℕ → Endpoint → Option Outcome → List SocketEvent → List SocketEvent
 close_printed port peer None events = events
 close_printed port peer (Some outcome) events =
     Printed (line_text (Closed port peer.port outcome)) ∷ events
 
 -- the journal after the close of a transfer with this record, if there is one
-abbrev pub close_reported : ℕ → Endpoint → Option Record → List Event → List Event
+abbrev pub close_reported : ℕ → Endpoint → Option Record → List SocketEvent → List SocketEvent
 close_reported port peer None events = events
 close_reported port peer (Some r) events = close_printed port peer r.outcome events
 
 -- a line could not be printed; its event is the last
-pub record FailsToPrint (fault : LoopFault) (events : List Event) : Type 0 where
+pub record FailsToPrint (fault : LoopFault) (events : List SocketEvent) : Type 0 where
   pub is_output : fault ≡ faults.Output
   pub line : List ℕ
-  pub earlier : List Event
+  pub earlier : List SocketEvent
   pub last : events ≡ Printed line ∷ earlier
 
 -- the request port could not be bound, and nothing was done
-abbrev pub FailsToBind : LoopFault → List Event → List Event → Type 0
+abbrev pub FailsToBind : LoopFault → List SocketEvent → List SocketEvent → Type 0
 FailsToBind (faults.Socket reason) before after = after ≡ before
 FailsToBind _ before after = ⊥
 
 -- why a running server stops: nobody reads what it prints, or a line is not printed
-abbrev pub StopsRunning : LoopFault → List Event → Type 0
+abbrev pub StopsRunning : LoopFault → List SocketEvent → Type 0
 StopsRunning fault events = (fault ≡ faults.NoReader) ⊎ FailsToPrint fault events
 
 -- why a server whose port is bound stops: no memory for its buffers, or as a running one
-abbrev pub StopsServing : LoopFault → List Event → Type 0
+abbrev pub StopsServing : LoopFault → List SocketEvent → Type 0
 StopsServing fault events = (fault ≡ faults.Memory) ⊎ StopsRunning fault events
 
 -- the pending datagram, from its length and the buffer that it is in

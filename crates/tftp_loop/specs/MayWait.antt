@@ -12,8 +12,8 @@ use Rattle.tftp_server.specs.State.{TransferState, at, taken_of}
 use Rattle.tftp_sockets.specs.Watch.{deadline_of, last_moment, wait_of}
 use Rattle.tftp_sockets.specs.declared.watch.TheConstants.{LONGEST_WAIT}
 use Rattle.tftp_sockets.specs.declared.port.Port.{Port}
-use Rattle.tftp_sockets.specs.Journal.{Event}
-use Rattle.tftp_sockets.specs.Journal.Event.{Quiet, Watched}
+use Rattle.tftp_sockets.specs.Journal.{SocketEvent}
+use Rattle.tftp_sockets.specs.Journal.SocketEvent.{Quiet, Watched}
 use Rattle.tftp_sockets.specs.Journal.QuietEvent.{Slept, Woke}
 use Rattle.tftp_sockets.specs.Quiet.{is_among, was_tried}
 use Rattle.tftp_loop.specs.declared.server_loop.ServerLoop.{ServerLoop}
@@ -48,7 +48,7 @@ abbrev pub ReceivedFew : ℕ → Timer → Type 0
 ReceivedFew most timer = timer.received ≤ most
 
 -- the port is not marked, or was read since the last wait
-abbrev pub IsRead : List Event → Timer → Type 0
+abbrev pub IsRead : List SocketEvent → Timer → Type 0
 IsRead events timer = timer.marked ≡ true → was_tried timer.port events ≡ true
 
 -- the timer is not due, or started at this moment
@@ -122,7 +122,7 @@ module _ {F D : Type 0} where
 -- ---- the state
 
 -- what was read stays so until the next wait
-abbrev pub KeepsTries : List Event → List Event → Type 0
+abbrev pub KeepsTries : List SocketEvent → List SocketEvent → Type 0
 KeepsTries before after = (port : ℕ) → was_tried port before ≡ true → was_tried port after ≡ true
 
 module _ {S F D : Type 0} where

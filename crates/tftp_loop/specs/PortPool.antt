@@ -1,8 +1,8 @@
 -- The ports that transfers are bound to (RFC 1350, section 4).
 use Rattle.std.specs.Prelude.{ℕ, ◌≡◌, List, ◌∷◌, Option, Some, None, IfSome, Result, Ok, Err}
 use Rattle.std.specs.Prelude.{option_map}
-use Rattle.tftp_sockets.specs.Journal.{Event}
-use Rattle.tftp_sockets.specs.Journal.Event.{Quiet}
+use Rattle.tftp_sockets.specs.Journal.{SocketEvent}
+use Rattle.tftp_sockets.specs.Journal.SocketEvent.{Quiet}
 use Rattle.tftp_sockets.specs.Journal.QuietEvent.{New_socket, No_socket}
 use Rattle.tftp_sockets.specs.declared.sockets.ServerSocket.{ServerSocket}
 use Rattle.tftp_loop.specs.PortOrder.{HasPorts, IsOneOf}
@@ -32,34 +32,34 @@ pub record IsPool (ip : List ℕ) (order : Option PortOrder)
 
 -- from one journal to the other no socket could be bound to a port, one of the range, if there is
 -- one
-pub record TriesPort (range : Option PortRange) (before after : List Event) : Type 0 where
+pub record TriesPort (range : Option PortRange) (before after : List SocketEvent) : Type 0 where
   pub port : ℕ
   pub within : IsOneOf range port
   pub is : after ≡ Quiet (No_socket port) ∷ before
 
 -- the same of zero or more ports
-abbrev pub TriesPorts : Option PortRange → List Event → List Event → Type 0
+abbrev pub TriesPorts : Option PortRange → List SocketEvent → List SocketEvent → Type 0
 TriesPorts range = Run (TriesPort range)
 
 -- and of one at least
-pub record TriesInVain (range : Option PortRange) (before after : List Event) : Type 0 where
-  pub between : List Event
+pub record TriesInVain (range : Option PortRange) (before after : List SocketEvent) : Type 0 where
+  pub between : List SocketEvent
   pub earlier : TriesPorts range before between
   pub last : TriesPort range between after
 
 -- from one journal to the other a new socket is bound to this port, after others were tried
-pub record Binds (range : Option PortRange) (before after : List Event) (port : ℕ) : Type 0 where
-  pub between : List Event
+pub record Binds (range : Option PortRange) (before after : List SocketEvent) (port : ℕ) : Type 0 where
+  pub between : List SocketEvent
   pub earlier : TriesPorts range before between
   pub is : after ≡ Quiet (New_socket port) ∷ between
 
 -- the events of a call that returns a new socket, or none
-abbrev pub Tries : Option PortRange → List Event → List Event → Option ServerSocket → Type 0
+abbrev pub Tries : Option PortRange → List SocketEvent → List SocketEvent → Option ServerSocket → Type 0
 Tries range before after None = TriesInVain range before after
 Tries range before after (Some socket) = Binds range before after socket.port
 
 -- the journal after a bind to the port, which may be in use
-abbrev pub after_bind : {E : Type 0} → ℕ → Result (Option ServerSocket) E → List Event → List Event
+abbrev pub after_bind : {E : Type 0} → ℕ → Result (Option ServerSocket) E → List SocketEvent → List SocketEvent
 after_bind port (Ok (Some socket)) events = Quiet (New_socket socket.port) ∷ events
 after_bind port (Ok None) events = Quiet (No_socket port) ∷ events
 after_bind port (Err error) events = Quiet (No_socket port) ∷ events

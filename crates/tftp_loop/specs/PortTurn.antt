@@ -3,8 +3,8 @@ use Rattle.std.specs.Prelude.{ℕ, ◌≡◌, true, List, ◌∷◌, IsSome}
 use Rattle.tftp_file.specs.Source.{SourceMeaning}
 use Rattle.tftp_store.specs.Store.{StoreMeaning}
 use Rattle.tftp_server.specs.State.{at, taken_of}
-use Rattle.tftp_sockets.specs.Journal.{Event}
-use Rattle.tftp_sockets.specs.Journal.Event.{Received}
+use Rattle.tftp_sockets.specs.Journal.{SocketEvent}
+use Rattle.tftp_sockets.specs.Journal.SocketEvent.{Received}
 use Rattle.tftp_sockets.specs.Quiet.{was_tried}
 use Rattle.tftp_loop.specs.declared.datagram.Datagram.{Datagram}
 use Rattle.tftp_loop.specs.declared.port_turn.PortStatus.{PortStatus}
@@ -50,7 +50,7 @@ module _ {S F D : Type 0} where
     -- a datagram that was received last is handled or lost, and its answer is sent
     pub record AnswersReceived (datagram : Datagram) (old new : PortTurn S F D) : Type 0 where
       pub same : IsSameTurn old new
-      pub serves : (events : List Event)
+      pub serves : (events : List SocketEvent)
           → old.journal.now.events
           ≡ Received old.port.now.socket.udp.port datagram.from datagram.bytes.now ∷ events
           → Run (PortStep meaning sources old.now)

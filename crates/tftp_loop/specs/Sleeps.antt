@@ -4,7 +4,7 @@ use Rattle.tftp_file.specs.Source.{SourceMeaning}
 use Rattle.tftp_store.specs.Store.{StoreMeaning}
 use Rattle.tftp_server.specs.State.{ServerState}
 use Rattle.tftp_sockets.specs.declared.watch.TheConstants.{LONGEST_WAIT}
-use Rattle.tftp_sockets.specs.Journal.{Event}
+use Rattle.tftp_sockets.specs.Journal.{SocketEvent}
 use Rattle.tftp_sockets.specs.Quiet.{is_drained}
 use Rattle.tftp_loop.specs.Run.{Run}
 use Rattle.tftp_loop.specs.declared.serving.LoopConfig.{LoopConfig}
@@ -13,7 +13,7 @@ use Rattle.tftp_loop.specs.Steps.{Timer, LoopState, LoopStep, Waits, at_start, i
 -- a port of a transfer is not marked, and a wait of so long is over when it is read again, which is
 -- at its deadline at the latest; the last event of the port is that a receive found nothing there,
 -- or else the port is left for a while, and read again soon
-pub record Rests (events : List Event) (now millis : ℕ) (timer : Timer) : Type 0 where
+pub record Rests (events : List SocketEvent) (now millis : ℕ) (timer : Timer) : Type 0 where
   pub unmarked : timer.marked ≡ false
   pub drained : (is_drained timer.port events ≡ true) ⊎ (timer.look_at ≤ now + look_after)
   pub ends : now + millis ≤ timer.look_at
@@ -38,7 +38,7 @@ module _ {S F D : Type 0} (meaning : StoreMeaning S D) (sources : SourceMeaning 
   -- at each wait of a run that takes time, once the clock was read before it
   abbrev pub RestsBeforeItSleeps : Type 0
   RestsBeforeItSleeps =
-      (config : LoopConfig) (port : ℕ) (server : ServerState S F D) (before : List Event)
+      (config : LoopConfig) (port : ℕ) (server : ServerState S F D) (before : List SocketEvent)
       (old new : LoopState S F D)
       → Run (LoopStep meaning sources) (at_start config port server before) old
       → HasItsOwnPort (at_start config port server before) old

@@ -27,8 +27,8 @@ use Rattle.tftp_sockets.specs.Watch.{deadline_of, last_moment}
 use Rattle.tftp_sockets.specs.declared.watch.TheConstants.{LONGEST_WAIT}
 use Rattle.tftp_lines.specs.Printed.{line_text}
 use Rattle.tftp_lines.specs.declared.printed.Printed.TheVariants.{Closed}
-use Rattle.tftp_sockets.specs.Journal.{Event, QuietEvent, replied, answered}
-use Rattle.tftp_sockets.specs.Journal.Event.{Received, Watched, Elapsed, Printed, Quiet}
+use Rattle.tftp_sockets.specs.Journal.{SocketEvent, QuietEvent, replied, answered}
+use Rattle.tftp_sockets.specs.Journal.SocketEvent.{Received, Watched, Elapsed, Printed, Quiet}
 use Rattle.tftp_sockets.specs.Journal.QuietEvent.{Empty, Failed, New_socket, No_socket, Out_of_memory}
 use Rattle.tftp_sockets.specs.Journal.QuietEvent.{Slept, Woke}
 use Rattle.tftp_sockets.specs.Quiet.{has_woken, is_among, was_tried}
@@ -65,7 +65,7 @@ pub record Timer : Type 0 where
 pub record PortState (S F D : Type 0) : Type 0 where
   pub server : ServerState S F D
   pub timer : Timer
-  pub events : List Event
+  pub events : List SocketEvent
 
 -- a server at its ports
 pub record LoopState (S F D : Type 0) : Type 0 where
@@ -96,7 +96,7 @@ pub record LoopState (S F D : Type 0) : Type 0 where
   pub left : ℕ
   pub rounds : ℕ
   -- the last event first
-  pub events : List Event
+  pub events : List SocketEvent
 
 -- whether a server drains: it takes no new request
 abbrev pub is_draining : Drain → Bool
@@ -199,7 +199,7 @@ marked_by ports timer =
 module _ {S F D : Type 0} where
   -- the transfer at the port makes the step of a timeout, and its datagram is sent at once, from
   -- that port to the endpoint that the step returns (RFC 1350, section 2)
-  pub record AnswersTimeout (port : ℕ) (old new : ServerState S F D) (before after : List Event)
+  pub record AnswersTimeout (port : ℕ) (old new : ServerState S F D) (before after : List SocketEvent)
       (step : Step) : Type 0 where
     pub outgoing : Outgoing
     pub times_out : TimesOutLent port old.held new.held step outgoing
@@ -210,7 +210,7 @@ module _ {S F D : Type 0} (meaning : StoreMeaning S D) (sources : SourceMeaning 
   -- the transfer at the port handles a datagram, and the answer is sent at once, from that port to
   -- the endpoint that the step returns (RFC 1350, section 4)
   pub record AnswersDatagram (port : ℕ) (from : Endpoint) (bytes : List ℕ)
-      (old new : ServerState S F D) (before after : List Event) (step : Step) : Type 0 where
+      (old new : ServerState S F D) (before after : List SocketEvent) (step : Step) : Type 0 where
     pub outgoing : Outgoing
     pub takes : TakesDatagramLent meaning sources port from bytes old new step outgoing
     pub config : new.config ≡ old.config
@@ -356,8 +356,8 @@ module _ {S F D : Type 0} where
 -- ---- a datagram of the request port
 
 -- the last event is this one
-pub record IsLast (event : QuietEvent) (events : List Event) : Type 0 where
-  pub earlier : List Event
+pub record IsLast (event : QuietEvent) (events : List SocketEvent) : Type 0 where
+  pub earlier : List SocketEvent
   pub is : events ≡ Quiet event ∷ earlier
 
 module _ {S F D : Type 0} where
@@ -633,7 +633,7 @@ module _ {S F D : Type 0} (meaning : StoreMeaning S D) (sources : SourceMeaning 
 -- a server of this configuration with a bound request port that has received nothing: its transfers
 -- have ports of the range, if there is one, and it ends after so many closed transfers or waits,
 -- or once it has drained, if it awaits a signal for that
-abbrev pub at_start : {S F D : Type 0} → LoopConfig → ℕ → ServerState S F D → List Event
+abbrev pub at_start : {S F D : Type 0} → LoopConfig → ℕ → ServerState S F D → List SocketEvent
     → LoopState S F D
 at_start config requests server events =
     record {

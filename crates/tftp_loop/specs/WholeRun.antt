@@ -6,8 +6,8 @@ use Rattle.tftp_server.specs.State.{ServerState}
 use Rattle.tftp_lines.specs.Printed.{line_text}
 use Rattle.tftp_lines.specs.declared.printed.Printed.TheVariants.{Listening}
 use Rattle.tftp_sockets.specs.Bound.{IsBoundTo}
-use Rattle.tftp_sockets.specs.Journal.{Event}
-use Rattle.tftp_sockets.specs.Journal.Event.{Printed}
+use Rattle.tftp_sockets.specs.Journal.{SocketEvent}
+use Rattle.tftp_sockets.specs.Journal.SocketEvent.{Printed}
 use Rattle.tftp_loop.specs.Run.{Run}
 use Rattle.tftp_loop.specs.Steps.{LoopStep, LoopState, at_start}
 use Rattle.tftp_loop.specs.LoopStates.{FailsToBind, StopsServing}
@@ -16,7 +16,7 @@ use Rattle.tftp_loop.specs.declared.serving.LoopConfig.{LoopConfig}
 use Rattle.tftp_loop.specs.declared.serving.LoopFault.{LoopFault}
 
 -- the journal after the line of the request port was printed
-abbrev pub listening : List ℕ → ℕ → List Event → List Event
+abbrev pub listening : List ℕ → ℕ → List SocketEvent → List SocketEvent
 listening ip port events =
     Printed (line_text (Listening (record { ip = ip; port = port }))) ∷ events
 
@@ -37,7 +37,7 @@ module _ {S F D : Type 0} where
   EndsBy (Err fault) last = StopsServing fault last.events
 
 -- only a port that could not be bound ended it
-abbrev pub EndsUnbound : {A : Type 0} → Result A LoopFault → List Event → List Event → Type 0
+abbrev pub EndsUnbound : {A : Type 0} → Result A LoopFault → List SocketEvent → List SocketEvent → Type 0
 EndsUnbound (Ok done) before after = ⊥
 EndsUnbound (Err fault) before after = FailsToBind fault before after
 
@@ -46,7 +46,7 @@ module _ {S F D A : Type 0} (meaning : StoreMeaning S D) (sources : SourceMeanin
   -- a server with a bound request port serves there, from one journal to the other, and ends with
   -- this result
   pub record ServesFrom (port : ℕ) (server : ServerState S F D) (result : Result A LoopFault)
-      (before after : List Event) : Type 0 where
+      (before after : List SocketEvent) : Type 0 where
     pub last : LoopState S F D
     pub run : Run (LoopStep meaning sources) (at_start config port server before) last
     pub noted : after ≡ last.events
@@ -56,7 +56,7 @@ module _ {S F D A : Type 0} (meaning : StoreMeaning S D) (sources : SourceMeanin
   -- bound; or it is at the address and the port that it was to listen at, any port for 0, its line
   -- is printed, and then the server serves
   pub data Serves (server : ServerState S F D) (result : Result A LoopFault)
-      (before after : List Event) : Type 0 where
+      (before after : List SocketEvent) : Type 0 where
     Unbound : EndsUnbound result before after → Serves server result before after
     Bound : (port : ℕ) → IsBoundTo config.listen config.listen.ip port
         → ServesFrom port server result (listening config.listen.ip port before) after

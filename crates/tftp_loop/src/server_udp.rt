@@ -2,7 +2,7 @@
 
 ghost use Rattle.std.specs.Prelude.{◌≡◌, ◌∷◌, IfOk, OnErr};
 ghost use Rattle.tftp_sockets.specs.Bound.{IsBoundTo};
-ghost use Rattle.tftp_sockets.specs.Journal.Event.{Quiet};
+ghost use Rattle.tftp_sockets.specs.Journal.SocketEvent.{Quiet};
 ghost use Rattle.tftp_sockets.specs.Journal.QuietEvent.{New_socket, No_socket};
 ghost use Rattle.tftp_loop.specs.PortOrder.{IsOrderOf};
 

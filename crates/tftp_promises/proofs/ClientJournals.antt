@@ -10,8 +10,8 @@ use Rattle.tftp_file.specs.declared.files.Files.{Files}
 use Rattle.tftp_ends.specs.End.{EndState}
 use Rattle.tftp_ends.specs.Step.{Reply}
 use Rattle.tftp_rules.specs.Machine.{Endpoint}
-use Rattle.tftp_sockets.specs.Journal.{Event, QuietEvent, answered}
-use Rattle.tftp_sockets.specs.Journal.Event.{Received, Sent, Watched, Elapsed, Printed, Quiet}
+use Rattle.tftp_sockets.specs.Journal.{SocketEvent, QuietEvent, answered}
+use Rattle.tftp_sockets.specs.Journal.SocketEvent.{Received, Sent, Watched, Elapsed, Printed, Quiet}
 use Rattle.tftp_sockets.specs.Journal.QuietEvent.{Empty, Failed, Slept}
 use Rattle.tftp_client.specs.Converses.{State, HandlesReceived, MayElapse, wait_at}
 use Rattle.tftp_client.specs.Converses.HandlesReceived.{Answers, Loses}
@@ -22,14 +22,14 @@ use Rattle.tftp_promises.specs.Journals.{IsOfPort, IsQuietAt, AsksFirst}
 use Rattle.tftp_promises.specs.Programs.{ClientProgram, ClientOpens, To_read, To_write}
 
 -- the events since `first` are of this port
-abbrev pub Since : ℕ → List Event → List Event → Type 0
-Since port first events = (more : List Event) × (events ≡ more ++ first) × AllByRecursion (IsOfPort port) more
+abbrev pub Since : ℕ → List SocketEvent → List SocketEvent → Type 0
+Since port first events = (more : List SocketEvent) × (events ≡ more ++ first) × AllByRecursion (IsOfPort port) more
 
-one_more : {port : ℕ} {first events : List Event} (e : Event) → IsOfPort port e → Since port first events →
+one_more : {port : ℕ} {first events : List SocketEvent} (e : SocketEvent) → IsOfPort port e → Since port first events →
     Since port first (e ∷ events)
-one_more e own since = (e ∷ since.0, ap (λ (es : List Event). e ∷ es) since.1, (own, since.2))
+one_more e own since = (e ∷ since.0, ap (λ (es : List SocketEvent). e ∷ es) since.1, (own, since.2))
 
-answer : {first events : List Event} (port : ℕ) (reply : Option Reply) → Since port first events →
+answer : {first events : List SocketEvent} (port : ℕ) (reply : Option Reply) → Since port first events →
     Since port first (answered port reply events)
 answer port None since = since
 answer port (Some reply) since = one_more (Sent port reply.to reply.bytes) refl since
@@ -41,13 +41,13 @@ at_port port event which = elim which [
   | inr failed ↦ subst (λ (e : QuietEvent). IsQuietAt port e) (sym failed) refl
 ]
 
-elapse : {first : List Event} {port : ℕ} {s next : State} → MayElapse port s next → Since port first s.events →
+elapse : {first : List SocketEvent} {port : ℕ} {s next : State} → MayElapse port s next → Since port first s.events →
     Since port first next.events
 elapse (Stays why) since = since
 elapse {port = port} {s = s} (Elapses due still) since = answer port _ (one_more (Elapsed port s.now) refl since)
 
 module _ {G K : Type 0} {inputs : SourceMeaning G} {outputs : SinkMeaning K} where
-  handle : {first : List Event} {port : ℕ} {from : Endpoint} {bytes : List ℕ} {s : State} {files : Files G K}
+  handle : {first : List SocketEvent} {port : ℕ} {from : Endpoint} {bytes : List ℕ} {s : State} {files : Files G K}
       {next : State} {files' : Files G K} →
       HandlesReceived inputs outputs port from bytes s files next files' → Since port first s.events →
       Since port first next.events
@@ -55,7 +55,7 @@ module _ {G K : Type 0} {inputs : SourceMeaning G} {outputs : SinkMeaning K} whe
   handle (Loses lost keeps) since = since
 
   -- a step
-  does_since : {first : List Event} {port : ℕ} {s : State} {files : Files G K} {s' : State} {files' : Files G K} →
+  does_since : {first : List SocketEvent} {port : ℕ} {s : State} {files : Files G K} {s' : State} {files' : Files G K} →
       ClientDoes inputs outputs port s files s' files' → Since port first s.events → Since port first s'.events
   does_since {port = port} {s = s} (Receives_one {from = from} {bytes = bytes} {time = time} may later handles) since =
       handle handles (one_more (Watched time) tt
@@ -83,7 +83,7 @@ module _ {G K : Type 0} {inputs : SourceMeaning G} {outputs : SinkMeaning K} whe
   asks_first to client =
       let since = converse client.runs in
       let request = client.first.position.last_sent in
-      let asked : Endpoint → List Event = λ a. Sent client.port a request ∷ [] in
+      let asked : Endpoint → List SocketEvent = λ a. Sent client.port a request ∷ [] in
       let there = asks_there client.opens in
       let all : client.noted ++ client.before ≡ (since.0 ++ asked client.first.position.last_sent_to) ++ client.before =
       sym client.is_noted ∙ (since.1

@@ -7,8 +7,8 @@ use Rattle.tftp_ends.specs.End.{EndState}
 use Rattle.tftp_lines.specs.ClientOutcome.{end_text}
 use Rattle.tftp_lines.specs.declared.client_outcome.ClientOutcome.TheVariants as ends
 use Rattle.tftp_rules.specs.Machine.{Endpoint}
-use Rattle.tftp_sockets.specs.Journal.{Event}
-use Rattle.tftp_sockets.specs.Journal.Event.{Sent}
+use Rattle.tftp_sockets.specs.Journal.{SocketEvent}
+use Rattle.tftp_sockets.specs.Journal.SocketEvent.{Sent}
 use Rattle.tftp_client.specs.Moved.{Moved, handling_moves, run_moves}
 use Rattle.tftp_client.specs.Runs.{begun}
 use Rattle.tftp_client.specs.Converses.{State, Converses, progress_of}
@@ -61,12 +61,12 @@ clients_run inputs outputs port end before s files runs = record {
 -- a run is that of a program
 module _ {G K : Type 0} (inputs : SourceMeaning G) (outputs : SinkMeaning K) {to : Endpoint} where
   program_of : (ip : List ℕ) {first : EndState} {file : Files G K} (opens : ClientOpens inputs outputs to first file)
-      (before : List Event) (port : ℕ) (last : State) (files : Files G K) →
+      (before : List SocketEvent) (port : ℕ) (last : State) (files : Files G K) →
       (runs : ClientRun inputs outputs port (begun port first before) file last files) →
       IsClientRun inputs outputs ip opens before last (moved_in runs)
   program_of ip {first} {file} opens before port last files runs =
       let since = converse runs in
-      let asked : List Event = Sent port first.position.last_sent_to first.position.last_sent ∷ [] in
+      let asked : List SocketEvent = Sent port first.position.last_sent_to first.position.last_sent ∷ [] in
       let notes : last.events ≡ (since.0 ++ asked) ++ before =
       since.1 ∙ sym (append_assoc since.0 asked before) in
       record {

@@ -11,8 +11,8 @@ use Rattle.tftp_file.specs.Sink.{SinkMeaning}
 use Rattle.tftp_file.specs.Source.{SourceMeaning}
 use Rattle.tftp_store.specs.Store.{StoreMeaning}
 use Rattle.tftp_rules.specs.Machine.{Endpoint}
-use Rattle.tftp_sockets.specs.Journal.{Event}
-use Rattle.tftp_sockets.specs.Journal.Event.{Received, Sent, Watched, Elapsed, Printed, Quiet}
+use Rattle.tftp_sockets.specs.Journal.{SocketEvent}
+use Rattle.tftp_sockets.specs.Journal.SocketEvent.{Received, Sent, Watched, Elapsed, Printed, Quiet}
 use Rattle.tftp_promises.specs.Alone.{AreAmong, EachIsJoined, EachKeepsAnyFiles, EachKeepsPromises, EachTakesOne, alone}
 use Rattle.tftp_promises.specs.Alone.{heard_with}
 use Rattle.tftp_promises.specs.Joined.{AreJoined}
@@ -42,7 +42,7 @@ module _ (s m : ℕ) (apart : s ≢ m) where
       events_of 0 (heard_with s m order) ≡ events_of s order →
       events_of 0 (heard_by server client e (heard_with s m order))
       ≡ (if server then e.1 ∷ events_of s order else events_of s order)
-  server_by true client e order rest = ap (λ (es : List Event). e.1 ∷ es) rest
+  server_by true client e order rest = ap (λ (es : List SocketEvent). e.1 ∷ es) rest
   server_by false true e order rest = rest
   server_by false false e order rest = rest
 
@@ -57,7 +57,7 @@ module _ (s m : ℕ) (apart : s ≢ m) where
   client_by true true e order is at rest =
       absurd (apart (sym (eqb-true e.0 s is) ∙ eqb-true e.0 m at))
   client_by true false e order is at rest = rest
-  client_by false true e order is at rest = ap (λ (es : List Event). e.1 ∷ es) rest
+  client_by false true e order is at rest = ap (λ (es : List SocketEvent). e.1 ∷ es) rest
   client_by false false e order is at rest = rest
 
   client_events : (order : List Noted) → events_of 1 (heard_with s m order) ≡ events_of m order
@@ -71,7 +71,7 @@ module _ (s m : ℕ) (apart : s ≢ m) where
   later_by false true e y order c = later_in (1, e.1) order y c
   later_by false false e y order c = c
 
-  heard_server : (order : List Noted) (x : Event) → Contains order (s, x) → Contains (heard_with s m order) (0, x)
+  heard_server : (order : List Noted) (x : SocketEvent) → Contains order (s, x) → Contains (heard_with s m order) (0, x)
   heard_server [] x c = absurd (nothing_in (s, x) c)
   heard_server (e ∷ order) x c = elim (first_or_more e (s, x) order c) [
     | inl same ↦ subst (λ (y : Noted). Contains (heard_with s m (y ∷ order)) (0, x)) (sym same)
@@ -80,7 +80,7 @@ module _ (s m : ℕ) (apart : s ≢ m) where
     | inr more ↦ later_by (e.0 == s) (e.0 == m) e (0, x) (heard_with s m order) (heard_server order x more)
   ]
 
-  heard_client : (order : List Noted) (x : Event) → Contains order (m, x) → Contains (heard_with s m order) (1, x)
+  heard_client : (order : List Noted) (x : SocketEvent) → Contains order (m, x) → Contains (heard_with s m order) (1, x)
   heard_client [] x c = absurd (nothing_in (m, x) c)
   heard_client (e ∷ order) x c = elim (first_or_more e (m, x) order c) [
     | inl same ↦ subst (λ (y : Noted). Contains (heard_with s m (y ∷ order)) (1, x)) (sym same)
@@ -93,15 +93,15 @@ module _ (s m : ℕ) (apart : s ≢ m) where
 
 -- ---- ports
 -- a port from which a program sent
-pub sent_in : (events : List Event) (port : ℕ) (to : Endpoint) (bytes : List ℕ) → Contains events (Sent port to bytes) →
+pub sent_in : (events : List SocketEvent) (port : ℕ) (to : Endpoint) (bytes : List ℕ) → Contains events (Sent port to bytes) →
     Contains (sent_from events) port
 sent_in [] port to bytes c = absurd (nothing_in (Sent port to bytes) c)
 sent_in (e ∷ events) port to bytes c = elim (first_or_more e (Sent port to bytes) events c) [
-  | inl same ↦ subst (λ (x : Event). Contains (sent_from (x ∷ events)) port) (sym same)
+  | inl same ↦ subst (λ (x : SocketEvent). Contains (sent_from (x ∷ events)) port) (sym same)
       (first_in port (sent_from events))
   | inr more ↦ after e (sent_in events port to bytes more)
 ] where
-  after : (x : Event) → Contains (sent_from events) port → Contains (sent_from (x ∷ events)) port
+  after : (x : SocketEvent) → Contains (sent_from events) port → Contains (sent_from (x ∷ events)) port
   after (Received at from b) i = i
   after (Sent at to b) i = later_in at (sent_from events) port i
   after (Watched time) i = i
@@ -215,13 +215,13 @@ module _ {S F D G K : Type 0} {stores : StoreMeaning S D} {sources : SourceMeani
   two_numbers same = let l = within_length several.servers i server at_i in omega (arith, l, same)
 
   -- a client notes events of its own port only
-  own_event : (c : Client) (e : Event) → Contains c.noted e →
+  own_event : (c : Client) (e : SocketEvent) → Contains c.noted e →
       IsOfPort c.port e ⊎ (Sent c.port (endpoint several.ip several.port) c.first.position.last_sent ≡ e)
   own_event c e h =
       let asks = asks_first (endpoint several.ip several.port) c in
       let request = Sent c.port (endpoint several.ip several.port) c.first.position.last_sent in
       elim (Contains-append_cases asks.more (request ∷ []) e
-      (subst (λ (es : List Event). Contains es e) asks.is h)) [
+      (subst (λ (es : List SocketEvent). Contains es e) asks.is h)) [
         | inl h ↦
             inl (All-contains (IsOfPort c.port) asks.more e (All-from_recursion (IsOfPort c.port) asks.more asks.own) h)
         | inr h ↦ inr (one_in e request h)
@@ -247,7 +247,7 @@ module _ {S F D G K : Type 0} {stores : StoreMeaning S D} {sources : SourceMeani
       (port : ℕ) (to : Endpoint) (bytes : List ℕ) → Contains all (number_of several j, Sent port to bytes) →
       port ≡ c.port
   own_port j c at port to bytes h =
-      sent_own c port to bytes (subst (λ (es : List Event). Contains es (Sent port to bytes))
+      sent_own c port to bytes (subst (λ (es : List SocketEvent). Contains es (Sent port to bytes))
       (among.is_order.clients j c at) (noted_in (number_of several j) (Sent port to bytes) all h))
 
   abbrev both : Programs stores sources inputs outputs
@@ -315,7 +315,7 @@ module _ {S F D G K : Type 0} {stores : StoreMeaning S D} {sources : SourceMeani
       })
       | inr n ↦
           let noted =
-          subst (λ (es : List Event). Contains es (Sent port to bytes)) (among.is_order.servers p x is)
+          subst (λ (es : List SocketEvent). Contains es (Sent port to bytes)) (among.is_order.servers p x is)
           (noted_in p (Sent port to bytes) all (within (p, Sent port to bytes) c)) in
           inr (subst (λ (a : Endpoint). MayCome stores sources inputs outputs both a bytes)
           (ap (λ (a : List ℕ). endpoint a port) (sym ip) ∙ sym at.2)
@@ -356,7 +356,7 @@ module _ {S F D G K : Type 0} {stores : StoreMeaning S D} {sources : SourceMeani
     ]
 
   -- what a program of both receives
-  abbrev ForBoth : List ℕ → Event → Type 0
+  abbrev ForBoth : List ℕ → SocketEvent → Type 0
   ForBoth ip (Received port from bytes) = IsNear (endpoint ip port)
   ForBoth ip e = Unit {0}
 
@@ -366,7 +366,7 @@ module _ {S F D G K : Type 0} {stores : StoreMeaning S D} {sources : SourceMeani
   nevertheless from bytes earlier to (inr error) = inr (inr error)
 
   comes : (p q : ℕ) (ip : List ℕ) → slice_get (ips_of several) p ≡ Some ip →
-      slice_get (ips stores sources inputs outputs both) q ≡ Some ip → (e : Event) → ForBoth ip e →
+      slice_get (ips stores sources inputs outputs both) q ≡ Some ip → (e : SocketEvent) → ForBoth ip e →
       (earlier : List Noted) → ((x : Noted) → Contains earlier x → Contains all x) →
       CanComeOf (ips_of several) (IsStrangerTo several.ip [] several.clients) p e earlier →
       CanCome stores sources inputs outputs both q e (heard_with i m earlier)
@@ -387,7 +387,7 @@ module _ {S F D G K : Type 0} {stores : StoreMeaning S D} {sources : SourceMeani
   comes p q ip at_p at_q (Printed line) near earlier within h = tt
   comes p q ip at_p at_q (Quiet event) near earlier within h = tt
 
-  for_server : (e : Event) → ForBoth several.ip e
+  for_server : (e : SocketEvent) → ForBoth several.ip e
   for_server (Received port from bytes) = inl refl
   for_server (Sent port to bytes) = tt
   for_server (Watched time) = tt
@@ -395,7 +395,7 @@ module _ {S F D G K : Type 0} {stores : StoreMeaning S D} {sources : SourceMeani
   for_server (Printed line) = tt
   for_server (Quiet event) = tt
 
-  for_client : (e : Event) → Contains client.noted e → ForBoth client.ip e
+  for_client : (e : SocketEvent) → Contains client.noted e → ForBoth client.ip e
   for_client (Received port from bytes) c =
       inr (ap (λ (q : ℕ). endpoint client.ip q) (received_own client port from bytes c))
   for_client (Sent port to bytes) c = tt
@@ -421,7 +421,7 @@ module _ {S F D G K : Type 0} {stores : StoreMeaning S D} {sources : SourceMeani
       let here : slice_get (ips_of several) e.0 ≡ Some client.ip =
       client_ip several.ip (λ (z : Client). z.ip) several.clients several.servers e.0 k client number found in
       let noted : Contains client.noted e.1 =
-      subst (λ (es : List Event). Contains es e.1) (among.is_order.clients k client found) (noted_in m e.1 all
+      subst (λ (es : List SocketEvent). Contains es e.1) (among.is_order.clients k client found) (noted_in m e.1 all
       (subst (λ (q : ℕ). Contains all (q, e.1)) number (within (e.0, e.1) (first_in e earlier)))) in (
         comes e.0 1 client.ip here refl e.1 (for_client e.1 noted) earlier (λ x c. within x (later_in e earlier x c)) h,
         rest,

@@ -9,8 +9,8 @@ use Rattle.std.specs.List.{Contains}
 use Rattle.tftp_file.specs.Memory.{memory_sink, memory_source}
 use Rattle.tftp_store.specs.Memory.{memory_meaning}
 use Rattle.tftp_rules.specs.Machine.{Endpoint}
-use Rattle.tftp_sockets.specs.Journal.{Event}
-use Rattle.tftp_sockets.specs.Journal.Event.{Received, Sent}
+use Rattle.tftp_sockets.specs.Journal.{SocketEvent}
+use Rattle.tftp_sockets.specs.Journal.SocketEvent.{Received, Sent}
 use Rattle.tftp_promises.specs.Alone.{IsServed, alone}
 use Rattle.tftp_promises.specs.Joined.{AreJoined}
 use Rattle.tftp_promises.specs.Modelled.{AreModelled, HasWhole}
@@ -47,7 +47,7 @@ module _ (more : List Client) (before : List Noted) where
   abbrev with_others : Programs memory_meaning memory_source memory_source memory_sink
   with_others = record { ip = server_ip; port = 69; server = server; others = []; clients = reading ∷ more }
 
-  abbrev Comes : ℕ → Event → List Noted → Type 0
+  abbrev Comes : ℕ → SocketEvent → List Noted → Type 0
   Comes program e earlier = CanCome memory_meaning memory_source memory_source memory_sink with_others program e earlier
 
   abbrev At : ℕ → List ℕ → Type 0

@@ -20,7 +20,7 @@ use Rattle.tftp_ends.specs.Step.{response_turn}
 use Rattle.tftp_ends.specs.Waiting.{agreed_terms}
 use Rattle.tftp_lines.specs.ClientOutcome.{end_text}
 use Rattle.tftp_lines.specs.declared.client_outcome.ClientOutcome.TheVariants as ends
-use Rattle.tftp_sockets.specs.Journal.Event.{Received, Sent, Watched, Printed, Quiet}
+use Rattle.tftp_sockets.specs.Journal.SocketEvent.{Received, Sent, Watched, Printed, Quiet}
 use Rattle.tftp_sockets.specs.Journal.QuietEvent.{Slept}
 use Rattle.tftp_client.specs.Converses.{State}
 use Rattle.tftp_client.specs.Converses.HandlesReceived.{Answers}

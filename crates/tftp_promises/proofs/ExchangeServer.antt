@@ -30,7 +30,7 @@ use Rattle.tftp_server.specs.Request.{A_transfer, AsksToRead, left_by}
 use Rattle.tftp_server.specs.State.{at, with_next}
 use Rattle.tftp_server.specs.Steps.{StepIn}
 use Rattle.tftp_sockets.specs.Journal.{answered}
-use Rattle.tftp_sockets.specs.Journal.Event.{Received}
+use Rattle.tftp_sockets.specs.Journal.SocketEvent.{Received}
 use Rattle.tftp_loop.specs.Run.{Run}
 use Rattle.tftp_loop.specs.Run.Run.{Start, Then}
 use Rattle.tftp_loop.specs.Steps.{Timer, PortState, LoopStep, most_in_round, timer_after}

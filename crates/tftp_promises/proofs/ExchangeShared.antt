@@ -9,8 +9,8 @@ use Rattle.tftp_file.specs.Memory.{memory_sink, memory_source}
 use Rattle.tftp_ends.specs.Opening.{oack_bytes}
 use Rattle.tftp_store.specs.Memory.{memory_meaning}
 use Rattle.tftp_rules.specs.Machine.{Endpoint}
-use Rattle.tftp_sockets.specs.Journal.{Event}
-use Rattle.tftp_sockets.specs.Journal.Event.{Received, Sent, Watched, Elapsed, Printed, Quiet}
+use Rattle.tftp_sockets.specs.Journal.{SocketEvent}
+use Rattle.tftp_sockets.specs.Journal.SocketEvent.{Received, Sent, Watched, Elapsed, Printed, Quiet}
 use Rattle.tftp_promises.specs.Alone.{IsPassedOver, IsServed, alone}
 use Rattle.tftp_promises.specs.Openings.{ArePortsFresh, our_ports}
 use Rattle.tftp_promises.specs.Order.{CanComeOf, IsHonestOf, IsStrangerTo, Noted, events_of}
@@ -47,7 +47,7 @@ new_number zero ip e = e
 new_number (suc zero) ip e = e
 new_number (suc (suc p)) ip e = absurd (let f : None ≡ Some ip = e in cc)
 
-still_in : (order : List Noted) (p : ℕ) (x : Event) → Contains order (p, x) →
+still_in : (order : List Noted) (p : ℕ) (x : SocketEvent) → Contains order (p, x) →
     Contains (renumbered order) (after_second p, x)
 still_in [] p x c = absurd (nothing_in (p, x) c)
 still_in (e ∷ order) p x c = elim (first_or_more e (p, x) order c) [
@@ -56,7 +56,7 @@ still_in (e ∷ order) p x c = elim (first_or_more e (p, x) order c) [
   | inr later ↦ later_in (after_second e.0, e.1) (renumbered order) (after_second p, x) (still_in order p x later)
 ]
 
-comes : (p : ℕ) (e : Event) (order : List Noted) → CanComeOf few Strange p e order →
+comes : (p : ℕ) (e : SocketEvent) (order : List Noted) → CanComeOf few Strange p e order →
     CanComeOf more Strange (after_second p) e (renumbered order)
 comes p (Received port from bytes) order h = (
   h.0,

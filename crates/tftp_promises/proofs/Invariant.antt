@@ -24,7 +24,7 @@ use Rattle.tftp_rules.specs.OpenEnds.{OpenEnd, holding_of, open_view, peer_of}
 use Rattle.tftp_rules.specs.Shows.{EndView, IsShown, requested}
 use Rattle.tftp_rules.specs.ViewSafety.{IsAmong}
 use Rattle.tftp_server.specs.State.{TransferState, at}
-use Rattle.tftp_sockets.specs.Journal.{Event}
+use Rattle.tftp_sockets.specs.Journal.{SocketEvent}
 use Rattle.tftp_client.specs.Converses.{State}
 use Rattle.tftp_loop.specs.Steps.{LoopState}
 use Rattle.tftp_promises.specs.ClientRuns.{moved_in}
@@ -273,7 +273,7 @@ module _ {S F D G K : Type 0} {stores : StoreMeaning S D} {sources : SourceMeani
     pub found : slice_get programs.clients k ≡ Some client
     pub s : State
     pub files : Files G K
-    pub noted : List Event
+    pub noted : List SocketEvent
     pub moved : Moved
     pub is_stage : slice_get snapshot.clients k ≡ Some (Has_asked s files noted moved)
     pub address : a ≡ client_at inputs outputs (requests_at programs) client
@@ -326,7 +326,7 @@ module _ {S F D G K : Type 0} {stores : StoreMeaning S D} {sources : SourceMeani
         Contains programs.others port → ⊥
     pub told : (a : Endpoint) → Contains (places programs snapshot.run) a → IsToldAt snapshot a
     pub gave : (k : ℕ) (client : ClientProgram inputs outputs (requests_at programs)) (s : State)
-        (files : Files G K) (noted : List Event) (moved : Moved) →
+        (files : Files G K) (noted : List SocketEvent) (moved : Moved) →
         slice_get programs.clients k ≡ Some client →
         slice_get snapshot.clients k ≡ Some (Has_asked s files noted moved) →
         IsPrefixOf moved.bytes (moved_in client.runs).bytes

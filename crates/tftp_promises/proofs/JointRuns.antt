@@ -13,8 +13,8 @@ use Rattle.tftp_file.specs.declared.files.Files.{Files}
 use Rattle.tftp_store.specs.Store.{StoreMeaning}
 use Rattle.tftp_rules.specs.Machine.{Endpoint}
 use Rattle.tftp_rules.proofs.Indices.{slice_get-set_same, slice_get-set_other}
-use Rattle.tftp_sockets.specs.Journal.{Event}
-use Rattle.tftp_sockets.specs.Journal.Event.{Received, Sent}
+use Rattle.tftp_sockets.specs.Journal.{SocketEvent}
+use Rattle.tftp_sockets.specs.Journal.SocketEvent.{Received, Sent}
 use Rattle.tftp_loop.specs.Run.{Run}
 use Rattle.tftp_loop.specs.Run.Run.{Start, Then}
 use Rattle.tftp_loop.specs.Steps.{LoopState, LoopStep}
@@ -48,45 +48,45 @@ module _ {S F D G K : Type 0} {stores : StoreMeaning S D} {sources : SourceMeani
   Conversed client s files =
       ClientRun inputs outputs client.port (begun client.port client.first client.before) client.file s files
 
-  abbrev snap : {state : LoopState S F D} → ServerRun state → List Event → List (ClientStage G K) → Snapshot programs
+  abbrev snap : {state : LoopState S F D} → ServerRun state → List SocketEvent → List (ClientStage G K) → Snapshot programs
   snap {state} run noted clients = record { state = state; run = run; noted = noted; clients = clients }
 
   -- ---- one program where its journal is seen so far
 
-  data ServerFits (seen : List Event) : (state : LoopState S F D) → ServerRun state → List Event → Type 0 where
-    Served : {state : LoopState S F D} {run : ServerRun state} {noted : List Event} →
+  data ServerFits (seen : List SocketEvent) : (state : LoopState S F D) → ServerRun state → List SocketEvent → Type 0 where
+    Served : {state : LoopState S F D} {run : ServerRun state} {noted : List SocketEvent} →
         state.events ≡ noted ++ programs.server.start.events → noted ≡ seen → ServerFits seen state run noted
-    Serving : {old new : LoopState S F D} {run : ServerRun old} {old_noted noted : List Event} →
+    Serving : {old new : LoopState S F D} {run : ServerRun old} {old_noted noted : List SocketEvent} →
         old.events ≡ old_noted ++ programs.server.start.events → (does : LoopStep stores sources old new) →
         Split old.events new.events old_noted noted seen → ServerFits seen new (Then run does) noted
 
   -- what is seen may end with a wait of the next step, or in that step
-  data ClientFits (client : Client) (seen : List Event) : ClientStage G K → Type 0 where
+  data ClientFits (client : Client) (seen : List SocketEvent) : ClientStage G K → Type 0 where
     Not_yet : seen ≡ [] → ClientFits client seen Unasked
-    Conversed_so : {s : State} {files : Files G K} {noted : List Event} (run : Conversed client s files) →
-        TakesOwn programs.ip programs.others run → s.events ≡ noted ++ client.before → (waits : List Event) →
+    Conversed_so : {s : State} {files : Files G K} {noted : List SocketEvent} (run : Conversed client s files) →
+        TakesOwn programs.ip programs.others run → s.events ≡ noted ++ client.before → (waits : List SocketEvent) →
         AllByRecursion IsQuiet waits →
         waits ++ noted ≡ seen →
         ClientFits client seen (Has_asked s files noted (moved_in run))
-    Conversing : {s s' : State} {files files' : Files G K} {noted : List Event} (old_noted : List Event)
+    Conversing : {s s' : State} {files files' : Files G K} {noted : List SocketEvent} (old_noted : List SocketEvent)
         (run : Conversed client s files) → TakesOwn programs.ip programs.others run →
-        s.events ≡ old_noted ++ client.before → (waits : List Event) → AllByRecursion IsQuiet waits →
+        s.events ≡ old_noted ++ client.before → (waits : List SocketEvent) → AllByRecursion IsQuiet waits →
         (does : ClientDoes inputs outputs client.port s files s' files') → DoesOwn programs.ip programs.others does →
         Split (waits ++ s.events) s'.events (waits ++ old_noted) noted seen →
         ClientFits client seen (Has_asked s' files' noted (client_moves does (moved_in run)))
 
-  server_in : {seen : List Event} {state : LoopState S F D} {run : ServerRun state} {noted : List Event} (e : Event) →
+  server_in : {seen : List SocketEvent} {state : LoopState S F D} {run : ServerRun state} {noted : List SocketEvent} (e : SocketEvent) →
       ServerFits seen state run noted → Contains seen e → Contains noted e
-  server_in e (Served is seen_is) i = subst (λ (es : List Event). Contains es e) (sym seen_is) i
+  server_in e (Served is seen_is) i = subst (λ (es : List SocketEvent). Contains es e) (sym seen_is) i
   server_in e (Serving is does s) i = split_in e s i
 
-  client_in : {client : Client} {seen : List Event} {stage : ClientStage G K} (port : ℕ) (to : Endpoint)
+  client_in : {client : Client} {seen : List SocketEvent} {stage : ClientStage G K} (port : ℕ) (to : Endpoint)
       (bytes : List ℕ) → ClientFits client seen stage → Contains seen (Sent port to bytes) →
       Contains (noted_by stage) (Sent port to bytes)
-  client_in port to bytes (Not_yet none) i = subst (λ (es : List Event). Contains es (Sent port to bytes)) none i
+  client_in port to bytes (Not_yet none) i = subst (λ (es : List SocketEvent). Contains es (Sent port to bytes)) none i
   client_in port to bytes (Conversed_so {noted = noted} run own is waits quiet seen_is) i =
       past_waits waits noted (Sent port to bytes) quiet (λ q. q)
-      (subst (λ (es : List Event). Contains es (Sent port to bytes)) (sym seen_is) i)
+      (subst (λ (es : List SocketEvent). Contains es (Sent port to bytes)) (sym seen_is) i)
   client_in port to bytes (Conversing old_noted run own is waits quiet does so s) i = split_in (Sent port to bytes) s i
 
   -- ---- all programs where their journals are seen so far
@@ -131,12 +131,12 @@ module _ {S F D G K : Type 0} {stores : StoreMeaning S D} {sources : SourceMeani
   -- a program can take what comes to it
   can_take : (sn : Snapshot programs) (order : List Noted) → Fits sn order → (program : ℕ) (ip : List ℕ) →
       ((port : ℕ) (a : Endpoint) → IsAt stores sources inputs outputs programs program port a → a ≡ endpoint ip port) →
-      (e : Event) → CanCome stores sources inputs outputs programs program e order → (ahead : List Event) (x : Event) →
+      (e : SocketEvent) → CanCome stores sources inputs outputs programs program e order → (ahead : List SocketEvent) (x : SocketEvent) →
       AllByRecursion IsOther ahead → e ≡ x → CanTake programs sn ip (ahead ++ x ∷ [])
   can_take sn order fits program ip is_ip e comes ahead x others same port from bytes i =
       let received = same ∙ oldest_in ahead x port from bytes others i in
       let come : CanCome stores sources inputs outputs programs program (Received port from bytes) order =
-      subst (λ (z : Event). CanCome stores sources inputs outputs programs program z order) received comes in
+      subst (λ (z : SocketEvent). CanCome stores sources inputs outputs programs program z order) received comes in
       elim come.2 [
         | inl sent ↦
             inl (subst (λ (a : Endpoint). WasSentBefore programs sn from a bytes) (is_ip port come.0 come.1)
@@ -147,7 +147,7 @@ module _ {S F D G K : Type 0} {stores : StoreMeaning S D} {sources : SourceMeani
   -- ---- the server
 
   -- a silent step of the server
-  server_rests : {old new : LoopState S F D} {run : ServerRun old} {noted : List Event}
+  server_rests : {old new : LoopState S F D} {run : ServerRun old} {noted : List SocketEvent}
       {clients : List (ClientStage G K)} → Joint programs (snap run noted clients) →
       (does : LoopStep stores sources old new) → new.events ≡ old.events →
       Joint programs (snap (Then run does) noted clients)
@@ -155,12 +155,12 @@ module _ {S F D G K : Type 0} {stores : StoreMeaning S D} {sources : SourceMeani
       Server_does joint does [] same (λ port from bytes i. absurd (let l = i.1 in omega arith))
 
   -- at the beginning of the order the server has made silent steps only
-  server_first : {state : LoopState S F D} (run : ServerRun state) (noted : List Event)
+  server_first : {state : LoopState S F D} (run : ServerRun state) (noted : List SocketEvent)
       (clients : List (ClientStage G K)) → state.events ≡ noted ++ programs.server.start.events → noted ≡ [] →
       map (λ (client : Client). Unasked) programs.clients ≡ clients → Joint programs (snap run noted clients)
   server_first Start noted clients is none all =
       subst (λ (cs : List (ClientStage G K)). Joint programs (snap Start noted cs)) all
-      (subst (λ (es : List Event). Joint programs (snap Start es (map (λ (client : Client). Unasked) programs.clients)))
+      (subst (λ (es : List SocketEvent). Joint programs (snap Start es (map (λ (client : Client). Unasked) programs.clients)))
       (sym none) All_begin)
   server_first (Then {middle = old} {last = new} run does) noted clients is none all = elim (server_adds does) [
     | Silent same ↦ server_rests (server_first run noted clients (sym same ∙ is) none all) does same
@@ -170,14 +170,14 @@ module _ {S F D G K : Type 0} {stores : StoreMeaning S D} {sources : SourceMeani
         new.events noted added before.1 is)
   ]
 
-  module _ (e : Event) (earlier : List Noted) (comes : CanCome stores sources inputs outputs programs 0 e earlier)
+  module _ (e : SocketEvent) (earlier : List Noted) (comes : CanCome stores sources inputs outputs programs 0 e earlier)
       (clients : List (ClientStage G K))
       (count : length clients ≡ length programs.clients)
       (fit : (k : ℕ) (client : Client) → slice_get programs.clients k ≡ Some client →
       ClientHas clients earlier k client)
       (ih : (sn : Snapshot programs) → Fits sn earlier → Joint programs sn) where
     -- the last step of the server has noted the event
-    server_steps : {old new : LoopState S F D} {run : ServerRun old} {old_noted noted : List Event} →
+    server_steps : {old new : LoopState S F D} {run : ServerRun old} {old_noted noted : List SocketEvent} →
         old.events ≡ old_noted ++ programs.server.start.events → (does : LoopStep stores sources old new) →
         Split old.events new.events old_noted noted (e ∷ events_of 0 earlier) →
         Joint programs (snap (Then run does) noted clients)
@@ -192,7 +192,7 @@ module _ {S F D G K : Type 0} {stores : StoreMeaning S D} {sources : SourceMeani
         (sym (same_Some programs.ip at.0 at.1)) in
         let takes =
         can_take (snap run old_noted clients) earlier fits 0 programs.ip ip_is e comes ahead x others h.0 in
-        subst (λ (es : List Event). Joint programs (snap (Then run does) es clients)) (sym noted_is)
+        subst (λ (es : List SocketEvent). Joint programs (snap (Then run does) es clients)) (sym noted_is)
         (Server_does joint does (ahead ++ x ∷ []) added takes)
     server_steps {run = run} {noted = noted} is does (split ahead x (y ∷ rest) others own added noted_is seen_is) =
         let h = heads e x (events_of 0 earlier) (y ∷ rest ++ _) seen_is in
@@ -205,7 +205,7 @@ module _ {S F D G K : Type 0} {stores : StoreMeaning S D} {sources : SourceMeani
         })
 
     -- the event is the last that the server has noted
-    server_back : {state : LoopState S F D} (run : ServerRun state) (noted : List Event) →
+    server_back : {state : LoopState S F D} (run : ServerRun state) (noted : List SocketEvent) →
         state.events ≡ noted ++ programs.server.start.events → noted ≡ e ∷ events_of 0 earlier →
         Joint programs (snap run noted clients)
     server_back Start noted is seen_is =
@@ -220,7 +220,7 @@ module _ {S F D G K : Type 0} {stores : StoreMeaning S D} {sources : SourceMeani
           server_steps before.1 does (split [] x rest tt own added noted_is (sym seen_is ∙ noted_is))
     ]
 
-    server_any : {state : LoopState S F D} {run : ServerRun state} {noted : List Event} →
+    server_any : {state : LoopState S F D} {run : ServerRun state} {noted : List SocketEvent} →
         ServerFits (e ∷ events_of 0 earlier) state run noted → Joint programs (snap run noted clients)
     server_any (Served {run = run} {noted = noted} is seen_is) = server_back run noted is seen_is
     server_any (Serving is does s) = server_steps is does s
@@ -229,7 +229,7 @@ module _ {S F D G K : Type 0} {stores : StoreMeaning S D} {sources : SourceMeani
 
   -- the request, and what came after it
   client_noted : (client : Client) {s : State} {files : Files G K} → Conversed client s files →
-      (more : List Event) × (e : Event) × (s.events ≡ (more ++ e ∷ []) ++ client.before)
+      (more : List SocketEvent) × (e : SocketEvent) × (s.events ≡ (more ++ e ∷ []) ++ client.before)
   client_noted client run =
       let since = converse run in
       let request = Sent client.port client.first.position.last_sent_to client.first.position.last_sent in
@@ -261,7 +261,7 @@ module _ {S F D G K : Type 0} {stores : StoreMeaning S D} {sources : SourceMeani
     ];
   }
 
-  module _ (k : ℕ) (client : Client) (is_client : slice_get programs.clients k ≡ Some client) (e : Event)
+  module _ (k : ℕ) (client : Client) (is_client : slice_get programs.clients k ≡ Some client) (e : SocketEvent)
       (earlier : List Noted)
       (comes : CanCome stores sources inputs outputs programs (suc k) e earlier) (sn : Snapshot programs)
       (others : OthersFit k sn earlier)
@@ -284,10 +284,10 @@ module _ {S F D G K : Type 0} {stores : StoreMeaning S D} {sources : SourceMeani
         (sym own ∙ (sym (slice_get-map (λ (c : Client). c.ip) programs.clients k) ∙ at.1))))
 
     -- the client makes a step
-    client_goes : {s s' : State} {files files' : Files G K} (noted : List Event) (moved : Moved) →
+    client_goes : {s s' : State} {files files' : Files G K} (noted : List SocketEvent) (moved : Moved) →
         Joint programs (At (Has_asked s files noted moved)) →
         (does : ClientDoes inputs outputs client.port s files s' files') → DoesOwn programs.ip programs.others does →
-        (added : List Event) → s'.events ≡ added ++ s.events →
+        (added : List SocketEvent) → s'.events ≡ added ++ s.events →
         CanTake programs (At (Has_asked s files noted moved)) client.ip added →
         Joint programs (At (Has_asked s' files' (added ++ noted) (client_moves does moved)))
     client_goes {s = s} {s' = s'} {files = files} {files' = files'} noted moved joint does so added is takes =
@@ -297,9 +297,9 @@ module _ {S F D G K : Type 0} {stores : StoreMeaning S D} {sources : SourceMeani
         (Client_does joint k client is_client (stage_is (Has_asked s files noted moved)) does so added is takes)
 
     -- the last step of the client has noted the event
-    client_steps : {s s' : State} {files files' : Files G K} {noted : List Event} (old_noted : List Event)
+    client_steps : {s s' : State} {files files' : Files G K} {noted : List SocketEvent} (old_noted : List SocketEvent)
         (run : Conversed client s files) → TakesOwn programs.ip programs.others run →
-        s.events ≡ old_noted ++ client.before → (waits : List Event) → AllByRecursion IsQuiet waits →
+        s.events ≡ old_noted ++ client.before → (waits : List SocketEvent) → AllByRecursion IsQuiet waits →
         (does : ClientDoes inputs outputs client.port s files s' files') → DoesOwn programs.ip programs.others does →
         Split (waits ++ s.events) s'.events (waits ++ old_noted) noted (e ∷ events_of (suc k) earlier) →
         Joint programs (At (Has_asked s' files' noted (client_moves does (moved_in run))))
@@ -316,7 +316,7 @@ module _ {S F D G K : Type 0} {stores : StoreMeaning S D} {sources : SourceMeani
         ((ahead ++ x ∷ []) ++ waits) =
         λ port from bytes i. takes port from bytes (before_waits (ahead ++ x ∷ []) waits (Received port from bytes)
         quiet (λ q. q) i) in
-        subst (λ (es : List Event). Joint programs (At (Has_asked s' files' es (client_moves does (moved_in run)))))
+        subst (λ (es : List SocketEvent). Joint programs (At (Has_asked s' files' es (client_moves does (moved_in run)))))
         (sym (noted_is ∙ sym (append_assoc (ahead ++ x ∷ []) waits old_noted)))
         (client_goes old_noted (moved_in run) (ih (At (Has_asked s files old_noted (moved_in run))) fits) does so
         ((ahead ++ x ∷ []) ++ waits) (added ∙ sym (append_assoc (ahead ++ x ∷ []) waits s.events)) all)
@@ -332,9 +332,9 @@ module _ {S F D G K : Type 0} {stores : StoreMeaning S D} {sources : SourceMeani
     client_last : {s s' : State} {files files' : Files G K} (run : Conversed client s files) →
         TakesOwn programs.ip programs.others run →
         (does : ClientDoes inputs outputs client.port s files s' files') → DoesOwn programs.ip programs.others does →
-        (noted : List Event) →
+        (noted : List SocketEvent) →
         s'.events ≡ noted ++ client.before →
-        noted ≡ e ∷ events_of (suc k) earlier → ((older : List Event) → s.events ≡ older ++ client.before →
+        noted ≡ e ∷ events_of (suc k) earlier → ((older : List SocketEvent) → s.events ≡ older ++ client.before →
         older ≡ e ∷ events_of (suc k) earlier → Joint programs (At (Has_asked s files older (moved_in run)))) →
         Joint programs (At (Has_asked s' files' noted (client_moves does (moved_in run))))
     client_last {s = s} {s' = s'} run takes_own does so noted is seen_is rest_of = elim (client_adds does) [
@@ -345,7 +345,7 @@ module _ {S F D G K : Type 0} {stores : StoreMeaning S D} {sources : SourceMeani
           let before = client_noted client run in
           let old_noted = before.0 ++ before.1 ∷ [] in
           let old_is : waits ++ s.events ≡ (waits ++ old_noted) ++ client.before =
-          ap (λ (es : List Event). waits ++ es) before.2 ∙ sym (append_assoc waits old_noted client.before) in
+          ap (λ (es : List SocketEvent). waits ++ es) before.2 ∙ sym (append_assoc waits old_noted client.before) in
           let noted_is =
           past (x ∷ rest) (waits ++ old_noted) client.before (waits ++ s.events) s'.events noted added old_is is in
           client_steps old_noted run takes_own before.2 waits quiet does so
@@ -353,7 +353,7 @@ module _ {S F D G K : Type 0} {stores : StoreMeaning S D} {sources : SourceMeani
     ]
 
     client_back : {s : State} {files : Files G K} (run : Conversed client s files) →
-        TakesOwn programs.ip programs.others run → (noted : List Event) →
+        TakesOwn programs.ip programs.others run → (noted : List SocketEvent) →
         s.events ≡ noted ++ client.before → noted ≡ e ∷ events_of (suc k) earlier →
         Joint programs (At (Has_asked s files noted (moved_in run)))
     client_back Starts takes_own noted is seen_is =
@@ -365,7 +365,7 @@ module _ {S F D G K : Type 0} {stores : StoreMeaning S D} {sources : SourceMeani
         subst (λ (stages : List (ClientStage G K)). Joint programs (With stages))
         (set_again sn.clients k Unasked (just_asked client))
         (Client_asks joint k client is_client (stage_is Unasked)) in
-        subst (λ (es : List Event). Joint programs
+        subst (λ (es : List SocketEvent). Joint programs
         (At (Has_asked (begun client.port client.first client.before) client.file es nothing_moved))) (sym noted_is)
         asks
     client_back (Goes_on run does) takes_own noted is seen_is =
@@ -386,22 +386,22 @@ module _ {S F D G K : Type 0} {stores : StoreMeaning S D} {sources : SourceMeani
 
   -- ---- all programs
 
-  has_other : (clients : List (ClientStage G K)) (j : ℕ) (client : Client) (q : ℕ) (e : Event) (earlier : List Noted) →
+  has_other : (clients : List (ClientStage G K)) (j : ℕ) (client : Client) (q : ℕ) (e : SocketEvent) (earlier : List Noted) →
       suc j ≢ q → ClientHas clients ((q, e) ∷ earlier) j client → ClientHas clients earlier j client
   has_other clients j client q e earlier n has =
-      (has.0, has.1, subst (λ (es : List Event). ClientFits client es has.0) (events_other (suc j) q e earlier n) has.2)
+      (has.0, has.1, subst (λ (es : List SocketEvent). ClientFits client es has.0) (events_other (suc j) q e earlier n) has.2)
 
-  server_other : (sn : Snapshot programs) (k : ℕ) (e : Event) (earlier : List Noted) →
+  server_other : (sn : Snapshot programs) (k : ℕ) (e : SocketEvent) (earlier : List Noted) →
       ServerFits (events_of 0 ((suc k, e) ∷ earlier)) sn.state sn.run sn.noted →
       ServerFits (events_of 0 earlier) sn.state sn.run sn.noted
   server_other sn k e earlier fits =
-      subst (λ (es : List Event). ServerFits es sn.state sn.run sn.noted)
+      subst (λ (es : List SocketEvent). ServerFits es sn.state sn.run sn.noted)
       (events_other 0 (suc k) e earlier (let n : zero ≢ suc k = omega arith in n)) fits
 
   not_suc : (j k : ℕ) → j ≢ k → suc j ≢ suc k
   not_suc j k n = omega (arith, n)
 
-  of_client : (k : ℕ) (e : Event) (earlier : List Noted) →
+  of_client : (k : ℕ) (e : SocketEvent) (earlier : List Noted) →
       CanCome stores sources inputs outputs programs (suc k) e earlier →
       ((old : Snapshot programs) → Fits old earlier → Joint programs old) →
       (sn : Snapshot programs) → Fits sn ((suc k, e) ∷ earlier) → (o : Option Client) →
@@ -428,16 +428,16 @@ module _ {S F D G K : Type 0} {stores : StoreMeaning S D} {sources : SourceMeani
       subst (λ (stages : List (ClientStage G K)). Joint programs (record sn { clients = stages }))
       (set_own sn.clients k has.0 has.1)
       (client_any k client is_client e earlier comes sn others ih
-      (subst (λ (es : List Event). ClientFits client es has.0) (events_own (suc k) e earlier) has.2))
+      (subst (λ (es : List SocketEvent). ClientFits client es has.0) (events_own (suc k) e earlier) has.2))
 
-  of_program : (p : ℕ) (e : Event) (earlier : List Noted) → CanCome stores sources inputs outputs programs p e earlier →
+  of_program : (p : ℕ) (e : SocketEvent) (earlier : List Noted) → CanCome stores sources inputs outputs programs p e earlier →
       ((old : Snapshot programs) → Fits old earlier → Joint programs old) →
       (sn : Snapshot programs) → Fits sn ((p, e) ∷ earlier) → Joint programs sn
   of_program zero e earlier comes ih sn fits =
       server_any e earlier comes sn.clients fits.count
       (λ j c is. has_other sn.clients j c 0 e earlier (let n : suc j ≢ zero = omega arith in n)
       (fits.clients j c is)) ih
-      (subst (λ (es : List Event). ServerFits es sn.state sn.run sn.noted) (events_own 0 e earlier) fits.server)
+      (subst (λ (es : List SocketEvent). ServerFits es sn.state sn.run sn.noted) (events_own 0 e earlier) fits.server)
   of_program (suc k) e earlier comes ih sn fits =
       of_client k e earlier comes ih sn fits (slice_get programs.clients k) refl
 
@@ -453,7 +453,7 @@ module _ {S F D G K : Type 0} {stores : StoreMeaning S D} {sources : SourceMeani
       (split ahead x rest others own added noted_is none)) = no_more x (rest ++ _) none
 
   all_first : (clients : List (ClientStage G K)) {state : LoopState S F D} {run : ServerRun state}
-      {noted : List Event} → map (λ (client : Client). Unasked) programs.clients ≡ clients →
+      {noted : List SocketEvent} → map (λ (client : Client). Unasked) programs.clients ≡ clients →
       ServerFits [] state run noted →
       Joint programs (snap run noted clients)
   all_first clients all (Served {run = run} {noted = noted} is none) = server_first run noted clients is none all

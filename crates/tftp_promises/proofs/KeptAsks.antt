@@ -16,8 +16,8 @@ use Rattle.tftp_file.specs.declared.files.Files.TheVariants.{Source, Sink}
 use Rattle.tftp_ends.specs.End.{EndState, is_client}
 use Rattle.tftp_ends.specs.Opening.{getting, putting, request_of}
 use Rattle.tftp_store.specs.Store.{StoreMeaning}
-use Rattle.tftp_sockets.specs.Journal.{Event}
-use Rattle.tftp_sockets.specs.Journal.Event.{Sent}
+use Rattle.tftp_sockets.specs.Journal.{SocketEvent}
+use Rattle.tftp_sockets.specs.Journal.SocketEvent.{Sent}
 use Rattle.tftp_client.specs.Converses.{State}
 use Rattle.tftp_client.specs.Runs.{begun}
 use Rattle.tftp_rules.specs.EndKept.{EndKept}
@@ -229,7 +229,7 @@ module _ {S F D G K : Type 0} {stores : StoreMeaning S D} {sources : SourceMeani
         absurd (asked_or_not h.s h.files h.noted h.moved f)
     | inr h ↦ transfer_apart programs old kept fresh k client found view.address h (sym same)
   ] where
-    asked_or_not : (s : State) (files : Files G K) (noted : List Event) (moved : Moved) →
+    asked_or_not : (s : State) (files : Files G K) (noted : List SocketEvent) (moved : Moved) →
         Has_asked s files noted moved ≡ Unasked → ⊥
     asked_or_not s files noted moved e = cc
 

@@ -10,8 +10,8 @@ use Rattle.tftp_file.specs.declared.files.Files.{Files}
 use Rattle.tftp_file.specs.declared.files.Files.TheVariants.{Source, Sink}
 use Rattle.tftp_store.specs.Store.{StoreMeaning}
 use Rattle.tftp_server.specs.State.{TransferState}
-use Rattle.tftp_sockets.specs.Journal.{Event}
-use Rattle.tftp_sockets.specs.Journal.Event.{Sent}
+use Rattle.tftp_sockets.specs.Journal.{SocketEvent}
+use Rattle.tftp_sockets.specs.Journal.SocketEvent.{Sent}
 use Rattle.tftp_client.specs.Converses.{State}
 use Rattle.tftp_rules.specs.Machine.{Endpoint, Message}
 use Rattle.tftp_rules.specs.OpenEnds.{OpenEnd}
@@ -71,7 +71,7 @@ module _ {S F D G K : Type 0} {stores : StoreMeaning S D} {sources : SourceMeani
 
   -- what a step of the client at this index does, after which it is there
   pub record ClientTurns {how : How programs} (old : Snapshot programs) (kept : IsKept programs how old) (k : ℕ)
-      (client : Client) (s : State) (files : Files G K) (noted : List Event) (moved : Moved) : Type 0 where
+      (client : Client) (s : State) (files : Files G K) (noted : List SocketEvent) (moved : Moved) : Type 0 where
     pub views : List EndView
     pub said_now : List Message
     pub shown : IsShown (joined programs) views (kept.messages ++ said_now)
@@ -86,7 +86,7 @@ module _ {S F D G K : Type 0} {stores : StoreMeaning S D} {sources : SourceMeani
   module _ {how : How programs} (old : Snapshot programs) (kept : IsKept programs how old)
       (fresh : IsFreshBy programs old) (k : ℕ) (client : Client) (found : slice_get programs.clients k ≡ Some client)
       (was : ClientStage G K) (is_stage : slice_get old.clients k ≡ Some was) (s : State) (files : Files G K)
-      (noted : List Event) (moved : Moved) (turns : ClientTurns old kept k client s files noted moved) where
+      (noted : List SocketEvent) (moved : Moved) (turns : ClientTurns old kept k client s files noted moved) where
     abbrev next : ClientStage G K
     next = Has_asked s files noted moved
 

@@ -7,7 +7,7 @@ use Rattle.tftp_file.specs.Sink.{SinkMeaning}
 use Rattle.tftp_file.specs.Source.{SourceMeaning}
 use Rattle.tftp_store.specs.Store.{StoreMeaning, files_of}
 use Rattle.tftp_server.specs.State.{TransferState, ServerState, at, without}
-use Rattle.tftp_sockets.specs.Journal.{Event}
+use Rattle.tftp_sockets.specs.Journal.{SocketEvent}
 use Rattle.tftp_loop.specs.Steps.{LoopState, LoopStep, Closes, Transfer_closed}
 use Rattle.tftp_rules.specs.Machine.{Endpoint, Message}
 use Rattle.tftp_rules.specs.Shows.{IsShown}
@@ -29,7 +29,7 @@ module _ {S F D G K : Type 0} {stores : StoreMeaning S D} {sources : SourceMeani
     {outputs : SinkMeaning K}
     (programs : Programs stores sources inputs outputs) {how : How programs} (old : Snapshot programs)
     (kept : IsKept programs how old) {new : LoopState S F D}
-    (closes : Closes stores sources old.state new) (added : List Event) (silent : IsSilent added) where
+    (closes : Closes stores sources old.state new) (added : List SocketEvent) (silent : IsSilent added) where
   abbrev does : LoopStep stores sources old.state new
   does = Transfer_closed closes
 

@@ -12,8 +12,8 @@ use Rattle.tftp_ends.specs.End.{EndState, outcome_of}
 use Rattle.tftp_ends.specs.Files.{KeepsFiles}
 use Rattle.tftp_ends.specs.Step.{Turn, after_turn, DatagramStep, timeout_turn}
 use Rattle.tftp_store.specs.Store.{StoreMeaning}
-use Rattle.tftp_sockets.specs.Journal.{Event, QuietEvent, answered}
-use Rattle.tftp_sockets.specs.Journal.Event.{Received, Sent, Watched, Elapsed, Printed, Quiet}
+use Rattle.tftp_sockets.specs.Journal.{SocketEvent, QuietEvent, answered}
+use Rattle.tftp_sockets.specs.Journal.SocketEvent.{Received, Sent, Watched, Elapsed, Printed, Quiet}
 use Rattle.tftp_sockets.specs.Journal.QuietEvent.{Slept}
 use Rattle.tftp_client.specs.Converses.{State, IsOpen, HandlesReceived, MayElapse, WorksOnFile, received, renewed, turned}
 use Rattle.tftp_client.specs.Converses.{wait_at, waited, elapsed}
@@ -56,7 +56,7 @@ module _ {S F D G K : Type 0} {stores : StoreMeaning S D} {sources : SourceMeani
     (kept : IsKept programs how old) (fresh : IsFreshBy programs old)
     (k : ℕ) (client : ClientProgram inputs outputs (requests_at programs))
     (found : slice_get programs.clients k ≡ Some client)
-    (s : State) (files : Files G K) (noted : List Event) (moved : Moved)
+    (s : State) (files : Files G K) (noted : List SocketEvent) (moved : Moved)
     (is_stage : slice_get old.clients k ≡ Some (Has_asked s files noted moved)) where
   abbrev here : Endpoint
   here = client_at inputs outputs (requests_at programs) client
@@ -81,12 +81,12 @@ module _ {S F D G K : Type 0} {stores : StoreMeaning S D} {sources : SourceMeani
       is_stage).state ∙ no_outcome (outcome_of s.end.position.phase) still
 
   -- what the client then has
-  abbrev Then_keeps : State → Files G K → List Event → Moved → Type 0
+  abbrev Then_keeps : State → Files G K → List SocketEvent → Moved → Type 0
   Then_keeps s' files' added moved' =
       IsKept programs how (client_did programs old k (Has_asked s' files' (added ++ noted) moved'))
 
   -- what it has moved then begins what it moves in all
-  pub told_now : (s' : State) (files' : Files G K) (noted' : List Event) (moved' : Moved) →
+  pub told_now : (s' : State) (files' : Files G K) (noted' : List SocketEvent) (moved' : Moved) →
       IsFreshBy programs (client_did programs old k (Has_asked s' files' noted' moved')) →
       IsPrefixOf moved'.bytes (moved_in client.runs).bytes
   told_now s' files' noted' moved' now =
@@ -97,7 +97,7 @@ module _ {S F D G K : Type 0} {stores : StoreMeaning S D} {sources : SourceMeani
   -- ---- a datagram
   module _ (from : Endpoint) (bytes : List ℕ) (time : ℕ) where
     -- the events of its receipt
-    abbrev receipt : List Event
+    abbrev receipt : List SocketEvent
     receipt = Watched time ∷ Received client.port from bytes ∷ Quiet (Slept (wait_at s)) ∷ []
 
     receipt_silent : IsSilent receipt
@@ -117,7 +117,7 @@ module _ {S F D G K : Type 0} {stores : StoreMeaning S D} {sources : SourceMeani
         p answer (there p spells)
 
     -- the end answers it
-    pub answers : HasArrived kept.messages from here bytes → (turn : Turn) (files' : Files G K) (added : List Event) →
+    pub answers : HasArrived kept.messages from here bytes → (turn : Turn) (files' : Files G K) (added : List SocketEvent) →
         IsOpen s.end → (step : DatagramStep inputs outputs from bytes s.end files turn files') →
         (peer_of s.end.position.phase ≡ None → IsOtherAnswer programs.ip programs.others from bytes → ⊥) →
         IsPrefixOf (step_moves inputs outputs from bytes s.end files turn files' step moved).bytes
@@ -155,10 +155,10 @@ module _ {S F D G K : Type 0} {stores : StoreMeaning S D} {sources : SourceMeani
         (turned client.port turn (received client.port from bytes time s)) refl files'
         (step_moves inputs outputs from bytes s.end files turn files' step moved) over.has
         added (λ port to b c. answered_sends client.port turn.reply receipt receipt_silent port to b
-        (subst (λ (es : List Event). Contains es (Sent port to b)) (sym added_is) c))
+        (subst (λ (es : List SocketEvent). Contains es (Sent port to b)) (sym added_is) c))
 
     -- it is lost
-    pub loses : (files' : Files G K) (added : List Event) → KeepsFiles inputs outputs files files' →
+    pub loses : (files' : Files G K) (added : List SocketEvent) → KeepsFiles inputs outputs files files' →
         receipt ++ s.events ≡ added ++ s.events →
         Then_keeps (received client.port from bytes time s) files' added moved
     loses files' added keeps events =
@@ -167,10 +167,10 @@ module _ {S F D G K : Type 0} {stores : StoreMeaning S D} {sources : SourceMeani
         stays_keeps programs old kept fresh k client found s files noted moved is_stage
         (received client.port from bytes time s) refl files' moved
         (file_kept programs client x how files files' moved o.has keeps)
-        added (subst (λ (es : List Event). IsSilent es) added_is receipt_silent)
+        added (subst (λ (es : List SocketEvent). IsSilent es) added_is receipt_silent)
 
   -- ---- a timeout
-  times_out : (added : List Event) → IsOpen s.end →
+  times_out : (added : List SocketEvent) → IsOpen s.end →
       answered client.port (timeout_turn s.end).reply (Elapsed client.port s.now ∷ s.events) ≡ added ++ s.events →
       Then_keeps (elapsed client.port s) files added moved
   times_out added still events =
@@ -192,55 +192,55 @@ module _ {S F D G K : Type 0} {stores : StoreMeaning S D} {sources : SourceMeani
       added (λ port to b c. subst (λ (t : Turn). (client.port ≡ port)
       × (t.reply ≡ Some (record { to = to; bytes = b }))) same
       (answered_sends client.port (timeout_turn s.end).reply (Elapsed client.port s.now ∷ [])
-      (elapsed_silent client.port s.now) port to b (subst (λ (es : List Event). Contains es (Sent port to b))
+      (elapsed_silent client.port s.now) port to b (subst (λ (es : List SocketEvent). Contains es (Sent port to b))
       (sym added_is) c)))
 
-  pub elapses : (next : State) (added : List Event) → MayElapse client.port s next → next.events ≡ added ++ s.events →
+  pub elapses : (next : State) (added : List SocketEvent) → MayElapse client.port s next → next.events ≡ added ++ s.events →
       Then_keeps next files added moved
   elapses next added (Stays why) events =
       let o = own programs old kept fresh k client found s files noted moved is_stage in
       stays_keeps programs old kept fresh k client found s files noted moved is_stage s refl files moved o.has added
-      (subst (λ (es : List Event). IsSilent es) (added_none s.events added events) none_silent)
+      (subst (λ (es : List SocketEvent). IsSilent es) (added_none s.events added events) none_silent)
   elapses next added (Elapses due still) events = times_out added still events
 
   -- ---- a wait, and the file's work
-  pub waits : (event : QuietEvent) (time : ℕ) (added : List Event) → (waited event time s).events ≡ added ++ s.events →
+  pub waits : (event : QuietEvent) (time : ℕ) (added : List SocketEvent) → (waited event time s).events ≡ added ++ s.events →
       Then_keeps (waited event time s) files added moved
   waits event time added events =
       let wait = Watched time ∷ Quiet event ∷ Quiet (Slept (wait_at s)) ∷ [] in
       let o = own programs old kept fresh k client found s files noted moved is_stage in
       stays_keeps programs old kept fresh k client found s files noted moved is_stage (waited event time s) refl files
       moved o.has added
-      (subst (λ (es : List Event). IsSilent es) (added_by client.port None wait s.events added events)
+      (subst (λ (es : List SocketEvent). IsSilent es) (added_by client.port None wait s.events added events)
       (unsent_silent wait (tt, (tt, (tt, tt)))))
 
   -- ---- a reading of the clock
-  pub reads : (progress : Bool) (time : ℕ) (added : List Event) → Watched time ∷ s.events ≡ added ++ s.events →
+  pub reads : (progress : Bool) (time : ℕ) (added : List SocketEvent) → Watched time ∷ s.events ≡ added ++ s.events →
       Then_keeps (renewed progress time s) files added moved
   reads progress time added events =
       let o = own programs old kept fresh k client found s files noted moved is_stage in
       stays_keeps programs old kept fresh k client found s files noted moved is_stage (renewed progress time s) refl
       files moved o.has added
-      (subst (λ (es : List Event). IsSilent es) (added_by client.port None (Watched time ∷ []) s.events added events)
+      (subst (λ (es : List SocketEvent). IsSilent es) (added_by client.port None (Watched time ∷ []) s.events added events)
       (unsent_silent (Watched time ∷ []) (tt, tt)))
 
   -- ---- a line
-  pub prints : (line : List ℕ) (added : List Event) → Printed line ∷ s.events ≡ added ++ s.events →
+  pub prints : (line : List ℕ) (added : List SocketEvent) → Printed line ∷ s.events ≡ added ++ s.events →
       Then_keeps (line_printed line s) files added moved
   prints line added events =
       let o = own programs old kept fresh k client found s files noted moved is_stage in
       stays_keeps programs old kept fresh k client found s files noted moved is_stage (line_printed line s) refl files
       moved o.has added
-      (subst (λ (es : List Event). IsSilent es) (added_by client.port None (Printed line ∷ []) s.events added events)
+      (subst (λ (es : List SocketEvent). IsSilent es) (added_by client.port None (Printed line ∷ []) s.events added events)
       (printed_silent line))
 
-  pub works : (files' : Files G K) (added : List Event) → WorksOnFile inputs outputs files files' →
+  pub works : (files' : Files G K) (added : List SocketEvent) → WorksOnFile inputs outputs files files' →
       s.events ≡ added ++ s.events → Then_keeps s files' added moved
   works files' added work events =
       let o = own programs old kept fresh k client found s files noted moved is_stage in
       stays_keeps programs old kept fresh k client found s files noted moved is_stage s refl files' moved
       (file_worked programs client x how files files' moved o.has work) added
-      (subst (λ (es : List Event). IsSilent es) (added_none s.events added events) none_silent)
+      (subst (λ (es : List SocketEvent). IsSilent es) (added_none s.events added events) none_silent)
 
 module _ {S F D G K : Type 0} {stores : StoreMeaning S D} {sources : SourceMeaning F} {inputs : SourceMeaning G}
     {outputs : SinkMeaning K}
@@ -248,10 +248,10 @@ module _ {S F D G K : Type 0} {stores : StoreMeaning S D} {sources : SourceMeani
     (kept : IsKept programs how old) (fresh : IsFreshBy programs old)
     (k : ℕ) (client : ClientProgram inputs outputs (requests_at programs))
     (found : slice_get programs.clients k ≡ Some client)
-    (s : State) (files : Files G K) (noted : List Event) (moved : Moved)
+    (s : State) (files : Files G K) (noted : List SocketEvent) (moved : Moved)
     (is_stage : slice_get old.clients k ≡ Some (Has_asked s files noted moved)) where
   -- a datagram is handled once it is among the messages
-  handles : (from : Endpoint) (bytes : List ℕ) (time : ℕ) (next : State) (files' : Files G K) (added : List Event)
+  handles : (from : Endpoint) (bytes : List ℕ) (time : ℕ) (next : State) (files' : Files G K) (added : List SocketEvent)
       (handled : HandlesReceived inputs outputs client.port from bytes (received client.port from bytes time s) files
       next files') → HandlesOwn programs.ip programs.others handled →
       IsPrefixOf (handling_moves handled moved).bytes (moved_in client.runs).bytes →
@@ -265,7 +265,7 @@ module _ {S F D G K : Type 0} {stores : StoreMeaning S D} {sources : SourceMeani
       (Received client.port from bytes) (Contains-push (Watched time ∷ []) (Received client.port from bytes)) in
       let added_is = added_by client.port turn.reply receipt s.events added events in
       let came =
-      take client.port from bytes (subst (λ (es : List Event). Contains es (Received client.port from bytes))
+      take client.port from bytes (subst (λ (es : List SocketEvent). Contains es (Received client.port from bytes))
       added_is (answered_has client.port turn.reply receipt (Received client.port from bytes) receipt_in)) in
       let a =
       arrives programs old kept from (client_at inputs outputs (requests_at programs) client)
@@ -278,7 +278,7 @@ module _ {S F D G K : Type 0} {stores : StoreMeaning S D} {sources : SourceMeani
       loses programs old kept fresh k client found s files noted moved is_stage from bytes time files' added keeps
       events
 
-  pub does_keeps : (s' : State) (files' : Files G K) (added : List Event)
+  pub does_keeps : (s' : State) (files' : Files G K) (added : List SocketEvent)
       (does : ClientDoes inputs outputs client.port s files s' files') → DoesOwn programs.ip programs.others does →
       IsFreshBy programs (client_did programs old k (Has_asked s' files' (added ++ noted) (client_moves does moved))) →
       s'.events ≡ added ++ s.events →

@@ -7,8 +7,8 @@ use Rattle.std.proofs.lemmas.List.Elements.{Contains-append_cases, Contains-appe
 use Rattle.std.proofs.lemmas.List.Elements.{All-from_recursion, All-contains}
 use Rattle.tftp_ends.specs.Step.{Reply}
 use Rattle.tftp_rules.specs.Machine.{Endpoint}
-use Rattle.tftp_sockets.specs.Journal.{Event, answered}
-use Rattle.tftp_sockets.specs.Journal.Event.{Received, Sent, Watched, Elapsed, Printed, Quiet}
+use Rattle.tftp_sockets.specs.Journal.{SocketEvent, answered}
+use Rattle.tftp_sockets.specs.Journal.SocketEvent.{Received, Sent, Watched, Elapsed, Printed, Quiet}
 
 pub nothing_in : {X : Type 0} (x : X) → Contains [] x → ⊥
 nothing_in x h = let l = h.1 in omega arith
@@ -27,24 +27,24 @@ first_or_more x y xs c = elim (Contains-append_cases (x ∷ []) xs y c) [
 ]
 
 -- nothing was sent
-abbrev pub IsSilent : List Event → Type 0
+abbrev pub IsSilent : List SocketEvent → Type 0
 IsSilent events = (port : ℕ) (to : Endpoint) (bytes : List ℕ) → Contains events (Sent port to bytes) → ⊥
 
 -- only this answer was sent, from this port
-abbrev pub SendsOnly : ℕ → Option Reply → List Event → Type 0
+abbrev pub SendsOnly : ℕ → Option Reply → List SocketEvent → Type 0
 SendsOnly own reply events =
     (port : ℕ) (to : Endpoint) (bytes : List ℕ) → Contains events (Sent port to bytes) →
     (own ≡ port) × (reply ≡ Some (record { to = to; bytes = bytes }))
 
 -- the events that a step adds
-pub added_by : (port : ℕ) (reply : Option Reply) (events rest added : List Event) →
+pub added_by : (port : ℕ) (reply : Option Reply) (events rest added : List SocketEvent) →
     answered port reply (events ++ rest) ≡ added ++ rest → answered port reply events ≡ added
 added_by port None events rest added e = append_cancel_right events added rest e
 added_by port (Some reply) events rest added e =
     append_cancel_right (Sent port reply.to reply.bytes ∷ events) added rest e
 
 -- they have all others
-pub answered_has : (port : ℕ) (reply : Option Reply) (events : List Event) (e : Event) → Contains events e →
+pub answered_has : (port : ℕ) (reply : Option Reply) (events : List SocketEvent) (e : SocketEvent) → Contains events e →
     Contains (answered port reply events) e
 answered_has port None events e c = c
 answered_has port (Some reply) events e c = Contains-append_right (Sent port reply.to reply.bytes ∷ []) events e c
@@ -58,7 +58,7 @@ same_sent own port reply to bytes e =
     let bytes_are : reply.bytes ≡ bytes = cc in
     (cc, λ i. Some (record { to = to_is i; bytes = bytes_are i }))
 
-pub answered_sends : (own : ℕ) (reply : Option Reply) (events : List Event) → IsSilent events →
+pub answered_sends : (own : ℕ) (reply : Option Reply) (events : List SocketEvent) → IsSilent events →
     SendsOnly own reply (answered own reply events)
 answered_sends own None events silent port to bytes c = absurd (silent port to bytes c)
 answered_sends own (Some reply) events silent port to bytes c =
@@ -68,7 +68,7 @@ answered_sends own (Some reply) events silent port to bytes c =
     ]
 
 -- no datagram that was sent
-abbrev pub IsUnsent : Event → Type 0
+abbrev pub IsUnsent : SocketEvent → Type 0
 IsUnsent (Received port from bytes) = Unit {0}
 IsUnsent (Sent port to bytes) = ⊥
 IsUnsent (Watched time) = Unit {0}
@@ -76,7 +76,7 @@ IsUnsent (Elapsed port time) = Unit {0}
 IsUnsent (Printed line) = Unit {0}
 IsUnsent (Quiet event) = Unit {0}
 
-pub unsent_silent : (events : List Event) → AllByRecursion IsUnsent events → IsSilent events
+pub unsent_silent : (events : List SocketEvent) → AllByRecursion IsUnsent events → IsSilent events
 unsent_silent events unsent port to bytes c =
     All-contains IsUnsent events (Sent port to bytes) (All-from_recursion IsUnsent events unsent) c
 
@@ -89,7 +89,7 @@ pub none_silent : IsSilent []
 none_silent port to bytes c = nothing_in (Sent port to bytes) c
 
 -- a step that adds no event
-pub added_none : (events added : List Event) → events ≡ added ++ events → [] ≡ added
+pub added_none : (events added : List SocketEvent) → events ≡ added ++ events → [] ≡ added
 added_none events added e = append_cancel_right [] added events e
 
 -- a line was printed

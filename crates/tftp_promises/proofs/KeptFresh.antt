@@ -13,7 +13,7 @@ use Rattle.tftp_file.specs.Source.{SourceMeaning}
 use Rattle.tftp_file.specs.declared.files.Files.{Files}
 use Rattle.tftp_store.specs.Store.{StoreMeaning}
 use Rattle.tftp_server.specs.State.{TransferState}
-use Rattle.tftp_sockets.specs.Journal.{Event}
+use Rattle.tftp_sockets.specs.Journal.{SocketEvent}
 use Rattle.tftp_loop.specs.Steps.{LoopState, LoopStep}
 use Rattle.tftp_client.specs.Converses.{State}
 use Rattle.tftp_rules.specs.Machine.{Endpoint}
@@ -66,7 +66,7 @@ module _ {S F D G K : Type 0} {stores : StoreMeaning S D} {sources : SourceMeani
     (programs : Programs stores sources inputs outputs) where
   -- before a step of the server
   told_before : (old : Snapshot programs) (new : LoopState S F D) (does : LoopStep stores sources old.state new)
-      (added : List Event) →
+      (added : List SocketEvent) →
       IsFreshBy programs (server_did programs old does added) → (a : Endpoint) → Contains (places programs old.run) a →
       IsToldAt programs old a
   told_before old new does added h a c =
@@ -83,7 +83,7 @@ module _ {S F D G K : Type 0} {stores : StoreMeaning S D} {sources : SourceMeani
       }
 
   pub fresh_before_server : (old : Snapshot programs) (new : LoopState S F D) (does : LoopStep stores sources old.state new)
-      (added : List Event) →
+      (added : List SocketEvent) →
       IsFreshBy programs (server_did programs old does added) → IsFreshBy programs old
   fresh_before_server old new does added h = record {
     server =
@@ -105,9 +105,9 @@ module _ {S F D G K : Type 0} {stores : StoreMeaning S D} {sources : SourceMeani
   -- what a client had moved before a step of it begins what it has moved
   abbrev pub HadMoved : Snapshot programs → ℕ → ClientStage G K → Type 0
   HadMoved old k stage =
-      (s : State) (files : Files G K) (noted : List Event) (moved : Moved) →
+      (s : State) (files : Files G K) (noted : List SocketEvent) (moved : Moved) →
       slice_get old.clients k ≡ Some (Has_asked s files noted moved) →
-      (s' : State) × (files' : Files G K) × (noted' : List Event) × (moved' : Moved)
+      (s' : State) × (files' : Files G K) × (noted' : List SocketEvent) × (moved' : Moved)
       × (stage ≡ Has_asked s' files' noted' moved') × IsPrefixOf moved.bytes moved'.bytes
 
   -- before a step of a client
@@ -139,15 +139,15 @@ module _ {S F D G K : Type 0} {stores : StoreMeaning S D} {sources : SourceMeani
   unasked_had old k stage unasked s files noted moved at =
       absurd (not_asked s files noted moved (same_Some Unasked (Has_asked s files noted moved)
       (sym unasked ∙ at))) where
-        not_asked : (s : State) (files : Files G K) (noted : List Event) (moved : Moved) →
+        not_asked : (s : State) (files : Files G K) (noted : List SocketEvent) (moved : Moved) →
             Unasked ≡ Has_asked s files noted moved → ⊥
         not_asked s files noted moved e = cc
 
   -- and one that had asked goes on
   pub asked_had : (old : Snapshot programs) (k : ℕ) (client : Client) (s s' : State) (files files' : Files G K)
-      (noted : List Event) (moved : Moved) →
+      (noted : List SocketEvent) (moved : Moved) →
       slice_get old.clients k ≡ Some (Has_asked s files noted moved) →
-      (does : ClientDoes inputs outputs client.port s files s' files') (added : List Event) →
+      (does : ClientDoes inputs outputs client.port s files s' files') (added : List SocketEvent) →
       HadMoved old k (Has_asked s' files' (added ++ noted) (client_moves does moved))
   asked_had old k client s s' files files' noted moved is_stage does added t fs es m at =
       let same =
@@ -161,11 +161,11 @@ module _ {S F D G K : Type 0} {stores : StoreMeaning S D} {sources : SourceMeani
         subst (λ (z : Moved). IsPrefixOf z.bytes (client_moves does moved).bytes) same
             (client_more does moved),
       ) where
-        moved_is : (s t : State) (files fs : Files G K) (noted es : List Event) (moved m : Moved) →
+        moved_is : (s t : State) (files fs : Files G K) (noted es : List SocketEvent) (moved m : Moved) →
             Has_asked s files noted moved ≡ Has_asked t fs es m → moved ≡ m
         moved_is s t files fs noted es moved m e = cc
 
-  last_moved : (client : Client) (s : State) (files : Files G K) (noted : List Event) (moved : Moved) →
+  last_moved : (client : Client) (s : State) (files : Files G K) (noted : List SocketEvent) (moved : Moved) →
       Has_asked client.last client.files client.noted (moved_in client.runs) ≡ Has_asked s files noted moved →
       moved_in client.runs ≡ moved
   last_moved client s files noted moved e = cc

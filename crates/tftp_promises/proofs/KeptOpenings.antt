@@ -13,8 +13,8 @@ use Rattle.tftp_ends.specs.End.{EndState}
 use Rattle.tftp_store.specs.Store.{StoreMeaning}
 use Rattle.tftp_server.specs.Request.{A_transfer, Left, left_by}
 use Rattle.tftp_server.specs.State.{TransferState, ServerState, at, with_new}
-use Rattle.tftp_sockets.specs.Journal.{Event}
-use Rattle.tftp_sockets.specs.Journal.Event.{Sent}
+use Rattle.tftp_sockets.specs.Journal.{SocketEvent}
+use Rattle.tftp_sockets.specs.Journal.SocketEvent.{Sent}
 use Rattle.tftp_loop.specs.Steps.{AnswersRequest, LoopStep, LoopState, Request_answered, after_request}
 use Rattle.tftp_rules.specs.EndOpens.{EndOpens}
 use Rattle.tftp_rules.specs.Machine.{At_server, Endpoint, Message, is_same}
@@ -53,7 +53,7 @@ module _ {S F D G K : Type 0} {stores : StoreMeaning S D} {sources : SourceMeani
     {outputs : SinkMeaning K}
     (programs : Programs stores sources inputs outputs) {how : How programs} (old : Snapshot programs)
     (kept : IsKept programs how old) {new : LoopState S F D} (answers : AnswersRequest stores sources old.state new)
-    (added : List Event) (noted : new.events ≡ added ++ old.state.events)
+    (added : List SocketEvent) (noted : new.events ≡ added ++ old.state.events)
     (fresh : IsFreshBy programs (server_did programs old (Request_answered answers) added)) where
   abbrev server : ServerState S F D
   server = old.state.server

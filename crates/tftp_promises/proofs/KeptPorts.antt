@@ -8,8 +8,8 @@ use Rattle.tftp_file.specs.Source.{SourceMeaning}
 use Rattle.tftp_ends.specs.End.{is_client}
 use Rattle.tftp_store.specs.Store.{StoreMeaning}
 use Rattle.tftp_server.specs.State.{TransferState, at, with_next}
-use Rattle.tftp_sockets.specs.Journal.{Event}
-use Rattle.tftp_sockets.specs.Journal.Event.{Sent}
+use Rattle.tftp_sockets.specs.Journal.{SocketEvent}
+use Rattle.tftp_sockets.specs.Journal.SocketEvent.{Sent}
 use Rattle.tftp_loop.specs.Steps.{LoopState, LoopStep}
 use Rattle.tftp_rules.specs.EndKept.{EndKept}
 use Rattle.tftp_rules.specs.Machine.{Endpoint, Message}
@@ -39,7 +39,7 @@ module _ {S F D G K : Type 0} {stores : StoreMeaning S D} {sources : SourceMeani
     (programs : Programs stores sources inputs outputs) {how : How programs} where
   -- what a step at the port did to the transfer there
   pub record PortTurns (old : Snapshot programs) (kept : IsKept programs how old) {new : LoopState S F D}
-      (does : LoopStep stores sources old.state new) (added : List Event)
+      (does : LoopStep stores sources old.state new) (added : List SocketEvent)
       (port : ℕ) (transfer : TransferState F D) (found : at port old.state.server.held ≡ Some transfer) : Type 0 where
     pub next : TransferState F D
     pub held : new.server.held ≡ with_next port next old.state.server.held
@@ -67,7 +67,7 @@ module _ {S F D G K : Type 0} {stores : StoreMeaning S D} {sources : SourceMeani
 
   module _ (old : Snapshot programs) (kept : IsKept programs how old) (fresh : IsFreshBy programs old)
       {new : LoopState S F D} (does : LoopStep stores sources old.state new) (stays : ServerStays programs old kept does)
-      (added : List Event) (port : ℕ) (transfer : TransferState F D)
+      (added : List SocketEvent) (port : ℕ) (transfer : TransferState F D)
       (found : at port old.state.server.held ≡ Some transfer)
       (turns : PortTurns old kept does added port transfer found) (none : (a : Endpoint) →
       place_at programs port old.run ≢ a → MovesNone programs old.run does a) where

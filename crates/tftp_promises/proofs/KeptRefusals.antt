@@ -12,8 +12,8 @@ use Rattle.tftp_ends.specs.Step.{Reply, error_bytes}
 use Rattle.tftp_store.specs.Store.{StoreMeaning}
 use Rattle.tftp_server.specs.Request.{Came, Nothing, Error_reply, Left, left_by}
 use Rattle.tftp_server.specs.State.{TransferState, ServerState}
-use Rattle.tftp_sockets.specs.Journal.{Event}
-use Rattle.tftp_sockets.specs.Journal.Event.{Sent}
+use Rattle.tftp_sockets.specs.Journal.{SocketEvent}
+use Rattle.tftp_sockets.specs.Journal.SocketEvent.{Sent}
 use Rattle.tftp_loop.specs.Steps.{AnswersRequest, LoopStep, LoopState, Request_answered, after_request}
 use Rattle.tftp_rules.specs.Machine.{Endpoint, Error, Message}
 use Rattle.tftp_rules.specs.Rules.{message}
@@ -57,7 +57,7 @@ module _ {S F D G K : Type 0} {stores : StoreMeaning S D} {sources : SourceMeani
   new_is came is = answers.is ∙ ap (λ (l : Left S F D). after_request old.state answers.from l) (left_is came is)
 
   -- a request removes no transfer
-  pub closed_earlier : (added : List Event) (port : ℕ) (transfer : TransferState F D) (a : Endpoint) →
+  pub closed_earlier : (added : List SocketEvent) (port : ℕ) (transfer : TransferState F D) (a : Endpoint) →
       HasClosed programs (server_did programs old does added).run port transfer a →
       HasClosed programs old.run port transfer a
   closed_earlier added port transfer a (inl removes) = absurd removes.0
@@ -67,7 +67,7 @@ module _ {S F D G K : Type 0} {stores : StoreMeaning S D} {sources : SourceMeani
   abbrev pub SentOf : List Message → Endpoint → Endpoint → List ℕ → Type 0
   SentOf messages from to bytes = IsThere messages from to bytes ⊎ IsStranger stores sources inputs outputs programs to
 
-  pub one_sent : (messages : List Message) (own : ℕ) (reply : Reply) (added : List Event) →
+  pub one_sent : (messages : List Message) (own : ℕ) (reply : Reply) (added : List SocketEvent) →
       Sent own reply.to reply.bytes ∷ [] ≡ added →
       SentOf messages (endpoint programs.ip own) reply.to reply.bytes →
       (port : ℕ) (to : Endpoint) (bytes : List ℕ) → Contains added (Sent port to bytes) →
@@ -75,7 +75,7 @@ module _ {S F D G K : Type 0} {stores : StoreMeaning S D} {sources : SourceMeani
   one_sent messages own reply added is there port to bytes c =
       let s =
       answered_sends own (Some reply) [] none_silent port to bytes
-      (subst (λ (es : List Event). Contains es (Sent port to bytes)) (sym is) c) in
+      (subst (λ (es : List SocketEvent). Contains es (Sent port to bytes)) (sym is) c) in
       subst (λ (r : Reply). SentOf messages (endpoint programs.ip port) r.to r.bytes)
       (same_Some reply (record { to = to; bytes = bytes }) s.1)
       (subst (λ (n : ℕ). SentOf messages (endpoint programs.ip n) reply.to reply.bytes) s.0 there)
@@ -102,7 +102,7 @@ module _ {S F D G K : Type 0} {stores : StoreMeaning S D} {sources : SourceMeani
       (λ c. nothing_in a (subst (λ (ps : List Endpoint). Contains ps a) opens c))
 
   -- a datagram that is ignored
-  pub silent_keeps : (added : List Event) → new.events ≡ added ++ old.state.events → answers.steps.came ≡ Nothing →
+  pub silent_keeps : (added : List SocketEvent) → new.events ≡ added ++ old.state.events → answers.steps.came ≡ Nothing →
       IsKept programs how (server_did programs old does added)
   silent_keeps added noted is =
       let e = new_is Nothing is in
@@ -117,7 +117,7 @@ module _ {S F D G K : Type 0} {stores : StoreMeaning S D} {sources : SourceMeani
       added (subst IsSilent none none_silent)
 
   -- one that is answered by an ERROR
-  pub refusal_keeps : (added : List Event) → new.events ≡ added ++ old.state.events →
+  pub refusal_keeps : (added : List SocketEvent) → new.events ≡ added ++ old.state.events →
       IsRefused stores sources server answers.from answers.bytes (content_by programs how old.state)
       answers.steps.came →
       IsKept programs how (server_did programs old does added)

@@ -22,7 +22,7 @@ use Rattle.tftp_ends.specs.Opening.{serving_read, serving_write}
 use Rattle.tftp_store.specs.Store.{StoreMeaning, Stored, files_of, new_draft}
 use Rattle.tftp_server.specs.State.{TransferState, ServerState}
 use Rattle.tftp_server.specs.declared.config.Config.{Config}
-use Rattle.tftp_sockets.specs.Journal.{Event}
+use Rattle.tftp_sockets.specs.Journal.{SocketEvent}
 use Rattle.tftp_loop.specs.Steps.{AnswersRequest, LoopState, Request_answered}
 use Rattle.tftp_rules.specs.EndOpens.{IsNewly, new_receiver, new_sender, sending}
 use Rattle.tftp_rules.specs.Machine.{Endpoint, Packet}
@@ -56,7 +56,7 @@ module _ {S F D G K : Type 0} {stores : StoreMeaning S D} {sources : SourceMeani
     {outputs : SinkMeaning K}
     (programs : Programs stores sources inputs outputs) {how : How programs} (old : Snapshot programs)
     (kept : IsKept programs how old) {new : LoopState S F D} (answers : AnswersRequest stores sources old.state new)
-    (added : List Event) (noted : new.events ≡ added ++ old.state.events)
+    (added : List SocketEvent) (noted : new.events ≡ added ++ old.state.events)
     (fresh : IsFreshBy programs (server_did programs old (Request_answered answers) added)) where
   abbrev server : ServerState S F D
   server = old.state.server

@@ -3,7 +3,7 @@ use Rattle.std.proofs.Common.{◌≡◌, List, ◌++◌}
 use Rattle.tftp_file.specs.Sink.{SinkMeaning}
 use Rattle.tftp_file.specs.Source.{SourceMeaning}
 use Rattle.tftp_store.specs.Store.{StoreMeaning}
-use Rattle.tftp_sockets.specs.Journal.{Event}
+use Rattle.tftp_sockets.specs.Journal.{SocketEvent}
 use Rattle.tftp_loop.specs.Steps.{LoopState, LoopStep}
 use Rattle.tftp_promises.specs.ClientRuns.{client_moves}
 use Rattle.tftp_promises.specs.Joined.{AreJoined}
@@ -24,7 +24,7 @@ module _ {S F D G K : Type 0} {stores : StoreMeaning S D} {sources : SourceMeani
   abbrev pub ServerStepsKeep : (programs : Programs stores sources inputs outputs) → How programs → Type 0
   ServerStepsKeep programs how =
       (old : Snapshot programs) (new : LoopState S F D) (does : LoopStep stores sources old.state new)
-      (added : List Event) → IsKept programs how old →
+      (added : List SocketEvent) → IsKept programs how old →
       IsFreshBy programs (server_did programs old does added) → new.events ≡ added ++ old.state.events →
       CanTake programs old programs.ip added →
       IsKept programs how (server_did programs old does added)

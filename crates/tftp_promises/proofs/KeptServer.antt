@@ -7,8 +7,8 @@ use Rattle.tftp_file.specs.Sink.{SinkMeaning}
 use Rattle.tftp_file.specs.Source.{SourceMeaning}
 use Rattle.tftp_store.specs.Store.{StoreMeaning}
 use Rattle.tftp_server.specs.State.{TransferState}
-use Rattle.tftp_sockets.specs.Journal.{Event}
-use Rattle.tftp_sockets.specs.Journal.Event.{Sent}
+use Rattle.tftp_sockets.specs.Journal.{SocketEvent}
+use Rattle.tftp_sockets.specs.Journal.SocketEvent.{Sent}
 use Rattle.tftp_loop.specs.Steps.{LoopState, LoopStep}
 use Rattle.tftp_rules.specs.Machine.{Endpoint, Message}
 use Rattle.tftp_rules.specs.OpenEnds.{OpenEnd}
@@ -28,7 +28,7 @@ module _ {S F D G K : Type 0} {stores : StoreMeaning S D} {sources : SourceMeani
     (programs : Programs stores sources inputs outputs) {how : How programs} where
   -- what a step of the server did to the ends and the messages
   pub record ServerTurns (old : Snapshot programs) (kept : IsKept programs how old) (now : Snapshot programs)
-      (added : List Event) : Type 0 where
+      (added : List SocketEvent) : Type 0 where
     pub views : List EndView
     pub said_now : List Message
     pub shown : IsShown (joined programs) views (kept.messages ++ said_now)
@@ -49,7 +49,7 @@ module _ {S F D G K : Type 0} {stores : StoreMeaning S D} {sources : SourceMeani
     pub were : (a : Endpoint) → IsOfTransfer programs old a → IsOfTransfer programs now a
 
   module _ (old : Snapshot programs) (kept : IsKept programs how old) {new : LoopState S F D}
-      (does : LoopStep stores sources old.state new) (added : List Event)
+      (does : LoopStep stores sources old.state new) (added : List SocketEvent)
       (turns : ServerTurns old kept (server_did programs old does added) added) where
     abbrev messages : List Message
     messages = kept.messages ++ turns.said_now

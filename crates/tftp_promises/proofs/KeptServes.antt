@@ -12,8 +12,8 @@ use Rattle.tftp_ends.specs.End.{EndState}
 use Rattle.tftp_ends.specs.Step.{error_bytes}
 use Rattle.tftp_store.specs.Store.{StoreMeaning, files_of as stored_files}
 use Rattle.tftp_server.specs.State.{TransferState, ServerState}
-use Rattle.tftp_sockets.specs.Journal.{Event}
-use Rattle.tftp_sockets.specs.Journal.Event.{Received, Watched, Elapsed, Printed, Quiet}
+use Rattle.tftp_sockets.specs.Journal.{SocketEvent}
+use Rattle.tftp_sockets.specs.Journal.SocketEvent.{Received, Watched, Elapsed, Printed, Quiet}
 use Rattle.tftp_sockets.specs.Journal.QuietEvent.{Empty, Failed, Slept, Woke}
 use Rattle.tftp_loop.specs.Steps.{LoopState, LoopStep, port_state, Waited, At_port, Request_received, No_request_found}
 use Rattle.tftp_loop.specs.Steps.{Request_not_received, Request_noted, Request_answered, Request_lost, Clock_read}
@@ -59,20 +59,20 @@ module _ {S F D G K : Type 0} {stores : StoreMeaning S D} {sources : SourceMeani
   abbrev pub AnswersKeep : Type 0
   AnswersKeep =
       (old : Snapshot programs) (new : LoopState S F D) (answers : AnswersRequest stores sources old.state new)
-      (added : List Event) → IsKept programs how old →
+      (added : List SocketEvent) → IsKept programs how old →
       IsFreshBy programs (server_did programs old (Request_answered answers) added) →
       new.events ≡ added ++ old.state.events → CanTake programs old programs.ip added →
       IsKept programs how (server_did programs old (Request_answered answers) added)
 
-  module _ (old : Snapshot programs) (new : LoopState S F D) (kept : IsKept programs how old) (added : List Event)
+  module _ (old : Snapshot programs) (new : LoopState S F D) (kept : IsKept programs how old) (added : List SocketEvent)
       (events : new.events ≡ added ++ old.state.events)
       (take : CanTake programs old programs.ip added) where
     -- the events of a step
-    added_is : (noted : List Event) → new.events ≡ noted ++ old.state.events → noted ≡ added
+    added_is : (noted : List SocketEvent) → new.events ≡ noted ++ old.state.events → noted ≡ added
     added_is noted e = added_by 0 None noted old.state.events added (sym e ∙ events)
 
-    silent_by : (noted : List Event) → new.events ≡ noted ++ old.state.events → IsSilent noted → IsSilent added
-    silent_by noted e silent = subst (λ (es : List Event). IsSilent es) (added_is noted e) silent
+    silent_by : (noted : List SocketEvent) → new.events ≡ noted ++ old.state.events → IsSilent noted → IsSilent added
+    silent_by noted e silent = subst (λ (es : List SocketEvent). IsSilent es) (added_is noted e) silent
 
     -- ---- a request is received
     request_came : (h : ReceivesRequest stores sources old.state new) →
@@ -82,7 +82,7 @@ module _ {S F D G K : Type 0} {stores : StoreMeaning S D} {sources : SourceMeani
         subst (λ (port : ℕ). WasSentBefore programs old h.from (endpoint programs.ip port) h.bytes
         ⊎ MayCome stores sources inputs outputs programs h.from h.bytes) kept.server.requests
         (take old.state.requests h.from h.bytes
-        (subst (λ (es : List Event). Contains es (Received old.state.requests h.from h.bytes))
+        (subst (λ (es : List SocketEvent). Contains es (Received old.state.requests h.from h.bytes))
         (added_is (Received old.state.requests h.from h.bytes ∷ []) (ap (λ (s : LoopState S F D). s.events) h.is))
         (Contains-push [] (Received old.state.requests h.from h.bytes))))
 
@@ -128,7 +128,7 @@ module _ {S F D G K : Type 0} {stores : StoreMeaning S D} {sources : SourceMeani
         left.requests ≡ old.state.requests → left.server ≡ old.state.server →
         ((from : Endpoint) (bytes : List ℕ) → left.pending ≡ Some (from, bytes) →
         old.state.pending ≡ Some (from, bytes)) →
-        (noted : List Event) → left.events ≡ noted ++ old.state.events → AllByRecursion IsUnsent noted →
+        (noted : List SocketEvent) → left.events ≡ noted ++ old.state.events → AllByRecursion IsUnsent noted →
         IsKept programs how (server_did programs old does added)
     same_keeps does opens seats removes none is requests server pending noted e unsent =
         let server_same : new.server ≡ old.state.server = ap (λ (s : LoopState S F D). s.server) is ∙ server in

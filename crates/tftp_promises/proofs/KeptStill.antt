@@ -7,8 +7,8 @@ use Rattle.tftp_file.specs.Sink.{SinkMeaning}
 use Rattle.tftp_file.specs.Source.{SourceMeaning}
 use Rattle.tftp_store.specs.Store.{StoreMeaning}
 use Rattle.tftp_server.specs.State.{TransferState, at}
-use Rattle.tftp_sockets.specs.Journal.{Event}
-use Rattle.tftp_sockets.specs.Journal.Event.{Sent}
+use Rattle.tftp_sockets.specs.Journal.{SocketEvent}
+use Rattle.tftp_sockets.specs.Journal.SocketEvent.{Sent}
 use Rattle.tftp_loop.specs.Steps.{LoopState, LoopStep}
 use Rattle.tftp_rules.specs.Machine.{Endpoint, Message}
 use Rattle.tftp_rules.specs.Shows.{IsShown}
@@ -29,7 +29,7 @@ module _ {S F D G K : Type 0} {stores : StoreMeaning S D} {sources : SourceMeani
     (programs : Programs stores sources inputs outputs) {how : How programs} (old : Snapshot programs)
     (kept : IsKept programs how old) {new : LoopState S F D} (does : LoopStep stores sources old.state new)
     (stays : ServerStays programs old kept does) (none : (a : Endpoint) → MovesNone programs old.run does a)
-    (held : new.server.held ≡ old.state.server.held) (added : List Event) where
+    (held : new.server.held ≡ old.state.server.held) (added : List SocketEvent) where
   abbrev now : Snapshot programs
   now = server_did programs old does added
 

@@ -11,8 +11,8 @@ use Rattle.tftp_file.specs.declared.files.Files.TheVariants.{Source, Sink}
 use Rattle.tftp_ends.specs.End.{EndState, is_client}
 use Rattle.tftp_ends.specs.Step.{Turn, Reply, after_turn}
 use Rattle.tftp_store.specs.Store.{StoreMeaning}
-use Rattle.tftp_sockets.specs.Journal.{Event}
-use Rattle.tftp_sockets.specs.Journal.Event.{Sent}
+use Rattle.tftp_sockets.specs.Journal.{SocketEvent}
+use Rattle.tftp_sockets.specs.Journal.SocketEvent.{Sent}
 use Rattle.tftp_client.specs.Converses.{State}
 use Rattle.tftp_rules.specs.EndShown.{Goes, Replies, Newest}
 use Rattle.tftp_rules.specs.Machine.{Endpoint, Message}
@@ -69,7 +69,7 @@ module _ {S F D G K : Type 0} {stores : StoreMeaning S D} {sources : SourceMeani
     (kept : IsKept programs how old) (fresh : IsFreshBy programs old)
     (k : ℕ) (client : ClientProgram inputs outputs (requests_at programs))
     (found : slice_get programs.clients k ≡ Some client)
-    (s : State) (files : Files G K) (noted : List Event) (moved : Moved)
+    (s : State) (files : Files G K) (noted : List SocketEvent) (moved : Moved)
     (is_stage : slice_get old.clients k ≡ Some (Has_asked s files noted moved)) where
   -- the end before the step
   pub own : ClientKept programs how kept.views kept.messages client s files moved
@@ -99,7 +99,7 @@ module _ {S F D G K : Type 0} {stores : StoreMeaning S D} {sources : SourceMeani
       (end_after own.end turn held))
       (s' : State) (state : s'.end ≡ after_turn s.end turn) (files' : Files G K) (moved' : Moved)
       (has : HasFile programs how client (end_after own.end turn held) files' moved')
-      (added : List Event) (sends : SendsOnly client.port turn.reply added) where
+      (added : List SocketEvent) (sends : SendsOnly client.port turn.reply added) where
     abbrev y : OpenEnd
     y = end_after own.end turn held
 
@@ -171,7 +171,7 @@ module _ {S F D G K : Type 0} {stores : StoreMeaning S D} {sources : SourceMeani
 
   -- the end as it was
   module _ (s' : State) (state : s'.end ≡ s.end) (files' : Files G K) (moved' : Moved)
-      (has : HasFile programs how client own.end files' moved') (added : List Event) (silent : IsSilent added) where
+      (has : HasFile programs how client own.end files' moved') (added : List SocketEvent) (silent : IsSilent added) where
     stays : ClientTurns programs old kept k client s' files' (added ++ noted) moved'
     stays = record {
       views = kept.views;

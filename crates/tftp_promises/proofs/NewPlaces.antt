@@ -11,7 +11,7 @@ use Rattle.tftp_file.specs.Sink.{SinkMeaning}
 use Rattle.tftp_file.specs.Source.{SourceMeaning}
 use Rattle.tftp_store.specs.Store.{StoreMeaning}
 use Rattle.tftp_server.specs.Request.{Came, Nothing, Error_reply, A_transfer, Left, left_by}
-use Rattle.tftp_sockets.specs.Journal.{Event}
+use Rattle.tftp_sockets.specs.Journal.{SocketEvent}
 use Rattle.tftp_loop.specs.Run.{Run}
 use Rattle.tftp_loop.specs.Run.Run.{Start, Then}
 use Rattle.tftp_loop.specs.Steps.{LoopState, LoopStep, Waited, At_port, Request_received, No_request_found}
@@ -196,7 +196,7 @@ module _ {S F D G K : Type 0} {stores : StoreMeaning S D} {sources : SourceMeani
 
   -- a transfer opens where none was before
   module _ (old : Snapshot programs) {new : LoopState S F D} (answers : AnswersRequest stores sources old.state new)
-      (opens : option_to_list answers.left.opened.tid ≡ answers.tid ∷ []) (added : List Event)
+      (opens : option_to_list answers.left.opened.tid ≡ answers.tid ∷ []) (added : List SocketEvent)
       (fresh : IsFreshBy programs (server_did programs old (Request_answered answers) added)) where
     abbrev tid : ℕ
     tid = answers.tid
@@ -288,7 +288,7 @@ module _ {S F D G K : Type 0} {stores : StoreMeaning S D} {sources : SourceMeani
 
   -- a place where a transfer was is not taken again
   module _ (old : Snapshot programs) {new : LoopState S F D} where
-    answered_again : (answers : AnswersRequest stores sources old.state new) (added : List Event) →
+    answered_again : (answers : AnswersRequest stores sources old.state new) (added : List SocketEvent) →
         IsFreshBy programs (server_did programs old (Request_answered answers) added) → (a : Endpoint) →
         Contains (places programs old.run) a →
         (o : Option ℕ) → answers.left.opened.tid ≡ o →
@@ -300,7 +300,7 @@ module _ {S F D G K : Type 0} {stores : StoreMeaning S D} {sources : SourceMeani
         (sym (only_one (place programs (length (opened_ports old.run)) answers.from tid) a now)
         ∙ ap (place programs (length (opened_ports old.run)) answers.from) own)
 
-    pub not_again : (does : LoopStep stores sources old.state new) (added : List Event) →
+    pub not_again : (does : LoopStep stores sources old.state new) (added : List SocketEvent) →
         IsFreshBy programs (server_did programs old does added) → (a : Endpoint) →
         Contains (places programs old.run) a →
         Contains (placed_by programs old.run does) a → ⊥

@@ -14,7 +14,7 @@ use Rattle.tftp_server.specs.State.{TransferState, ServerState, at, taken_of, wi
 use Rattle.tftp_server.specs.Steps.{KeepsHeld}
 use Rattle.tftp_server.specs.Request.{Came, Left, Nothing, Error_reply, A_transfer, left_by}
 use Rattle.tftp_server.specs.Work.{WorksAt}
-use Rattle.tftp_sockets.specs.Journal.{Event}
+use Rattle.tftp_sockets.specs.Journal.{SocketEvent}
 use Rattle.tftp_loop.specs.Run.{Run}
 use Rattle.tftp_loop.specs.Run.Run.{Start, Then}
 use Rattle.tftp_loop.specs.Steps.{Timer, PortState, LoopState, PortStep, LoopStep, at_start, marked_by, set_by, timer_after}
@@ -211,7 +211,7 @@ module _ {S F D : Type 0} (stores : StoreMeaning S D) (sources : SourceMeaning F
   run_matched Start matched = matched
   run_matched {now = now} (Then {middle} run does) matched = step_matched middle now does (run_matched run matched)
 
-  start_matched : (config : LoopConfig) (port : ℕ) (first : ServerState S F D) (before : List Event) →
+  start_matched : (config : LoopConfig) (port : ℕ) (first : ServerState S F D) (before : List SocketEvent) →
       first.held ≡ [] → IsMatched (at_start config port first before)
   start_matched config port first before none =
       subst (AreMatched []) (sym none) (record { same = λ p. refl; most = λ p. omega arith })
@@ -240,7 +240,7 @@ module _ {S F D : Type 0} (stores : StoreMeaning S D) (sources : SourceMeaning F
     same = λ port. (held_by state matched port, timed_by state matched port);
   }
 
-  pub one_timer_each : (config : LoopConfig) (port : ℕ) (first : ServerState S F D) (before : List Event)
+  pub one_timer_each : (config : LoopConfig) (port : ℕ) (first : ServerState S F D) (before : List SocketEvent)
       (now : LoopState S F D) → first.held ≡ [] →
       Run (LoopStep stores sources) (at_start config port first before) now → HasOneTimerEach now
   one_timer_each config port first before now none run =

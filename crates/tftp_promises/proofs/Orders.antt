@@ -7,7 +7,7 @@ use Rattle.std.proofs.lemmas.Bool.{cond-true, cond-false, eq-eqb, ne_eqb}
 use Rattle.std.proofs.lemmas.List.Elements.{Contains-append_cases, Contains-append_left, Contains-append_right}
 use Rattle.std.proofs.lemmas.List.Elements.{Contains-push, Contains-push_cases}
 use Rattle.std.proofs.lemmas.Option.{same_Some}
-use Rattle.tftp_sockets.specs.Journal.{Event}
+use Rattle.tftp_sockets.specs.Journal.{SocketEvent}
 use Rattle.tftp_promises.specs.Order.{Noted, events_of}
 
 -- ---- elements
@@ -29,24 +29,24 @@ later_in y xs x i = Contains-append_right (y ∷ []) xs x i
 
 -- ---- the events of one program
 
-pub events_own : (p : ℕ) (e : Event) (order : List Noted) → events_of p ((p, e) ∷ order) ≡ e ∷ events_of p order
+pub events_own : (p : ℕ) (e : SocketEvent) (order : List Noted) → events_of p ((p, e) ∷ order) ≡ e ∷ events_of p order
 events_own p e order = cond-true (p == p) (e ∷ events_of p order) (events_of p order) (eq-eqb p p refl)
 
-pub events_other : (p q : ℕ) (e : Event) (order : List Noted) → p ≢ q → events_of p ((q, e) ∷ order) ≡ events_of p order
+pub events_other : (p q : ℕ) (e : SocketEvent) (order : List Noted) → p ≢ q → events_of p ((q, e) ∷ order) ≡ events_of p order
 events_other p q e order n =
     cond-false (q == p) (e ∷ events_of p order) (events_of p order) (ne_eqb q p (λ same. n (sym same)))
 
-either_in : (b : Bool) (x e : Event) (events : List Event) → Contains events e →
+either_in : (b : Bool) (x e : SocketEvent) (events : List SocketEvent) → Contains events e →
     Contains (if b then x ∷ events else events) e
 either_in true x e events i = later_in x events e i
 either_in false x e events i = i
 
-pub noted_in : (p : ℕ) (e : Event) (order : List Noted) → Contains order (p, e) → Contains (events_of p order) e
+pub noted_in : (p : ℕ) (e : SocketEvent) (order : List Noted) → Contains order (p, e) → Contains (events_of p order) e
 noted_in p e [] i = absurd (nothing_in (p, e) i)
 noted_in p e (x ∷ order) i = elim (Contains-append_cases (x ∷ []) order (p, e) i) [
   | inl here ↦
       subst (λ (z : Noted). Contains (events_of p (z ∷ order)) e) (sym (one_in (p, e) x here))
-      (subst (λ (es : List Event). Contains es e) (sym (events_own p e order)) (first_in e (events_of p order)))
+      (subst (λ (es : List SocketEvent). Contains es e) (sym (events_own p e order)) (first_in e (events_of p order)))
   | inr later ↦ either_in (x.0 == p) x.1 e (events_of p order) (noted_in p e order later)
 ]
 

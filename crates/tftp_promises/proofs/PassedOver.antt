@@ -12,8 +12,8 @@ use Rattle.tftp_ends.specs.End.{EndState, is_complete, is_sender, record_of}
 use Rattle.tftp_store.specs.Store.{StoreMeaning}
 use Rattle.tftp_rules.specs.Machine.{Endpoint}
 use Rattle.tftp_rules.proofs.ViewSafe.{first_of_empty}
-use Rattle.tftp_sockets.specs.Journal.{Event}
-use Rattle.tftp_sockets.specs.Journal.Event.{Received, Sent, Watched, Elapsed, Printed, Quiet}
+use Rattle.tftp_sockets.specs.Journal.{SocketEvent}
+use Rattle.tftp_sockets.specs.Journal.SocketEvent.{Received, Sent, Watched, Elapsed, Printed, Quiet}
 use Rattle.tftp_loop.specs.Run.{Run}
 use Rattle.tftp_loop.specs.Run.Run.{Start, Then}
 use Rattle.tftp_loop.specs.Steps.{LoopState, LoopStep, Waited, At_port, Request_received, No_request_found}
@@ -37,11 +37,11 @@ use Rattle.tftp_promises.proofs.ProgramsShown.{programs_keep_any}
 
 -- ---- the first event of a client
 -- of an order, the events of the server, and the first of the client
-abbrev if_first : List Event → Noted → List Noted → List Noted
+abbrev if_first : List SocketEvent → Noted → List Noted → List Noted
 if_first [] e order = e ∷ order
 if_first (x ∷ events) e order = order
 
-abbrev by_member : Bool → List Event → Noted → List Noted → List Noted
+abbrev by_member : Bool → List SocketEvent → Noted → List Noted → List Noted
 by_member member events e order = if member then if_first events e order else e ∷ order
 
 abbrev first_only : List Noted → List Noted
@@ -49,23 +49,23 @@ first_only [] = []
 first_only (e ∷ order) = by_member (e.0 == 1) (events_of 1 order) e (first_only order)
 
 -- the first event of the client is this, if there is one
-abbrev Begins : Event → List Event → Type 0
-Begins x events = (events ≡ []) ⊎ ((more : List Event) × (events ≡ more ++ x ∷ []))
+abbrev Begins : SocketEvent → List SocketEvent → Type 0
+Begins x events = (events ≡ []) ⊎ ((more : List SocketEvent) × (events ≡ more ++ x ∷ []))
 
-begins_after : (x y : Event) (events : List Event) → Begins x (y ∷ events) → Begins x events
+begins_after : (x y : SocketEvent) (events : List SocketEvent) → Begins x (y ∷ events) → Begins x events
 begins_after x y events (inl none) = absurd (let f : y ∷ events ≡ [] = none in cc)
 begins_after x y events (inr ([], is)) =
     let f : y ∷ events ≡ x ∷ [] = is in let g : events ≡ [] = cc in inl g
 begins_after x y events (inr (z ∷ more, is)) =
     let f : y ∷ events ≡ z ∷ (more ++ x ∷ []) = is in let g : events ≡ more ++ x ∷ [] = cc in inr (more, g)
 
-begins_here : (x y : Event) → Begins x (y ∷ []) → y ≡ x
+begins_here : (x y : SocketEvent) → Begins x (y ∷ []) → y ≡ x
 begins_here x y (inl none) = absurd (let f : y ∷ [] ≡ [] = none in cc)
 begins_here x y (inr ([], is)) = let f : y ∷ [] ≡ x ∷ [] = is in cc
 begins_here x y (inr (z ∷ [], is)) = absurd (let f : y ∷ [] ≡ z ∷ x ∷ [] = is in cc)
 begins_here x y (inr (z ∷ w ∷ more, is)) = absurd (let f : y ∷ [] ≡ z ∷ (w ∷ (more ++ x ∷ [])) = is in cc)
 
-module _ (x : Event) where
+module _ (x : SocketEvent) where
   -- before an event the client's journal begins so, too
   begins_by : (member : Bool) (e : Noted) (order : List Noted) → (e.0 == 1) ≡ member →
       Begins x (events_of 1 (e ∷ order)) → Begins x (events_of 1 order)
@@ -75,16 +75,16 @@ module _ (x : Event) where
   begins_by false e order is h =
       subst (λ (b : Bool). Begins x (if b then e.1 ∷ events_of 1 order else events_of 1 order)) is h
 
-  server_first : (member : Bool) (events : List Event) (e : Noted) (order rest : List Noted) → (e.0 == 1) ≡ member →
+  server_first : (member : Bool) (events : List SocketEvent) (e : Noted) (order rest : List Noted) → (e.0 == 1) ≡ member →
       events_of 0 rest ≡ events_of 0 order →
       events_of 0 (by_member member events e rest) ≡ events_of 0 (e ∷ order)
   server_first true [] e order rest is same =
-      ap (λ (es : List Event). if e.0 == 0 then e.1 ∷ es else es) same
+      ap (λ (es : List SocketEvent). if e.0 == 0 then e.1 ∷ es else es) same
   server_first true (y ∷ events) e order rest is same =
       let one = eqb-true e.0 1 is in
       same ∙ sym (ap (λ (b : Bool). if b then e.1 ∷ events_of 0 order else events_of 0 order)
       (ne_eqb e.0 0 (λ zero_is. omega (arith, one, zero_is))))
-  server_first false events e order rest is same = ap (λ (es : List Event). if e.0 == 0 then e.1 ∷ es else es) same
+  server_first false events e order rest is same = ap (λ (es : List SocketEvent). if e.0 == 0 then e.1 ∷ es else es) same
 
   pub server_all : (order : List Noted) → events_of 0 (first_only order) ≡ events_of 0 order
   server_all [] = refl
@@ -92,16 +92,16 @@ module _ (x : Event) where
       server_first (e.0 == 1) (events_of 1 order) e order (first_only order) refl (server_all order)
 
   -- of the client its first
-  abbrev First : List Event → List Event → Type 0
+  abbrev First : List SocketEvent → List SocketEvent → Type 0
   First events first = (events ≡ [] → first ≡ []) × (events ≢ [] → first ≡ x ∷ [])
 
-  client_by : (member : Bool) (events : List Event) (e : Noted) (rest : List Noted) → (e.0 == 1) ≡ member →
+  client_by : (member : Bool) (events : List SocketEvent) (e : Noted) (rest : List Noted) → (e.0 == 1) ≡ member →
       Begins x (if member then e.1 ∷ events else events) → First events (events_of 1 rest) →
       First (if member then e.1 ∷ events else events) (events_of 1 (by_member member events e rest))
   client_by true [] e rest is begins h = (
     λ none. absurd (let f : e.1 ∷ [] ≡ [] = none in cc),
     λ some. ap (λ (b : Bool). if b then e.1 ∷ events_of 1 rest else events_of 1 rest) is
-        ∙ (ap (λ (es : List Event). e.1 ∷ es) (h.0 refl) ∙ ap (λ (y : Event). y ∷ []) (begins_here x e.1 begins)),
+        ∙ (ap (λ (es : List SocketEvent). e.1 ∷ es) (h.0 refl) ∙ ap (λ (y : SocketEvent). y ∷ []) (begins_here x e.1 begins)),
   )
   client_by true (y ∷ events) e rest is begins h = (
     λ none. absurd (let f : e.1 ∷ (y ∷ events) ≡ [] = none in cc),
@@ -120,7 +120,7 @@ module _ (x : Event) where
       (client_all order (begins_by (e.0 == 1) e order refl begins))
 
 -- what was noted is among the events
-in_order : (p : ℕ) (order : List Noted) (x : Event) → Contains (events_of p order) x → Contains order (p, x)
+in_order : (p : ℕ) (order : List Noted) (x : SocketEvent) → Contains (events_of p order) x → Contains order (p, x)
 in_order p [] x c = absurd (nothing_in x c)
 in_order p (e ∷ order) x c = by (λ more. in_order p order x more) (e.0 == p) refl c where
   by : (Contains (events_of p order) x → Contains order (p, x)) → (b : Bool) → (e.0 == p) ≡ b →
@@ -128,7 +128,7 @@ in_order p (e ∷ order) x c = by (λ more. in_order p order x more) (e.0 == p) 
   by rest true is c = elim (first_or_more e.1 x (events_of p order) c) [
     | inl same ↦
         let here : (e.0, e.1) ≡ (p, x) =
-        ap (λ (q : ℕ). (q, e.1)) (eqb-true e.0 p is) ∙ ap (λ (y : Event). (p, y)) same in
+        ap (λ (q : ℕ). (q, e.1)) (eqb-true e.0 p is) ∙ ap (λ (y : SocketEvent). (p, y)) same in
         subst (λ (y : Noted). Contains (e ∷ order) y) here (first_in e order)
     | inr more ↦ later_in e order (p, x) (rest more)
   ]
@@ -153,7 +153,7 @@ module _ {S F D G K : Type 0} {stores : StoreMeaning S D} {sources : SourceMeani
   abbrev heard : List Noted
   heard = heard_with i (number_of several k) all
 
-  abbrev request : Event
+  abbrev request : SocketEvent
   request = Sent client.port client.first.position.last_sent_to client.first.position.last_sent
 
   order_is : IsOrder stores sources inputs outputs both heard
@@ -229,7 +229,7 @@ module _ {S F D G K : Type 0} {stores : StoreMeaning S D} {sources : SourceMeani
     some none =
         no_more (asks_first (endpoint several.ip several.port) client).more
         (sym (order_is.clients 0 client refl ∙ (asks_first (endpoint several.ip several.port) client).is) ∙ none) where
-          no_more : (more : List Event) →
+          no_more : (more : List SocketEvent) →
               more ++ Sent client.port (endpoint several.ip several.port) client.first.position.last_sent ∷ [] ≡ [] → ⊥
           no_more [] e = cc
           no_more (y ∷ more) e = cc
@@ -259,7 +259,7 @@ module _ {S F D G K : Type 0} {stores : StoreMeaning S D} {sources : SourceMeani
     request_there : events_of 1 order ≢ [] → Contains (first_only order) (1, request)
     request_there some =
         in_order 1 (first_only order) request
-        (subst (λ (es : List Event). Contains es request) (sym ((client_all request order starts).1 some))
+        (subst (λ (es : List SocketEvent). Contains es request) (sym ((client_all request order starts).1 some))
         (first_in request []))
 
     by_client : (port : ℕ) → from ≡ endpoint client.ip port → Contains order (1, Sent port to bytes) →
@@ -267,11 +267,11 @@ module _ {S F D G K : Type 0} {stores : StoreMeaning S D} {sources : SourceMeani
     by_client port at sent =
         let events = noted_in 1 (Sent port to bytes) order sent in
         let some : events_of 1 order ≢ [] =
-        λ none. nothing_in (Sent port to bytes) (subst (λ (es : List Event). Contains es (Sent port to bytes)) none
+        λ none. nothing_in (Sent port to bytes) (subst (λ (es : List SocketEvent). Contains es (Sent port to bytes)) none
         events) in
         let own_port : port ≡ client.port =
         sent_own several all i server k client at_i found over.among client port to bytes
-        (subst (λ (es : List Event). Contains es (Sent port to bytes)) (order_is.clients 0 client refl)
+        (subst (λ (es : List SocketEvent). Contains es (Sent port to bytes)) (order_is.clients 0 client refl)
         (noted_in 1 (Sent port to bytes) heard (within (1, Sent port to bytes) sent))) in
         let here : from ≡ there = at ∙ ap (λ (p : ℕ). endpoint client.ip p) own_port in
         elim (over.refused q bytes (subst (λ (a : Endpoint). Contains server.noted (Received q a bytes)) here noted)) [
@@ -285,7 +285,7 @@ module _ {S F D G K : Type 0} {stores : StoreMeaning S D} {sources : SourceMeani
                 program = 1;
                 port = client.port;
                 is_at = (client.ip, refl, here);
-                sent = subst (λ (e : Event). Contains (first_only order) (1, e)) same (request_there some);
+                sent = subst (λ (e : SocketEvent). Contains (first_only order) (1, e)) same (request_there some);
               })
           | inr error ↦ inr (inr error)
         ]
@@ -298,7 +298,7 @@ module _ {S F D G K : Type 0} {stores : StoreMeaning S D} {sources : SourceMeani
           port = port;
           is_at = (several.ip, refl, at);
           sent = in_order 0 (first_only order) (Sent port to bytes)
-              (subst (λ (es : List Event). Contains es (Sent port to bytes)) (sym (server_all request order))
+              (subst (λ (es : List SocketEvent). Contains es (Sent port to bytes)) (sym (server_all request order))
               (noted_in 0 (Sent port to bytes) order sent));
         })
 
@@ -310,7 +310,7 @@ module _ {S F D G K : Type 0} {stores : StoreMeaning S D} {sources : SourceMeani
         by_client port (at.2 ∙ ap (λ (a : List ℕ). endpoint a port) (sym (same_Some client.ip at.0 at.1))) sent
     came (suc (suc p)) port at sent = absurd (let f : None ≡ Some at.0 = at.1 in cc)
 
-  comes : (p : ℕ) → p ≢ 1 → (e : Event) (order : List Noted) →
+  comes : (p : ℕ) → p ≢ 1 → (e : SocketEvent) (order : List Noted) →
       ((x : Noted) → Contains ((p, e) ∷ order) x → Contains heard x) → Begins request (events_of 1 order) →
       CanCome stores sources inputs outputs both p e order →
       CanCome stores sources inputs outputs less p e (first_only order)
@@ -318,7 +318,7 @@ module _ {S F D G K : Type 0} {stores : StoreMeaning S D} {sources : SourceMeani
       let to_is : h.0 ≡ endpoint several.ip q =
       h.1.2 ∙ ap (λ (a : List ℕ). endpoint a q) (sym (same_Some several.ip h.1.0 h.1.1)) in
       let noted : Contains server.noted (Received q from bytes) =
-      subst (λ (es : List Event). Contains es (Received q from bytes)) order_is.server
+      subst (λ (es : List SocketEvent). Contains es (Received q from bytes)) order_is.server
       (noted_in 0 (Received q from bytes) heard (within (0, Received q from bytes)
       (first_in (0, Received q from bytes) order))) in (
         h.0,
@@ -342,7 +342,7 @@ module _ {S F D G K : Type 0} {stores : StoreMeaning S D} {sources : SourceMeani
   abbrev Honest : List Noted → Type 0
   Honest order = IsHonest stores sources inputs outputs less order
 
-  honest_by : (member : Bool) (events : List Event) (e : Noted) (order : List Noted) → (e.0 == 1) ≡ member →
+  honest_by : (member : Bool) (events : List SocketEvent) (e : Noted) (order : List Noted) → (e.0 == 1) ≡ member →
       events_of 1 order ≡ events → ((x : Noted) → Contains (e ∷ order) x → Contains heard x) →
       Begins request (events_of 1 (e ∷ order)) → CanCome stores sources inputs outputs both e.0 e.1 order →
       Honest (first_only order) → Honest (by_member member events e (first_only order))
@@ -350,9 +350,9 @@ module _ {S F D G K : Type 0} {stores : StoreMeaning S D} {sources : SourceMeani
       let own : e.1 ∷ events_of 1 order ≡ events_of 1 (e ∷ order) =
       ap (λ (b : Bool). if b then e.1 ∷ events_of 1 order else events_of 1 order) (sym is) in
       let same : e.1 ≡ request =
-      begins_here request e.1 (subst (λ (es : List Event). Begins request es)
-      (sym own ∙ ap (λ (es : List Event). e.1 ∷ es) none) begins) in
-      (subst (λ (x : Event). CanCome stores sources inputs outputs less e.0 x (first_only order)) (sym same) tt, rest)
+      begins_here request e.1 (subst (λ (es : List SocketEvent). Begins request es)
+      (sym own ∙ ap (λ (es : List SocketEvent). e.1 ∷ es) none) begins) in
+      (subst (λ (x : SocketEvent). CanCome stores sources inputs outputs less e.0 x (first_only order)) (sym same) tt, rest)
   honest_by true (y ∷ events) e order is some within begins h rest = rest
   honest_by false events e order is some within begins h rest = (
     comes e.0 (λ one. true≢false (sym (eq-eqb e.0 1 one) ∙ is)) e.1 order within

@@ -24,8 +24,8 @@ use Rattle.tftp_server.specs.Draft.{files_in, drafting_sink}
 use Rattle.tftp_server.specs.State.{ServerState, with_next}
 use Rattle.tftp_server.specs.Steps.{StepIn, TakesDatagramLent}
 use Rattle.tftp_server.specs.declared.config.Config.{Config}
-use Rattle.tftp_sockets.specs.Journal.{Event}
-use Rattle.tftp_sockets.specs.Journal.Event.{Received}
+use Rattle.tftp_sockets.specs.Journal.{SocketEvent}
+use Rattle.tftp_sockets.specs.Journal.SocketEvent.{Received}
 use Rattle.tftp_loop.specs.Steps.{LoopState, ServesPort, At_port, PortStep, A_datagram, AnswersDatagram}
 use Rattle.tftp_loop.specs.Steps.{ReceivesAndHandles, port_state}
 use Rattle.tftp_rules.specs.EndShown.{Stands, IsOpenAt, Goes}
@@ -62,7 +62,7 @@ module _ {S F D G K : Type 0} {stores : StoreMeaning S D} {sources : SourceMeani
     {outputs : SinkMeaning K}
     (programs : Programs stores sources inputs outputs) {how : How programs} (old : Snapshot programs)
     (kept : IsKept programs how old) (fresh : IsFreshBy programs old)
-    {new : LoopState S F D} (serves : ServesPort stores sources old.state new) (added : List Event)
+    {new : LoopState S F D} (serves : ServesPort stores sources old.state new) (added : List SocketEvent)
     (events : new.events ≡ added ++ old.state.events)
     (h : ReceivesAndHandles stores sources old.state.now (port_state old.state serves.timer) serves.next)
     (is : serves.does ≡ A_datagram h)
@@ -100,7 +100,7 @@ module _ {S F D G K : Type 0} {stores : StoreMeaning S D} {sources : SourceMeani
   abbrev x : OpenEnd
   x = was.end
 
-  abbrev received : List Event
+  abbrev received : List SocketEvent
   received = Received port from bytes ∷ []
 
   held : new.server.held ≡ with_next port taken.next old.state.server.held

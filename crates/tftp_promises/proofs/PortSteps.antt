@@ -9,8 +9,8 @@ use Rattle.tftp_ends.specs.Step.{Reply}
 use Rattle.tftp_ends.specs.declared.outcome.Outcome.{Outcome}
 use Rattle.tftp_store.specs.Store.{StoreMeaning}
 use Rattle.tftp_server.specs.State.{ServerState}
-use Rattle.tftp_sockets.specs.Journal.{Event, answered}
-use Rattle.tftp_sockets.specs.Journal.Event.{Received, Sent}
+use Rattle.tftp_sockets.specs.Journal.{SocketEvent, answered}
+use Rattle.tftp_sockets.specs.Journal.SocketEvent.{Received, Sent}
 use Rattle.tftp_loop.specs.Steps.{LoopState, ServesPort, At_port}
 use Rattle.tftp_rules.specs.Machine.{Endpoint}
 use Rattle.tftp_promises.specs.Joint.{CanTake, WasSentBefore}
@@ -40,7 +40,7 @@ module _ {S F D G K : Type 0} {stores : StoreMeaning S D} {sources : SourceMeani
     {outputs : SinkMeaning K}
     (programs : Programs stores sources inputs outputs) {how : How programs} (old : Snapshot programs)
     (kept : IsKept programs how old) {new : LoopState S F D} (serves : ServesPort stores sources old.state new)
-    (added : List Event) (events : new.events ≡ added ++ old.state.events) where
+    (added : List SocketEvent) (events : new.events ≡ added ++ old.state.events) where
   -- the server after it
   pub server_is : new.server ≡ serves.next.server
   server_is = ap (λ (s : LoopState S F D). s.server) serves.is
@@ -63,7 +63,7 @@ module _ {S F D G K : Type 0} {stores : StoreMeaning S D} {sources : SourceMeani
   events_are : serves.next.events ≡ added ++ old.state.events
   events_are = sym (ap (λ (s : LoopState S F D). s.events) serves.is) ∙ events
 
-  module _ (reply : Option Reply) (noted : List Event) (answers : serves.next.events ≡ answered serves.timer.port reply
+  module _ (reply : Option Reply) (noted : List SocketEvent) (answers : serves.next.events ≡ answered serves.timer.port reply
       (noted ++ old.state.events)) where
     pub added_is : answered serves.timer.port reply noted ≡ added
     added_is = added_by serves.timer.port reply noted old.state.events added (sym answers ∙ events_are)
@@ -71,7 +71,7 @@ module _ {S F D G K : Type 0} {stores : StoreMeaning S D} {sources : SourceMeani
     -- only the answer was sent
     pub sends_only : IsSilent noted → SendsOnly serves.timer.port reply added
     sends_only silent =
-        subst (λ (es : List Event). SendsOnly serves.timer.port reply es) added_is
+        subst (λ (es : List SocketEvent). SendsOnly serves.timer.port reply es) added_is
         (answered_sends serves.timer.port reply noted silent)
 
     -- what was received was sent there, or may come nevertheless
@@ -80,12 +80,12 @@ module _ {S F D G K : Type 0} {stores : StoreMeaning S D} {sources : SourceMeani
         WasSentBefore programs old from (endpoint programs.ip port) bytes ⊎ MayCome stores sources inputs
         outputs programs from bytes
     received_there port from bytes c take =
-        take port from bytes (subst (λ (es : List Event). Contains es (Received port from bytes)) added_is
+        take port from bytes (subst (λ (es : List SocketEvent). Contains es (Received port from bytes)) added_is
         (answered_has serves.timer.port reply noted (Received port from bytes) c))
 
   -- nothing was sent
-  pub silent_by : (noted : List Event) → serves.next.events ≡ noted ++ old.state.events → IsSilent noted →
+  pub silent_by : (noted : List SocketEvent) → serves.next.events ≡ noted ++ old.state.events → IsSilent noted →
       IsSilent added
   silent_by noted e silent =
-      subst (λ (es : List Event). IsSilent es) (added_by serves.timer.port None noted old.state.events added
+      subst (λ (es : List SocketEvent). IsSilent es) (added_by serves.timer.port None noted old.state.events added
       (sym e ∙ events_are)) silent

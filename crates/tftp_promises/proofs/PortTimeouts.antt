@@ -18,8 +18,8 @@ use Rattle.tftp_ends.specs.Step.{Turn, after, after_turn, timeout_turn}
 use Rattle.tftp_store.specs.Store.{StoreMeaning}
 use Rattle.tftp_server.specs.State.{TransferState, ServerState, with_next}
 use Rattle.tftp_server.specs.Steps.{TimesOutLent, with_end}
-use Rattle.tftp_sockets.specs.Journal.{Event}
-use Rattle.tftp_sockets.specs.Journal.Event.{Elapsed}
+use Rattle.tftp_sockets.specs.Journal.{SocketEvent}
+use Rattle.tftp_sockets.specs.Journal.SocketEvent.{Elapsed}
 use Rattle.tftp_loop.specs.Steps.{LoopState, ServesPort, At_port, AnswersTimeout}
 use Rattle.tftp_rules.specs.EndShown.{Stands, Goes}
 use Rattle.tftp_rules.specs.KnownFiles.{HasLeft}
@@ -71,7 +71,7 @@ module _ {S F D G K : Type 0} {stores : StoreMeaning S D} {sources : SourceMeani
     {outputs : SinkMeaning K}
     (programs : Programs stores sources inputs outputs) {how : How programs} (old : Snapshot programs)
     (kept : IsKept programs how old) (fresh : IsFreshBy programs old)
-    {new : LoopState S F D} (serves : ServesPort stores sources old.state new) (added : List Event)
+    {new : LoopState S F D} (serves : ServesPort stores sources old.state new) (added : List SocketEvent)
     (events : new.events ≡ added ++ old.state.events) (none : (a : Endpoint) →
     MovesNone programs old.run (At_port serves) a) where
   abbrev port : ℕ
@@ -104,7 +104,7 @@ module _ {S F D G K : Type 0} {stores : StoreMeaning S D} {sources : SourceMeani
     abbrev next : TransferState F D
     next = with_end timed.end timed.transfer
 
-    abbrev elapsed : List Event
+    abbrev elapsed : List SocketEvent
     elapsed = Elapsed port old.state.now ∷ []
 
     held : new.server.held ≡ with_next port next old.state.server.held

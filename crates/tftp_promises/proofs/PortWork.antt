@@ -14,8 +14,8 @@ use Rattle.tftp_server.specs.Draft.{Drafting, files_in, drafting_sink, KeepsStor
 use Rattle.tftp_server.specs.State.{TransferState, ServerState, at, with_next}
 use Rattle.tftp_server.specs.Steps.{KeepsHeld}
 use Rattle.tftp_server.specs.Work.{FilesWork, WorksAt}
-use Rattle.tftp_sockets.specs.Journal.{Event}
-use Rattle.tftp_sockets.specs.Journal.Event.{Received}
+use Rattle.tftp_sockets.specs.Journal.{SocketEvent}
+use Rattle.tftp_sockets.specs.Journal.SocketEvent.{Received}
 use Rattle.tftp_loop.specs.Steps.{LoopState, LoopStep, ServesPort, At_port, LosesDatagram, WorksAtPort}
 use Rattle.tftp_rules.specs.KnownFiles.{HasLeft}
 use Rattle.tftp_rules.specs.Machine.{Endpoint, Message}
@@ -51,7 +51,7 @@ module _ {S F D G K : Type 0} {stores : StoreMeaning S D} {sources : SourceMeani
 
   -- the end of a held transfer as it was
   module _ {new : LoopState S F D} (does : LoopStep stores sources old.state new)
-      (stays : ServerStays programs old kept does) (added : List Event) (silent : IsSilent added)
+      (stays : ServerStays programs old kept does) (added : List SocketEvent) (silent : IsSilent added)
       (port : ℕ) (transfer next : TransferState F D) (found : at port old.state.server.held ≡ Some transfer)
       (held : new.server.held ≡ with_next port next old.state.server.held)
       (end : next.end ≡ transfer.end) (path : next.path ≡ transfer.path) (request : next.request ≡ transfer.request)
@@ -95,7 +95,7 @@ module _ {S F D G K : Type 0} {stores : StoreMeaning S D} {sources : SourceMeani
 
   -- ---- what is known of its file, by the models
   module _ (models : AreModelled programs) (known : IsSome (stores.stored old.state.server.store))
-      {new : LoopState S F D} (does : LoopStep stores sources old.state new) (added : List Event) (store' : S)
+      {new : LoopState S F D} (does : LoopStep stores sources old.state new) (added : List SocketEvent) (store' : S)
       (store_is : new.server.store ≡ store') (x : OpenEnd) where
     -- the files of the store are the same
     files_stay : stored_files (stores.stored store') ≡ stored_files (stores.stored old.state.server.store) →
@@ -184,7 +184,7 @@ module _ {S F D G K : Type 0} {stores : StoreMeaning S D} {sources : SourceMeani
     work_left (Sink draft) (Source source') h works = absurd works
 
   -- ---- the steps
-  module _ {new : LoopState S F D} (serves : ServesPort stores sources old.state new) (added : List Event)
+  module _ {new : LoopState S F D} (serves : ServesPort stores sources old.state new) (added : List SocketEvent)
       (events : new.events ≡ added ++ old.state.events) (none : (a : Endpoint) →
       MovesNone programs old.run (At_port serves) a) where
     abbrev port : ℕ
@@ -320,7 +320,7 @@ module _ {S F D G K : Type 0} {stores : StoreMeaning S D} {sources : SourceMeani
           transfer.files keeps.0.files has keeps.1.stays keeps.1.files))
 
     -- a receive finds nothing or fails, or a timeout finds no open transfer
-    pub missed_keeps : (e : Event) → IsUnsent e → serves.next.server ≡ old.state.server →
+    pub missed_keeps : (e : SocketEvent) → IsUnsent e → serves.next.server ≡ old.state.server →
         serves.next.events ≡ e ∷ old.state.events → IsKept programs how now
     missed_keeps e unsent same noted =
         same_server same (silent_by programs old kept serves added events (e ∷ []) noted

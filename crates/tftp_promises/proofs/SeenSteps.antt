@@ -6,14 +6,14 @@ use Rattle.std.proofs.lemmas.List.{append_cancel_right}
 use Rattle.std.proofs.lemmas.List.Elements.{Contains-append_cases, Contains-append_right, All-from_recursion}
 use Rattle.std.proofs.lemmas.List.Elements.{All-contains}
 use Rattle.tftp_rules.specs.Machine.{Endpoint}
-use Rattle.tftp_sockets.specs.Journal.{Event}
-use Rattle.tftp_sockets.specs.Journal.Event.{Received}
+use Rattle.tftp_sockets.specs.Journal.{SocketEvent}
+use Rattle.tftp_sockets.specs.Journal.SocketEvent.{Received}
 use Rattle.tftp_promises.proofs.Orders.{one_in}
 use Rattle.tftp_promises.proofs.StepEvents.{IsOther, IsQuiet, OldestOnly}
 
 -- the last step added `ahead ++ x ∷ rest`, of which what is seen of the journal has `x ∷ rest`
-pub data Split (old_events events old_noted noted seen : List Event) : Type 0 where
-  split : (ahead : List Event) (x : Event) (rest : List Event) → AllByRecursion IsOther ahead → OldestOnly x rest →
+pub data Split (old_events events old_noted noted seen : List SocketEvent) : Type 0 where
+  split : (ahead : List SocketEvent) (x : SocketEvent) (rest : List SocketEvent) → AllByRecursion IsOther ahead → OldestOnly x rest →
       events ≡ (ahead ++ x ∷ rest) ++ old_events → noted ≡ (ahead ++ x ∷ rest) ++ old_noted →
       seen ≡ x ∷ (rest ++ old_noted) →
       Split old_events events old_noted noted seen
@@ -24,32 +24,32 @@ heads x y xs ys e = (cc, cc)
 pub no_more : {X : Type 0} {P : Type 0} (x : X) (xs : List X) → ◌≡◌ {A = List X} [] (x ∷ xs) → P
 no_more x xs e = absurd (let n : 0 ≡ suc (length xs) = ap length e in omega (arith, n))
 
-push_other : (ahead : List Event) (x : Event) → AllByRecursion IsOther ahead → IsOther x →
+push_other : (ahead : List SocketEvent) (x : SocketEvent) → AllByRecursion IsOther ahead → IsOther x →
     AllByRecursion IsOther (ahead ++ x ∷ [])
 push_other [] x others o = (o, tt)
 push_other (y ∷ ahead) x others o = (others.0, push_other ahead x others.1 o)
 
 -- one more event is no longer seen
-pub step_back : {old_events events old_noted noted : List Event} (ahead : List Event) (x y : Event)
-    (rest ev : List Event) → AllByRecursion IsOther ahead → OldestOnly x (y ∷ rest) →
+pub step_back : {old_events events old_noted noted : List SocketEvent} (ahead : List SocketEvent) (x y : SocketEvent)
+    (rest ev : List SocketEvent) → AllByRecursion IsOther ahead → OldestOnly x (y ∷ rest) →
     events ≡ (ahead ++ x ∷ (y ∷ rest)) ++ old_events → noted ≡ (ahead ++ x ∷ (y ∷ rest)) ++ old_noted →
     ev ≡ (y ∷ rest) ++ old_noted →
     Split old_events events old_noted noted ev
 step_back {old_events} {events} {old_noted} {noted} ahead x y rest ev others own is noted_is seen =
     let moved = append_assoc ahead (x ∷ []) (y ∷ rest) in
     split (ahead ++ x ∷ []) y rest (push_other ahead x others own.0) own.1
-    (is ∙ ap (λ (es : List Event). es ++ old_events) (sym moved)) (noted_is ∙ ap (λ (es : List Event). es ++ old_noted)
+    (is ∙ ap (λ (es : List SocketEvent). es ++ old_events) (sym moved)) (noted_is ∙ ap (λ (es : List SocketEvent). es ++ old_noted)
     (sym moved)) seen
 
 -- what is seen was noted
-pub split_in : {old_events events old_noted noted seen : List Event} (e : Event) →
+pub split_in : {old_events events old_noted noted seen : List SocketEvent} (e : SocketEvent) →
     Split old_events events old_noted noted seen → Contains seen e → Contains noted e
 split_in {old_noted = old_noted} e (split ahead x rest others own is noted_is seen_is) i =
-    subst (λ (es : List Event). Contains es e) (sym (noted_is ∙ append_assoc ahead (x ∷ rest) old_noted))
-    (Contains-append_right ahead ((x ∷ rest) ++ old_noted) e (subst (λ (es : List Event). Contains es e) seen_is i))
+    subst (λ (es : List SocketEvent). Contains es e) (sym (noted_is ∙ append_assoc ahead (x ∷ rest) old_noted))
+    (Contains-append_right ahead ((x ∷ rest) ++ old_noted) e (subst (λ (es : List SocketEvent). Contains es e) seen_is i))
 
 -- a datagram received in these events is the oldest of them
-pub oldest_in : (ahead : List Event) (x : Event) (port : ℕ) (from : Endpoint) (bytes : List ℕ) →
+pub oldest_in : (ahead : List SocketEvent) (x : SocketEvent) (port : ℕ) (from : Endpoint) (bytes : List ℕ) →
     AllByRecursion IsOther ahead → Contains (ahead ++ x ∷ []) (Received port from bytes) → x ≡ Received port from bytes
 oldest_in ahead x port from bytes others i = elim (Contains-append_cases ahead (x ∷ []) (Received port from bytes) i) [
   | inl early ↦
@@ -58,14 +58,14 @@ oldest_in ahead x port from bytes others i = elim (Contains-append_cases ahead (
 ]
 
 -- what is no wait is among the other events
-pub past_waits : (waits events : List Event) (e : Event) → AllByRecursion IsQuiet waits → (IsQuiet e → ⊥) →
+pub past_waits : (waits events : List SocketEvent) (e : SocketEvent) → AllByRecursion IsQuiet waits → (IsQuiet e → ⊥) →
     Contains (waits ++ events) e → Contains events e
 past_waits waits events e quiet other i = elim (Contains-append_cases waits events e i) [
   | inl early ↦ absurd (other (All-contains IsQuiet waits e (All-from_recursion IsQuiet waits quiet) early))
   | inr late ↦ late
 ]
 
-pub before_waits : (events waits : List Event) (e : Event) → AllByRecursion IsQuiet waits → (IsQuiet e → ⊥) →
+pub before_waits : (events waits : List SocketEvent) (e : SocketEvent) → AllByRecursion IsQuiet waits → (IsQuiet e → ⊥) →
     Contains (events ++ waits) e → Contains events e
 before_waits events waits e quiet other i = elim (Contains-append_cases events waits e i) [
   | inl early ↦ early
@@ -73,16 +73,16 @@ before_waits events waits e quiet other i = elim (Contains-append_cases events w
 ]
 
 -- what a journal has after a step, past where it began
-pub past : (added old_noted before old_events events noted : List Event) → events ≡ added ++ old_events →
+pub past : (added old_noted before old_events events noted : List SocketEvent) → events ≡ added ++ old_events →
     old_events ≡ old_noted ++ before → events ≡ noted ++ before → noted ≡ added ++ old_noted
 past added old_noted before old_events events noted is old_is noted_is =
     append_cancel_right noted (added ++ old_noted) before
-    (sym noted_is ∙ (is ∙ (ap (λ (es : List Event). added ++ es) old_is ∙ sym (append_assoc added old_noted before))))
+    (sym noted_is ∙ (is ∙ (ap (λ (es : List SocketEvent). added ++ es) old_is ∙ sym (append_assoc added old_noted before))))
 
 -- nothing is noted by a journal that is where it began
-pub at_first : (before events noted : List Event) → events ≡ before → events ≡ noted ++ before → noted ≡ []
+pub at_first : (before events noted : List SocketEvent) → events ≡ before → events ≡ noted ++ before → noted ≡ []
 at_first before events noted is noted_is = append_cancel_right noted [] before (sym noted_is ∙ is)
 
-pub ends_with : {P : Type 0} (xs : List Event) (x : Event) → [] ≡ xs ++ x ∷ [] → P
+pub ends_with : {P : Type 0} (xs : List SocketEvent) (x : SocketEvent) → [] ≡ xs ++ x ∷ [] → P
 ends_with [] x e = no_more x [] e
 ends_with (y ∷ xs) x e = no_more y (xs ++ x ∷ []) e

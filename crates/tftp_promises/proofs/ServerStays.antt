@@ -10,7 +10,7 @@ use Rattle.tftp_file.specs.declared.files.Files.{Files}
 use Rattle.tftp_file.specs.declared.files.Files.TheVariants.{Source, Sink}
 use Rattle.tftp_store.specs.Store.{Stored, StoreMeaning, files_of}
 use Rattle.tftp_server.specs.State.{TransferState}
-use Rattle.tftp_sockets.specs.Journal.{Event}
+use Rattle.tftp_sockets.specs.Journal.{SocketEvent}
 use Rattle.tftp_loop.specs.Steps.{LoopState, LoopStep}
 use Rattle.tftp_rules.specs.Machine.{Endpoint}
 use Rattle.tftp_rules.specs.OpenEnds.{OpenEnd}
@@ -121,7 +121,7 @@ module _ {S F D G K : Type 0} {stores : StoreMeaning S D} {sources : SourceMeani
     (programs : Programs stores sources inputs outputs) where
   -- the same transfer stands at a place where nothing moves
   opened_after : (old : Snapshot programs) {new : LoopState S F D} (does : LoopStep stores sources old.state new)
-      (added : List Event) (x : OpenEnd) → MovesNone programs old.run does x.address →
+      (added : List SocketEvent) (x : OpenEnd) → MovesNone programs old.run does x.address →
       IsOpened programs old x → IsOpened programs (server_did programs old does added) x
   opened_after old does added x none h = record {
     opening = h.opening;
@@ -133,13 +133,13 @@ module _ {S F D G K : Type 0} {stores : StoreMeaning S D} {sources : SourceMeani
   }
 
   moved_after : (old : Snapshot programs) {new : LoopState S F D} (does : LoopStep stores sources old.state new)
-      (added : List Event) (x : OpenEnd) → MovesNone programs old.run does x.address →
+      (added : List SocketEvent) (x : OpenEnd) → MovesNone programs old.run does x.address →
       moved_at programs x.address old.run ≡ moved_at programs x.address (server_did programs old does added).run
   moved_after old does added x none = sym (none.moves (moved_at programs x.address old.run))
 
   -- what is known of a transfer's file stays known
   pub stored_after : (how : How programs) (old : Snapshot programs) {new : LoopState S F D}
-      (does : LoopStep stores sources old.state new) (added : List Event) → FilesStay programs how old.state new →
+      (does : LoopStep stores sources old.state new) (added : List SocketEvent) → FilesStay programs how old.state new →
       (x : OpenEnd) → MovesNone programs old.run does x.address → (files : Files F D) →
       HasStored programs how old x files → HasStored programs how (server_did programs old does added) x files
   stored_after (By_models models) old does added stay x none (Source source) h =
@@ -175,7 +175,7 @@ module _ {S F D G K : Type 0} {stores : StoreMeaning S D} {sources : SourceMeani
     {outputs : SinkMeaning K}
     (programs : Programs stores sources inputs outputs) {how : How programs} where
   module _ (old : Snapshot programs) (kept : IsKept programs how old) {new : LoopState S F D}
-      (does : LoopStep stores sources old.state new) (stays : ServerStays programs old kept does) (added : List Event) where
+      (does : LoopStep stores sources old.state new) (stays : ServerStays programs old kept does) (added : List SocketEvent) where
     -- no transfer more was removed
     pub closed_before : (port : ℕ) (transfer : TransferState F D) (a : Endpoint) →
         HasClosed programs (server_did programs old does added).run port transfer a →

@@ -2,7 +2,7 @@
 use Rattle.std.proofs.Common.{◌≡◌, List, [], ◌∷◌, ◌++◌, append_assoc, refl, sym, ap, ◌∙◌}
 use Rattle.tftp_file.specs.Source.{SourceMeaning}
 use Rattle.tftp_store.specs.Store.{StoreMeaning}
-use Rattle.tftp_sockets.specs.Journal.{Event}
+use Rattle.tftp_sockets.specs.Journal.{SocketEvent}
 use Rattle.tftp_loop.specs.Run.{Run}
 use Rattle.tftp_loop.specs.Run.Run.{Start, Then}
 use Rattle.tftp_loop.specs.Steps.{LoopState, LoopStep}
@@ -12,14 +12,14 @@ use Rattle.tftp_promises.proofs.StepEvents.{Silent, Notes, server_adds}
 -- what it noted
 pub server_noted : {S F D : Type 0} {stores : StoreMeaning S D} {sources : SourceMeaning F}
     {start last : LoopState S F D} → Run (LoopStep stores sources) start last →
-    (noted : List Event) × (last.events ≡ noted ++ start.events)
+    (noted : List SocketEvent) × (last.events ≡ noted ++ start.events)
 server_noted Start = ([], refl)
 server_noted {start = start} (Then run does) = elim (server_adds does) [
   | Silent same ↦ ((server_noted run).0, same ∙ (server_noted run).1)
   | Notes x rest own is ↦
       let before = server_noted run in (
         (x ∷ rest) ++ before.0,
-        is ∙ (ap (λ (es : List Event). (x ∷ rest) ++ es) before.1
+        is ∙ (ap (λ (es : List SocketEvent). (x ∷ rest) ++ es) before.1
             ∙ sym (append_assoc (x ∷ rest) before.0 start.events)),
       )
 ]

@@ -7,8 +7,8 @@ use Rattle.tftp_file.specs.declared.files.Files.{Files}
 use Rattle.tftp_ends.specs.Step.{Reply, timeout_turn}
 use Rattle.tftp_rules.specs.Machine.{Endpoint}
 use Rattle.tftp_store.specs.Store.{StoreMeaning}
-use Rattle.tftp_sockets.specs.Journal.{Event, answered, replied}
-use Rattle.tftp_sockets.specs.Journal.Event.{Received, Sent, Watched, Elapsed, Printed, Quiet}
+use Rattle.tftp_sockets.specs.Journal.{SocketEvent, answered, replied}
+use Rattle.tftp_sockets.specs.Journal.SocketEvent.{Received, Sent, Watched, Elapsed, Printed, Quiet}
 use Rattle.tftp_sockets.specs.Journal.QuietEvent.{Empty, Failed, Slept, Woke}
 use Rattle.tftp_loop.specs.Steps.{LoopState, PortState, LoopStep, PortStep, A_datagram, A_lost_datagram}
 use Rattle.tftp_loop.specs.Steps.{A_late_datagram, Nothing_found, A_failed_receive, A_timeout, A_missed_timeout, Work, Waited, At_port}
@@ -22,7 +22,7 @@ use Rattle.tftp_promises.specs.ClientRuns.{ClientDoes, Receives_one, Reads_clock
 use Rattle.tftp_promises.specs.Snapshots.{}
 
 -- no datagram received
-abbrev pub IsOther : Event → Type 0
+abbrev pub IsOther : SocketEvent → Type 0
 IsOther (Received port from bytes) = ⊥
 IsOther (Sent port to bytes) = Unit {0}
 IsOther (Watched time) = Unit {0}
@@ -31,7 +31,7 @@ IsOther (Printed line) = Unit {0}
 IsOther (Quiet event) = Unit {0}
 
 -- a wait, or a receive without a datagram
-abbrev pub IsQuiet : Event → Type 0
+abbrev pub IsQuiet : SocketEvent → Type 0
 IsQuiet (Received port from bytes) = ⊥
 IsQuiet (Sent port to bytes) = ⊥
 IsQuiet (Watched time) = ⊥
@@ -40,37 +40,37 @@ IsQuiet (Printed line) = ⊥
 IsQuiet (Quiet event) = Unit {0}
 
 -- of these events, the newest first, none but the oldest is a datagram received
-abbrev pub OldestOnly : Event → List Event → Type 0
+abbrev pub OldestOnly : SocketEvent → List SocketEvent → Type 0
 OldestOnly e [] = Unit {0}
 OldestOnly e (older ∷ events) = IsOther e × OldestOnly older events
 
 -- what a step adds to a journal
-pub data Adds (before after : List Event) : Type 0 where
+pub data Adds (before after : List SocketEvent) : Type 0 where
   Silent : after ≡ before → Adds before after
-  Notes : (e : Event) (events : List Event) → OldestOnly e events → after ≡ (e ∷ events) ++ before → Adds before after
+  Notes : (e : SocketEvent) (events : List SocketEvent) → OldestOnly e events → after ≡ (e ∷ events) ++ before → Adds before after
 
 -- what a step of a client adds: its events, after a wait
-pub data AddsAfter (before after : List Event) : Type 0 where
+pub data AddsAfter (before after : List SocketEvent) : Type 0 where
   Rests : after ≡ before → AddsAfter before after
-  Acts : (e : Event) (events waits : List Event) → OldestOnly e events → AllByRecursion IsQuiet waits →
+  Acts : (e : SocketEvent) (events waits : List SocketEvent) → OldestOnly e events → AllByRecursion IsQuiet waits →
       after ≡ (e ∷ events) ++ (waits ++ before) → AddsAfter before after
 
-after_wait : {before after : List Event} (waits : List Event) → AllByRecursion IsQuiet waits →
+after_wait : {before after : List SocketEvent} (waits : List SocketEvent) → AllByRecursion IsQuiet waits →
     Adds (waits ++ before) after → AddsAfter before after
 after_wait [] quiet (Silent same) = Rests same
 after_wait (w ∷ waits) quiet (Silent same) = Acts w [] waits tt quiet.1 same
 after_wait waits quiet (Notes e events own is) = Acts e events waits own quiet is
 
-then_is : {before middle after : List Event} → Adds before middle → after ≡ middle → Adds before after
+then_is : {before middle after : List SocketEvent} → Adds before middle → after ≡ middle → Adds before after
 then_is (Silent same) is = Silent (is ∙ same)
 then_is (Notes e events own same) is = Notes e events own (is ∙ same)
 
-answer_adds : {before after : List Event} (port : ℕ) (reply : Option Reply) (e : Event) (events : List Event) →
+answer_adds : {before after : List SocketEvent} (port : ℕ) (reply : Option Reply) (e : SocketEvent) (events : List SocketEvent) →
     OldestOnly e events → after ≡ answered port reply ((e ∷ events) ++ before) → Adds before after
 answer_adds port None e events own is = Notes e events own is
 answer_adds port (Some reply) e events own is = Notes (Sent port reply.to reply.bytes) (e ∷ events) (tt, own) is
 
-reply_adds : {before after : List Event} (port : ℕ) (to : Option Endpoint) (bytes : List ℕ) →
+reply_adds : {before after : List SocketEvent} (port : ℕ) (to : Option Endpoint) (bytes : List ℕ) →
     after ≡ replied port to bytes before → Adds before after
 reply_adds port None bytes is = Silent is
 reply_adds port (Some to) bytes is = Notes (Sent port to bytes) [] tt is
@@ -120,11 +120,11 @@ elapse_adds {port = port} {s = s} (Elapses due still) =
 
 module _ {G K : Type 0} {inputs : SourceMeaning G} {outputs : SinkMeaning K} where
   handle_adds : {port : ℕ} {from : Endpoint} {bytes : List ℕ} {s : State} {files : Files G K} {next : State}
-      {files' : Files G K} {before : List Event} →
-      HandlesReceived inputs outputs port from bytes s files next files' → (e : Event) (events : List Event) →
+      {files' : Files G K} {before : List SocketEvent} →
+      HandlesReceived inputs outputs port from bytes s files next files' → (e : SocketEvent) (events : List SocketEvent) →
       OldestOnly e events → s.events ≡ (e ∷ events) ++ before → Adds before next.events
   handle_adds {port = port} (Answers {turn} still step) e events own is =
-      answer_adds port turn.reply e events own (ap (λ (es : List Event). answered port turn.reply es) is)
+      answer_adds port turn.reply e events own (ap (λ (es : List SocketEvent). answered port turn.reply es) is)
   handle_adds (Loses lost keeps) e events own is = Notes e events own is
 
   -- a step of a client

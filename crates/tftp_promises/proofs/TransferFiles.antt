@@ -12,7 +12,7 @@ use Rattle.tftp_store.specs.Store.{Stored, Drafted, StoreMeaning, is_taken, file
 use Rattle.tftp_store.specs.Store.{holding_of as held_by}
 use Rattle.tftp_server.specs.Draft.{Drafting, files_in, drafting_sink, KeepsStore}
 use Rattle.tftp_server.specs.Steps.{StepIn}
-use Rattle.tftp_sockets.specs.Journal.{Event}
+use Rattle.tftp_sockets.specs.Journal.{SocketEvent}
 use Rattle.tftp_loop.specs.Steps.{LoopState, LoopStep}
 use Rattle.tftp_rules.specs.EndShown.{Goes}
 use Rattle.tftp_rules.specs.EndKept.{EndKept}
@@ -67,7 +67,7 @@ module _ {S F D G K : Type 0} {stores : StoreMeaning S D} {sources : SourceMeani
       (if b then Source x.left else Sink (holding_of (armed stored.refuses x)))
       in subst P (sym h.receiver) (draft_held x store stored stored_is draft h.drafted)
 
-  module _ {new : LoopState S F D} (does : LoopStep stores sources old.state new) (added : List Event) where
+  module _ {new : LoopState S F D} (does : LoopStep stores sources old.state new) (added : List SocketEvent) where
     -- what a step left
     pub record FilesLeft (y : OpenEnd) (files' : Files F D) : Type 0 where
       pub has : HasStored programs (By_models models) (server_did programs old does added) y files'

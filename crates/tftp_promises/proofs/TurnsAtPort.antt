@@ -8,8 +8,8 @@ use Rattle.tftp_ends.specs.End.{is_client}
 use Rattle.tftp_ends.specs.Step.{Reply, Turn}
 use Rattle.tftp_store.specs.Store.{StoreMeaning}
 use Rattle.tftp_server.specs.State.{TransferState, at, with_next}
-use Rattle.tftp_sockets.specs.Journal.{Event}
-use Rattle.tftp_sockets.specs.Journal.Event.{Sent}
+use Rattle.tftp_sockets.specs.Journal.{SocketEvent}
+use Rattle.tftp_sockets.specs.Journal.SocketEvent.{Sent}
 use Rattle.tftp_loop.specs.Steps.{LoopState, LoopStep}
 use Rattle.tftp_rules.specs.EndShown.{Goes}
 use Rattle.tftp_rules.specs.Machine.{Endpoint}
@@ -31,7 +31,7 @@ module _ {S F D G K : Type 0} {stores : StoreMeaning S D} {sources : SourceMeani
     {outputs : SinkMeaning K}
     (programs : Programs stores sources inputs outputs) {how : How programs} (old : Snapshot programs)
     (kept : IsKept programs how old) {new : LoopState S F D} (does : LoopStep stores sources old.state new)
-    (added : List Event)
+    (added : List SocketEvent)
     (port : ℕ) (transfer : TransferState F D) (found : at port old.state.server.held ≡ Some transfer) where
   -- its place, and the end before
   abbrev place : Endpoint

@@ -11,7 +11,7 @@ use Rattle.tftp_ends.specs.End.{is_complete, is_sender}
 use Rattle.tftp_store.specs.Store.{StoreMeaning}
 use Rattle.tftp_client.specs.Runs.{begun}
 use Rattle.tftp_rules.specs.Machine.{Endpoint}
-use Rattle.tftp_sockets.specs.Journal.Event.{Received, Sent}
+use Rattle.tftp_sockets.specs.Journal.SocketEvent.{Received, Sent}
 use Rattle.tftp_promises.specs.AnyFiles.{IsEnd, KeepAnyFiles, ProgramEnd, has_of, peer_of}
 use Rattle.tftp_promises.specs.ClientRuns.{Starts}
 use Rattle.tftp_promises.specs.Joined.{AreJoined}

@@ -6,8 +6,8 @@ use Rattle.tftp_file.specs.Source.{SourceMeaning}
 use Rattle.tftp_file.specs.declared.files.Files.{Files}
 use Rattle.tftp_ends.specs.End.{EndState}
 use Rattle.tftp_rules.specs.Machine.{Endpoint}
-use Rattle.tftp_sockets.specs.Journal.{Event, QuietEvent}
-use Rattle.tftp_sockets.specs.Journal.Event.{Printed}
+use Rattle.tftp_sockets.specs.Journal.{SocketEvent, QuietEvent}
+use Rattle.tftp_sockets.specs.Journal.SocketEvent.{Printed}
 use Rattle.tftp_sockets.specs.Journal.QuietEvent.{Empty, Failed}
 use Rattle.tftp_client.specs.Converses.{State, HandlesReceived, MayElapse, MayWait, WorksOnFile}
 use Rattle.tftp_client.specs.Converses.{received, renewed, waited}
@@ -73,10 +73,10 @@ moved_in (Goes_on run does) = client_moves does (moved_in run)
 module _ {G K : Type 0} (inputs : SourceMeaning G) (outputs : SinkMeaning K) where
   -- what a client with this end did is one run of it: that from its request on, and that of one
   -- that is complete, with its line and what it did after it
-  pub record IsOneRun (port : ℕ) (end : EndState) (before : List Event) (s : State)
+  pub record IsOneRun (port : ℕ) (end : EndState) (before : List SocketEvent) (s : State)
       (files : Files G K) (runs : Runs inputs outputs port end before s files) : Type 0 where
     pub runs_so : ClientRun inputs outputs port (begun port end before) runs.file s files
-    pub stays_so : (count : ℕ) (after : List Event)
+    pub stays_so : (count : ℕ) (after : List SocketEvent)
         → Dallies inputs outputs port (printed count s) files after
         → (last : State) × (files' : Files G K)
         × ClientRun inputs outputs port (begun port end before) runs.file last files'
@@ -84,6 +84,6 @@ module _ {G K : Type 0} (inputs : SourceMeaning G) (outputs : SinkMeaning K) whe
 
   abbrev pub ClientsAreRuns : Type 0
   ClientsAreRuns =
-      (port : ℕ) (end : EndState) (before : List Event) (s : State) (files : Files G K)
+      (port : ℕ) (end : EndState) (before : List SocketEvent) (s : State) (files : Files G K)
       (runs : Runs inputs outputs port end before s files)
       → IsOneRun port end before s files runs

@@ -7,8 +7,8 @@ use Rattle.tftp_file.specs.Source.{SourceMeaning}
 use Rattle.tftp_file.specs.declared.files.Files.{Files}
 use Rattle.tftp_store.specs.Store.{StoreMeaning}
 use Rattle.tftp_rules.specs.Machine.{Endpoint}
-use Rattle.tftp_sockets.specs.Journal.{Event}
-use Rattle.tftp_sockets.specs.Journal.Event.{Received, Sent}
+use Rattle.tftp_sockets.specs.Journal.{SocketEvent}
+use Rattle.tftp_sockets.specs.Journal.SocketEvent.{Received, Sent}
 use Rattle.tftp_loop.specs.Steps.{LoopState, LoopStep}
 use Rattle.tftp_client.specs.Converses.{State}
 use Rattle.tftp_promises.specs.Joined.{AreJoined}
@@ -49,7 +49,7 @@ module _ {S F D G K : Type 0} {stores : StoreMeaning S D} {sources : SourceMeani
       ServerHasSent snapshot from to bytes ⊎ ClientHasSent snapshot from to bytes
 
   -- what a program at this address receives in these events was sent there, or may come anyhow
-  abbrev pub CanTake : Snapshot programs → List ℕ → List Event → Type 0
+  abbrev pub CanTake : Snapshot programs → List ℕ → List SocketEvent → Type 0
   CanTake snapshot ip added =
       (port : ℕ) (from : Endpoint) (bytes : List ℕ) → Contains added (Received port from bytes)
       → WasSentBefore snapshot from (endpoint ip port) bytes
@@ -60,7 +60,7 @@ module _ {S F D G K : Type 0} {stores : StoreMeaning S D} {sources : SourceMeani
     All_begin : Joint (nothing_done programs)
     -- a step of the server
     Server_does : {old : Snapshot programs} {new : LoopState S F D}
-        → Joint old → (does : LoopStep stores sources old.state new) (added : List Event)
+        → Joint old → (does : LoopStep stores sources old.state new) (added : List SocketEvent)
         → new.events ≡ added ++ old.state.events → CanTake old programs.ip added
         → Joint (server_did programs old does added)
     -- a client sends its request
@@ -71,12 +71,12 @@ module _ {S F D G K : Type 0} {stores : StoreMeaning S D} {sources : SourceMeani
         → Joint (client_did programs old k (just_asked client))
     -- a step of a client after that
     Client_does : {old : Snapshot programs} {s s' : State} {files files' : Files G K}
-        {noted : List Event} {moved : Moved} → Joint old → (k : ℕ)
+        {noted : List SocketEvent} {moved : Moved} → Joint old → (k : ℕ)
         (client : ClientProgram inputs outputs (requests_at programs))
         → slice_get programs.clients k ≡ Some client
         → slice_get old.clients k ≡ Some (Has_asked s files noted moved)
         → (does : ClientDoes inputs outputs client.port s files s' files')
-        → DoesOwn programs.ip programs.others does → (added : List Event)
+        → DoesOwn programs.ip programs.others does → (added : List SocketEvent)
         → s'.events ≡ added ++ s.events → CanTake old client.ip added
         → Joint
         (client_did programs old k (Has_asked s' files' (added ++ noted) (client_moves does moved)))

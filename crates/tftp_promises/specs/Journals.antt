@@ -4,8 +4,8 @@ use Rattle.std.specs.List.{AllByRecursion}
 use Rattle.tftp_file.specs.Sink.{SinkMeaning}
 use Rattle.tftp_file.specs.Source.{SourceMeaning}
 use Rattle.tftp_rules.specs.Machine.{Endpoint}
-use Rattle.tftp_sockets.specs.Journal.{Event, QuietEvent}
-use Rattle.tftp_sockets.specs.Journal.Event.{Received, Sent, Watched, Elapsed, Printed, Quiet}
+use Rattle.tftp_sockets.specs.Journal.{SocketEvent, QuietEvent}
+use Rattle.tftp_sockets.specs.Journal.SocketEvent.{Received, Sent, Watched, Elapsed, Printed, Quiet}
 use Rattle.tftp_sockets.specs.Journal.QuietEvent.{Empty, Failed, New_socket, No_socket, Out_of_memory}
 use Rattle.tftp_sockets.specs.Journal.QuietEvent.{Slept, Woke}
 use Rattle.tftp_promises.specs.Programs.{ClientProgram}
@@ -22,7 +22,7 @@ IsQuietAt port (New_socket at) = ⊥
 IsQuietAt port Out_of_memory = ⊥
 
 -- a datagram, a receive or a timeout of this port, a wait, a reading of the clock, or a line
-abbrev pub IsOfPort : ℕ → Event → Type 0
+abbrev pub IsOfPort : ℕ → SocketEvent → Type 0
 IsOfPort port (Received at from bytes) = at ≡ port
 IsOfPort port (Sent at to bytes) = at ≡ port
 IsOfPort port (Watched time) = Unit {0}
@@ -34,6 +34,6 @@ IsOfPort port (Quiet event) = IsQuietAt port event
 -- lines
 pub record AsksFirst {G K : Type 0} {inputs : SourceMeaning G} {outputs : SinkMeaning K}
     {to : Endpoint} (client : ClientProgram inputs outputs to) : Type 0 where
-  pub more : List Event
+  pub more : List SocketEvent
   pub is : client.noted ≡ more ++ Sent client.port to client.first.position.last_sent ∷ []
   pub own : AllByRecursion (IsOfPort client.port) more

@@ -8,17 +8,17 @@ use Rattle.tftp_file.specs.Sink.{SinkMeaning}
 use Rattle.tftp_file.specs.Source.{SourceMeaning}
 use Rattle.tftp_store.specs.Store.{StoreMeaning}
 use Rattle.tftp_rules.specs.Machine.{Endpoint}
-use Rattle.tftp_sockets.specs.Journal.{Event}
-use Rattle.tftp_sockets.specs.Journal.Event.{Received, Sent, Watched, Elapsed, Printed, Quiet}
+use Rattle.tftp_sockets.specs.Journal.{SocketEvent}
+use Rattle.tftp_sockets.specs.Journal.SocketEvent.{Received, Sent, Watched, Elapsed, Printed, Quiet}
 use Rattle.tftp_promises.specs.Programs.{endpoint, ServerProgram, ClientProgram, client_at}
 
 -- an event and its program, by a number: first the servers, by their indices, then the clients.
 -- With one server, 0 is the server, and k + 1 the client at index k
 abbrev pub Noted : Type 0
-Noted = ℕ × Event
+Noted = ℕ × SocketEvent
 
 -- what one program noted of them
-abbrev pub events_of : ℕ → List Noted → List Event
+abbrev pub events_of : ℕ → List Noted → List SocketEvent
 events_of program [] = []
 events_of program (e ∷ order) =
     if e.0 == program then e.1 ∷ events_of program order else events_of program order
@@ -53,7 +53,7 @@ module _ (ips : List (List ℕ)) where
   module _ (Strange : Endpoint → Type 0) where
     -- what a program receives was sent to it before, or is a stranger's, or is an ERROR: no promise
     -- rests on who sent one, and several servers send theirs from the request port that they share
-    abbrev pub CanComeOf : ℕ → Event → List Noted → Type 0
+    abbrev pub CanComeOf : ℕ → SocketEvent → List Noted → Type 0
     CanComeOf program (Received port from bytes) earlier =
         (to : Endpoint) × IsAtOf program port to
         × (WasSentOf earlier from to bytes ⊎ (Strange from ⊎ IsError bytes))
@@ -111,7 +111,7 @@ module _ {S F D G K : Type 0} (stores : StoreMeaning S D) (sources : SourceMeani
     MayCome from bytes = IsStranger from ⊎ IsError bytes
 
     -- what a program receives was sent to it before, or may come nevertheless
-    abbrev pub CanCome : ℕ → Event → List Noted → Type 0
+    abbrev pub CanCome : ℕ → SocketEvent → List Noted → Type 0
     CanCome = CanComeOf ips IsStranger
 
     -- an honest network

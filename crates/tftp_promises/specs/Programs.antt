@@ -16,7 +16,7 @@ use Rattle.tftp_ends.specs.Opening.{MayGet, MayPut, getting, putting, request_of
 use Rattle.tftp_store.specs.Store.{StoreMeaning}
 use Rattle.tftp_rules.specs.Machine.{Endpoint, is_same, is_same_ip, At_server, At_client}
 use Rattle.tftp_rules.specs.Machine.{Elsewhere, Network}
-use Rattle.tftp_sockets.specs.Journal.{Event}
+use Rattle.tftp_sockets.specs.Journal.{SocketEvent}
 use Rattle.tftp_loop.specs.Run.{Run}
 use Rattle.tftp_loop.specs.Steps.{LoopState, LoopStep}
 use Rattle.tftp_client.specs.Converses.{State}
@@ -35,7 +35,7 @@ module _ {S F D : Type 0} (stores : StoreMeaning S D) (sources : SourceMeaning F
     pub last : LoopState S F D
     pub run : Run (LoopStep stores sources) start last
     -- the events of the run, the newest first
-    pub noted : List Event
+    pub noted : List SocketEvent
     pub is_noted : last.events ≡ noted ++ start.events
     -- its request port is that
     pub requests : start.requests ≡ to.port
@@ -107,7 +107,7 @@ module _ {G K : Type 0} (inputs : SourceMeaning G) (outputs : SinkMeaning K) (to
     -- the port of its socket
     pub port : ℕ
     pub first : EndState
-    pub before : List Event
+    pub before : List SocketEvent
     pub last : State
     pub files : Files G K
     -- its file before the run
@@ -115,7 +115,7 @@ module _ {G K : Type 0} (inputs : SourceMeaning G) (outputs : SinkMeaning K) (to
     pub runs : ClientRun inputs outputs port (begun port first before) file last files
     pub opens : ClientOpens first file
     -- the events of the run, the newest first
-    pub noted : List Event
+    pub noted : List SocketEvent
     pub is_noted : last.events ≡ noted ++ before
 
   -- its endpoint

@@ -7,8 +7,8 @@ use Rattle.tftp_file.specs.Sink.{SinkMeaning}
 use Rattle.tftp_file.specs.Source.{SourceMeaning}
 use Rattle.tftp_store.specs.Store.{StoreMeaning}
 use Rattle.tftp_rules.specs.Machine.{Endpoint, is_same}
-use Rattle.tftp_sockets.specs.Journal.{Event}
-use Rattle.tftp_sockets.specs.Journal.Event.{Sent}
+use Rattle.tftp_sockets.specs.Journal.{SocketEvent}
+use Rattle.tftp_sockets.specs.Journal.SocketEvent.{Sent}
 use Rattle.tftp_loop.specs.Run.{Run}
 use Rattle.tftp_loop.specs.Run.Run.{Start, Then}
 use Rattle.tftp_loop.specs.Steps.{LoopState, LoopStep, Request_answered}
@@ -17,7 +17,7 @@ use Rattle.tftp_promises.specs.Programs.{endpoint, has_port, ServerProgram, Clie
 use Rattle.tftp_promises.specs.Programs.{client_at}
 
 -- the ports from which a program sent
-abbrev pub sent_from : List Event → List ℕ
+abbrev pub sent_from : List SocketEvent → List ℕ
 sent_from [] = []
 sent_from (Sent port to bytes ∷ events) = port ∷ sent_from events
 sent_from (event ∷ events) = sent_from events

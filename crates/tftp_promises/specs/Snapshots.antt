@@ -5,8 +5,8 @@ use Rattle.tftp_file.specs.Source.{SourceMeaning}
 use Rattle.tftp_file.specs.declared.files.Files.{Files}
 use Rattle.tftp_store.specs.Store.{StoreMeaning}
 use Rattle.tftp_rules.specs.Machine.{Endpoint}
-use Rattle.tftp_sockets.specs.Journal.{Event}
-use Rattle.tftp_sockets.specs.Journal.Event.{Sent}
+use Rattle.tftp_sockets.specs.Journal.{SocketEvent}
+use Rattle.tftp_sockets.specs.Journal.SocketEvent.{Sent}
 use Rattle.tftp_loop.specs.Run.{Run}
 use Rattle.tftp_loop.specs.Run.Run.{Start, Then}
 use Rattle.tftp_loop.specs.Steps.{LoopState, LoopStep}
@@ -23,10 +23,10 @@ pub data ClientStage (G K : Type 0) : Type 0 where
   Unasked : ClientStage G K
   -- it has: its state, its file, the events from the request on, the newest first, and what has
   -- moved
-  Has_asked : State → Files G K → List Event → Moved → ClientStage G K
+  Has_asked : State → Files G K → List SocketEvent → Moved → ClientStage G K
 
 -- what it has noted
-abbrev pub noted_by : {G K : Type 0} → ClientStage G K → List Event
+abbrev pub noted_by : {G K : Type 0} → ClientStage G K → List SocketEvent
 noted_by Unasked = []
 noted_by (Has_asked s files noted moved) = noted
 
@@ -48,7 +48,7 @@ module _ {S F D G K : Type 0} {stores : StoreMeaning S D} {sources : SourceMeani
     pub run : Run (LoopStep stores sources)
         programs.server.start state
     -- the events of that run, the newest first
-    pub noted : List Event
+    pub noted : List SocketEvent
     -- one for each client, by its index
     pub clients : List (ClientStage G K)
 
@@ -64,7 +64,7 @@ module _ {S F D G K : Type 0} {stores : StoreMeaning S D} {sources : SourceMeani
 
   -- the server has made this step, and noted these events
   abbrev pub server_did : (old : Snapshot) {new : LoopState S F D}
-      → LoopStep stores sources old.state new → List Event → Snapshot
+      → LoopStep stores sources old.state new → List SocketEvent → Snapshot
   server_did old {new} does added =
       record {
         state = new;

@@ -26,7 +26,7 @@ use Rattle.tftp_lines.specs.declared.client_outcome.ClientOutcome.TheVariants as
 use Rattle.tftp_lines.specs.declared.printed.Printed.TheVariants.{Closed}
 use Rattle.tftp_rules.specs.Machine.{Endpoint}
 use Rattle.tftp_server.specs.State.{TransferState}
-use Rattle.tftp_sockets.specs.Journal.Event.{Received, Sent, Watched, Printed, Quiet}
+use Rattle.tftp_sockets.specs.Journal.SocketEvent.{Received, Sent, Watched, Printed, Quiet}
 use Rattle.tftp_sockets.specs.Journal.QuietEvent.{Slept, Woke}
 use Rattle.tftp_promises.specs.Alone.{IsPassedOver, IsServed, alone}
 use Rattle.tftp_promises.specs.Joined.{AreJoined}

@@ -1,15 +1,15 @@
 -- The events that the sockets note, as events of a journal (ours).
 use Rattle.tftp_lines.specs.ClientOutcome.{end_text}
 use Rattle.tftp_lines.specs.Printed.{line_text}
-use Rattle.tftp_sockets.specs.Journal.{Event}
-use Rattle.tftp_sockets.specs.Journal.Event.{Received, Sent, Watched, Elapsed, Printed, Quiet}
+use Rattle.tftp_sockets.specs.Journal.{SocketEvent}
+use Rattle.tftp_sockets.specs.Journal.SocketEvent.{Received, Sent, Watched, Elapsed, Printed, Quiet}
 use Rattle.tftp_sockets.specs.Journal.QuietEvent.{Empty, Failed, New_socket, No_socket, Out_of_memory}
 use Rattle.tftp_sockets.specs.Journal.QuietEvent.{Slept, Woke}
 use Rattle.tftp_sockets.specs.declared.event_ref.EventRef.{EventRef}
 use Rattle.tftp_sockets.specs.declared.event_ref.EventRef.TheVariants as refs
 
 -- the event of these values: a line is its text
-abbrev pub event_of : EventRef → Event
+abbrev pub event_of : EventRef → SocketEvent
 event_of (refs.Received port from bytes) = Received port from bytes.now
 event_of (refs.Sent port to bytes) = Sent port to bytes.now
 event_of (refs.Watched time) = Watched time

@@ -20,27 +20,27 @@ pub data QuietEvent : Type 0 where
   -- memory was refused
   Out_of_memory : QuietEvent
 
-pub data Event : Type 0 where
+pub data SocketEvent : Type 0 where
   -- a datagram was received at the port, from this endpoint, with these bytes (RFC 1350, section 4)
-  Received : (port : ℕ) (from : Endpoint) (bytes : List ℕ) → Event
+  Received : (port : ℕ) (from : Endpoint) (bytes : List ℕ) → SocketEvent
   -- a datagram was sent from the port; it may be lost like any other (RFC 1350, section 2)
-  Sent : (port : ℕ) (to : Endpoint) (bytes : List ℕ) → Event
+  Sent : (port : ℕ) (to : Endpoint) (bytes : List ℕ) → SocketEvent
   -- the clock was read: the time of the program's watch is this then, in milliseconds
-  Watched : (time : ℕ) → Event
+  Watched : (time : ℕ) → SocketEvent
   -- a timeout was delivered to the transfer at the port, at this time of the watch
   -- (RFC 1350, section 2)
-  Elapsed : (port : ℕ) (time : ℕ) → Event
+  Elapsed : (port : ℕ) (time : ℕ) → SocketEvent
   -- a line was printed on standard output, without its end
-  Printed : (line : List ℕ) → Event
+  Printed : (line : List ℕ) → SocketEvent
   -- nothing was received, a socket was bound or none, memory was refused, or the program waited
-  Quiet : QuietEvent → Event
+  Quiet : QuietEvent → SocketEvent
 
 -- the journal after these bytes were sent from the port, if they go somewhere
-abbrev pub replied : ℕ → Option Endpoint → List ℕ → List Event → List Event
+abbrev pub replied : ℕ → Option Endpoint → List ℕ → List SocketEvent → List SocketEvent
 replied port None bytes events = events
 replied port (Some to) bytes events = Sent port to bytes ∷ events
 
 -- the journal after the answer of a step was sent from the port, if it has one
-abbrev pub answered : ℕ → Option Reply → List Event → List Event
+abbrev pub answered : ℕ → Option Reply → List SocketEvent → List SocketEvent
 answered port None events = events
 answered port (Some reply) events = Sent port reply.to reply.bytes ∷ events

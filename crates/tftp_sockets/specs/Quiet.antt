@@ -1,8 +1,8 @@
 -- What a journal states of waits, and of the ports that were read between them (ours).
 use Rattle.std.specs.Prelude.{ℕ, ◌+◌, ◌==◌, ◌&&◌, ◌||◌, not, Bool, true, false, List, [], ◌∷◌}
 use Rattle.std.specs.List.{list_any}
-use Rattle.tftp_sockets.specs.Journal.{Event, QuietEvent}
-use Rattle.tftp_sockets.specs.Journal.Event.{Received, Sent, Watched, Elapsed, Printed, Quiet}
+use Rattle.tftp_sockets.specs.Journal.{SocketEvent, QuietEvent}
+use Rattle.tftp_sockets.specs.Journal.SocketEvent.{Received, Sent, Watched, Elapsed, Printed, Quiet}
 use Rattle.tftp_sockets.specs.Journal.QuietEvent.{Empty, Failed, New_socket, No_socket, Out_of_memory}
 use Rattle.tftp_sockets.specs.Journal.QuietEvent.{Slept, Woke}
 
@@ -21,7 +21,7 @@ drained_by port (New_socket p) before = before
 drained_by port Out_of_memory before = before
 
 -- whether the last event of the port is that a receive found nothing there
-abbrev pub is_drained : ℕ → List Event → Bool
+abbrev pub is_drained : ℕ → List SocketEvent → Bool
 is_drained port [] = false
 is_drained port (Received p from bytes ∷ events) = not (p == port) && is_drained port events
 is_drained port (Sent p to bytes ∷ events) = is_drained port events
@@ -41,7 +41,7 @@ tried_by port (New_socket p) before = before
 tried_by port Out_of_memory before = before
 
 -- whether a receive was tried at the port since the newest wait
-abbrev pub was_tried : ℕ → List Event → Bool
+abbrev pub was_tried : ℕ → List SocketEvent → Bool
 was_tried port [] = false
 was_tried port (Received p from bytes ∷ events) = (p == port) || was_tried port events
 was_tried port (Sent p to bytes ∷ events) = was_tried port events
@@ -61,7 +61,7 @@ waits_in (New_socket port) = 0
 waits_in Out_of_memory = 0
 
 -- how many waits there were
-abbrev pub waits : List Event → ℕ
+abbrev pub waits : List SocketEvent → ℕ
 waits [] = 0
 waits (Received p from bytes ∷ events) = waits events
 waits (Sent p to bytes ∷ events) = waits events
@@ -81,7 +81,7 @@ ends_wait (New_socket port) = false
 ends_wait Out_of_memory = false
 
 -- whether the newest event is the end of a wait
-abbrev pub has_woken : List Event → Bool
+abbrev pub has_woken : List SocketEvent → Bool
 has_woken [] = false
 has_woken (Received p from bytes ∷ events) = false
 has_woken (Sent p to bytes ∷ events) = false

@@ -2,14 +2,14 @@
 use Rattle.std.specs.Prelude.{ℕ, ◌≡◌, ◌⊎◌, ◌≤◌, ⊤, List, length, take}
 use Rattle.std.specs.declared.io.ErrorKind.{ErrorKind}
 use Rattle.std.specs.declared.io.ErrorKind.TheVariants as kinds
-use Rattle.tftp_sockets.specs.Journal.{Event}
-use Rattle.tftp_sockets.specs.Journal.Event.{Received, Quiet}
+use Rattle.tftp_sockets.specs.Journal.{SocketEvent}
+use Rattle.tftp_sockets.specs.Journal.SocketEvent.{Received, Quiet}
 use Rattle.tftp_sockets.specs.Journal.QuietEvent.{Empty, Failed as Failure}
 use Rattle.tftp_sockets.specs.declared.receipt.Receipt.{Receipt}
 use Rattle.tftp_sockets.specs.declared.receipt.Receipt.TheVariants.{Datagram, Nothing, Failed}
 
 -- the event of a receive at the port into these bytes
-abbrev pub receive_event : ℕ → List ℕ → Receipt → Event
+abbrev pub receive_event : ℕ → List ℕ → Receipt → SocketEvent
 receive_event port buffer (Datagram from count) = Received port from (take count buffer)
 receive_event port buffer Nothing = Quiet (Empty port)
 receive_event port buffer Failed = Quiet (Failure port)

@@ -3,8 +3,8 @@
 ghost use Rattle.std.specs.Prelude.{◌≡◌, List, [], ◌∷◌};
 ghost use Rattle.std.specs.Borrow.{ftrue};
 ghost use Rattle.tftp_sockets.specs.EventRef.{event_of};
-ghost use Rattle.tftp_sockets.specs.Journal.{Event};
-ghost use Rattle.tftp_sockets.specs.Journal.Event.{Elapsed, Quiet};
+ghost use Rattle.tftp_sockets.specs.Journal.{SocketEvent};
+ghost use Rattle.tftp_sockets.specs.Journal.SocketEvent.{Elapsed, Quiet};
 ghost use Rattle.tftp_sockets.specs.Journal.QuietEvent.{Out_of_memory};
 
 use crate::event_ref::EventRef;
@@ -16,7 +16,7 @@ use std::marker::{Model, PhantomData};
 #[derive(Drop)]
 pub struct Journal {
     marker: PhantomData<u8>,
-    pub ghost events: { List Event },
+    pub ghost events: { List SocketEvent },
 }
 
 impl Model for Journal {

@@ -18,7 +18,7 @@ ghost use Rattle.std.specs.Prelude.{IfOk, OnErr, OnOk, if◌then◌else◌};
 ghost use Rattle.tftp_lines.specs.ClientOutcome.{end_text};
 ghost use Rattle.tftp_lines.specs.Printed.{line_text};
 ghost use Rattle.tftp_sockets.specs.declared.watch.TheConstants.{LONGEST_WAIT};
-ghost use Rattle.tftp_sockets.specs.Journal.Event.{Sent, Watched, Printed as Line, Quiet};
+ghost use Rattle.tftp_sockets.specs.Journal.SocketEvent.{Sent, Watched, Printed as Line, Quiet};
 ghost use Rattle.tftp_sockets.specs.Journal.QuietEvent.{New_socket, No_socket, Slept, Woke};
 ghost use Rattle.tftp_sockets.specs.Bound.{IsBoundTo};
 ghost use Rattle.std.specs.IoError.{error_kind};

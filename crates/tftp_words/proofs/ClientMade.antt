@@ -15,7 +15,7 @@ use Rattle.tftp_ends.specs.declared.endpoint.Endpoint.{Endpoint}
 use Rattle.tftp_ends.specs.declared.side.Side.TheVariants.{ClientRead, ClientWrite}
 use Rattle.tftp_lines.specs.declared.client_outcome.ClientOutcome.{ClientOutcome}
 use Rattle.tftp_lines.specs.declared.client_outcome.ClientOutcome.TheVariants as ends
-use Rattle.tftp_sockets.specs.Journal.{Event}
+use Rattle.tftp_sockets.specs.Journal.{SocketEvent}
 use Rattle.tftp_client.specs.Converses.{State, most_waits}
 use Rattle.tftp_client.specs.Moved.{Moved, nothing_moved, run_moves}
 use Rattle.tftp_client.specs.Ordered.{RunsOrder, RunsWords}
@@ -68,10 +68,10 @@ module _ {G K : Type 0} (inputs : SourceMeaning G) (outputs : SinkMeaning K) {to
 
 module _ {G K : Type 0} {inputs : SourceMeaning G} {outputs : SinkMeaning K} {to : Endpoint} where
   -- one run after another
-  noted_then : (before middle after : List Event) (clients more : List (ClientProgram inputs outputs to)) →
+  noted_then : (before middle after : List SocketEvent) (clients more : List (ClientProgram inputs outputs to)) →
       NotedBy before clients middle → NotedBy middle more after → NotedBy before (clients ++ more) after
   noted_then before middle after [] more same noted =
-      subst (λ (events : List Event). NotedBy events more after) same noted
+      subst (λ (events : List SocketEvent). NotedBy events more after) same noted
   noted_then before middle after (client ∷ clients) more noted then =
       (noted.0, noted_then (client.noted ++ before) middle after clients more noted.1 then)
 
@@ -107,16 +107,16 @@ job_length Write job length is = refl
 module _ {G K : Type 0} {inputs : SourceMeaning G} {outputs : SinkMeaning K}
     (are_programs : ClientsArePrograms inputs outputs) (ran : ClientRan inputs outputs) (to : Endpoint) where
   -- programs that noted what leads from the one journal to the other
-  record Made (count : Option ℕ) (before after : List Event) : Type 0 where
+  record Made (count : Option ℕ) (before after : List SocketEvent) : Type 0 where
     clients : List (ClientProgram inputs outputs to)
     noted : NotedBy before clients after
     each : AllByRecursion (IsRunOf ran) clients
     counts : CountsLast count clients
 
-  made_none : {before after : List Event} → after ≡ before → Made None before after
+  made_none : {before after : List SocketEvent} → after ≡ before → Made None before after
   made_none same = record { clients = []; noted = same; each = tt; counts = tt }
 
-  made_both : {count : Option ℕ} {before middle after : List Event} → Made None before middle →
+  made_both : {count : Option ℕ} {before middle after : List SocketEvent} → Made None before middle →
       Made count middle after → Made count before after
   made_both {count} {before} {middle} {after} first then = record {
     clients = first.clients ++ then.clients;
@@ -129,7 +129,7 @@ module _ {G K : Type 0} {inputs : SourceMeaning G} {outputs : SinkMeaning K}
     -- the run of an end of the job, with these options
     module _ (tried : Job) (name : tried.name.now ≡ job.name.now) (mode : tried.mode ≡ job.mode)
         (kind : tried.kind ≡ job.kind) (server : tried.server ≡ to) where
-      made_one : {before : List Event} {s : State} {moved : Moved} (count : Option ℕ) (length : ℕ) (file : Files G K)
+      made_one : {before : List SocketEvent} {s : State} {moved : Moved} (count : Option ℕ) (length : ℕ) (file : Files G K)
           (may : MayOpen tried.kind tried length) (side : IsFileOf inputs outputs tried.kind file)
           (run : IsClientRun inputs outputs ran.ip (job_opens inputs outputs tried.kind tried length file server may side)
           before s moved) → CountsLast count (run.client ∷ []) → Made count before s.events
@@ -153,7 +153,7 @@ module _ {G K : Type 0} {inputs : SourceMeaning G} {outputs : SinkMeaning K}
       }
 
       -- it failed, if it opened
-      made_stopped : (most : ℕ) (before after : List Event) (end : ClientOutcome) →
+      made_stopped : (most : ℕ) (before after : List SocketEvent) (end : ClientOutcome) →
           FailsBy inputs outputs most tried before after end → Made None before after
       made_stopped most before after (ends.Failed outcome) failed =
           let f = failed.1 in
@@ -161,7 +161,7 @@ module _ {G K : Type 0} {inputs : SourceMeaning G} {outputs : SinkMeaning K}
           let run =
           are_programs to ran.ip (opens tried.kind tried failed.0) f.fails.file opened before f.fails.port
           f.fails.stops.last f.fails.stops.files f.fails.stops.converses in
-          subst (λ (events : List Event). Made None before events) f.fails.stops.events
+          subst (λ (events : List SocketEvent). Made None before events) f.fails.stops.events
           (made_one None failed.0 f.fails.file f.may f.side run.runs_so tt)
       made_stopped most before after (ends.Complete count) failed = made_none failed.1
       made_stopped most before after ends.FileFault failed = made_none failed.1
@@ -170,7 +170,7 @@ module _ {G K : Type 0} {inputs : SourceMeaning G} {outputs : SinkMeaning K}
       made_stopped most before after ends.Memory failed = made_none failed.1
 
       -- it is complete, and stayed
-      module _ {port count : ℕ} {before after : List Event} {last : State} {files : Files G K}
+      module _ {port count : ℕ} {before after : List SocketEvent} {last : State} {files : Files G K}
           (runs : RunsAs inputs outputs port tried.kind tried before last files count)
           (stays : Dallies inputs outputs port (printed count last) files after)
           (stayed : is_complete stays.last.end.position.phase ≡ true)
@@ -213,14 +213,14 @@ module _ {G K : Type 0} {inputs : SourceMeaning G} {outputs : SinkMeaning K}
                   ∙ (sym (job_length tried.kind tried runs.length (sym side_is ∙ is))
                   ∙ ap (λ (e : EndState). e.role.length) (sym run.end));
             } in
-            subst (λ (events : List Event). Made (Some count) before events) stays.events
+            subst (λ (events : List SocketEvent). Made (Some count) before events) stays.events
             (made_one (Some count) runs.length runs.runs.file runs.may runs.side run ([], run.client, refl, counted))
 
-    itself_stopped : (most : ℕ) (before after : List Event) (end : ClientOutcome) →
+    itself_stopped : (most : ℕ) (before after : List SocketEvent) (end : ClientOutcome) →
         FailsBy inputs outputs most job before after end → Made None before after
     itself_stopped most before after end failed = made_stopped job refl refl refl there most before after end failed
 
-    made_completes : (before after : List Event) (h : Completes inputs outputs job before after) →
+    made_completes : (before after : List SocketEvent) (h : Completes inputs outputs job before after) →
         Made (Some h.count) before after
     made_completes before after h = by_transfers h.transfers h.whole where
       by_transfers : (transfers : Transfers inputs outputs (most_waits before) h.port job before h.last h.files h.count) →
@@ -232,7 +232,7 @@ module _ {G K : Type 0} {inputs : SourceMeaning G} {outputs : SinkMeaning K}
           made_both (itself_stopped (most_waits before) before again.0 again.1.end again.1.fails)
           (made_complete (plain job) refl refl refl there again.2 h.stays h.stayed h.still h.side whole)
 
-    made_failed : (most : ℕ) (before after : List Event) (end : ClientOutcome) →
+    made_failed : (most : ℕ) (before after : List SocketEvent) (end : ClientOutcome) →
         FailsTransfer inputs outputs most job before after end → Made None before after
     made_failed most before after end h = elim h [
       | inl failed ↦ itself_stopped most before after end failed
@@ -241,7 +241,7 @@ module _ {G K : Type 0} {inputs : SourceMeaning G} {outputs : SinkMeaning K}
           (made_stopped (plain job) refl refl refl there most again.0 after end again.2)
     ]
 
-    made_order : (status : ℕ) (before after : List Event) (h : RunsOrder inputs outputs job status before after) →
+    made_order : (status : ℕ) (before after : List SocketEvent) (h : RunsOrder inputs outputs job status before after) →
         Made (count_by inputs outputs job status before after h) before after
     made_order status before after (inl done) = made_completes before after done.1
     made_order status before after (inr failed) = made_failed (most_waits before) before after failed.1 failed.3

@@ -12,7 +12,7 @@ use Rattle.tftp_ends.specs.declared.side.Side.TheVariants.{ClientRead, ClientWri
 use Rattle.tftp_store.specs.Store.{StoreMeaning}
 use Rattle.tftp_server.specs.State.{ServerState}
 use Rattle.tftp_sockets.specs.Bound.{IsBoundTo}
-use Rattle.tftp_sockets.specs.Journal.{Event}
+use Rattle.tftp_sockets.specs.Journal.{SocketEvent}
 use Rattle.tftp_loop.specs.WholeRun.{Serves, Unbound, Bound, listening}
 use Rattle.tftp_loop.specs.declared.serving.LoopConfig.{LoopConfig}
 use Rattle.tftp_loop.specs.declared.serving.LoopFault.{LoopFault}
@@ -43,8 +43,8 @@ pub record ServerRan {R G H F D : Type 0} (stores : StoreMeaning (FolderStore R 
   pub ip : List ℕ
   pub words : List (List ℕ)
   pub status : ℕ
-  pub before : List Event
-  pub after : List Event
+  pub before : List SocketEvent
+  pub after : List SocketEvent
   pub ran : ServesWords stores sources words status before after
 
 -- a `tftp` ran these
@@ -53,20 +53,20 @@ pub record ClientRan {G K : Type 0} (inputs : SourceMeaning G) (outputs : SinkMe
   pub ip : List ℕ
   pub words : List (List ℕ)
   pub status : ℕ
-  pub before : List Event
-  pub after : List Event
+  pub before : List SocketEvent
+  pub after : List SocketEvent
   pub ran : RunsWords inputs outputs words status before after
 
 -- the port to which the server's request port was bound, if it was
 abbrev pub bound_by : {R G H F D A : Type 0} {stores : StoreMeaning (FolderStore R G H) D}
     {sources : SourceMeaning F} {config : LoopConfig} {server : ServerState (FolderStore R G H) F D}
-    {result : Result A LoopFault} {before after : List Event}
+    {result : Result A LoopFault} {before after : List SocketEvent}
     → Serves stores sources config server result before after → Option ℕ
 bound_by (Unbound ends) = None
 bound_by (Bound port is serves) = Some port
 
 abbrev pub bound_in : {R G H F D : Type 0} {stores : StoreMeaning (FolderStore R G H) D}
-    {sources : SourceMeaning F} (words : List (List ℕ)) (status : ℕ) (before after : List Event)
+    {sources : SourceMeaning F} (words : List (List ℕ)) (status : ℕ) (before after : List SocketEvent)
     → ServesWords stores sources words status before after → Option ℕ
 bound_in words status before after (inl none) = None
 bound_in words status before after (inr did) = bound_by did.2.runs.serves
@@ -77,13 +77,13 @@ port_of ran = bound_in ran.words ran.status ran.before ran.after ran.ran
 
 -- N of the line `complete N` that a command printed, if its job is complete
 abbrev pub count_by : {G K : Type 0} (inputs : SourceMeaning G) (outputs : SinkMeaning K) (job : Job)
-    (status : ℕ) (before after : List Event)
+    (status : ℕ) (before after : List SocketEvent)
     → RunsOrder inputs outputs job status before after → Option ℕ
 count_by inputs outputs job status before after (inl done) = Some done.1.count
 count_by inputs outputs job status before after (inr failed) = None
 
 abbrev pub count_in : {G K : Type 0} (inputs : SourceMeaning G) (outputs : SinkMeaning K)
-    (words : List (List ℕ)) (status : ℕ) (before after : List Event)
+    (words : List (List ℕ)) (status : ℕ) (before after : List SocketEvent)
     → RunsWords inputs outputs words status before after → Option ℕ
 count_in inputs outputs words status before after (inl nothing) = None
 count_in inputs outputs words status before after (inr did) =
@@ -114,8 +114,8 @@ module _ {G K : Type 0} {inputs : SourceMeaning G} {outputs : SinkMeaning K} whe
     pub side : client.first.role.side ≡ side_of job.kind
 
   -- the programs noted all that leads from the one journal to the other, one after another
-  abbrev pub NotedBy : {to : Endpoint} → List Event → List (ClientProgram inputs outputs to)
-      → List Event → Type 0
+  abbrev pub NotedBy : {to : Endpoint} → List SocketEvent → List (ClientProgram inputs outputs to)
+      → List SocketEvent → Type 0
   NotedBy before [] after = after ≡ before
   NotedBy before (client ∷ clients) after =
       (client.before ≡ before) × NotedBy (client.noted ++ before) clients after

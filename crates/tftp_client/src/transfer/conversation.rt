@@ -7,7 +7,7 @@ ghost use Rattle.std.specs.Prelude.{Some, None, IfSome, IfNone, IfOk, IfErr, OnO
 ghost use Rattle.tftp_ends.specs.End.{is_complete, outcome_of};
 ghost use Rattle.tftp_ends.specs.Files.{AreFilesOf};
 ghost use Rattle.tftp_sockets.specs.declared.address.TheConstants.{DATAGRAM_BUFFER};
-ghost use Rattle.tftp_sockets.specs.Journal.Event.{Quiet};
+ghost use Rattle.tftp_sockets.specs.Journal.SocketEvent.{Quiet};
 ghost use Rattle.tftp_sockets.specs.Journal.QuietEvent.{Slept};
 ghost use Rattle.tftp_sockets.specs.Journal.{replied};
 ghost use Rattle.tftp_sockets.specs.Quiet.{waits as waits_in};

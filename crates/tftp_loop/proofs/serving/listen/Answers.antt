@@ -2,8 +2,8 @@ use Rattle.std.proofs.Common.{List, ◌∷◌, ap, inr, refl, subst, ◌∙◌}
 use Rattle.tftp_ends.specs.declared.endpoint.Endpoint.{Endpoint}
 use Rattle.tftp_lines.specs.Printed.{line_text}
 use Rattle.tftp_lines.specs.declared.printed.Printed.TheVariants.{Listening}
-use Rattle.tftp_sockets.specs.Journal.{Event}
-use Rattle.tftp_sockets.specs.Journal.Event.{Printed}
+use Rattle.tftp_sockets.specs.Journal.{SocketEvent}
+use Rattle.tftp_sockets.specs.Journal.SocketEvent.{Printed}
 use Rattle.tftp_loop.specs.Run.Run.{Start}
 use Rattle.tftp_loop.specs.Steps.{at_start}
 use Rattle.tftp_loop.specs.WholeRun.{ServesFrom, listening}
@@ -14,7 +14,7 @@ returns-in-Ok g c =
     let line =
     c.print_line.ensures ∙ ap (λ (e : Endpoint). Printed (line_text (Listening e)) ∷ c.args.journal.events)
     c.listening.ensures in
-    let At : List Event → Type 0 = λ es. ServesFrom g.S.Store.meaning g.S.Source.Source.meaning
+    let At : List SocketEvent → Type 0 = λ es. ServesFrom g.S.Store.meaning g.S.Source.Source.meaning
     c.args.config.now c.args.sockets.requests.port c.args.server c.run.result.0 es c.run.result.1.events in
     subst At line c.run.ensures
 

@@ -1,5 +1,5 @@
 use Rattle.std.proofs.Common.{arith, refl, sym, ap, ◌∙◌, ℕ, ◌∷◌}
-use Rattle.tftp_sockets.specs.Journal.Event.{Watched}
+use Rattle.tftp_sockets.specs.Journal.SocketEvent.{Watched}
 use Rattle.tftp_loop.proofs.server_loop.ServerLoop.read_clock.Goals as goal
 
 pub returns : goal.returns

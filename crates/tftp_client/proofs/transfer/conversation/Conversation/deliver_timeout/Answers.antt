@@ -6,7 +6,7 @@ use Rattle.tftp_sockets.specs.Watch.{deadline_of}
 use Rattle.tftp_client.specs.Conversation.{state_of}
 use Rattle.tftp_client.specs.Converses.{IsOpen, MayElapse, State, deadline_at}
 use Rattle.tftp_client.specs.Converses.MayElapse.{Stays, Elapses}
-use Rattle.tftp_sockets.specs.Journal.Event.{Elapsed}
+use Rattle.tftp_sockets.specs.Journal.SocketEvent.{Elapsed}
 use Rattle.tftp_client.proofs.Conversing.{due_elapsed, is_closed, not_refused, replies, state_is}
 use Rattle.tftp_client.proofs.transfer.conversation.Conversation.deliver_timeout.Goals as goal
 

@@ -4,8 +4,8 @@ use Rattle.std.proofs.lemmas.List.{with_items_is, places}
 use Rattle.tftp_client.specs.Conversation.{state_of}
 use Rattle.tftp_client.specs.Converses.{Converses, AnswersReceived, MayWait, State}
 use Rattle.tftp_client.specs.Converses.Converses.{Begins, Receives, Waits}
-use Rattle.tftp_sockets.specs.Journal.{Event, QuietEvent}
-use Rattle.tftp_sockets.specs.Journal.Event.{Watched}
+use Rattle.tftp_sockets.specs.Journal.{SocketEvent, QuietEvent}
+use Rattle.tftp_sockets.specs.Journal.SocketEvent.{Watched}
 use Rattle.tftp_sockets.specs.Journal.QuietEvent.{Empty, Failed}
 use Rattle.tftp_client.proofs.Conversing.{state_is}
 use Rattle.tftp_client.proofs.transfer.conversation.Conversation.take_received.Goals as goal
@@ -30,7 +30,7 @@ returns-in-Datagram-clause-converses g c =
     let Of : ℕ → Type 0 = λ p. handles c.receive_until-received.new.buffer p t in
     let Over : List ℕ → Type 0 = λ b. handles b c.receive_until-received.new.socket.port t in
     let whole = with_items_is c.args.self.now.buffer c.receive_until-received.new.buffer (search (rules, places)) in
-    let noted = c.read_watch.ensures.noted ∙ ap (λ (es : List Event). Watched time ∷ es) c.in-Datagram.ensures.noted in
+    let noted = c.read_watch.ensures.noted ∙ ap (λ (es : List SocketEvent). Watched time ∷ es) c.in-Datagram.ensures.noted in
     let may : MayWait s = record { not_closed = c.requires.not_closed; due = c.requires.ready c.requires.not_closed } in
     Receives Begins may c.read_watch.ensures.forward
     (subst At (state_is refl c.read_watch.ensures.time refl noted)
@@ -43,7 +43,7 @@ returns-in-Nothing-clause-converses g c =
     c.args.files.now t c.args.files.now in
     let may : MayWait s = record { not_closed = c.requires.not_closed; due = c.requires.ready c.requires.not_closed } in
     let event : QuietEvent = Empty c.args.self.now.socket.port in
-    let noted = c.read_watch.ensures.noted ∙ ap (λ (es : List Event). Watched c.read_watch.result ∷ es)
+    let noted = c.read_watch.ensures.noted ∙ ap (λ (es : List SocketEvent). Watched c.read_watch.result ∷ es)
     c.in-Nothing.ensures.noted in
     subst At (sym (state_is refl c.read_watch.ensures.time refl noted))
     (Waits {event = event} Begins may (inl refl) c.read_watch.ensures.forward)
@@ -55,7 +55,7 @@ returns-in-Failed-clause-converses g c =
     c.args.files.now t c.args.files.now in
     let may : MayWait s = record { not_closed = c.requires.not_closed; due = c.requires.ready c.requires.not_closed } in
     let event : QuietEvent = Failed c.args.self.now.socket.port in
-    let noted = c.read_watch.ensures.noted ∙ ap (λ (es : List Event). Watched c.read_watch.result ∷ es)
+    let noted = c.read_watch.ensures.noted ∙ ap (λ (es : List SocketEvent). Watched c.read_watch.result ∷ es)
     c.in-Failed.ensures.noted in
     subst At (sym (state_is refl c.read_watch.ensures.time refl noted))
     (Waits {event = event} Begins may (inr refl) c.read_watch.ensures.forward)
