@@ -7,7 +7,12 @@ use Rattle.tftp_store.specs.Store.{StoreMeaning}
 -- a source that always fails
 abbrev pub no_source : {F : Type 0} → SourceMeaning F
 no_source =
-    record { left = λ source. None; may_fail = λ source want. ⊤; fails = λ source want. ⊤ }
+    record {
+      left = λ source. None;
+      may_fail = λ source want. ⊤;
+      fails = λ source want. ⊤;
+      gives = λ source piece rest. ⊤;
+    }
 
 -- a store that refuses every call
 abbrev pub no_store : {S D : Type 0} → StoreMeaning S D

@@ -21,6 +21,8 @@ impl Source for Absent {
 
     ghost joins = { λ _ _ _ _ _. tt };
 
+    ghost unmoved = { λ _. tt };
+
     fn fill(&mut self, _want: usize, _out: &mut Vec<u8>) -> Result<usize, FileFault> {
         Err(FileFault::Read)
     }

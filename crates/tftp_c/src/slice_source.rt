@@ -47,6 +47,8 @@ impl<'a> Source for SliceSource<'a> {
 
     ghost joins = { λ _ _ _ _ _. tt };
 
+    ghost unmoved = { λ _. tt };
+
     fn fill(&mut self, want: usize, out: &mut Vec<u8>) -> Result<usize, FileFault> {
         let count = want.min(self.rest.len());
         out.extend_from_slice(&self.rest[..count])?;

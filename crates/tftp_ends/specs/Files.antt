@@ -1,5 +1,5 @@
 -- The files of an end, by their models.
-use Rattle.std.specs.Prelude.{ℕ, ◌≡◌, true, false, Option, Some, None}
+use Rattle.std.specs.Prelude.{ℕ, ◌≡◌, true, false, [], Option, Some, None}
 use Rattle.tftp_file.specs.Source.{SourceMeaning}
 use Rattle.tftp_file.specs.Sink.{Holding, SinkMeaning}
 use Rattle.tftp_file.specs.declared.files.Files.{Files}
@@ -7,10 +7,12 @@ use Rattle.tftp_file.specs.declared.files.Files.TheVariants.{Source, Sink}
 use Rattle.tftp_ends.specs.declared.side.Side.{Side}
 use Rattle.tftp_ends.specs.End.{is_sender}
 
--- a source has the same bytes left, and if each fill failed before, each fill fails
+-- a source has the same bytes left, if each fill failed before, each fill fails, and it gave no
+-- bytes
 pub record KeepsSource {S : Type 0} (sources : SourceMeaning S) (before after : S) : Type 0 where
   pub left : sources.left after ≡ sources.left before
   pub fails : ((want : ℕ) → sources.fails before want) → (want : ℕ) → sources.fails after want
+  pub gave : sources.gives before [] after
 
 -- a sink with a model holds the same
 abbrev pub KeepsHolding : Option Holding → Option Holding → Type 0

@@ -136,6 +136,7 @@ module _ {S : Type 0} (sources : SourceMeaning S) where
       (piece : List ℕ)
       × AsksFor sources (block_length length DEFAULT_BLOCK 1) source (sources.left source') piece
       (Ok (block_length length DEFAULT_BLOCK 1))
+      × sources.gives source piece source'
       × (e ≡ serving_read [] peer mode length retries piece)
   ServesRead (known ∷ others) peer mode length retries source source' e =
       (source' ≡ source) × (e ≡ serving_read (known ∷ others) peer mode length retries [])
@@ -148,10 +149,12 @@ module _ {S : Type 0} (sources : SourceMeaning S) where
     pub reads : AsksFor sources (block_length length DEFAULT_BLOCK 1) source after piece answer
     pub short : result_count_is (block_length length DEFAULT_BLOCK 1) answer ≡ false
 
-  -- such a source after the read of the first block: it has the bytes left that the fill left
+  -- such a source after the read of the first block: it has the bytes left that the fill left, and
+  -- gave what was read
   pub record FailsToStart (length : ℕ) (source source' : S) : Type 0 where
     pub cannot : CannotStart length source
     pub left : sources.left source' ≡ cannot.after
+    pub gives : sources.gives source cannot.piece source'
 
   -- the same, of an end's files
   abbrev pub ServesFiles : {K : Type 0} → List Known → Endpoint → Mode → ℕ → ℕ → Files S K

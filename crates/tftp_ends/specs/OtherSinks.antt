@@ -16,14 +16,16 @@ use Rattle.tftp_ends.specs.Files.{KeepsFiles}
 use Rattle.tftp_ends.specs.Step.{Done, Turn, Sends, Appended, Committed, GoesOn, Stores, Acts}
 use Rattle.tftp_ends.specs.Step.{DatagramStep}
 
--- sources seen as values of another type: the same bytes are left, their faults are allowed, and
--- the same fills must fail
+-- sources seen as values of another type: the same bytes are left, their faults are allowed, the
+-- same fills must fail, and they give the same bytes
 pub record SourcesModel {S T : Type 0} (seen : S → T) (sources : SourceMeaning S)
     (sources' : SourceMeaning T) : Type 0 where
   pub models : (source : S) → sources'.left (seen source) ≡ sources.left source
   pub fails : (source : S) (want : ℕ) → sources.may_fail source want
       → sources'.may_fail (seen source) want
   pub must : (source : S) (want : ℕ) → sources'.fails (seen source) want ↔ sources.fails source want
+  pub gives : (source source' : S) (piece : List ℕ) → sources.gives source piece source'
+      → sources'.gives (seen source) piece (seen source')
 
 -- the same, of sinks for which `holds`, which an append preserves
 pub record SinksModel {K L : Type 0} (seen : K → L) (holds : K → Type 0) (sinks : SinkMeaning K)
@@ -86,6 +88,7 @@ module _ {S T K L : Type 0} (sources : SourceMeaning S) (sinks : SinkMeaning K)
                 fails = λ f. h.reads.fails ((source_models.must s _).0 f);
                 memory = h.reads.memory;
               };
+          gives = source_models.gives s s' h.piece h.gives;
           answers = h.answers;
         }
 
@@ -121,6 +124,7 @@ module _ {S T K L : Type 0} (sources : SourceMeaning S) (sinks : SinkMeaning K)
           left = rw (source_models.models s, source_models.models s') h.left;
           fails = λ f want.
               (source_models.must s' want).1 (h.fails (λ w. (source_models.must s w).0 (f w)) want);
+          gave = source_models.gives s s' [] h.gave;
         }
 
   -- ---- a sink, whatever the sources are

@@ -1,6 +1,6 @@
 -- Why an event finds an end out of memory: a growth that was refused, or a file that answered
 -- `Memory`.
-use Rattle.std.specs.Prelude.{ℕ, ◌≡◌, ◌+◌, ◌<◌, ◌⊎◌, List, length, drop, Option, Err}
+use Rattle.std.specs.Prelude.{ℕ, ◌≡◌, ◌+◌, ◌<◌, ◌⊎◌, List, [], length, drop, Option, Err}
 use Rattle.tftp_wire.specs.declared.packet.Packet.{Packet}
 use Rattle.tftp_wire.specs.declared.limits.TheConstants.{HEADER}
 use Rattle.tftp_wire.specs.declared.mode.Mode.{Mode}
@@ -20,11 +20,12 @@ use Rattle.tftp_ends.specs.Step.{Appended, block_length}
 use Rattle.tftp_ends.specs.Text.{Decoded}
 
 module _ {S : Type 0} (sources : SourceMeaning S) where
-  -- a source answered a fill of this many bytes by `Memory`: it has the same bytes left, and did
-  -- not have to fail
+  -- a source answered a fill of this many bytes by `Memory`: it has the same bytes left, did not
+  -- have to fail, and gave no bytes
   pub record FillLacksMemory (want : ℕ) (before after : S) : Type 0 where
     pub left : sources.left after ≡ sources.left before
     pub fails : sources.fails before want → ⊥
+    pub gave : sources.gives before [] after
 
   -- a block of this many bytes was not read: its DATA is longer than the last datagram sent, whose
   -- length the end's buffers have, and the source was not asked; or the source lacks memory

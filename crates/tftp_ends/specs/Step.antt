@@ -205,6 +205,7 @@ module _ {S : Type 0} (sources : SourceMeaning S) where
     pub piece : List ℕ
     pub reads : AsksFor (block_length e.role.length terms.size number) source (sources.left source')
         piece answer
+    pub gives : sources.gives source piece source'
     pub answers : turn ≡ filled_turn terms number from piece e answer
 
 module _ {K : Type 0} (sinks : SinkMeaning K) where

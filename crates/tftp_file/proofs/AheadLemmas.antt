@@ -123,6 +123,7 @@ module _ {S : Type 0} (sources : SourceMeaning S) (is_same : S → S → Type 0)
     left = left_or_failed before after after.failed refl empty left;
     may_fail = λ want. may_fail_before before after size same read;
     fails = λ all want. fails_after want all (all size);
+    gave = tt;
   }
     where
       below : (want : ℕ) → (before.failed ≡ true) ⊎ ((before.held ≡ []) × sources.fails before.source want)

@@ -1,5 +1,5 @@
 -- A source that is read ahead: the text that is left, and the fills that fail.
-use Rattle.std.specs.Prelude.{ℕ, ◌≡◌, ◌⊎◌, Bool, true, false, List, []}
+use Rattle.std.specs.Prelude.{ℕ, ◌≡◌, ◌⊎◌, Bool, true, false, List, [], ⊤}
 use Rattle.std.specs.Io.KnownBytes.{prepend_known}
 use Rattle.tftp_file.specs.Source.{SourceMeaning}
 
@@ -24,7 +24,8 @@ pub record MayFailLater {S : Type 0} (sources : SourceMeaning S) (is_same : S �
   pub fails : sources.may_fail later want
 
 -- the model of a source that is read ahead: the bytes read ahead are left, followed by the text of
--- the source below; after a failed read ahead each fill fails
+-- the source below; after a failed read ahead each fill fails; nothing is said of the calls of the
+-- source below
 abbrev pub ahead_meaning : {S : Type 0} → SourceMeaning S → (S → S → Type 0)
     → SourceMeaning (AheadState S)
 ahead_meaning sources is_same =
@@ -32,4 +33,5 @@ ahead_meaning sources is_same =
       left = λ a. prepend_known a.held (sources.left a.source);
       may_fail = λ a want. (a.failed ≡ true) ⊎ MayFailLater sources is_same a.source;
       fails = λ a want. (a.failed ≡ true) ⊎ ((a.held ≡ []) × sources.fails a.source want);
+      gives = λ a piece b. ⊤;
     }

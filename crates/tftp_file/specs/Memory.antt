@@ -63,4 +63,9 @@ memory_sink =
 -- the model of a source in memory: its wire text is known, and it never fails to read
 abbrev pub memory_source : SourceMeaning (List ℕ)
 memory_source =
-    record { left = λ text. Some text; may_fail = λ text want. ⊥; fails = λ text want. ⊥ }
+    record {
+      left = λ text. Some text;
+      may_fail = λ text want. ⊥;
+      fails = λ text want. ⊥;
+      gives = λ text piece rest. ⊤;
+    }

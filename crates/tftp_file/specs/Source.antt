@@ -1,5 +1,5 @@
 -- The model of a source, and the bytes that a fill moves from it to a buffer.
-use Rattle.std.specs.Prelude.{ℕ, ◌≡◌, ◌≤◌, ◌⊎◌, List, ◌++◌, length, take, drop, min, Option, Some}
+use Rattle.std.specs.Prelude.{ℕ, ◌≡◌, ◌≤◌, ◌⊎◌, List, [], ◌++◌, length, take, drop, min, Option, Some}
 use Rattle.std.specs.Prelude.{None, Result, Ok, Err, ⊤}
 use Rattle.std.specs.Borrow.{MutBor}
 use Rattle.tftp_file.specs.declared.fault.FileFault.{FileFault}
@@ -13,10 +13,19 @@ pub record SourceMeaning (S : Type 0) : Type 1 where
   pub may_fail : S → ℕ → Type 0
   -- a fill of this many bytes returns Read
   pub fails : S → ℕ → Type 0
+  -- the effect of a call on the source: of a fill that gave these bytes, or of a fill that failed or
+  -- a read ahead, which give none
+  pub gives : S → List ℕ → S → Type 0
 
 -- the model of sources of which nothing is known: each fill may fail, and none must
 abbrev pub unknown_source : {S : Type 0} → SourceMeaning S
-unknown_source = record { left = λ s. None; may_fail = λ s want. ⊤; fails = λ s want. ⊥ }
+unknown_source =
+    record {
+      left = λ s. None;
+      may_fail = λ s want. ⊤;
+      fails = λ s want. ⊥;
+      gives = λ s piece t. ⊤;
+    }
 
 -- the model of a value that contains a source
 abbrev pub source_through : {S T : Type 0} → SourceMeaning T → (S → T) → SourceMeaning S
@@ -25,6 +34,7 @@ source_through meaning seen =
       left = λ s. meaning.left (seen s);
       may_fail = λ s want. meaning.may_fail (seen s) want;
       fails = λ s want. meaning.fails (seen s) want;
+      gives = λ s piece t. meaning.gives (seen s) piece (seen t);
     }
 
 -- the model of a borrow of a source
@@ -58,15 +68,28 @@ Fills None after want old new (Ok k) = MovedUnknown want old new k
 Fills before after want old new (Err Read) = new ≡ old
 Fills before after want old new (Err Memory) = Unmoved before after old new
 
+-- the bytes that a call has appended to a buffer, which held the old ones before it
+abbrev pub added_to : List ℕ → List ℕ → List ℕ
+added_to old new = drop (length old) new
+
+-- the calls of a source in turn, from the first to the last state: they gave these bytes
+pub data GivesInTurn {S : Type 0} (sources : SourceMeaning S) (first : S) : List ℕ → S
+    → Type 0 where
+  Gave_nothing : GivesInTurn sources first [] first
+  Gave_more : {bytes piece : List ℕ} {before after : S} → GivesInTurn sources first bytes before
+      → sources.gives before piece after → GivesInTurn sources first (bytes ++ piece) after
+
 -- a known value is unchanged
 abbrev pub StaysKnown : {A : Type 0} → Option A → Option A → Type 0
 StaysKnown None after = ⊤
 StaysKnown (Some known) after = after ≡ Some known
 
 -- the text that is left is unchanged if it is known, or each fill then fails, as after a failed
--- read; no more fills may fail than before; and if each fill had to fail, each still has to
+-- read; no more fills may fail than before; if each fill had to fail, each still has to; and no
+-- bytes are given
 pub record ReadsAhead {S : Type 0} (sources : SourceMeaning S) (before after : S) : Type 0 where
   pub left : StaysKnown (sources.left before) (sources.left after)
       ⊎ ((want : ℕ) → sources.fails after want)
   pub may_fail : (want : ℕ) → sources.may_fail after want → sources.may_fail before want
   pub fails : ((want : ℕ) → sources.fails before want) → (want : ℕ) → sources.fails after want
+  pub gave : sources.gives before [] after

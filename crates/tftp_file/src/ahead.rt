@@ -92,6 +92,8 @@ impl<S: Source> Source for Ahead<S> {
       λ failed. q.1 (p.1 failed),
     ) };
 
+    ghost unmoved = { λ _. tt };
+
     /// After a failed read ahead it returns `Read`, and nothing changes.
     fn fill(&mut self, want: usize, out: &mut Vec<u8>) -> Result<usize, FileFault>
         ensures fills { Fills

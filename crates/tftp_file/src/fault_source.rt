@@ -56,7 +56,7 @@ impl FaultSource {
 }
 
 impl Source for FaultSource {
-    ghost use Rattle.std.specs.Prelude.{◌≡◌, ◌≤◌, Some, Err, refl, vec_capacity};
+    ghost use Rattle.std.specs.Prelude.{◌≡◌, ◌≤◌, Some, Err, refl, vec_capacity, ⊤};
     ghost use Rattle.std.proofs.Common.{◌∙◌};
     ghost use Rattle.tftp_file.specs.Source.{Fills};
     ghost use Rattle.tftp_file.specs.FaultSource.{FailsAt};
@@ -65,6 +65,7 @@ impl Source for FaultSource {
       left = λ s. Some s.left;
       may_fail = FailsAt;
       fails = FailsAt;
+      gives = λ _ _ _. ⊤;
     } };
 
     /// It holds no borrow: whether it is set to fail does not change.
@@ -73,6 +74,8 @@ impl Source for FaultSource {
     ghost stays = { λ _. refl };
 
     ghost joins = { λ _ _ _ p q. q ∙ p };
+
+    ghost unmoved = { λ _. tt };
 
     /// If the source is set to fail, a fill that requests more than is left returns `Read`, and
     /// allocates no memory.

@@ -63,6 +63,8 @@ impl Source for MemSource {
 
     ghost joins = { λ _ _ _ _ _. tt };
 
+    ghost unmoved = { λ _. tt };
+
     fn fill(&mut self, want: usize, out: &mut Vec<u8>) -> Result<usize, FileFault> {
         let given = give(self.bytes.as_slice(), self.encoding, want, out)?;
         self.bytes.advance(given.taken);

@@ -1,7 +1,7 @@
 //! The text that a sender reads, in pieces.
 
-ghost use Rattle.std.specs.Prelude.{◌≡◌, ◌≤◌, Err, vec_capacity};
-ghost use Rattle.tftp_file.specs.Source.{Fills, ReadsAhead, SourceMeaning};
+ghost use Rattle.std.specs.Prelude.{◌≡◌, ◌≤◌, [], Err, vec_capacity};
+ghost use Rattle.tftp_file.specs.Source.{Fills, ReadsAhead, SourceMeaning, added_to};
 
 use crate::FileFault;
 
@@ -11,7 +11,8 @@ use crate::FileFault;
 /// which results it returns.
 pub trait Source {
     /// The text that is left, if it has a model (`left`), which fills may return `Read`
-    /// (`may_fail`), and which do (`fails`).
+    /// (`may_fail`), which do (`fails`), and the effect of a call on the source by the bytes that it
+    /// gave (`gives`).
     ghost meaning: { SourceMeaning Self };
 
     /// The second is the first at a later time: it holds the same borrows. For a source without
@@ -29,6 +30,7 @@ pub trait Source {
             out.old.items out.new.items result }
         ensures read { result ≡ Err FileFault.Read → meaning.may_fail self.old want }
         ensures fails { meaning.fails self.old want → result ≡ Err FileFault.Read }
+        ensures gives { meaning.gives self.old (added_to out.old.items out.new.items) self.new }
         ensures capacity { vec_capacity out.old ≤ vec_capacity out.new }
         ensures same { is_same self.old self.new };
 
@@ -37,7 +39,7 @@ pub trait Source {
     ///
     /// If the text that is left is known, it is unchanged, unless a read has failed: then a fill of
     /// any length returns `Read`. No more fills may fail than before, and if each fill had to fail,
-    /// each still has to.
+    /// each still has to. No bytes are given.
     fn read_ahead(&mut self)
         ensures ahead { ReadsAhead meaning self.old self.new }
         ensures same { is_same self.old self.new }
@@ -48,6 +50,9 @@ pub trait Source {
 
     /// `is_same` is transitive.
     ghost joins: { (a b c : Self) → is_same a b → is_same b c → is_same a c };
+
+    /// `gives` holds without bytes for a source that no call has changed.
+    ghost unmoved: { (a : Self) → meaning.gives a [] a };
 }
 
 impl<S: Source> Source for &mut S {
@@ -62,6 +67,8 @@ impl<S: Source> Source for &mut S {
     ghost stays = { λ a. (refl, S.stays a.now) };
 
     ghost joins = { λ a b c p q. (q.0 ∙ p.0, S.joins a.now b.now c.now p.1 q.1) };
+
+    ghost unmoved = { λ a. S.unmoved a.now };
 
     fn fill(&mut self, want: usize, out: &mut Vec<u8>) -> Result<usize, FileFault> {
         Source::fill(&mut **self, want, out)

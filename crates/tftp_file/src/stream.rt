@@ -78,6 +78,7 @@ impl<R: Read> Source for ReadSource<R> {
       left = source_left R.remaining;
       may_fail = λ _ _. ⊤;
       fails = λ _ _. ⊥;
+      gives = λ _ _ _. ⊤;
     } };
 
     /// Always true: it does not constrain the reader.
@@ -86,6 +87,8 @@ impl<R: Read> Source for ReadSource<R> {
     ghost stays = { λ _. tt };
 
     ghost joins = { λ _ _ _ _ _. tt };
+
+    ghost unmoved = { λ _. tt };
 
     fn fill(&mut self, want: usize, out: &mut Vec<u8>) -> Result<usize, FileFault> {
         match &mut self.encoding {

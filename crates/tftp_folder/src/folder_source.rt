@@ -179,6 +179,8 @@ impl<F: Read + Drop> Source for FolderSource<F> {
 
     ghost joins = { λ a b c p q. λ failed. q (p failed) };
 
+    ghost unmoved = { λ _. tt };
+
     fn fill(&mut self, want: usize, out: &mut Vec<u8>) -> Result<usize, FileFault> {
         let filled = self.text.fill(want, out);
         self.note(filled, want);

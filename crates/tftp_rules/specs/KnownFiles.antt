@@ -9,7 +9,12 @@ use Rattle.tftp_file.specs.declared.files.Files.TheVariants.{Source, Sink}
 -- a source whose text is known; each fill may return Read, and none must
 abbrev pub known_source : SourceMeaning (List ℕ)
 known_source =
-    record { left = λ text. Some text; may_fail = λ text want. ⊤; fails = λ text want. ⊥ }
+    record {
+      left = λ text. Some text;
+      may_fail = λ text want. ⊤;
+      fails = λ text want. ⊥;
+      gives = λ text piece rest. ⊤;
+    }
 
 -- a sink whose content is known; each append and each commit may return any fault
 abbrev pub known_sink : SinkMeaning Holding

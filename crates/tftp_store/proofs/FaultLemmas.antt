@@ -31,4 +31,5 @@ module _ {F : Type 0} (sources : SourceMeaning F) (before after : F) (h : ReadsA
     left = left_or_fails fails _ h.left;
     may_fail = may_fail_still fails;
     fails = fails_still fails;
+    gave = h.gave;
   }

@@ -125,4 +125,5 @@ opened_meaning inner =
       left = λ s. inner.left s.source;
       may_fail = λ s want. (s.fails ≡ true) ⊎ inner.may_fail s.source want;
       fails = λ s want. (s.fails ≡ true) ⊎ inner.fails s.source want;
+      gives = λ s piece t. inner.gives s.source piece t.source;
     }

@@ -266,7 +266,7 @@ impl<F> Model for OpenedSource<F> {
 impl<F: Source> Source for OpenedSource<F> {
     ghost use Rattle.std.specs.Prelude.{◌≡◌, ◌≤◌, ◌⊎◌, true, Err, refl, vec_capacity};
     ghost use Rattle.std.proofs.Common.{◌∙◌};
-    ghost use Rattle.tftp_file.specs.Source.{Fills};
+    ghost use Rattle.tftp_file.specs.Source.{Fills, added_to};
     ghost use Rattle.tftp_store.specs.FaultStore.{opened_meaning};
 
     ghost meaning = { opened_meaning F.meaning };
@@ -278,11 +278,15 @@ impl<F: Source> Source for OpenedSource<F> {
 
     ghost joins = { λ a b c p q. (q.0 ∙ p.0, F.joins a.source b.source c.source p.1 q.1) };
 
+    ghost unmoved = { λ a. F.unmoved a.source };
+
     fn fill(&mut self, want: usize, out: &mut Vec<u8>) -> Result<usize, FileFault>
         ensures fills { Fills (F.meaning.left self.old.source) (F.meaning.left self.new.source) want
             out.old.items out.new.items result }
         ensures read { result ≡ Err FileFault.Read → (self.old.fails ≡ true)
             ⊎ F.meaning.may_fail self.old.source want }
+        ensures gives { F.meaning.gives self.old.source (added_to out.old.items out.new.items)
+            self.new.source }
         ensures capacity { vec_capacity out.old ≤ vec_capacity out.new }
         ensures same { (self.new.fails ≡ self.old.fails)
             × F.is_same self.old.source self.new.source }
