@@ -1,7 +1,9 @@
 -- The result of a fill, without the bytes that were in the buffer before it.
-use Rattle.std.proofs.Common.{◌≡◌, ◌≢◌, ℕ, false, List, [], ◌++◌, take, Option, Some, None, Result, Ok, Err, refl, sym}
+use Rattle.std.proofs.Common.{◌≡◌, ◌≢◌, ℕ, false, List, [], ◌++◌, length, take, drop, Option, Some, None, Result, Ok, Err}
+use Rattle.std.proofs.Common.{refl, sym, ap, subst, ◌∙◌}
+use Rattle.std.proofs.Math.Seq.{drop-append_seam}
 use Rattle.std.proofs.lemmas.Bool.{ne_eqb}
-use Rattle.tftp_file.specs.Source.{Fills}
+use Rattle.tftp_file.specs.Source.{Fills, added_to}
 use Rattle.tftp_file.specs.declared.fault.FileFault.{FileFault}
 use Rattle.tftp_file.specs.declared.fault.FileFault.TheVariants.{Read}
 use Rattle.tftp_ends.specs.Room.{ReadsData}
@@ -15,18 +17,25 @@ fills_after (Some left) after want k old new f =
 fills_after None after want k old new f =
     (f.piece, f.given, record { piece = f.piece; given = refl; count = f.count; bound = f.bound })
 
+-- the bytes that were added to a buffer are those after its old ones
+pub added_piece : (gives : List ℕ → Type 0) (old new piece : List ℕ) → new ≡ old ++ piece →
+    gives (added_to old new) → gives piece
+added_piece gives old new piece is =
+    subst gives (ap (drop (length old)) is ∙ drop-append_seam old piece)
+
 -- less than a block was read
-pub reads_short : (before after : Option (List ℕ)) (may_fail must_fail : Type 0) (number want k : ℕ)
-    (mid filled buffer : List ℕ) →
+pub reads_short : (before after : Option (List ℕ)) (may_fail must_fail : Type 0) (gives : List ℕ → Type 0)
+    (number want k : ℕ) (mid filled buffer : List ℕ) →
     k ≢ want → Fills before after want mid filled (Ok k) →
-    (must_fail → ◌≡◌ {A = Result ℕ FileFault} (Ok k) (Err Read)) → buffer ≡ [] →
-    ReadsData before after may_fail must_fail number want buffer false
-reads_short before after may_fail must_fail number want k mid filled buffer ne f must empty =
+    (must_fail → ◌≡◌ {A = Result ℕ FileFault} (Ok k) (Err Read)) → gives (added_to mid filled) → buffer ≡ [] →
+    ReadsData before after may_fail must_fail gives number want buffer false
+reads_short before after may_fail must_fail gives number want k mid filled buffer ne f must gave empty =
     let p = fills_after before after want k mid filled f in
     record {
       answer = Ok k;
       piece = p.0;
       reads = record { fills = p.2; read = λ h. absurd cc; fails = must; memory = λ h. cc };
+      gave = added_piece gives mid filled p.0 p.1 gave;
       whole = sym (ne_eqb k want ne);
       holds = empty;
     }

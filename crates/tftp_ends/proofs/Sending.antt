@@ -20,7 +20,7 @@ use Rattle.tftp_ends.specs.Step.{refused_turn, filled_turn, block_length}
 pub fails_to_start : {S : Type 0} (sources : SourceMeaning S) (length : ℕ) (source source' : S) (buffer : List ℕ) →
     ReadsData (sources.left source) (sources.left source')
     (sources.may_fail source (block_length length DEFAULT_BLOCK 1))
-    (sources.fails source (block_length length DEFAULT_BLOCK 1)) 1
+    (sources.fails source (block_length length DEFAULT_BLOCK 1)) (λ piece. sources.gives source piece source') 1
     (block_length length DEFAULT_BLOCK 1) buffer false →
     FailsToStart sources length source source'
 fails_to_start sources length source source' buffer o =
@@ -34,6 +34,7 @@ fails_to_start sources length source source' buffer o =
             short = sym o.whole;
           };
       left = refl;
+      gives = o.gave;
     }
 
 module _ {S : Type 0} (sources : SourceMeaning S) (terms : Terms) (number : ℕ) (from : Endpoint) (e : EndState)
@@ -43,7 +44,8 @@ module _ {S : Type 0} (sources : SourceMeaning S) (terms : Terms) (number : ℕ)
   ReadsNext is_whole =
       ReadsData (sources.left source) (sources.left source')
       (sources.may_fail source (block_length e.role.length terms.size number))
-      (sources.fails source (block_length e.role.length terms.size number)) number
+      (sources.fails source (block_length e.role.length terms.size number))
+      (λ piece. sources.gives source piece source') number
       (block_length e.role.length terms.size number) buffer is_whole
 
   -- a sender's step for an action that sends, and the bytes that the call lends
@@ -55,7 +57,7 @@ module _ {S : Type 0} (sources : SourceMeaning S) (terms : Terms) (number : ℕ)
   abbrev pub step_at : (is_whole : Bool) → (o : ReadsNext is_whole) →
       Sends sources terms number from e source (filled_turn terms number from o.piece e o.answer) source'
   step_at is_whole o =
-      record { answer = o.answer; piece = o.piece; reads = o.reads; answers = refl }
+      record { answer = o.answer; piece = o.piece; reads = o.reads; gives = o.gave; answers = refl }
 
   -- the block is sent, and a timeout retransmits it
   pub sent_whole : (o : ReadsNext true) (e' : EndState) →

@@ -136,8 +136,8 @@ module _ {S : Type 0} (sources : SourceMeaning S) where
       (piece : List ℕ)
       × AsksFor sources (block_length length DEFAULT_BLOCK 1) source (sources.left source') piece
       (Ok (block_length length DEFAULT_BLOCK 1))
-      × sources.gives source piece source'
       × (e ≡ serving_read [] peer mode length retries piece)
+      × sources.gives source piece source'
   ServesRead (known ∷ others) peer mode length retries source source' e =
       (source' ≡ source) × (e ≡ serving_read (known ∷ others) peer mode length retries [])
 

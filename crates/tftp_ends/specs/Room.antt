@@ -39,11 +39,13 @@ HoldsData number want piece buffer true =
     (buffer ≡ data_bytes number piece) × (length buffer ≤ 4 + want)
 HoldsData number want piece buffer false = buffer ≡ []
 
--- a block was read from a source, and the buffer holds it as DATA if it is whole
+-- a block was read from a source, which gave it, and the buffer holds it as DATA if it is whole
 pub record ReadsData (before after : Option (List ℕ)) (may_fail must_fail : Type 0)
-    (number want : ℕ) (buffer : List ℕ) (is_whole : Bool) : Type 0 where
+    (gives : List ℕ → Type 0) (number want : ℕ) (buffer : List ℕ) (is_whole : Bool)
+    : Type 0 where
   pub answer : Result ℕ FileFault
   pub piece : List ℕ
   pub reads : ReadsBlock before after may_fail must_fail want piece answer
+  pub gave : gives piece
   pub whole : is_whole ≡ result_count_is want answer
   pub holds : HoldsData number want piece buffer is_whole

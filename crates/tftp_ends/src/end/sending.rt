@@ -76,7 +76,8 @@ pub(crate) fn read_data<S: Source>(
     requires { HEADER + want ≤ vec_capacity buffer.old }
     ensures reads { IfOk result (λ read. ReadsData (S.meaning.left source.old)
         (S.meaning.left source.new) (S.meaning.may_fail source.old want)
-        (S.meaning.fails source.old want) number want buffer.new.items (is_whole read)) }
+        (S.meaning.fails source.old want) (λ piece. S.meaning.gives source.old piece source.new)
+        number want buffer.new.items (is_whole read)) }
     ensures capacity { vec_capacity buffer.old ≤ vec_capacity buffer.new }
     ensures err { OnErr result (KeepsSource S.meaning source.old source.new
         × (buffer.new.items ≡ [])) }

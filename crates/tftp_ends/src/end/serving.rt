@@ -163,6 +163,7 @@ impl End {
             × AsksFor S.meaning (block_length role.length DEFAULT_BLOCK 1) source.old
             (S.meaning.left source.new) piece (Ok (block_length role.length DEFAULT_BLOCK 1))
             × (o.0 ≡ opened role (Phase.Sending (default_terms peer) 1) peer (data_bytes 1 piece))
+            × S.meaning.gives source.old piece source.new
             × HasSent o.0 out.old.items out.new.items) }
         ensures step { IfOk result (λ o. o.1 ≡ opening_step peer) }
         ensures source { IsErrOf result OpenFault.SourceFault
