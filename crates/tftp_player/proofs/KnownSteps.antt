@@ -24,7 +24,12 @@ from_server x from bytes waits near p spells answers = host_server from (sym (sa
 
 module _ (may_commit : Holding → StoreFault → Type 0) where
   sources_known : SourcesModel (λ (text : List ℕ). text) memory_source known_source
-  sources_known = record { models = λ text. refl; fails = λ text want may. tt; must = λ text want. (λ f. f, λ f. f) }
+  sources_known = record {
+    models = λ text. refl;
+    fails = λ text want may. tt;
+    must = λ text want. (λ f. f, λ f. f);
+    gives = λ text rest piece gave. tt;
+  }
 
   sinks_known : SinksModel (λ (holding : Holding). holding) (λ holding. Unit {0}) (world_sink may_commit) known_sink
   sinks_known = record {

@@ -151,6 +151,7 @@ module _ (host : List ℕ → List ℕ) (d : Datagram) (x : OpenEnd) where
           fails = λ f. absurd f;
           memory = λ e. absurd (cc);
         };
+        gives = tt;
         answers = refl;
       })
   acts may (Store terms number) spelled can = (

@@ -103,7 +103,12 @@ module _ (replace : Bool) (path : List ℕ) (files : FileList) where
       }
 
 sources : SourcesModel (λ (s : List ℕ). s) memory_source memory_source
-sources = record { models = λ s. refl; fails = λ s want h. h; must = λ s want. (λ h. h, λ h. h) }
+sources = record {
+  models = λ s. refl;
+  fails = λ s want h. h;
+  must = λ s want. (λ h. h, λ h. h);
+  gives = λ s s' piece gave. gave;
+}
 
 -- a step of the transfer is a step of the end
 module _ (from : Endpoint) (bytes : List ℕ) (e : EndState) (store store' : Stored) (path path' : List ℕ)

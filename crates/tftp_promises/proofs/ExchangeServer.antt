@@ -216,6 +216,7 @@ reads_block = record {
           fails = λ f. absurd f;
           memory = λ e. absurd (cc);
         };
+    gives = tt;
     answers = refl;
   };
   again = tt;

@@ -223,6 +223,7 @@ module _ {S K : Type 0} (sources : SourceMeaning S) (sinks : SinkMeaning K) (x :
                 fails = λ q. absurd q;
                 memory = no_memory n;
               };
+          gives = tt;
           answers =
               subst (λ (r : Result ℕ FileFault). turn ≡ filled_turn terms number from h.piece x.state r) is h.answers;
         };
@@ -244,6 +245,7 @@ module _ {S K : Type 0} (sources : SourceMeaning S) (sinks : SinkMeaning K) (x :
       answer = Err file_faults.Read;
       piece = [];
       reads = record { fills = refl; read = λ q. tt; fails = λ q. absurd q; memory = no_memory_read };
+      gives = tt;
       answers =
           h.answers
           ∙ ap (λ (b : Bool). if b then sent_turn (Sending terms number) from (data_bytes number h.piece) x.state else

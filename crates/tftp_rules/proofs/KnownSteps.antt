@@ -177,6 +177,7 @@ module _ {S : Type 0} (sources : SourceMeaning S) where
               answer = Err file_faults.Read;
               piece = piece;
               reads = record { fills = none; read = λ q. tt; fails = λ q. absurd q; memory = read_not_memory };
+              gives = tt;
               answers = answers;
             };
       }
@@ -229,6 +230,7 @@ module _ {S : Type 0} (sources : SourceMeaning S) where
                           fails = λ q. absurd q;
                           memory = m;
                         };
+                    gives = tt;
                     answers = a;
                   };
             }
