@@ -1,5 +1,5 @@
 -- The store of a server whose files are its caller's: it has no file, and refuses every call.
-use Rattle.std.specs.Prelude.{◌≡◌, None, ⊤}
+use Rattle.std.specs.Prelude.{◌≡◌, [], None, ⊤}
 use Rattle.tftp_file.specs.Source.{SourceMeaning}
 use Rattle.tftp_file.specs.declared.fault.StoreFault.TheVariants.{Io}
 use Rattle.tftp_store.specs.Store.{StoreMeaning}
@@ -12,12 +12,14 @@ no_source =
       may_fail = λ source want. ⊤;
       fails = λ source want. ⊤;
       gives = λ source piece rest. ⊤;
+      opens = λ root path mode source. ⊤;
     }
 
 -- a store that refuses every call
 abbrev pub no_store : {S D : Type 0} → StoreMeaning S D
 no_store =
     record {
+      root = λ s. [];
       stored = λ s. None;
       drafted = λ draft. None;
       may_refuse_open = λ s path fault. fault ≡ Io;

@@ -24,8 +24,8 @@ pub record MayFailLater {S : Type 0} (sources : SourceMeaning S) (is_same : S �
   pub fails : sources.may_fail later want
 
 -- the model of a source that is read ahead: the bytes read ahead are left, followed by the text of
--- the source below; after a failed read ahead each fill fails; nothing is said of the calls of the
--- source below
+-- the source below; after a failed read ahead each fill fails; nothing is said of what the
+-- source below gave, nor of its opening
 abbrev pub ahead_meaning : {S : Type 0} → SourceMeaning S → (S → S → Type 0)
     → SourceMeaning (AheadState S)
 ahead_meaning sources is_same =
@@ -34,4 +34,5 @@ ahead_meaning sources is_same =
       may_fail = λ a want. (a.failed ≡ true) ⊎ MayFailLater sources is_same a.source;
       fails = λ a want. (a.failed ≡ true) ⊎ ((a.held ≡ []) × sources.fails a.source want);
       gives = λ a piece b. ⊤;
+      opens = λ root path mode a. ⊤;
     }

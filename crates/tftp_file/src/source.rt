@@ -11,8 +11,8 @@ use crate::FileFault;
 /// which results it returns.
 pub trait Source {
     /// The text that is left, if it has a model (`left`), which fills may return `Read`
-    /// (`may_fail`), which do (`fails`), and the effect of a call on the source by the bytes that it
-    /// gave (`gives`).
+    /// (`may_fail`), which do (`fails`), the effect of a call on the source by the bytes that it
+    /// gave (`gives`), and which source a store opens (`opens`).
     ghost meaning: { SourceMeaning Self };
 
     /// The second is the first at a later time: it holds the same borrows. For a source without

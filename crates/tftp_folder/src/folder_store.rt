@@ -268,7 +268,7 @@ impl<R: Files + Drop> ServedStore<Reason> for FolderStore<R> {
 
 impl<R: Files + Drop> Store for FolderStore<R> {
     ghost use Rattle.std.specs.Prelude.{◌≡◌, ◌≢◌, ◌++◌, refl, None, true, Err, IfOk, IfErr, IfSome};
-    ghost use Rattle.std.specs.Prelude.{IsErrOf, OnOk, OnErr};
+    ghost use Rattle.std.specs.Prelude.{IsErrOf, OnOk, OnErr, []};
     ghost use Rattle.std.specs.String.{string_bytes};
     ghost use Rattle.tftp_disk.specs.Changes.{changes};
     ghost use Rattle.tftp_folder.specs.Begin.{draft_name, BeginsNone};
@@ -285,6 +285,7 @@ impl<R: Files + Drop> Store for FolderStore<R> {
     type Draft = FolderDraft<R::File>;
 
     ghost meaning = { record {
+      root = λ _. [];
       stored = λ _. None;
       drafted = λ _. None;
       may_refuse_open = λ _ _ fault. MayNotOpen fault;

@@ -128,6 +128,7 @@ reads_file peer = record {
   refused = tt;
   must = λ fault m. absurd (let f : Some read_file ≡ None = m.missing in cc);
   reads = λ want f. absurd f;
+  opened = tt;
   memory = λ e. absurd (cc);
   goes_on =
       rw read_8 (inl (record {

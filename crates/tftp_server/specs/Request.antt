@@ -33,7 +33,7 @@ use Rattle.tftp_store.specs.declared.store.Opening.{Opening}
 use Rattle.tftp_server.specs.State.{TransferState, ServerState, IsRepeated, with_new}
 use Rattle.tftp_server.specs.Port.{Ask, Ignores, Refuses, Reads, Writes, Service, Refused, Sends}
 use Rattle.tftp_server.specs.Port.{Takes, asks, by_file, by_draft}
-use Rattle.tftp_store.specs.Store.{StoreMeaning, Opens, Begins, FailsIf, RefusedIf}
+use Rattle.tftp_store.specs.Store.{StoreMeaning, Opens, OpensAt, Begins, FailsIf, RefusedIf}
 
 -- the length of a file that was opened
 abbrev pub opened_length : {F : Type 0} → Result (Opening F) StoreFault → Result ℕ StoreFault
@@ -126,6 +126,7 @@ module _ {S F D : Type 0} (meaning : StoreMeaning S D) (sources : SourceMeaning 
     pub refused : IfErr file (meaning.may_refuse_open old.store path)
     pub must : RefusedIf (meaning.must_refuse_open old.store path) file
     pub reads : FailsIf sources (meaning.must_fail old.store path) file
+    pub opened : OpensAt sources (meaning.root old.store) path mode file
     pub memory : file ≢ Err Memory
     pub goes_on : Sent (by_file old.config.limits path mode options (opened_length file)) file
         came

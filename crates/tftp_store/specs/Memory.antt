@@ -69,6 +69,7 @@ pub record UsesArmed (before after : Stored) (fault : Option StoreFault) : Type 
 abbrev pub memory_meaning : StoreMeaning Stored Drafted
 memory_meaning =
     record {
+      root = λ s. [];
       stored = λ s. Some s;
       drafted = λ draft. Some draft;
       may_refuse_open = MayRefuseOpen;

@@ -1,6 +1,7 @@
 -- The model of a store and its drafts, and the effect of the calls.
 use Rattle.std.specs.Prelude.{ℕ, ◌≡◌, ◌+◌, min, Bool, true, false, not, ◌&&◌, List, [], length}
-use Rattle.std.specs.Prelude.{Option, Some, None, IsSome, is_some, option_map, Result, Ok, Err, ⊤}
+use Rattle.std.specs.Prelude.{Option, Some, None, IsSome, is_some, option_map, Result, Ok, Err, IfOk}
+use Rattle.std.specs.Prelude.{⊤}
 use Rattle.std.specs.Cmp.Lexicographic.{slice_cmp}
 use Rattle.std.specs.Ordering.{nat_cmp}
 use Rattle.std.specs.declared.cmp.Ordering.{Ordering}
@@ -31,6 +32,8 @@ pub record Drafted : Type 0 where
 
 -- the model of the stores of one type, and of their drafts
 pub record StoreMeaning (S D : Type 0) : Type 1 where
+  -- where its files are: the path of its folder, or nothing of a store without one
+  pub root : S → List ℕ
   -- the content of the store, or None if it is not known
   pub stored : S → Option Stored
   -- the content of a draft, or None if it is not known
@@ -61,6 +64,7 @@ pub record StoreMeaning (S D : Type 0) : Type 1 where
 abbrev pub unknown_store : {S D : Type 0} → StoreMeaning S D
 unknown_store =
     record {
+      root = λ s. [];
       stored = λ s. None;
       drafted = λ d. None;
       may_refuse_open = λ s path fault. ⊤;
@@ -134,6 +138,11 @@ module _ {F : Type 0} (sources : SourceMeaning F) where
   FailsIf must_fail (Ok opening) =
       (want : ℕ) → must_fail want → sources.fails opening.source want
   FailsIf must_fail (Err fault) = ⊤
+
+  -- a source that is opened is one of this root, at this path, in this mode
+  abbrev pub OpensAt : List ℕ → List ℕ → Mode → Result (Opening F) StoreFault → Type 0
+  OpensAt root path mode result =
+      IfOk result (λ opening. sources.opens root path mode opening.source)
 
 module _ {K : Type 0} (drafted : K → Option Drafted) where
   -- the result of beginning a draft, by the content of the store; out of memory is the last

@@ -118,7 +118,7 @@ impl<S: Store> Store for FaultStore<S> {
     ghost use Rattle.tftp_file.specs.Sink.{Appends, Commits};
     ghost use Rattle.std.specs.Prelude.{◌⊎◌, refl};
     ghost use Rattle.std.specs.Result.{result_err};
-    ghost use Rattle.tftp_store.specs.Store.{Opens, Begins, FailsIf, RefusedIf, holding_of};
+    ghost use Rattle.tftp_store.specs.Store.{Opens, OpensAt, Begins, FailsIf, RefusedIf, holding_of};
     ghost use Rattle.tftp_store.specs.Store.{files_of, Puts};
     ghost use Rattle.tftp_store.specs.FaultStore.{Called, Counts, MayAnswer, fault_meaning, is_due};
     ghost use Rattle.tftp_store.specs.FaultStore.{never_armed, opened_meaning};
@@ -146,6 +146,8 @@ impl<S: Store> Store for FaultStore<S> {
         ensures reads { FailsIf (opened_meaning S.Source.meaning) (λ want.
             (self.now.fails_fill ≡ true) ⊎ S.meaning.must_fail self.now.inner path.now want)
             result }
+        ensures opened { OpensAt (opened_meaning S.Source.meaning)
+            (S.meaning.root self.now.inner) path.now mode result }
         ensures fails { self.now.refuses_open ≡ true → result ≡ Err self.now.fault }
         ensures source { IfOk result (λ file. file.source.fails ≡ self.now.fails_fill) }
     {

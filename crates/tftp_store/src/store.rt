@@ -3,7 +3,7 @@
 ghost use Rattle.std.specs.Prelude.{◌≡◌, ◌≢◌, Err, IfErr, IsErrOf};
 ghost use Rattle.tftp_file.specs.Sink.{Appends, Commits};
 ghost use Rattle.tftp_store.specs.Store.{StoreMeaning, Opens, Begins, holding_of, files_of, Puts};
-ghost use Rattle.tftp_store.specs.Store.{FailsIf, RefusedIf, WritesBehind};
+ghost use Rattle.tftp_store.specs.Store.{FailsIf, OpensAt, RefusedIf, WritesBehind};
 ghost use Rattle.std.specs.Result.{result_err};
 
 use std::alloc::Global;
@@ -31,17 +31,17 @@ pub trait Store {
     /// A file that is written and not yet committed.
     type Draft: Drop;
 
-    /// The content of the store and of its drafts (`stored`, `drafted`), the faults that its calls
-    /// may return (`may_refuse_open`, `may_refuse_begin`, `may_refuse_append`,
-    /// `may_refuse_commit`), what an opening must return (`must_refuse_open`, `must_fail`), and the
-    /// effect of the other calls, and so which must be refused (`begun`, `after_append`,
-    /// `after_commit`, `after_write_behind`).
+    /// The path of its folder, if it has one (`root`), the content of the store and of its drafts
+    /// (`stored`, `drafted`), the faults that its calls may return (`may_refuse_open`,
+    /// `may_refuse_begin`, `may_refuse_append`, `may_refuse_commit`), what an opening must return
+    /// (`must_refuse_open`, `must_fail`), and the effect of the other calls, and so which must be
+    /// refused (`begun`, `after_append`, `after_commit`, `after_write_behind`).
     ghost meaning: { StoreMeaning Self Self.Draft };
 
     /// Opens the file for reading in the mode.
     ///
     /// It returns `Missing` if there is no such file, and `Memory` only if there is one. Any other
-    /// fault is specific to the store.
+    /// fault is specific to the store. The source that it opens is one of this root, path and mode.
     fn open(
         &self,
         alloc: Global,
@@ -51,7 +51,8 @@ pub trait Store {
         ensures opens { Opens Self.Source.meaning (meaning.stored self.now) path.now mode result }
         ensures refused { IfErr result (meaning.may_refuse_open self.now path.now) }
         ensures must { RefusedIf (meaning.must_refuse_open self.now path.now) result }
-        ensures reads { FailsIf Self.Source.meaning (meaning.must_fail self.now path.now) result };
+        ensures reads { FailsIf Self.Source.meaning (meaning.must_fail self.now path.now) result }
+        ensures opened { OpensAt Self.Source.meaning (meaning.root self.now) path.now mode result };
 
     /// Begins an empty draft. With `replace` there may be a file at the path.
     ///
