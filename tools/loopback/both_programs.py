@@ -226,19 +226,13 @@ def test_closed_streams_of_a_server(scene) -> None:
     scene.has_files(dict.fromkeys(["local", *copies], b"ABC"))
 
 
-def logs(log, patterns) -> None:
-    """A log has exactly these lines."""
-    fits = len(log) == len(patterns) and all(map(re.fullmatch, patterns, log))
-    expect(bool(fits), True, f"the log {log}")
-
-
 def test_log_lines(scene) -> None:
     """An invalid name, and a get: a line for each request, and one for the close."""
     scene.make("a", b"ABC")
     server = scene.serve("--log")
     scene.tftp("get", server.word, "b c", "local").fails("PeerError(2)")
     scene.tftp("get", server.word, "a", "local").completes(3)
-    logs(server.has_closed("Complete"), [
+    server.logs(server.has_closed("Complete"), [
         r"refused 127[.\d]+:\d+ RRQ b%20c octet: ERROR 2 \(access violation\), name not allowed",
         r"opened \d+ 127[.\d]+:\d+ RRQ a octet: DATA 1 3",
         r"closed \d+ 127[.\d]+:\d+ RRQ a octet: DATA 1 3, 3 bytes, \d+ ms, \d+ sent again, Complete",
@@ -262,7 +256,7 @@ def test_the_log_says_why(scene) -> None:
     scene.make("long", bytes_of(20_000))
     server = scene.serve("--log", limit="-f 8")
     scene.tftp("put", server.word, "long", "n").fails("PeerError(3)")
-    logs(server.has_closed("StoreFault"), [
+    server.logs(server.has_closed("StoreFault"), [
         r"opened \d+ 127[.\d]+:\d+ WRQ n octet: ACK 0",
         r"closed \d+ 127[.\d]+:\d+ WRQ n octet: ACK 0, \d+ bytes, \d+ ms, \d+ sent again, StoreFault, file too large",
     ])

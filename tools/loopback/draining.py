@@ -1,21 +1,22 @@
 """A server that drains: it takes no new request once a file is there, finishes what is open, and ends with status 0."""
+import re
 import select
 import time
 
 from datagrams import PATIENCE, PATIENT, Port, ack, data, expect, oack, rrq
-from scene import next_line
 
 FILE = "drain.now"
 
 
 def has_begun(server, count) -> None:
-    """The next line of its log says that it drains, with so many transfers open."""
-    expect(next_line(server.process.stderr), f"draining: {count} transfers open\n", "the line of the drain")
+    """The next line of its log says that it drains, with so many transfers open; of several servers, one of each does."""
+    found = [re.fullmatch(r"draining: (\d+) transfers open", server.log_line()) for _ in range(server.count)]
+    expect(sum(int(line[1]) for line in found), count, "the transfers in the lines of the drain")
 
 
 def drains(scene, server, count) -> None:
     """The file appears, and the server drains, with so many transfers open."""
-    expect([next_line(server.process.stderr).split()[0] for _ in range(count)], ["opened"] * count, "the log")
+    expect([server.log_line().split()[0] for _ in range(count)], ["opened"] * count, "the log")
     scene.make(FILE, b"")
     has_begun(server, count)
 
@@ -144,13 +145,14 @@ def test_requests_in_the_moment_of_a_restart(scene) -> None:
         for done in answered_now(open_now):
             open_now.remove(done)
     expect(server.process.returncode, 0, "the status of the first server")
-    log = server.process.stderr.read().decode().splitlines()
-    expect([line.split()[0] for line in log].count("draining:"), 1, "how often it says that it drains")
+    log = server.unmarked_log(server.process.stderr.read().decode().splitlines())
+    expect([line.split()[0] for line in log].count("draining:"), server.count, "how often it says that it drains")
     expect(0 < len(open_now) < 64, True, f"whether {len(open_now)} requests of 64 wait for the next server")
     (scene.folder / FILE).unlink()
-    server = scene.serve_at(bound, "--cap", "64", "--transfers", str(len(open_now)))
+    left = len(open_now)
+    server = scene.serve_at(bound, "--cap", "64", "--transfers", f"{left}")
     while open_now:
         expect(time.monotonic() < end, True, f"whether the next server answers {len(open_now)} more")
         for done in answered_now(open_now):
             open_now.remove(done)
-    server.has_closed(*["Complete"] * int(server.process.args[server.process.args.index("--transfers") + 1]))
+    server.has_closed(*["Complete"] * left)

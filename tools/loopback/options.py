@@ -149,7 +149,7 @@ def test_nobody_reads_the_log(scene) -> None:
     server.process.stderr.close()
     for name in ["first", "second"]:
         scene.tftp("get", server.word, "a", name, "--no-dally").completes(3)
-    expect(server.process.wait(PATIENCE), 0, "the status of the server")
+    expect(server.wait(), 0, "the status of the server")
 
 
 def test_a_name_appears(scene) -> None:

@@ -2,7 +2,7 @@
 """Tests of tftp and tftpd as processes over the loopback address: run.py [TFTP TFTPD [TEST..]]
 
 Without words it takes the programs of bin/, or else those that `rt ci` built, and runs every test, some at the same time.
-Each wait has a limit, and so have each test and the whole; a test that hangs is named, with where it waits. It uses
+Tests of one server run over two at one port as well, by `--servers 2`: `TEST.2`. Each wait has a limit, and so have each test and the whole; a test that hangs is named, with where it waits. It uses
 addresses of 127.0.0.0/8 alone, one for each test, and one temporary folder. A test that fails while this host stalled is
 run once more, alone, and that is said. The last line is a count; the status is 1 if a test failed, or if fewer tests than
 known ran.
@@ -26,30 +26,43 @@ import command_lines
 import draining
 import handed_over
 import options
+import repeated_requests
 import served_disk
 import served_folder
 import server_alone
 import server_loop
 import several_servers
 from scene import Scene
+from servers import NOT_OF_SEVERAL
 from lib.addresses import own_network
 from lib.programs import programs
 from lib.stalls import LIMIT as STALL, Stalls
 
 HERE = Path(__file__).resolve()
-MODULES = [both_programs, server_alone, server_loop, served_folder, served_disk, client_alone, command_lines, options, handed_over,
-           draining, several_servers]
-TESTS_AT_LEAST = 125
+# of one server each
+OF_SERVERS = [both_programs, server_alone, server_loop, served_folder, served_disk, options, handed_over, draining]
+MODULES = [*OF_SERVERS, client_alone, command_lines, several_servers, repeated_requests]
+TESTS_AT_LEAST = 190
 AT_ONCE = 8
 # The longest time of a test, and of all together, in seconds, however slow the host is
 TEST_LIMIT = float(os.environ.get("LOOPBACK_SECONDS", "600"))
 LIMIT = 1_200
 
 
-def known_tests() -> dict[str, Any]:
-    """Each test by its name."""
-    found = [item for module in MODULES for item in vars(module).items()]
+def tests_of(modules) -> dict[str, Any]:
+    found = [item for module in modules for item in vars(module).items()]
     return {name: test for name, test in found if name.startswith("test_")}
+
+
+def known_tests() -> dict[str, tuple[Any, int]]:
+    """Each test by its name, with the number of servers at a port. The tests of one server run over two as well, where
+    they are not about one alone (`NOT_OF_SEVERAL`); `.2` ends their names then."""
+    of_one = {name for names in NOT_OF_SEVERAL.values() for name in names}
+    of_servers = tests_of(OF_SERVERS)
+    if not of_one <= set(of_servers):
+        sys.exit(f"loopback: {of_one - set(of_servers)} are no tests of a server")
+    one = {name: (test, 1) for name, test in tests_of(MODULES).items()}
+    return {**one, **{f"{name}.2": (test, 2) for name, test in of_servers.items() if name not in of_one}}
 
 
 def fault_of(test, scene) -> Optional[str]:
@@ -76,9 +89,9 @@ class Run:
 
     def run(self, name, test, address, folder) -> tuple[Optional[str], float]:
         """Runs a test. Returns why it fails, and the longest stall of the host meanwhile."""
-        begun = time.monotonic()
+        begun, (test, servers) = time.monotonic(), test
         self.running[name] = begun, threading.get_ident()
-        fault = fault_of(test, Scene(self.programs, Path(self.folder, folder), address))
+        fault = fault_of(test, Scene(self.programs, Path(self.folder, folder), address, servers))
         del self.running[name]
         return fault, self.stalls.longest_since(begun)
 

@@ -1,8 +1,5 @@
 """What one test has: a folder and an address of its own, the two programs, ports and proxies. All end with the test."""
 import os
-import re
-import select
-import signal
 import subprocess
 import sys
 from contextlib import ExitStack
@@ -11,30 +8,24 @@ from typing import Any
 
 from datagrams import PATIENCE, Port, expect
 from proxy import Proxy
+from server import LIFE, Server, first_line, next_line
+from servers import Servers
 
 HERE = Path(__file__).resolve().parent
 sys.path.append(str(HERE.parent))
 from lib.preload import compiled
 
-# The longest life of a program, in seconds: it ends before a timeout of a patient transfer is due
-LIFE = 180
+# (the tests have the server from here, too)
+__all__ = ["LIFE", "RETRIES", "Client", "Scene", "Server", "first_line", "next_line", "patiently", "preloaded"]
+
 # How often a program sends again what is not answered, unless the test says otherwise: as often as it can
 RETRIES = ["--retries", "10"]
 
+# How the name of the file ends that has several servers of a test drain
+END = ".end"
+
 # A shell script that runs a program under a limit of `ulimit`. A write beyond a file's limit is an error and no signal.
 LIMITED = "trap '' XFSZ; ulimit $1; shift; exec \"$@\""
-
-
-def next_line(stream) -> str:
-    """The next line that a program writes to this stream, or nothing at its end."""
-    if not select.select([stream], [], [], PATIENCE)[0]:
-        raise AssertionError(f"no line after {PATIENCE} seconds")
-    return stream.readline().decode()
-
-
-def first_line(process) -> str:
-    """The first line that a program prints."""
-    return next_line(process.stdout)
 
 
 def preloaded(scene, source, **values) -> dict[str, str]:
@@ -54,6 +45,12 @@ def patiently(words) -> list[Any]:
 def ending(words) -> list[Any]:
     """The words of a server, which ends by itself, whatever happens to the test."""
     return [*words, *([] if {"--rounds", "--forever"} & set(words) else ["--rounds", "2000"])]
+
+
+def endless(words) -> list[Any]:
+    """The words of a server without what ends it."""
+    kept = [word for at, word in enumerate(words) if not {word, *words[at - 1:at]} & {"--transfers", "--rounds"}]
+    return [*kept, *([] if "--forever" in kept else ["--forever"])]
 
 
 class Client:
@@ -89,53 +86,13 @@ class Client:
         return self.process.returncode == 0
 
 
-class Server:
-    """A tftpd that listens: its address, also as a word of a command line."""
-
-    def __init__(self, process) -> None:
-        self.process = process
-        line = first_line(process)
-        found = re.fullmatch(r"listening ((\d+\.\d+\.\d+\.\d+):(\d+))\n", line)
-        expect(bool(found), True, f"the first line of the server, {line!r}")
-        self.word, self.address = found[1], (found[2], int(found[3]))
-        if "--log" in process.args and "--servers" not in process.args:
-            expect(next_line(process.stderr), line, "the first line of the log")
-
-    def has_closed(self, *outcomes) -> list[str]:
-        """It ends with status 0, and has printed a line for each closed transfer, with these outcomes. Returns the
-        lines of its log, without those of requests that a client repeated because the host is slow."""
-        printed, log = (text.decode().splitlines() for text in self.process.communicate(timeout=LIFE))
-        found = [re.fullmatch(r"\d+ \d+ (\S+)", line) for line in printed]
-        expect([line and line[1] for line in found], list(outcomes), f"the outcomes in {printed}, {log}")
-        expect(self.process.returncode, 0, "the status of the server")
-        return [line for at, line in enumerate(log) if not line.startswith("ignored ")
-                and not (line.startswith("refused ") and line in log[:at])]
-
-    def has_logged(self, count) -> list[str]:
-        """Waits for so many lines of its log, and kills it. Returns them, and any that came behind."""
-        lines = [next_line(self.process.stderr) for _ in range(count)]
-        self.process.kill()
-        return [line.strip() for line in lines] + self.process.communicate(timeout=LIFE)[1].decode().splitlines()
-
-    def stop(self) -> None:
-        """Stops it until `go_on`."""
-        os.kill(self.process.pid, signal.SIGSTOP)
-        os.waitid(os.P_PID, self.process.pid, os.WSTOPPED | os.WEXITED | os.WNOWAIT)
-
-    def go_on(self) -> None:
-        """(Its `epoll_wait` ends by EINTR once, which counts as a wait.)"""
-        os.kill(self.process.pid, signal.SIGCONT)
-
-    def kill(self) -> None:
-        self.process.kill()
-        self.process.wait(PATIENCE)
-
-
 class Scene:
     """The folder, and what runs for the test."""
 
-    def __init__(self, programs, folder, address) -> None:
+    def __init__(self, programs, folder, address, servers=1) -> None:
+        """With more than one of `servers`, each tftpd that the test asks for is so many at one port."""
         self.programs, self.folder, self.address, self.ending = programs, folder, address, ExitStack()
+        self.servers, self.commands = servers, 0
 
     def __enter__(self) -> "Scene":
         self.folder.mkdir()
@@ -190,29 +147,44 @@ class Scene:
 
     def serve(self, *words, root=".", listen=None, limit=None) -> Server:
         """Starts a server of a folder with these words, under a limit such as `-f 8`: 8 times 512 bytes in a file."""
-        return Server(self.start("tftpd", self.server_words(root, listen or self.address, words), limit))
+        return self.server_of(self.start("tftpd", self.server_words(root, listen or self.address, words), limit))
 
     def serve_at(self, bound, *words) -> Server:
         """Starts a server of the folder with these words, whose request port is this port of the test."""
-        words = ["--listen", "stdin", *ending(words)]
-        return Server(self.start("tftpd", [".", *patiently(words)], stdin=bound.socket))
+        words = [".", "--listen", "stdin", *self.ending_words(words)]
+        return self.server_of(self.start("tftpd", words, stdin=bound.socket))
 
     def server_words(self, root, address, words) -> list[Any]:
-        return [root, "--listen", f"{address}:0", *patiently(ending(words))]
+        return [root, "--listen", f"{address}:0", *self.ending_words(words)]
+
+    def ending_words(self, words) -> list[Any]:
+        """The words of a server that ends by itself, or of several, which end once there is a file."""
+        if self.servers == 1:
+            return patiently(ending(words))
+        self.commands += 1
+        drain = [] if "--drain" in words else ["--drain", self.folder.with_name(f"{self.folder.name}{self.commands}{END}")]
+        return [*patiently(endless(words)), "--servers", str(self.servers), *drain]
+
+    def server_of(self, process) -> Server:
+        """The server of a process that was started with such words, or the several."""
+        if self.servers == 1:
+            return Server(process)
+        own = [Path(word) for word in process.args if str(word).endswith(END)]
+        return Servers(process, self.servers, own[0] if own else None)
 
     def watch(self, *words, unsent=0) -> Server:
         """Starts a server of the folder with these words, whose calls are counted; the datagram of that number, counted
         from 1, is refused by the system."""
         library = compiled(self.folder, HERE / "watch_calls.c")
         env = {**os.environ, "LD_PRELOAD": str(library), "UNSENT": str(unsent)}
-        return Server(self.start("tftpd", self.server_words(".", self.address, words), env=env))
+        return self.server_of(self.start("tftpd", self.server_words(".", self.address, words), env=env))
 
     def delay(self, *words, millis) -> Server:
         """Starts a server of the folder with these words, for which the opening of a file `slow` and each sync take so
         many milliseconds more."""
         library = compiled(self.folder, HERE / "slow_calls.c")
         env = {**os.environ, "LD_PRELOAD": str(library), "DELAY": str(millis)}
-        return Server(self.start("tftpd", self.server_words(".", self.address, words), env=env))
+        return self.server_of(self.start("tftpd", self.server_words(".", self.address, words), env=env))
 
     def port(self, number=0, address=None) -> Port:
         """The UDP port of this number, which the system chooses for 0, at the address of the test or another."""

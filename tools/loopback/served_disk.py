@@ -57,7 +57,7 @@ def serve(scene, *words, root=".") -> tuple[Server, Disk]:
     """Starts a server of a folder, and returns it with its disk."""
     disk = Disk(scene)
     env = preloaded(scene, "disk_calls.c", CONTROL=disk.path)
-    return Server(scene.start("tftpd", scene.server_words(root, scene.address, words), env=env)), disk
+    return scene.server_of(scene.start("tftpd", scene.server_words(root, scene.address, words), env=env)), disk
 
 
 def test_a_text_is_measured_once(scene) -> None:

@@ -9,7 +9,6 @@ from contextlib import contextmanager
 from pathlib import Path
 from typing import Iterator
 
-from both_programs import logs
 from datagrams import PATIENCE, PATIENT, End, ack, data, error, expect, free_ports, oack, rrq, wrq
 from scene import Server
 from server_alone import ACCESS_VIOLATION, DISK_FULL, FILE_EXISTS, FILE_NOT_FOUND, first_block_of, is_refused, opened
@@ -70,7 +69,7 @@ def test_a_file_without_length(scene) -> None:
     server = scene.serve("--log", root="/proc")
     for mode in ["octet", "netascii"]:
         is_refused(scene, server, rrq("version", mode), ACCESS_VIOLATION)
-    logs(server.has_logged(2), [
+    server.logs(server.has_logged(2), [
         rf"refused {scene.address}:\d+ RRQ version {mode}: ERROR 2 \(access violation\), length unknown"
         for mode in ["octet", "netascii"]
     ])
@@ -168,12 +167,12 @@ def test_the_log_says_why_it_refuses(scene) -> None:
     for request, _ in refusals:
         is_refused(scene, server, request, ACCESS_VIOLATION)
     log = server.has_logged(len(refusals))
-    expect([line.partition("(access violation), ")[2] for line in log], [reason for _, reason in refusals],
-           f"the reasons in {log}")
+    reasons = [line.partition("(access violation), ")[2] for line in log]
+    expect(server.in_order(reasons), server.in_order(reason for _, reason in refusals), f"the reasons in {log}")
     server = scene.serve("--read-only", "--log", root="served")
     is_refused(scene, server, wrq("n"), ACCESS_VIOLATION)
-    logs(server.has_logged(1),
-         [rf"refused {scene.address}:\d+ WRQ n octet: ERROR 2 \(access violation\), read-only server"])
+    server.logs(server.has_logged(1),
+                [rf"refused {scene.address}:\d+ WRQ n octet: ERROR 2 \(access violation\), read-only server"])
 
 
 def test_the_log_has_priorities_in_the_journal(scene) -> None:
@@ -188,10 +187,10 @@ def test_the_log_has_priorities_in_the_journal(scene) -> None:
                               env={**os.environ, "JOURNAL_STREAM": stream})
         os.close(errors)
         process.stderr = os.fdopen(ours, "rb", buffering=0)
-        server = Server(process)
+        server = scene.server_of(process)
         is_refused(scene, server, rrq("none"), FILE_NOT_FOUND)
         is_refused(scene, server, rrq("/../a"), ACCESS_VIOLATION)
-        logs(server.has_logged(2), [
+        server.logs(server.has_logged(2), [
             rf"refused {scene.address}:\d+ RRQ none octet: ERROR 1 \(file not found\)",
             rf"{mark}refused {scene.address}:\d+ RRQ /../a octet: ERROR 2 \(access violation\), name not allowed",
         ])
@@ -253,7 +252,7 @@ def test_a_server_that_does_not_start(scene) -> None:
 
 def as_commoner(scene, *words, root=".") -> Server:
     """Starts a server of a folder, which the modes of files bind."""
-    return Server(start_as_commoner(scene, scene.server_words(root, scene.address, words)))
+    return scene.server_of(start_as_commoner(scene, scene.server_words(root, scene.address, words)))
 
 
 def fifo_at(path) -> None:
@@ -384,16 +383,12 @@ def test_a_read_only_file_system(scene) -> None:
     scene.make("served/a", b"ABC")
     words = scene.server_words("served", scene.address, ["--log"])
     shell = ["sh", "-c", READ_ONLY, "sh", str(scene.folder / "served")]
-    server = Server(scene.start(apart[0], [*apart[1:], *shell, scene.programs["tftpd"], *words]))
+    server = scene.server_of(scene.start(apart[0], [*apart[1:], *shell, scene.programs["tftpd"], *words]))
     is_refused(scene, server, wrq("n"), ACCESS_VIOLATION)
-    logs([next_log_line(server)],
-         [rf"refused {scene.address}:\d+ WRQ n octet: ERROR 2 \(access violation\), read-only file system"])
+    server.logs([server.log_line()],
+                [rf"refused {scene.address}:\d+ WRQ n octet: ERROR 2 \(access violation\), read-only file system"])
     opened(scene, server, rrq("a"), data(1, b"ABC")).send(ack(1))
     server.has_closed("Complete")
-
-
-def next_log_line(server) -> str:
-    return server.process.stderr.readline().decode().strip()
 
 
 def test_a_draft_of_a_failed_transfer(scene) -> None:

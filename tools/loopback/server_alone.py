@@ -1,9 +1,8 @@
 """`tftpd` answers the datagrams of a test."""
 import os
 
-from both_programs import bytes_of, logs
+from both_programs import bytes_of
 from datagrams import PATIENT, End, ack, data, error, expect, oack, rrq, send_from_port_0, wrq
-from scene import LIFE
 
 FILE_NOT_FOUND = error(1, "file not found")
 ACCESS_VIOLATION = error(2, "access violation")
@@ -61,8 +60,8 @@ def test_a_request_from_port_0_is_ignored(scene) -> None:
         return
     end = first_block_of(scene, server, "a", b"ABC")
     end.send(ack(1))
-    printed, log = (text.decode().splitlines() for text in server.process.communicate(timeout=LIFE))
-    logs(log[:2], [
+    printed, log = server.output()
+    server.logs(log[:2], [
         rf"ignored {scene.address}:0 RRQ a octet",
         rf"opened \d+ {end.port.word} RRQ a octet timeout=255: OACK timeout=255",
     ])
@@ -149,7 +148,7 @@ def test_few_open_files(scene) -> None:
     ]:
         server = scene.serve("--log", limit=limit)
         scene.port().send(rrq("a"), server.address)
-        logs(server.has_logged(1), [line])
+        server.logs(server.has_logged(1), [line])
 
 
 def only_block(port) -> End:

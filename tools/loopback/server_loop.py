@@ -4,7 +4,7 @@ import socket
 import struct
 import time
 
-from both_programs import bytes_of, logs
+from both_programs import bytes_of
 from datagrams import PATIENCE, PATIENT, End, ack, data, error, expect, free_ports, oack, rrq, wrq
 from scene import LIFE, next_line
 from server_alone import FILE_NOT_FOUND, first_block_of, is_refused, opened
@@ -59,14 +59,14 @@ def test_a_datagram_that_is_not_sent_is_logged(scene) -> None:
         end = opened(scene, server, rrq("a"), blocks[0])
         end.is_answered(ack(1), blocks[1])
         end.send(ack(2))
-        logs(server.has_closed("Complete")[:-1], [
+        server.logs(server.has_closed("Complete")[:-1], [
             r"opened \d+ \S+ RRQ a octet: DATA 1 512",
             rf"unsent {end.peer[1]} {end.port.word} RRQ a octet: permission denied",
             r"closed \d+ \S+ RRQ a octet: DATA 1 512, 600 bytes, \d+ ms, [1-9]\d* sent again, Complete",
         ])
     server = scene.watch("--log", unsent=1)
     scene.port().send(rrq("none"), server.address)
-    logs(server.has_logged(2), [
+    server.logs(server.has_logged(2), [
         r"refused \S+ RRQ none octet: ERROR 1 \(file not found\)",
         rf"unsent {server.address[1]} \S+ RRQ none octet: permission denied",
     ])
@@ -217,4 +217,4 @@ def test_ports_in_use_are_passed_over(scene) -> None:
         end.send(ack(1))
     log = server.has_closed(*["Complete"] * 3)
     found = [line for line in log if line.startswith("lost ")]
-    logs(found, [rf"lost {lost.word} RRQ a octet: no port, address in use"])
+    server.logs(found, [rf"lost {lost.word} RRQ a octet: no port, address in use"])

@@ -1,68 +1,51 @@
-"""Several servers at one port by one command: their life, their lines, their ports, and a request that comes again."""
+"""Several servers at one port by one command: their life, their words, their lines and their ports."""
 import os
 import re
 import signal
 import socket
 import time
 from collections import Counter
+from itertools import cycle
 from pathlib import Path
+from typing import Any, Iterator
 
-from datagrams import PATIENCE, PATIENT, ack, data, expect, free_ports, oack, rrq, wrq
+from datagrams import PATIENCE, PATIENT, ack, data, expect, free_ports, oack, rrq
 from scene import Server, patiently
+from server_alone import first_block_of
+from servers import MARKED, children_of, is_gone, wait_for_servers, wait_until
 
 # the longest that servers may outlive their supervisor, in seconds, where the host does not stall
 SOON = 1
-MARKED = r"server (\d+): "
-
-
-def wait_until(holds, what) -> float:
-    """Waits until a condition holds, and returns the seconds that it took."""
-    begun = time.monotonic()
-    while not holds():
-        if time.monotonic() > begun + PATIENCE:
-            raise AssertionError(f"{what}: not after {PATIENCE} seconds")
-        time.sleep(0.005)
-    return time.monotonic() - begun
-
-
-def children_of(process) -> list[int]:
-    """The servers that a supervisor has started, in their order."""
-    return [int(word) for word in Path(f"/proc/{process.pid}/task/{process.pid}/children").read_text().split()]
+# how often each kill is tried, at so many ports at once; without LIVES in the environment, for so many seconds at most
+LIVES_ARE_GIVEN = "LIVES" in os.environ
+LIVES, AT_ONCE, LIVES_SECONDS = int(os.environ.get("LIVES", "100")), 5, 20
 
 
 def words_of(pid) -> list[str]:
     return Path(f"/proc/{pid}/cmdline").read_text().split("\0")[:-1]
 
 
-def is_gone(pid) -> bool:
-    """Whether a process has ended."""
-    try:
-        return Path(f"/proc/{pid}/stat").read_text().rsplit(")", 1)[1].split()[0] in "ZX"
-    except OSError:
-        return True
-
-
-def has_bound_to_stdin(pid) -> bool:
-    """Whether a server waits: it has a poll, and its standard input is the socket."""
-    try:
-        fds = [os.readlink(f"/proc/{pid}/fd/{name}") for name in os.listdir(f"/proc/{pid}/fd")]
-    except OSError:
-        return False
-    return fds.count("anon_inode:[eventpoll]") == 2
-
-
-def serve(scene, count, *words, stdin=None) -> Server:
-    """Starts so many servers of the folder, and waits until each serves."""
+def started(scene, count, *words, root=".", stdin=None) -> Any:
+    """Starts so many servers of a folder."""
     listen = ["stdin"] if stdin else [f"{scene.address}:0"]
-    words = [".", "--listen", *listen, "--servers", count, "--forever", *patiently(words)]
-    words = [str(word) for word in words]
-    server = Server(scene.start("tftpd", words, **({"stdin": stdin} if stdin else {})))
-    wait_until(lambda: sum(map(has_bound_to_stdin, children_of(server.process))) == count, "servers that wait")
+    words = [root, "--listen", *listen, "--servers", count, "--forever", *patiently(words)]
+    return scene.start("tftpd", [str(word) for word in words], **({"stdin": stdin} if stdin else {}))
+
+
+def served(process, count) -> Server:
+    """Waits until each of so many servers serves."""
+    server = Server(process)
+    wait_for_servers(process, count)
     return server
 
 
+def serve(scene, count, *words, **how) -> Server:
+    """Starts so many servers of a folder, and waits until each serves."""
+    return served(started(scene, count, *words, **how), count)
+
+
 def ended(server) -> tuple[int, list[str], list[str]]:
-    """The status of a supervisor that ends, and what it printed."""
+    """The status of a supervisor that ends, and what it printed: once nobody has its pipes any more."""
     printed, errors = (text.decode().splitlines() for text in server.process.communicate(timeout=PATIENCE))
     return server.process.returncode, printed, errors
 
@@ -76,52 +59,82 @@ def is_free(address) -> bool:
     return True
 
 
+def lives(scene, count) -> Iterator[list[Server]]:
+    """Idle servers, so many at each of AT_ONCE ports, again and again."""
+    begun, lived = time.monotonic(), 0
+    while lived < LIVES and (LIVES_ARE_GIVEN or time.monotonic() < begun + LIVES_SECONDS):
+        processes = [started(scene, count) for _ in range(AT_ONCE)]
+        yield [served(process, count) for process in processes]
+        lived += AT_ONCE
+    if lived < LIVES:
+        print(f"several servers: {lived} of {LIVES} in {LIVES_SECONDS} s")
+
+
+def is_over(server, pids, begun) -> float:
+    """A supervisor and all its servers are gone, and nobody has their port. Returns the seconds that it took."""
+    wait_until(lambda: server.process.poll() is not None and all(map(is_gone, pids)), "servers that end")
+    lasted = time.monotonic() - begun
+    expect(is_free(server.address), True, "whether the port is free")
+    return lasted
+
+
 def test_a_server_that_ends_ends_all(scene) -> None:
     """Whichever it is: the supervisor says which, and how, and none is left."""
-    for killed, by, name in [(1, signal.SIGKILL, "9 (SIGKILL)"), (3, signal.SIGTERM, "15 (SIGTERM)")]:
-        server = serve(scene, 3)
-        pids = children_of(server.process)
-        expect([re.search(r"--server=(\d+)", " ".join(words_of(pid)))[1] for pid in pids], ["1", "2", "3"], "the servers")
-        os.kill(pids[killed - 1], by)
-        lines = ["tftpd: server fault", f"tftpd: server {killed}: signal: {name}"]
-        expect(ended(server), (2, [], lines), "what the supervisor says")
-        expect(list(map(is_gone, pids)), [True] * 3, "which servers are gone")
-        expect(is_free(server.address), True, "whether the port is free")
+    ends = cycle([(1, signal.SIGKILL, "9 (SIGKILL)"), (3, signal.SIGTERM, "15 (SIGTERM)"), (2, signal.SIGINT, "2 (SIGINT)")])
+    for servers in lives(scene, 3):
+        killed = []
+        for server in servers:
+            pids = children_of(server.process)
+            numbers = [re.search(r"--server=(\d+)", " ".join(words_of(pid)))[1] for pid in pids]
+            expect(numbers, ["1", "2", "3"], "the servers")
+            killed.append((server, pids, next(ends), time.monotonic()))
+            os.kill(pids[killed[-1][2][0] - 1], killed[-1][2][1])
+        for server, pids, (number, _, name), begun in killed:
+            expect(is_over(server, pids, begun) < SOON, True, "whether all servers end within a second")
+            lines = ["tftpd: server fault", f"tftpd: server {number}: signal: {name}"]
+            expect(ended(server), (2, [], lines), "what the supervisor says")
 
 
-def test_servers_end_with_their_supervisor(scene) -> None:
-    """By each signal, again and again: idle servers are gone soon, and the port is free."""
-    slowest = 0.0
-    for by in [signal.SIGTERM, signal.SIGINT, signal.SIGKILL] * 5:
+def ends_with_its_supervisor(scene, by) -> None:
+    """By this signal, a hundred times: idle servers are gone soon, the port is free, and nobody has a pipe."""
+    for servers in lives(scene, 2):
+        killed = [(server, children_of(server.process), time.monotonic()) for server in servers]
+        for server in servers:
+            os.kill(server.process.pid, by)
+        slowest = max(is_over(*each) for each in killed)
+        expect(slowest < SOON, True, f"whether servers end within a second, where the slowest took {slowest:.3f} s")
+        expect({ended(server)[0] for server in servers}, {-by}, "how the supervisors ended")
+
+
+def test_servers_end_with_their_supervisor_by_term(scene) -> None:
+    ends_with_its_supervisor(scene, signal.SIGTERM)
+
+
+def test_servers_end_with_their_supervisor_by_int(scene) -> None:
+    ends_with_its_supervisor(scene, signal.SIGINT)
+
+
+def test_servers_end_with_their_supervisor_by_kill(scene) -> None:
+    ends_with_its_supervisor(scene, signal.SIGKILL)
+
+
+def test_busy_servers_end_with_their_supervisor(scene) -> None:
+    """Transfers that go on do not keep them."""
+    scene.make("a", bytes(1_000_000))
+    for by in [signal.SIGTERM, signal.SIGINT, signal.SIGKILL]:
         server = serve(scene, 2)
         pids = children_of(server.process)
+        ends = [first_block_of(scene, server, "a", bytes(512)) for _ in range(8)]
         os.kill(server.process.pid, by)
-        server.process.wait(PATIENCE)
-        slowest = max(slowest, wait_until(lambda: all(map(is_gone, pids)), "servers without a supervisor that end"))
-        expect(is_free(server.address), True, "whether the port is free")
-        server.process.communicate(timeout=PATIENCE)
-    expect(slowest < SOON, True, f"whether servers end within a second, where the slowest took {slowest:.3f} s")
-
-
-def test_a_busy_server_ends_with_its_supervisor(scene) -> None:
-    """A transfer that goes on does not keep it."""
-    scene.make("a", bytes(1_000_000))
-    server = serve(scene, 2)
-    pids = children_of(server.process)
-    port = scene.port()
-    port.send(rrq("a", **PATIENT), server.address)
-    _, transfer = port.receive()
-    port.send(ack(0), transfer)
-    _, transfer = port.receive()
-    os.kill(server.process.pid, signal.SIGKILL)
-    block = 1
-    begun = time.monotonic()
-    while not all(map(is_gone, pids)):
-        port.send(ack(block), transfer)
-        block = block + 1 if block < 1_900 else 1
-        expect(time.monotonic() < begun + PATIENCE, True, "whether the servers end")
-        time.sleep(0.001)
-    expect(time.monotonic() < begun + SOON, True, "whether they end soon")
+        block, begun = 1, time.monotonic()
+        while not all(map(is_gone, pids)):
+            for end in ends:
+                end.send(ack(block))
+            block = block + 1 if block < 1_900 else 1
+            expect(time.monotonic() < begun + PATIENCE, True, "whether the servers end")
+            time.sleep(0.001)
+        expect(is_over(server, pids, begun) < SOON, True, "whether they end soon")
+        expect(ended(server)[0], -by, "how the supervisor ended")
 
 
 def test_several_servers_at_a_socket_that_is_handed_over(scene) -> None:
@@ -210,44 +223,6 @@ def test_lines_of_several_servers_are_whole(scene) -> None:
     marked = [bool(re.match(MARKED + "(listening |opened |closed |tftpd: output fault)", line)) for line in log]
     expect(all(marked), True, f"whether each line of the log is marked in {log}")
     expect(sum(" closed " in line for line in log), 64, "the closed lines of the log")
-
-
-def other_transfers(port, request, server, sender) -> set[int]:
-    """Sends a request again until another server has answered it, too. Returns the ports of both transfers."""
-    answers, end = {sender}, time.monotonic() + PATIENCE
-    while len(answers) < 2:
-        expect(time.monotonic() < end, True, "whether another server answers")
-        port.send(request, server.address)
-        port.socket.settimeout(0.2)
-        try:
-            answers.add(port.socket.recvfrom(65_536)[1][1])
-        except TimeoutError:
-            pass
-    return answers
-
-
-def test_a_request_that_comes_again_reaches_another_server(scene) -> None:
-    """Its first answer was lost: another server opens a second transfer. The client goes on with either, and of a put
-    one draft is committed."""
-    server = serve(scene, 4, "--retries", "0")
-    port, request = scene.port(), wrq("new", timeout=6)
-    port.send(request, server.address)
-    answer, transfer = port.receive()
-    expect(answer, oack(timeout=6), "the answer")
-    both = other_transfers(port, request, server, transfer[1])
-    chosen = max(both)
-    port.send(data(1, b"ABC"), (transfer[0], chosen))
-    port.socket.settimeout(PATIENCE)
-    while port.receive()[0] != ack(1):
-        pass
-    wait_until(lambda: scene.files().get("new") == b"ABC", "the file")
-    outcomes = {}
-    while not both <= set(outcomes):
-        line = re.fullmatch(MARKED + r"(\d+) \d+ (\w+)\n", server.process.stdout.readline().decode())
-        outcomes[int(line[2])] = line[3]
-    expect(outcomes[chosen], "Complete", "how the transfer ended that the client chose")
-    expect(set(outcomes.values()) - {"Complete"}, {"TimedOut"}, "how the others ended")
-    expect(scene.files()["new"], b"ABC", "the file")
 
 
 def test_servers_have_no_descriptor_of_each_other(scene) -> None:
