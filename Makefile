@@ -34,7 +34,7 @@ TESTS := tools.tests.test_gate tools.tests.test_packages tools.tests.test_stand_
 # what is run behind `rt ci`, over bin/, which holds by then what `make` builds (tools/shipped.py). Each is run once, with a
 # limit, whatever the others come to: tools/gate.py says what was skipped and what failed
 CHECKS := tools/same_options.py tools/check_install.py tools/check_documents.py tools/statement.py tools/definitions.py \
-	tools/one_journal.py tools/disk_calls.py tools/same_pictures.sh tools/lint.py tools/processors.py \
+	tools/one_journal.py tools/disk_calls.py tools/disk_trace.py tools/same_pictures.sh tools/lint.py tools/processors.py \
 	'$(MAKE) --no-print-directory run' tools/statuses.py tools/captures.py tools/memory_in_turn.py tools/lost_requests.py \
 	tools/out_of_memory.py 'python3 -m unittest $(TESTS)' tools/mutants.py tools/c_library.py tools/loopback/run.py \
 	'tools/network.py bin/tftp bin/tftpd' tools/soak/run.py
