@@ -3,8 +3,8 @@
 
 Prints the bytes of the archive and of a client that is linked to it, how much stack and heap a get takes, and the
 instructions of a block of 512 bytes, by callgrind: a get of 4,000 blocks less one of 1,000, divided by 3,000, of the
-whole process (the library, the example and the C library), beside curl's where that is installed. Needs a C compiler
-and valgrind.
+whole process (the library, the example and the C library) and of the library's call alone, beside curl's where that is
+installed. Needs a C compiler and valgrind. uboot.py measures U-Boot's client in the same way.
 """
 import re
 import shutil
@@ -16,6 +16,10 @@ from pathlib import Path
 TOP = Path(__file__).resolve().parent.parent.parent
 FEW, MANY = 1_000, 4_000
 BLOCK = 512
+# The flags of a client, and those that leave out what it does not call
+SMALL = ["-Os", "-ffunction-sections", "-fdata-sections", "-Wl,--gc-sections", "-I", TOP / "include"]
+# Names are looked up at the start: a first call would take the stack of the look-up, too
+DEPTH = ["-Wl,-z,now"]
 
 
 def run(*words, folder) -> "subprocess.CompletedProcess[str]":
@@ -44,47 +48,65 @@ class Server:
         self.process.communicate()
 
 
-def instructions(tftpd, room, words) -> list[int]:
-    """The instructions of a client, for each file."""
+def serve(room) -> None:
+    """Makes the folder that is served."""
+    (room / "served").mkdir()
+    for blocks in [FEW, MANY]:
+        (room / "served" / f"f{blocks}").write_bytes(bytes(blocks * BLOCK - 1))
+
+
+def of_a_block(tftpd, room, words, within=None) -> str:
+    """The instructions of a client a block: of all, or within this function and what it calls."""
     found = []
+    only = [f"--toggle-collect={within}"] if within else []
     for blocks in [FEW, MANY]:
         with Server(tftpd, room / "served") as server:
-            done = run("valgrind", "--tool=callgrind", "--callgrind-out-file=/dev/null",
+            done = run("valgrind", "--tool=callgrind", "--callgrind-out-file=/dev/null", *only,
                        *words(server.host, server.port, f"f{blocks}"), folder=room)
             found.append(int(re.search(r"Collected : (\d+)", done.stderr)[1]))
-    return found
+    return f"{(found[1] - found[0]) / (MANY - FEW):,.0f}"
+
+
+def beyond_empty(room, client) -> str:
+    """How many bytes of code and constants a client has more than a program that does nothing."""
+    (room / "none.c").write_text("int main(void) { return 0; }\n")
+    run("cc", *SMALL, "none.c", "-o", "none", folder=room)
+    return f"{sizes(client)[0] - sizes(room / 'none')[0]:,} bytes of code and constants more than an empty program"
+
+
+def peaks(tftpd, room, words) -> list[int]:
+    """The most stack and the most heap of a get, in bytes."""
+    with Server(tftpd, room / "served") as server:
+        run("valgrind", "--tool=massif", "--stacks=yes", "--massif-out-file=massif",
+            *words(server.host, server.port, f"f{FEW}"), folder=room)
+    text = (room / "massif").read_text()
+    return [max(map(int, re.findall(rf"{kind}=(\d+)", text))) for kind in ["mem_stacks_B", "mem_heap_B"]]
 
 
 def main() -> None:
     tftpd = Path(sys.argv[1]).resolve()
     with tempfile.TemporaryDirectory() as name:
         room = Path(name)
-        (room / "served").mkdir()
-        for blocks in [FEW, MANY]:
-            (room / "served" / f"f{blocks}").write_bytes(bytes(blocks * BLOCK - 1))
+        serve(room)
         run(TOP / "tools/library.sh", room, folder=TOP)
-        print(f"libtftp.a: {(room / 'libtftp.a').stat().st_size} bytes")
-        print(f"libtftp.so.0: {(room / 'libtftp.so.0').stat().st_size} bytes, of it code and constants {sizes(room / 'libtftp.so.0')[0]}")
-        cc = ["cc", "-Os", "-ffunction-sections", "-fdata-sections", "-Wl,--gc-sections", "-I", TOP / "include"]
-        run(*cc, TOP / "examples/c/get.c", room / "libtftp.a", "-o", room / "get", folder=room)
-        (room / "none.c").write_text("int main(void) { return 0; }\n")
-        run(*cc, "none.c", "-o", "none", folder=room)
-        own, none = sizes(room / "get"), sizes(room / "none")
-        print(f"examples/c/get: {own[0] - none[0]} bytes of code and constants more than an empty program")
-
-        with Server(tftpd, room / "served") as server:
-            run("valgrind", "--tool=massif", "--stacks=yes", "--massif-out-file=massif", "./get", server.host, server.port,
-                f"f{FEW}", "got", folder=room)
-        peaks = [max(map(int, re.findall(rf"{kind}=(\d+)", (room / "massif").read_text())))
-                 for kind in ["mem_stacks_B", "mem_heap_B"]]
-        print(f"a get: at most {peaks[0]} bytes of stack, {peaks[1]} of heap with stdio's")
+        print(f"libtftp.a: {(room / 'libtftp.a').stat().st_size:,} bytes")
+        print(f"libtftp.so.0: {(room / 'libtftp.so.0').stat().st_size:,} bytes, "
+              f"of it code and constants {sizes(room / 'libtftp.so.0')[0]:,}")
+        run("cc", *SMALL, TOP / "examples/c/get.c", room / "libtftp.a", "-o", room / "get", folder=room)
+        print(f"examples/c/get: {beyond_empty(room, room / 'get')}")
 
         clients = {"get": lambda host, port, name: ["./get", host, port, name, "got"]}
+        stack, heap = peaks(tftpd, room, clients["get"])
+        print(f"a get: at most {stack:,} bytes of stack, {heap:,} of heap with stdio's")
+        run("cc", *SMALL, *DEPTH, TOP / "bench/c/stack.c", room / "libtftp.a", "-o", room / "stack", folder=room)
+        depths = [line.split() for line in run(room / "stack", folder=room).stdout.splitlines()]
+        most = {call: max(int(depth) for name, depth in depths if name == call) for call, _ in depths}
+        print("stack of a call, with the C library's:", ", ".join(f"{call} {depth:,}" for call, depth in most.items()))
+        print(f"tftp_receive: {of_a_block(tftpd, room, clients['get'], 'tftp_receive')} instructions a block")
         if shutil.which("curl"):
             clients["curl"] = lambda host, port, name: ["curl", "-s", "-o", "got", f"tftp://{host}:{port}/{name}"]
         for client, words in clients.items():
-            few, many = instructions(tftpd, room, words)
-            print(f"{client}: {(many - few) / (MANY - FEW):.0f} instructions a block")
+            print(f"{client}: {of_a_block(tftpd, room, words)} instructions a block")
 
 
 if __name__ == "__main__":
