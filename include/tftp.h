@@ -15,7 +15,8 @@
  *   open: two copies would free one end twice. It may move if the old place is not used again.
  * - One call at a time uses an end, by one thread at a time: two would change it at once.
  * - tftp_close ends each use: without it the memory of the end is lost. Closing twice is allowed.
- * - malloc, realloc and free are of one allocator, and align to 16: the library uses them alone.
+ * - malloc, realloc and free are of one allocator: one frees what another gave, and the library uses
+ *   no other. They align to 16: the fields of an end would be at addresses that no such field has.
  *   A null from malloc or realloc is reported as TFTP_MEMORY, and nothing has changed; a call that
  *   returns a length returns 0. An end has a block of 128 bytes, one for the datagram that it sent
  *   last, which a timeout sends again, and, if it sends a file or receives netascii, one for the block
