@@ -1,111 +1,155 @@
 #!/usr/bin/env python3
 """Tries the library for C by its examples: c_library.py [TFTP TFTPD]
 
-Takes the programs of bin/, or else those that `rt ci` built, and compiles examples/ by each C compiler that is
-installed, with AddressSanitizer and UndefinedBehaviorSanitizer, and once without for valgrind. The examples get from
-tftpd and from another project's server (in.tftpd, or else dnsmasq), put to both and serve tftp, and do so through a
-network that loses, duplicates and reorders datagrams; each file is compared byte for byte. The crate in Rust is built
-and its doc tests run where cargo is. The last line is a count, and says what was skipped.
+Takes the programs of bin/, or else those that `rt ci` built, and builds examples/ for each checker that is here: in C by
+each compiler with AddressSanitizer and UndefinedBehaviorSanitizer, and for valgrind; in Rust and in Python with
+AddressSanitizer and for valgrind. Each example that gets or puts does so at tftpd, at the example that serves, and at
+each server of another project that is here (in.tftpd, atftpd, which ATFTPD may name, dnsmasq), through a good network and
+through one that loses, duplicates and reorders datagrams; each file is compared byte for byte. Trials run side by side,
+each at an address of its own; one that fails while this host stalled is run once more, alone, and that is said. The last
+line is a count, and says what was skipped.
 """
 import os
 import random
+import re
 import shutil
 import subprocess
 import sys
 import tempfile
+import time
+from concurrent.futures import ThreadPoolExecutor
 from functools import partial
 from pathlib import Path
-from typing import Any, Iterator
+from typing import Any, Callable, Iterator, Sequence
 
 from lib.addresses import own_network
+from lib.examples import Built, run, to_build
 from lib.programs import TOP, programs
+from lib.stalls import LIMIT as STALL, Stalls
 
 sys.path.append(str(TOP / "tools" / "loopback"))
-from datagrams import expect, is_bound  # noqa: E402
+from datagrams import ack, expect, is_bound  # noqa: E402
 from scene import Scene, next_line  # noqa: E402
 
 PATIENCE = 120
-WARNINGS = ["-std=c11", "-Wall", "-Wextra", "-Wpedantic", "-Werror"]
-SANITIZED = ["-g", "-O1", "-fsanitize=address,undefined", "-fno-sanitize-recover=all"]
-UNDEFINED = ["-fsanitize=undefined", "-fno-sanitize-recover=all"]
-PLAIN = ["-g", "-O2"]
-VALGRIND = ["valgrind", "-q", "--error-exitcode=99", "--leak-check=full", "--errors-for-leak-kinds=all"]
-COMPILERS = ["gcc", "clang"]
-# Lengths of files: none, and around blocks of 512 and of 1428 bytes
+# How many trials run at a time: they wait more than they compute
+AT_ONCE = 10
+# How often a transfer through a bad network is tried, and how an example says that it was not complete: its peer has not
+# answered six times in a row, or has ended before its last ACK arrived
+TRIES = 8
+TIMED_OUT = re.compile(r"timed out|outcome 2 ")
+# Lengths of files: none, and around blocks of 512 and of 1428 bytes; and those of a bad network or a slow checker
 LENGTHS = [0, 1, 511, 512, 513, 1428, 20_000]
-
-
-def run(*words, status=0, **how) -> str:
-    """Runs a command to its end, and returns what it printed."""
-    words = [str(word) for word in words]
-    done = subprocess.run(words, stdin=subprocess.DEVNULL, capture_output=True, text=True, timeout=PATIENCE * 5, **how)
-    if done.returncode != status:
-        raise AssertionError(f"{' '.join(words)}: status {done.returncode}: {done.stdout[-2000:]}{done.stderr[-2000:]}")
-    return done.stdout
-
-
-class Built:
-    """The examples as one compiler makes them, and the words before a command that runs one."""
-
-    def __init__(self, name, folder, compiler, flags, before=()) -> None:
-        self.name, self.folder, self.before = name, folder, list(before)
-        folder.mkdir()
-        words = [compiler, *WARNINGS, *flags, "-I", TOP / "include"]
-        for source in ["get", "put", "serve"]:
-            run(*words, TOP / "examples" / "c" / f"{source}.c", folder.parent / "libtftp.a", "-o", folder / source)
-        # it has an allocator of its own, which AddressSanitizer would take the place of
-        checks = UNDEFINED if flags == SANITIZED else []
-        bare = [*words[:1], *WARNINGS, "-O2", "-g", *checks, "-fno-builtin-malloc", "-I", TOP / "include"]
-        run(*bare, "-ffreestanding", "-c", TOP / "examples/c/bare.c", "-o", folder / "bare.o")
-        library = folder.parent / "libtftp.a"
-        run(*bare, TOP / "examples/c/host_machine.c", folder / "bare.o", library, "-o", folder / "bare")
-        wrapped = "-Wl,--wrap=malloc,--wrap=realloc"
-        run(*words, wrapped, TOP / "tools/c_library.c", library, "-o", folder / "layout")
-
-    def words(self, name, *words) -> list[str]:
-        return [*map(str, self.before), str(self.folder / name), *map(str, words)]
+FEW = [513, 6_000]
 
 
 def content(length) -> bytes:
     return random.Random(length).randbytes(length)
 
 
-def ways(scene, server, count, lossy) -> list[str]:
-    """Where so many clients of a server send, as two words: to itself, or each to a bad network of its own."""
-    return [scene.proxy(server, seed).word.split(":") if lossy else server.word.split(":") for seed in range(count)]
+def together(jobs) -> None:
+    """Runs all of these at a time; the first fault counts."""
+    with ThreadPoolExecutor(max(len(jobs), 1)) as pool:
+        for done in [pool.submit(job) for job in jobs]:
+            done.result()
 
 
-def gets(built, scene, way, name, blksize, expected) -> None:
-    run(*built.words("get", *way, name, "got", blksize), cwd=scene.folder)
-    expect((scene.folder / "got").read_bytes(), expected, f"what get stored of {name}")
+# ---- what an example does at a server
+
+# The words of an example that gets f<length> and stores it, or puts it, by its name; and what they are in the environment
+Words = tuple[list[str], dict[str, str]]
 
 
-def puts(built, scene, way, local, name, blksize) -> None:
-    run(*built.words("put", *way, local, name, blksize), cwd=scene.folder)
+def of_bare(example, built, way, name, local, _) -> Words:
+    return built.command(example), {"SERVER": way[0], "PORT": way[1], "NAME": name, "LOCAL": local}
 
 
-def boots(built, scene, way, name, expected) -> None:
-    env = {**os.environ, "SERVER": way[0], "PORT": way[1], "NAME": name, "LOCAL": "image"}
-    run(*built.words("bare"), cwd=scene.folder, env=env)
-    expect((scene.folder / "image").read_bytes(), expected, f"the image of {name}")
+WORDS: dict[str, Callable[..., Words]] = {
+    "get": lambda built, way, name, local, blksize: (built.command("get", *way, name, local, blksize), {}),
+    "put": lambda built, way, name, local, blksize: (built.command("put", *way, name, local, blksize), {}),
+    "bare": partial(of_bare, "bare"),
+    "bare over valgrind's malloc": partial(of_bare, "bare over valgrind's malloc"),
+    "get in Rust": lambda built, way, name, local, blksize: (
+        built.command("get in Rust", ":".join(way), name, local, blksize), {}),
+    "get.py": lambda built, way, name, local, blksize: (built.command("get.py", *way, name, local, blksize), {}),
+}
 
+
+class Site:
+    """A server, and the network to it: each transfer through a bad one has a proxy of its own."""
+
+    def __init__(self, scene, server, lossy) -> None:
+        self.scene, self.server, self.lossy = scene, server, lossy
+
+    def way(self, seed) -> list[str]:
+        """Its address as two words."""
+        return (self.scene.proxy(self.server, seed) if self.lossy else self.server).word.split(":")
+
+
+def transfers(site, built, example, seed, length, blksize, compare=None) -> None:
+    """An example gets or puts a file of this length, which is compared. Through a bad network it has some tries: one that
+    is not complete has to say so."""
+    scene = site.scene
+    for number in range(TRIES if site.lossy else 1):
+        stored = f"{example.split()[-1]}{length}.{number}"
+        words, more = WORDS[example](built, site.way(seed + 100 * number), f"f{length}", stored, blksize)
+        done = subprocess.run(words, cwd=scene.folder, env={**built.env, **more}, stdin=subprocess.DEVNULL,
+                              capture_output=True, text=True, timeout=PATIENCE)
+        if done.returncode == 0:
+            (compare or is_stored)(scene, stored, length, example)
+            return
+        how = f"{example} of {length} bytes: status {done.returncode}: {done.stdout[-2000:]}{done.stderr[-2000:]}"
+        expect((done.returncode, bool(TIMED_OUT.search(done.stdout)), site.lossy), (1, True, True), how)
+    raise AssertionError(f"{example} of {length} bytes was complete in none of {TRIES} tries")
+
+
+def is_stored(scene, local, length, what) -> None:
+    expect((scene.folder / local).read_bytes(), content(length), f"what {what} stored of {length} bytes")
+
+
+def at_server(site, built, put=True) -> None:
+    """All that these examples do at a server, at the same time."""
+    examples = [it for it in WORDS if built.has(it) and (put or it != "put")]
+    jobs: list[Callable[[], None]] = []
+    for number, length in enumerate(lengths(built, site.lossy)):
+        site.scene.make(f"f{length}", content(length))
+        for example in examples:
+            jobs.append(partial(transfers, site, built, example, len(jobs), length, [0, 1428][number % 2]))
+    together(jobs)
+
+
+def lengths(built, lossy) -> list[int]:
+    return FEW if lossy or built.is_slow else LENGTHS
+
+
+# ---- tftpd
 
 def by_tftpd(scene, built, lossy) -> None:
-    """get, put and the client without an operating system against tftpd."""
-    lengths = [513, 6_000] if lossy or built.before else LENGTHS
-    for length in lengths:
-        scene.make(f"f{length}", content(length))
-    server = scene.serve("--transfers", str(3 * len(lengths) + 3))
-    for number, length in enumerate(lengths):
-        blksize = [0, 1428][number % 2]
-        get, put, boot = ways(scene, server, 3, lossy)
-        gets(built, scene, get, f"f{length}", blksize, content(length))
-        puts(built, scene, put, f"f{length}", f"p{length}", blksize)
-        expect((scene.folder / f"p{length}").read_bytes(), content(length), f"what put sent of {length} bytes")
-        boots(built, scene, boot, f"f{length}", content(length))
-    in_netascii(scene, built, server)
-    expect(server.process.wait(PATIENCE), 0, "the status of tftpd")
+    each = len([it for it in WORDS if built.has(it)])
+    count = each * len(lengths(built, lossy)) + 3 * built.has("put")
+    server = scene.serve(*(["--forever"] if lossy else ["--transfers", str(count)]))
+    at_server(Site(scene, server, lossy), built)
+    if built.has("put"):
+        in_netascii(scene, built, server)
+    if not lossy:
+        expect(server.process.wait(PATIENCE), 0, "the status of tftpd")
 
+
+def in_netascii(scene, built, server) -> None:
+    """A text with every line end is put in netascii and read again, and is the same."""
+    text = content(2_000) + b"\n\r\r\n" * 300
+    scene.make("text", text)
+    way = server.word.split(":")
+    run(*built.command("put", *way, "text", "lines", 512, "netascii"), cwd=scene.folder)
+
+    def gets_lines(local, *mode) -> None:
+        run(*built.command("get", *way, "lines", local, 1428, *mode), cwd=scene.folder)
+        expect((scene.folder / local).read_bytes(), text, f"the text that was put, as {local}")
+
+    together([partial(gets_lines, "read", "netascii"), partial(gets_lines, "file")])
+
+
+# ---- the example that serves files in memory
 
 def serving_port(scene) -> "At":
     """A port of the scene's address that nothing is bound to."""
@@ -116,24 +160,13 @@ def serving_port(scene) -> "At":
 
 def serves(scene, built) -> tuple[Any, Any]:
     """Starts the server of files in memory, and returns where it is, and the process."""
-    scene.make("disk", content(3_000))
+    for name, length in [("disk", 3_000), *((f"f{length}", length) for length in FEW)]:
+        scene.make(name, content(length))
     at = serving_port(scene)
-    words = built.words("serve", *at.address, "memory=disk")
-    process = scene.start(words[0], words[1:])
+    words = built.command("serve", *at.address, "memory=disk", *[f"f{length}=f{length}" for length in FEW])
+    process = scene.start(words[0], words[1:], env=built.env)
     expect(next_line(process.stdout), "serving\n", "the first line of serve")
     return at, process
-
-
-def in_netascii(scene, built, server) -> None:
-    """A text with every line end is put in netascii and read again, and is the same."""
-    text = content(2_000) + b"\n\r\r\n" * 300
-    scene.make("text", text)
-    way = server.word.split(":")
-    run(*built.words("put", *way, "text", "lines", 512, "netascii"), cwd=scene.folder)
-    run(*built.words("get", *way, "lines", "got", 1428, "netascii"), cwd=scene.folder)
-    expect((scene.folder / "got").read_bytes(), text, "a text that was put and read in netascii")
-    run(*built.words("get", *way, "lines", "got", 1428), cwd=scene.folder)
-    expect((scene.folder / "got").read_bytes(), text, "the file of that text")
 
 
 def ended(process) -> None:
@@ -143,19 +176,26 @@ def ended(process) -> None:
 
 
 def by_library(scene, built, lossy) -> None:
-    """The server of files in memory against get, put and tftp."""
+    """The server of files in memory against the other examples in C, which put new files, and against tftp."""
     server, process = serves(scene, built)
-    one, two, three, four = ways(scene, server, 4, lossy)
-    gets(built, scene, one, "memory", 1428, content(3_000))
-    puts(built, scene, two, "disk", "new", 0)
-    gets(built, scene, three, "new", 0, content(3_000))
-    scene.tftp("get", ":".join(four), "memory", "disk2", "--blksize", "512").completes(3_000)
-    run(*built.words("get", *server.word.split(":"), "none", "got"), cwd=scene.folder, status=1)
+    site, way = Site(scene, server, lossy), server.word.split(":")
+
+    def is_read_by_tftp(_, name, length, what, seed=None) -> None:
+        """What the server has under this name, through a good network or the bad one."""
+        at = ":".join(way if seed is None else site.way(seed))
+        scene.tftp("get", at, name, f"{name}.read", "--blksize", "1000").completes(length)
+        is_stored(scene, f"{name}.read", length, f"tftp, of {what},")
+
+    examples = [it for it in WORDS if built.has(it)]
+    together([partial(transfers, site, built, it, seed, FEW[seed % 2], [0, 1428][seed % 2],
+                      is_read_by_tftp if it == "put" else None) for seed, it in enumerate(examples)]
+             + [partial(is_read_by_tftp, scene, "memory", 3_000, "memory", 10)])
+    run(*built.command("get", *way, "none", "none.got"), cwd=scene.folder, env=built.env, status=1)
     in_netascii(scene, built, server)
-    scene.tftp("get", server.word, "new", "disk3", "--timeout", "1", "--blksize", "1000").completes(3_000)
-    expect((scene.folder / "disk3").read_bytes(), content(3_000), "what tftp stored")
     ended(process)
 
+
+# ---- other projects' servers
 
 class At:
     """A server at this address."""
@@ -164,70 +204,84 @@ class At:
         self.word, self.address = f"{host}:{number}", (host, number)
 
 
-def peer() -> str | None:
-    """The server of another project that is installed and may be started, or nothing: only root may."""
-    found = [shutil.which(name, path=os.environ["PATH"] + ":/usr/sbin:/sbin") for name in ["in.tftpd", "dnsmasq"]]
-    return next(filter(None, found), None) if os.geteuid() == 0 else None
+def in_tftpd(folder, at) -> list[Any]:
+    # (it answers a repeated last DATA for as long as it waits at first, by itself a second, and the clients repeat it then)
+    return ["--foreground", "--address", at.word, "--user", "nobody", "--create", "--secure", "--retransmit", "2500000",
+            folder]
 
 
-def takes_puts() -> bool:
-    return Path(str(peer())).name == "in.tftpd"
+def atftpd(folder, at) -> list[Any]:
+    return ["--daemon", "--no-fork", "--bind-address", at.address[0], "--port", str(at.address[1]), "--retry-timeout", "1",
+            "--user", "nobody.nogroup", "--logfile", "/dev/null", "--verbose=0", folder]
 
 
-def started_peer(scene) -> At:
+def dnsmasq(folder, at) -> list[Any]:
+    return ["--no-daemon", "--conf-file=/dev/null", "--user=root", f"--listen-address={at.address[0]}", "--port=0",
+            "--bind-interfaces", "--enable-tftp", f"--tftp-root={folder}", "--quiet-tftp"]
+
+
+# Each by its program: its words; whether it takes puts; whether it acknowledges a last DATA that comes again. An in.tftpd
+# (5.2) does, once; an atftpd (0.8) has forgotten the transfer. A dnsmasq (2.90) takes no put.
+PEERS: dict[str, tuple[Callable[..., list[Any]], bool, bool]] = {
+    "in.tftpd": (in_tftpd, True, True), os.environ.get("ATFTPD", "atftpd"): (atftpd, True, False),
+    "dnsmasq": (dnsmasq, False, False)}
+PATH = os.environ["PATH"] + ":/usr/sbin:/sbin"
+
+
+def peers(skipped) -> list[str]:
+    """The servers of other projects that are installed and may be started: only root may."""
+    if os.geteuid() != 0:
+        skipped.append("other projects' servers, which root starts")
+        return []
+    found = [name for name in PEERS if shutil.which(name, path=PATH)]
+    skipped += [Path(name).name for name in PEERS if name not in found]
+    return found
+
+
+def started(scene, peer) -> At:
     """Starts it over the folder, and returns where it is."""
-    program, at = str(peer()), serving_port(scene)
+    words = PEERS[peer][0]
     os.chmod(scene.folder, 0o777)
-    if takes_puts():
-        words = ["--foreground", "--address", at.word, "--user", "nobody", "--create", "--secure", scene.folder]
-    else:
-        at = At(scene.address, 69)
-        words = ["--no-daemon", "--conf-file=/dev/null", "--user=root", f"--listen-address={scene.address}", "--port=0",
-                 "--bind-interfaces", "--enable-tftp", f"--tftp-root={scene.folder}", "--quiet-tftp"]
-    scene.start(program, words, stdout=subprocess.DEVNULL, stderr=subprocess.DEVNULL)
+    at = At(scene.address, 69) if words is dnsmasq else serving_port(scene)
+    program = str(shutil.which(peer, path=PATH))
+    scene.start(program, words(scene.folder, at), stdout=subprocess.DEVNULL, stderr=subprocess.DEVNULL)
     is_bound(at.word)
     return at
 
 
-def by_peer(scene, built, lossy) -> None:
-    """The clients against another project's server, and in a good network a put to one that takes it."""
-    server, lengths = started_peer(scene), [513, 6_000] if lossy or built.before else LENGTHS
-    for number, length in enumerate(lengths):
-        scene.make(f"f{length}", content(length))
-        get, boot = ways(scene, server, 2, lossy)
-        gets(built, scene, get, f"f{length}", [0, 1428][number % 2], content(length))
-        boots(built, scene, boot, f"f{length}", content(length))
-        if takes_puts() and not lossy:
-            puts(built, scene, server.word.split(":"), f"f{length}", f"p{length}", [0, 1428][number % 2])
-            expect((scene.folder / f"p{length}").read_bytes(), content(length), f"what put sent of {length} bytes")
+def by_peer(scene, built, lossy, peer) -> None:
+    """The clients against another project's server over the folder."""
+    at_server(Site(scene, started(scene, peer), lossy), built, PEERS[peer][1])
 
 
-def by_python(scene, library) -> None:
-    """get.py from tftpd and from another project's server, in a good network and through a bad one."""
-    scene.make("f", content(2_000))
-    for server in [scene.serve("--transfers", "2"), *([started_peer(scene)] if peer() else [])]:
-        for at in [server, scene.proxy(server, 5)]:
-            run(sys.executable, TOP / "examples/python/get.py", library, *at.word.split(":"), "f", "got", 512,
-                cwd=scene.folder)
-            expect((scene.folder / "got").read_bytes(), content(2_000), f"what get.py stored from {at.word}")
+class Loses:
+    """A direction in which the first of this datagram is lost, and no other."""
+
+    def __init__(self, datagram=None) -> None:
+        self.datagram = datagram
+
+    def number(self) -> int:
+        return 20
+
+    def sent_for(self, datagram) -> list[bytes]:
+        is_lost, self.datagram = datagram == self.datagram, None if datagram == self.datagram else self.datagram
+        return [] if is_lost else [datagram]
 
 
-def by_rust(scene, room) -> None:
-    """The crate's doc tests; its example through a bad network, from tftpd and from another project's server."""
-    crate = room / "rust"
-    shutil.copytree(TOP / "examples" / "rust", crate, ignore=shutil.ignore_patterns("target", "Cargo.lock"))
-    env = {**os.environ, "TFTP_LIB": str(room)}
-    cargo = ["cargo", "--offline", "--quiet"]
-    run(*cargo, "test", cwd=crate, env=env)
-    run(*cargo, "build", "--examples", cwd=crate, env=env)
-    scene.make("f", content(4_000))
-    for at in [scene.serve("--transfers", "2"), *([started_peer(scene)] if peer() else [])]:
-        # (the runtime of Rust still reaches a block of its own when it ends)
-        lost = [*VALGRIND[:-1], "--errors-for-leak-kinds=definite,indirect,possible"]
-        for before in [[], lost if shutil.which("valgrind") else []]:
-            run(*before, crate / "target/debug/examples/get", scene.proxy(at, 7).word, "f", "got", cwd=scene.folder)
-            expect((scene.folder / "got").read_bytes(), content(4_000), "what the example in Rust stored")
+def last_ack(scene, built, peer) -> None:
+    """A put whose last ACK is lost. It is complete where the server acknowledges a DATA once more that comes a second
+    later; where it does not, the put is not complete, and says so, although the file is stored."""
+    proxy = scene.proxy(started(scene, peer), 0)
+    proxy.to_server, proxy.to_client = Loses(), Loses(ack(2))
+    scene.make("f513", content(513))
+    again = PEERS[peer][2]
+    printed = run(*built.command("put", *proxy.word.split(":"), "f513", "put"), cwd=scene.folder, env=built.env,
+                  status=0 if again else 1)
+    expect(printed.split(",")[0], "complete" if again else "timed out", "how a put ended whose last ACK was lost")
+    is_stored(scene, "put", 513, peer)
 
+
+# ---- other projects' clients
 
 # The clients whose gets go through a bad network, too, and whose puts do not. A curl (7.88) sends a DATA again after 72
 # seconds, when a server that has stored the last one has ended its dally; it takes an OACK that comes twice for a new one,
@@ -251,19 +305,21 @@ def clients() -> dict[str, Any]:
     return {program: words for program, words in known.items() if shutil.which(program)}
 
 
-def by_others(scene, built) -> None:
-    """Other projects' clients get from the server of files in memory, put to it, and get what they have put."""
+def by_others(scene, built, program) -> None:
+    """Another project's client gets from the server of files in memory, puts to it, and gets what it has put."""
     server, process = serves(scene, built)
-    for program, words in clients().items():
-        good, bad = server.word.split(":"), ways(scene, server, int(program in THROUGH_LOSS), lossy=True)
-        for way, name in [(good, "memory"), (good, program), *((way, "memory") for way in bad)]:
-            get, put = words(*way, name)
-            if name == program:
-                run(*put, cwd=scene.folder)
-            run(*get, cwd=scene.folder)
-            expect((scene.folder / "got").read_bytes(), content(3_000), f"what {program} stored of {name}")
+    good = server.word.split(":")
+    bad = [scene.proxy(server, 0).word.split(":")] if program in THROUGH_LOSS else []
+    for way, name in [(good, "memory"), (good, program), *((way, "memory") for way in bad)]:
+        get, put = clients()[program](*way, name)
+        if name == program:
+            run(*put, cwd=scene.folder)
+        run(*get, cwd=scene.folder)
+        is_stored(scene, "got", 3_000, program)
     ended(process)
 
+
+# ---- all trials
 
 def archive(room) -> None:
     """libtftp.a and libtftp.so.0 in the folder, of what `rt lib` built."""
@@ -272,61 +328,91 @@ def archive(room) -> None:
     run(TOP / "tools/library.sh", room)
 
 
-def builds(room, skipped) -> list[Any]:
-    """The examples by each compiler that is here."""
-    found = []
-    for compiler in COMPILERS:
-        if not shutil.which(compiler):
-            skipped.append(compiler)
-            continue
-        found.append(Built(f"{compiler}, sanitized", room / compiler, compiler, SANITIZED))
-        if shutil.which("valgrind") and len(found) == 1:
-            found.append(Built(f"{compiler}, valgrind", room / "valgrind", compiler, PLAIN, VALGRIND))
-    if not shutil.which("valgrind"):
-        skipped.append("valgrind")
-    return found
+def layout(scene, built) -> None:
+    run(*built.command("layout"), env=built.env)
 
 
-def tests(room, skipped) -> Iterator[Any]:
-    """Each trial by its name."""
-    found = builds(room, skipped)
-    for built in found:
-        yield f"header and memory, {built.name}", lambda scene, built=built: run(*built.words("layout"))
-        for lossy, network in [(False, "a good network"), (True, "a bad network")]:
-            tried = [("tftpd", by_tftpd), ("serve", by_library), *([(Path(str(peer())).name, by_peer)] if peer() else [])]
+def tests(found, skipped) -> Iterator[tuple[str, Any]]:
+    """Each trial by its name: those that take the longest first."""
+    known = peers(skipped)
+    for lossy, network in [(True, "a bad network"), (False, "a good network")]:
+        for built in sorted(found, key=lambda it: not it.is_slow):
+            tried = [("tftpd", by_tftpd), *[("serve", by_library)] * built.has("serve")]
+            tried += [(Path(peer).name, partial(by_peer, peer=peer)) for peer in known]
             for server, test in tried:
-                yield f"{server}, {network}, {built.name}", partial(test, built=built, lossy=lossy)
-    if not peer():
-        skipped.append("in.tftpd or dnsmasq, as root")
-    if found and clients():
-        yield f"serve, {', '.join(clients())}", partial(by_others, built=found[0])
-    else:
+                yield f"{built.name}, {server}, {network}", partial(test, built=built, lossy=lossy)
+    serving = [built for built in found if built.has("serve")]
+    for built in serving:
+        yield f"{built.name}, header and memory", partial(layout, built=built)
+        for peer in [it for it in known if PEERS[it][1]]:
+            yield f"{built.name}, {Path(peer).name}, last ACK", partial(last_ack, built=built, peer=peer)
+    for program in clients() if serving else []:
+        yield f"{serving[0].name}, serve, {program}", partial(by_others, built=serving[0], program=program)
+    if not clients():
         skipped.append("other projects' clients")
-    if (room / "libtftp.so.0").is_file():
-        yield "Python", partial(by_python, library=room / "libtftp.so.0")
-    else:
-        skipped.append("Python (no shared library)")
-    if shutil.which("cargo"):
-        yield "Rust", partial(by_rust, room=room)
-    else:
-        skipped.append("Rust (no cargo)")
+
+
+class Trials:
+    """Trials that run side by side, each in a folder and at an address of its own."""
+
+    def __init__(self, found, room) -> None:
+        self.programs, self.room, self.network, self.count, self.stalls = found, room, own_network(), 0, Stalls()
+
+    def fault_of(self, test, number) -> str:
+        """Runs a trial. Returns why it fails, or nothing."""
+        try:
+            with Scene(self.programs, self.room / f"scene{number}", f"{self.network}.{number}") as scene:
+                test(scene)
+        except Exception as fault:  # whatever happened, the others are tried
+            return f"{type(fault).__name__}: {fault}"
+        return ""
+
+    def once(self, what, test, number) -> tuple[str, str, float]:
+        begun = time.monotonic()
+        fault = self.fault_of(test, number)
+        return what, fault, self.stalls.longest_since(begun)
+
+    def all(self, trials: Sequence[tuple[str, Any]]) -> list[str]:
+        """Runs all. Returns the faults."""
+        with ThreadPoolExecutor(AT_ONCE) as pool:
+            runs = [pool.submit(self.once, what, test, number) for number, (what, test) in enumerate(trials, 1)]
+            done = [it.result() for it in runs]
+        faults = []
+        for number, (what, fault, stall) in enumerate(done, 1):
+            if fault and stall > STALL:
+                print(f"{what}: {fault}; once more, since the host stalled for {stall:.1f} s", flush=True)
+                fault = self.fault_of(trials[number - 1][1], 250 - number)
+            faults += [f"{what}: {fault}"] * bool(fault)
+        self.stalls.close()
+        return faults
+
+
+def build(room, skipped) -> tuple[list[Built], list[str]]:
+    """What is built, some at a time, and what could not be."""
+    built: list[Built] = []
+    faults: list[str] = []
+    with ThreadPoolExecutor(4) as pool:
+        for done in [pool.submit(make) for make in to_build(room, skipped)]:
+            try:
+                built.append(done.result())
+            except Exception as fault:  # the others are tried
+                faults.append(f"it is not built: {type(fault).__name__}: {fault}")
+    return built, faults
 
 
 def main() -> None:
-    found, skipped, faults, count = programs(["tftp", "tftpd"], sys.argv[1:]), [], [], 0
+    found, skipped = programs(["tftp", "tftpd"], sys.argv[1:]), []
     with tempfile.TemporaryDirectory(prefix="tftp-library-") as name:
-        room, network = Path(name), own_network()
+        room = Path(name)
+        room.chmod(0o755)  # some servers leave root's rights before they look
         archive(room)
-        for count, (what, test) in enumerate(tests(room, skipped), 1):
-            try:
-                with Scene(found, room / f"scene{count}", f"{network}.{count}") as scene:
-                    test(scene)
-            except Exception as fault:  # whatever happened, the others are tried
-                faults.append(f"{what}: {type(fault).__name__}: {fault}")
-    print(*faults, sep="\n", end="\n" if faults else "")
+        built, unbuilt = build(room, skipped)
+        trials = list(tests(built, skipped))
+        faults = Trials(found, room).all(trials)
+    print(*unbuilt, *faults, sep="\n", end="\n" if unbuilt or faults else "")
     told = f"; skipped: {', '.join(skipped)}" if skipped else ""
-    print(f"library for C: {count - len(faults)} of {count} passed{told}")
-    sys.exit(1 if faults else 0)
+    print(f"library for C: {len(trials) - len(faults)} of {len(trials) + len(unbuilt)} passed{told}")
+    sys.exit(1 if unbuilt or faults else 0)
 
 
 if __name__ == "__main__":

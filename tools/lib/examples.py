@@ -1,0 +1,152 @@
+"""The examples over the library for C, built for each checker that this host has: AddressSanitizer with
+UndefinedBehaviorSanitizer, or valgrind."""
+import os
+import shutil
+import subprocess
+import sys
+from functools import partial
+from pathlib import Path
+from typing import Any, Callable, Sequence, Union
+
+TOP = Path(__file__).resolve().parent.parent.parent
+EXAMPLES = TOP / "examples"
+# The longest time of a command, in seconds
+PATIENCE = 600
+WARNINGS = ["-std=c11", "-Wall", "-Wextra", "-Wpedantic", "-Werror"]
+SANITIZED = ["-g", "-O1", "-fsanitize=address,undefined", "-fno-sanitize-recover=all"]
+PLAIN = ["-g", "-O2"]
+# its calls of malloc are its own, by other names: those of the sanitizer's runtime are the sanitizer's
+OWN_NAMES = [f"{name}=arena_{name}" for name in ["malloc", "realloc", "free"]]
+VALGRIND = ["valgrind", "-q", "--error-exitcode=99"]
+LEAKS = ["--leak-check=full", "--errors-for-leak-kinds=all"]
+# (the runtime of Rust still reaches a block of its own when it ends)
+LOST = ["--leak-check=full", "--errors-for-leak-kinds=definite,indirect,possible"]
+# valgrind takes the place of every malloc that it finds, and so of the arena's, unless it is told not to
+ARENA = ["--soname-synonyms=somalloc=nouserintercepts"]
+# (an interpreter's own code may jump by a table that valgrind takes for uninitialised; what the library does still counts)
+INTERPRETER = "".join(f"{{\nits own\nMemcheck:{kind}\nobj:*/{name}*\n}}\n"
+                      for kind in ["Cond", "Value8", "Addr4", "Addr8"] for name in ["libpython3", "python3"])
+RUST_TARGET = "x86_64-unknown-linux-gnu"
+
+
+def run(*command: Union[str, int, Path], status: int = 0, **how: Any) -> str:
+    """Runs a command to its end, and returns what it printed."""
+    words = [str(word) for word in command]
+    done = subprocess.run(words, stdin=subprocess.DEVNULL, capture_output=True, text=True, timeout=PATIENCE, **how)
+    if done.returncode != status:
+        raise AssertionError(f"{' '.join(words)}: status {done.returncode}: {done.stdout[-2000:]}{done.stderr[-2000:]}")
+    return str(done.stdout)
+
+
+class Built:
+    """Examples beside a checker: the words before those of each example, by its name, and their environment."""
+
+    def __init__(self, name: str, is_slow: bool, **env: str) -> None:
+        self.name, self.is_slow, self.env = name, is_slow, {**os.environ, **env}
+        self.words: dict[str, list[str]] = {}
+
+    def has(self, example: str) -> bool:
+        return example in self.words
+
+    def command(self, example: str, *words: Union[str, int]) -> list[str]:
+        return [*self.words[example], *map(str, words)]
+
+
+def linked(words: Sequence[str], program: Path, *sources: Union[str, Path]) -> str:
+    """Compiles and links sources, objects and archives to a program."""
+    run(*words, "-I", TOP / "include", *sources, "-o", program)
+    return str(program)
+
+
+def of_the_arena(room: Path, folder: Path, words: Sequence[str], checker: str) -> str:
+    """The client without an operating system, whose allocator is its own also beside a sanitizer's."""
+    library, names = room / "libtftp.a", list[str]()
+    if checker == "sanitized":
+        library = folder / "libtftp.a"
+        run("objcopy", *[f"--redefine-sym={it}" for it in OWN_NAMES], room / "libtftp.a", library)
+        names = [f"-D{it}" for it in OWN_NAMES]
+    bare = [*words, *names, "-fno-builtin-malloc"]
+    run(*bare, "-ffreestanding", "-I", TOP / "include", "-c", EXAMPLES / "c/bare.c", "-o", folder / "bare.o")
+    return linked(words, folder / "bare", EXAMPLES / "c/host_machine.c", folder / "bare.o", library)
+
+
+def in_c(room: Path, compiler: str, checker: str) -> Built:
+    """The examples in C, by this compiler."""
+    flags = SANITIZED if checker == "sanitized" else PLAIN
+    before = [*VALGRIND, *LEAKS] if checker == "valgrind" else []
+    it = Built(f"C ({compiler}, {checker})", bool(before))
+    folder, words = room / f"{compiler}-{checker}", [compiler, *WARNINGS, *flags]
+    folder.mkdir()
+    for name in ["get", "put", "serve"]:
+        it.words[name] = [*before, linked(words, folder / name, EXAMPLES / f"c/{name}.c", room / "libtftp.a")]
+    bare = of_the_arena(room, folder, words, checker)
+    it.words["bare"] = [*before, *(ARENA if before else []), bare]
+    if before:
+        it.words["bare over valgrind's malloc"] = [*before, bare]
+    wrapped = "-Wl,--wrap=malloc,--wrap=realloc"
+    layout = linked(words, folder / "layout", TOP / "tools/c_library.c", wrapped, room / "libtftp.a")
+    it.words["layout"] = [*before, layout]
+    return it
+
+
+def in_rust(room: Path, checker: str) -> Built:
+    """The crate's doc tests are run, and its example is built."""
+    folder = room / f"rust-{checker}"
+    shutil.copytree(EXAMPLES / "rust", folder, ignore=shutil.ignore_patterns("target", "Cargo.lock"))
+    env = {**os.environ, "TFTP_LIB": str(room)}
+    target = ["--target", RUST_TARGET]
+    if checker == "sanitized":
+        # a stable compiler has the sanitizer's runtime, and no stable flag for it
+        env |= {"RUSTC_BOOTSTRAP": "1", "RUSTFLAGS": "-Zsanitizer=address", "RUSTDOCFLAGS": "-Zsanitizer=address"}
+    for words in [["test"], ["build", "--examples"]]:
+        run("cargo", "--offline", "--quiet", *words, *target, cwd=folder, env=env)
+    before = [*VALGRIND, *LOST] if checker == "valgrind" else []
+    it = Built(f"Rust ({checker})", bool(before))
+    it.words["get in Rust"] = [*before, str(folder / "target" / RUST_TARGET / "debug/examples/get")]
+    return it
+
+
+def in_python(room: Path, checker: str) -> Built:
+    """The example in Python, whose buffers are blocks of malloc, with the library that it loads."""
+    before, env = list[str](), {"PYTHONMALLOC": "malloc"}
+    if checker == "sanitized":
+        # (the interpreter frees not all at its end)
+        runtime = run("gcc", "-print-file-name=libasan.so").strip()
+        env |= {"LD_PRELOAD": runtime, "ASAN_OPTIONS": "detect_leaks=0"}
+    else:
+        (room / "suppressed").write_text(INTERPRETER)
+        before = [*VALGRIND, f"--suppressions={room / 'suppressed'}"]
+    it = Built(f"Python ({checker})", bool(before), **env)
+    it.words["get.py"] = [*before, sys.executable, "-S", str(EXAMPLES / "python/get.py"), str(room / "libtftp.so.0")]
+    return it
+
+
+def rust_has_sanitizer() -> bool:
+    """Whether the Rust compiler that is here has AddressSanitizer's runtime."""
+    root = Path(run("rustc", "--print", "sysroot").strip())
+    return any(root.glob(f"lib/rustlib/{RUST_TARGET}/lib/librustc*asan*"))
+
+
+def to_build(room: Path, skipped: list[str]) -> list[Callable[[], Built]]:
+    """What is built here; what this host lacks is skipped and said."""
+    def has(program: str, why: str = "") -> bool:
+        if not shutil.which(program):
+            skipped.append(f"{program}{why}")
+        return bool(shutil.which(program))
+
+    compilers = [it for it in ["gcc", "clang"] if has(it)]
+    memcheck, objcopy = has("valgrind"), has("objcopy")
+    found = [partial(in_c, room, it, "sanitized") for it in compilers if objcopy]
+    found += [partial(in_c, room, it, "valgrind") for it in compilers[:1] if memcheck]
+    if has("cargo", " (Rust)"):
+        if rust_has_sanitizer():
+            found.append(partial(in_rust, room, "sanitized"))
+        else:
+            skipped.append("Rust's AddressSanitizer")
+        found.append(partial(in_rust, room, "valgrind" if memcheck else "plain"))
+    if (room / "libtftp.so.0").is_file():
+        found += [partial(in_python, room, "sanitized")] * ("gcc" in compilers)
+        found += [partial(in_python, room, "valgrind")] * memcheck
+    else:
+        skipped.append("Python (no shared library)")
+    return list(found)
