@@ -26,7 +26,8 @@ pub(crate) fn supervise<R: Supervise + Print + Eprint>(
 ) -> Result<(), DaemonFault> {
     let socket = shared_socket(rt, config, input)?;
     let servers = command_lines(rt, alloc, config)?;
-    match rt.supervise(&socket, servers.as_slice()) {
+    let (ended, _journal) = rt.supervise(&socket, servers.as_slice());
+    match ended {
         Ok(()) => Ok(()),
         Err(fault) => Err(fault_of(fault)),
     }

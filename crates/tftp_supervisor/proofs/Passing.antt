@@ -32,32 +32,15 @@ passed_more announced false server (first ∷ lines) line =
     ap (λ (t : List ℕ). (if announced then [] else ended first) ++ t) (marked_more server lines line)
     ∙ sym (append_assoc (if announced then [] else ended first) (all_marked server lines) (marked server line))
 
-any_more : (has_printed : Bool) (lines : List (List ℕ)) (line : List ℕ)
+pub any_more : (has_printed : Bool) (lines : List (List ℕ)) (line : List ℕ)
     → (has_printed || has_any (lines ++ line ∷ [])) ≡ true
 any_more true lines line = refl
 any_more false [] line = refl
 any_more false (first ∷ lines) line = refl
 
-nothing_printed : (announced has_printed : Bool) (server : ℕ) → passed announced has_printed server [] ≡ []
-nothing_printed announced true server = refl
-nothing_printed announced false server = refl
-
-same_printed : (has_printed : Bool) → has_printed ≡ (has_printed || false)
+pub same_printed : (has_printed : Bool) → has_printed ≡ (has_printed || false)
 same_printed true = refl
 same_printed false = refl
-
--- nothing was taken
-pub passes_nothing : (announced : Bool) (old : Output) → HasNoEnd old.begun.items
-    → PassesOn announced [] old old []
-passes_nothing announced old begun = record {
-  lines = [];
-  taken = append-nil old.begun.items;
-  whole = All-nil HasNoEnd;
-  begun = begun;
-  out_is = sym (nothing_printed announced old.has_printed old.server);
-  has_printed = same_printed old.has_printed;
-  server = refl;
-}
 
 -- one more byte was taken
 pub passes_more : (announced : Bool) (bytes : List ℕ) (byte : ℕ) (old middle new : Output) (before after : List ℕ)

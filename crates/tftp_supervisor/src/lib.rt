@@ -8,8 +8,11 @@
 
 mod fault;
 mod output;
+mod output_event_ref;
+mod output_journal;
 mod server;
 mod supervisor;
 
 pub use fault::SupervisorFault;
+pub use output_journal::OutputJournal;
 pub use supervisor::Supervise;
