@@ -17,10 +17,11 @@ pub record PassesOn (announced : Bool) (bytes : List ℕ) (old new : Output) (ou
 
 -- a byte was taken from a server, and what is printed grew so: it ends the line that had begun, or
 -- goes on with it
-pub data Takes (announced : Bool) (byte : ℕ) (old new : Output) (before after : List ℕ) : Type 0 where
-  Begins : byte ≢ 10 → new.begun.items ≡ old.begun.items ++ byte ∷ []
-      → new.has_printed ≡ old.has_printed → new.server ≡ old.server → after ≡ before
-      → Takes announced byte old new before after
-  Ends : byte ≡ 10 → new.begun.items ≡ [] → new.has_printed ≡ true → new.server ≡ old.server
-      → after ≡ before ++ line_passed announced old.has_printed old.server old.begun.items
-      → Takes announced byte old new before after
+pub data Takes (announced : Bool) (byte : ℕ) (old new : Output) (before after : List ℕ) : Type 0
+  where
+    Begins : byte ≢ 10 → new.begun.items ≡ old.begun.items ++ byte ∷ []
+        → new.has_printed ≡ old.has_printed → new.server ≡ old.server → after ≡ before
+        → Takes announced byte old new before after
+    Ends : byte ≡ 10 → new.begun.items ≡ [] → new.has_printed ≡ true → new.server ≡ old.server
+        → after ≡ before ++ line_passed announced old.has_printed old.server old.begun.items
+        → Takes announced byte old new before after

@@ -1,10 +1,10 @@
-//! **Trusted by reading**: a server as a process, the pipe that it prints to, and what its supervisor
-//! prints, with notes in an [`OutputJournal`].
+//! **Trusted by reading**: a server as a process, the pipe that it prints to, and what its
+//! supervisor prints, with notes in an [`OutputJournal`].
 //!
-//! Review alone shows that a note is true: processes, pipes and the printer of std have no model. Each
-//! read of a pipe that gave bytes has one note, with the number of the server whose pipe it is, and so
-//! has its end, once the server has ended with the status 0. Each text that is printed has one, and is
-//! passed to the system in one call. A supervisor prints nothing elsewhere.
+//! Review alone shows that a note is true: processes, pipes and the printer of std have no model.
+//! Each read of a pipe that gave bytes has one note, with the number of the server whose pipe it is,
+//! and so has its end, once the server has ended with the status 0. Each text that is printed has
+//! one, and is passed to the system in one call. A supervisor prints nothing elsewhere.
 
 ghost use Rattle.std.specs.Prelude.{◌≡◌, ◌∷◌, [], false, IfNone, IfOk, IfSome, OnErr};
 ghost use Rattle.tftp_supervisor.specs.OutputJournal.{after_print};
@@ -69,8 +69,8 @@ impl ServerProcess {
         registry.register(&mut SourceFd(&fd), token, Interest::READABLE)
     }
 
-    /// Has what is left of its output be reported again, unless it has ended: one read, which cannot
-    /// wait, follows each report.
+    /// Has what is left of its output be reported again, unless it has ended: one read, which
+    /// cannot wait, follows each report.
     pub(crate) fn register_again(&self, registry: &Registry, token: Token) -> io::Result<()> {
         if self.has_ended {
             return Ok(());
@@ -79,8 +79,8 @@ impl ServerProcess {
         registry.reregister(&mut SourceFd(&fd), token, Interest::READABLE)
     }
 
-    /// Reads of its output, once. `None` if it has closed that, and ended with the status 0; an error
-    /// if with another.
+    /// Reads of its output, once. `None` if it has closed that, and ended with the status 0; an
+    /// error if with another.
     pub(crate) fn read<'b>(
         &mut self,
         journal: &mut OutputJournal,

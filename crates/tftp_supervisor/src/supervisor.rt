@@ -30,12 +30,13 @@ pub trait Supervise {
     /// A UDP socket that is bound there, to be handed over to servers.
     fn bind_shared(&self, at: SocketAddr) -> io::Result<OwnedFd>;
 
-    /// Starts a server for each of these command lines, whose first word is the program's name, with
-    /// this socket as its standard input, and prints what they print, each line with its server.
+    /// Starts a server for each of these command lines, whose first word is the program's name,
+    /// with this socket as its standard input, and prints what they print, each line with its server.
     ///
     /// It returns `Ok` once each of them has ended with the status 0, and an error once one of them
-    /// ended otherwise or could not be started, or a line could not be printed: then it has ended all
-    /// of them. The journal is of what their outputs gave, and of what was printed.
+    /// ended otherwise or could not be started, or a line could not be printed: then it has ended
+    /// all of them. The journal is of what their outputs gave, and of what was printed. A 256th
+    /// server is refused, as the system refuses one.
     fn supervise<S: AsStr>(
         &self,
         socket: &OwnedFd,
