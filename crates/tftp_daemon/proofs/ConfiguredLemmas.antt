@@ -1,15 +1,17 @@
 -- What a status says, and what was done for words.
 use Rattle.std.proofs.Common.{◌≡◌, ◌≤◌, ◌∙◌, ℕ, List, arith, inl, inr, sym, subst}
-use Rattle.std.specs.Prelude.{Result, Ok, Err, IfOk, IfErr}
 use Rattle.tftp_ends.specs.declared.endpoint.Endpoint.{Endpoint}
 use Rattle.tftp_file.specs.Source.{SourceMeaning}
 use Rattle.tftp_server.specs.State.{ServerState}
 use Rattle.tftp_loop.specs.declared.serving.LoopConfig.{LoopConfig}
 use Rattle.tftp_store.specs.Store.{StoreMeaning}
 use Rattle.tftp_sockets.specs.Journal.{SocketEvent}
+use Rattle.tftp_daemon.specs.CommandLine.{IfExit, IfRun}
 use Rattle.tftp_daemon.specs.Configured.{IsServerOf, ListensAt, MayServe, RunsService, ServesWords, service_at}
 use Rattle.tftp_arguments.specs.Fault.{AskForText}
 use Rattle.tftp_daemon.specs.Words.{WordsConfigure, tftpd_app}
+use Rattle.tftp_daemon.specs.declared.command_line.CommandLine.{CommandLine}
+use Rattle.tftp_daemon.specs.declared.command_line.CommandLine.TheVariants.{Run, Exit}
 use Rattle.tftp_daemon.specs.declared.daemon.DaemonConfig.{DaemonConfig}
 use Rattle.tftp_folder.specs.declared.folder_store.FolderStore.{FolderStore}
 
@@ -24,7 +26,7 @@ module _ {R G H F D : Type 0} {meaning : StoreMeaning (FolderStore R G H) D} {so
   -- a server ran with the configuration of the loop that has its request port there
   pub serves_at : {config : DaemonConfig} {at : Endpoint} {service : LoopConfig}
       {server : ServerState (FolderStore R G H) F D} {status : ℕ} → service ≡ service_at config at
-      → config.place.servers ≤ 1 → ListensAt config.listen at → IsServerOf config server
+      → config.instance.servers ≤ 1 → ListensAt config.listen at → IsServerOf config server
       → RunsService meaning sources service server status before after
       → MayServe meaning sources config status before after
   serves_at {config} {at} {service} {server} {status} same alone listens is runs =
@@ -39,16 +41,16 @@ module _ {R G H F D : Type 0} {meaning : StoreMeaning (FolderStore R G H) D} {so
 
   -- a server ran with the configuration that the words name, or without one nothing was done, with
   -- a status of 0 only if they ask for a text
-  pub serves_words : (words : List (List ℕ)) {status : ℕ} (asked : Result DaemonConfig ℕ)
-      → IfOk asked (WordsConfigure words) → IfErr asked (λ n. n ≡ 0 → AskForText tftpd_app words)
-      → IfOk asked (λ config. MayServe meaning sources config status before after) → IfErr asked (λ _. after ≡ before)
-      → IfErr asked (λ n. status ≡ n) → ServesWords meaning sources words status before after
-  serves_words words (Ok config) names asks (inl (none, inl two)) same is =
+  pub serves_words : (words : List (List ℕ)) {status : ℕ} (line : CommandLine)
+      → IfRun line (WordsConfigure words) → IfExit line (λ n. n ≡ 0 → AskForText tftpd_app words)
+      → IfRun line (λ config. MayServe meaning sources config status before after) → IfExit line (λ _. after ≡ before)
+      → IfExit line (λ n. status ≡ n) → ServesWords meaning sources words status before after
+  serves_words words (Run config) names asks (inl (none, inl two)) same is =
       inl (none, λ zero. absurd (omega (arith, two, zero)))
-  serves_words words (Ok config) names asks (inl (none, inr several)) same is =
+  serves_words words (Run config) names asks (inl (none, inr several)) same is =
       inl (none, λ zero. inr (config, names, several))
-  serves_words words (Ok config) names asks (inr serves) same is = inr (config, names, serves)
-  serves_words words (Err n) names asks runs same is = inl (same, λ zero. inl (asks (sym is ∙ zero)))
+  serves_words words (Run config) names asks (inr serves) same is = inr (config, names, serves)
+  serves_words words (Exit n) names asks runs same is = inl (same, λ zero. inl (asks (sym is ∙ zero)))
 
   -- nothing was done, with a status of 2
   pub done_nothing : (words : List (List ℕ)) {status : ℕ} → after ≡ before → status ≡ 2

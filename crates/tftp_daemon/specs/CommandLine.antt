@@ -6,8 +6,10 @@ use Rattle.tftp_arguments.specs.Read.{IsFlag, IsNumber, Reads}
 use Rattle.tftp_sockets.specs.Address.{Names}
 use Rattle.tftp_loop.specs.declared.port_order.PortRange.{PortRange}
 use Rattle.tftp_loop.specs.declared.serving.Ending.{Ending}
+use Rattle.tftp_daemon.specs.declared.command_line.CommandLine.{CommandLine}
+use Rattle.tftp_daemon.specs.declared.command_line.CommandLine.TheVariants.{Run, Exit}
 use Rattle.tftp_daemon.specs.declared.daemon.DaemonConfig.{DaemonConfig}
-use Rattle.tftp_daemon.specs.declared.daemon.Place.{Place}
+use Rattle.tftp_daemon.specs.declared.daemon.Instance.{Instance}
 use Rattle.tftp_daemon.specs.declared.listen.Listen.{Listen}
 use Rattle.tftp_daemon.specs.declared.listen.Listen.TheVariants.{At, Handed}
 
@@ -51,9 +53,9 @@ NamesListen word (At endpoint) = Names word (Some endpoint)
 NamesListen word Handed = word ≡ codes "stdin"
 
 -- how many servers there are, and which this is, as they were read
-pub record NamesPlace (read : Reads) (place : Place) : Type 0 where
-  pub servers : IsNumber 8 (read.text (codes "servers")) (Some place.servers)
-  pub server : IsNumber 8 (read.text (codes "server")) place.server
+pub record NamesInstance (read : Reads) (instance : Instance) : Type 0 where
+  pub servers : IsNumber 8 (read.text (codes "servers")) (Some instance.servers)
+  pub server : IsNumber 8 (read.text (codes "server")) instance.server
 
 -- the configuration has the folder, the address, the ports, the limits, the age, the end, the flags
 -- and the number of servers that were read, and which of several it is
@@ -69,4 +71,14 @@ pub record NamesServer (read : Reads) (config : DaemonConfig) : Type 0 where
   pub ending : EndsAs read config.ending
   pub drain : read.word (codes "drain") ≡ option_map (λ path. path.now) config.drain
   pub logs : IsFlag (read.text (codes "log")) config.logs
-  pub place : NamesPlace read config.place
+  pub instance : NamesInstance read config.instance
+
+-- what holds of the configuration that a command line has the program serve by
+abbrev pub IfRun : CommandLine → (DaemonConfig → Type 0) → Type 0
+IfRun (Run config) P = P config
+IfRun (Exit status) P = Unit {0}
+
+-- what holds of the status that a command line has the program end with
+abbrev pub IfExit : CommandLine → (ℕ → Type 0) → Type 0
+IfExit (Run config) P = Unit {0}
+IfExit (Exit status) P = P status

@@ -43,7 +43,7 @@ service_at config at = record {
 
 -- the configuration is that of several servers, each a process of its own
 abbrev pub IsOfSeveral : DaemonConfig → Type 0
-IsOfSeveral config = 2 ≤ config.place.servers
+IsOfSeveral config = 2 ≤ config.instance.servers
 
 -- the words ask for several servers
 abbrev pub AskForSeveral : List (List ℕ) → Type 0
@@ -77,7 +77,7 @@ module _ {R G H F D : Type 0} where
     -- a server of the configuration ran
     pub record ServesConfig (config : DaemonConfig) (status : ℕ) (before after : List SocketEvent)
         : Type 0 where
-      pub alone : config.place.servers ≤ 1
+      pub alone : config.instance.servers ≤ 1
       pub at : Endpoint
       pub listens : ListensAt config.listen at
       pub server : ServerState (FolderStore R G H) F D

@@ -27,13 +27,13 @@ PartOf (Some range) servers server (Some own) = IsPart range servers server own
 pub record IsServer (config : DaemonConfig) (server : ℕ) (own : DaemonConfig) : Type 0 where
   pub root : own.root.now ≡ config.root.now
   pub listen : own.listen ≡ Handed
-  pub servers : own.place.servers ≡ 1
-  pub place : own.place.server ≡ Some server
+  pub servers : own.instance.servers ≡ 1
+  pub number : own.instance.server ≡ Some server
   pub limits : own.config ≡ config.config
   pub read_only : own.read_only ≡ config.read_only
   pub uploads : option_map (λ folder. folder.now) own.uploads
       ≡ option_map (λ folder. folder.now) config.uploads
-  pub ports : PartOf config.ports config.place.servers server own.ports
+  pub ports : PartOf config.ports config.instance.servers server own.ports
   pub transfers : own.ending.transfers ≡ config.ending.transfers
   pub rounds : own.ending.rounds ≡ config.ending.rounds
   pub longest : own.longest ≡ config.longest

@@ -20,8 +20,8 @@ abbrev pub any_number : List ℕ → Rule
 any_number id = number_rule id (parsers.Unsigned 0 18446744073709551615)
 
 -- with the folder, the address of the request port and the ports of transfers
-abbrev pub with_places : App → App
-with_places app =
+abbrev pub with_folder_and_ports : App → App
+with_folder_and_ports app =
     with_rule
     (with_rule (with_rule app (word_rule (codes "ROOT")))
     (by_default (codes "127.0.0.1:6969") (option_rule (codes "listen"))))
@@ -74,7 +74,7 @@ bare_app = on_top (λ top. record top { has_version = true }) (new_app (codes "t
 -- `tftpd`
 abbrev pub tftpd_app : App
 tftpd_app =
-    with_rule (with_servers (with_ending (with_writes (with_limits (with_places bare_app)))))
+    with_rule (with_servers (with_ending (with_writes (with_limits (with_folder_and_ports bare_app)))))
     (flag_rule (codes "log"))
 
 -- ---- the configuration

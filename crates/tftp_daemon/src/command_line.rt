@@ -1,7 +1,7 @@
 //! The command line of `tftpd`, and the configuration that its words name.
 
 ghost use Rattle.std.specs.Prelude.{◌≡◌, ◌≤◌, ◌∷◌, ◌++◌, Some, false, codes, map};
-ghost use Rattle.std.specs.Prelude.{IfOk, IfErr, IfSome};
+ghost use Rattle.std.specs.Prelude.{IfOk, IfSome};
 ghost use Rattle.std.specs.Fmt.{decimal};
 ghost use Rattle.std.specs.String.{string_bytes};
 ghost use Rattle.clap.specs.Matches.{first_value, found_of};
@@ -11,13 +11,13 @@ ghost use Rattle.tftp_server.specs.Config.{IsConfig, default_config};
 ghost use Rattle.tftp_arguments.specs.Fault.{AskForText};
 ghost use Rattle.tftp_arguments.specs.Read.{IsNumber, read_in, read_of};
 ghost use Rattle.tftp_arguments.specs.Rules.{HasRule, IsApp, by_default, flag_rule, within};
-ghost use Rattle.tftp_daemon.specs.CommandLine.{ConfiguresAs, EndsAs, NamesPorts, NamesServer};
-ghost use Rattle.tftp_daemon.specs.CommandLine.{NamesPlace, PortsAs};
+ghost use Rattle.tftp_daemon.specs.CommandLine.{ConfiguresAs, EndsAs, IfExit, IfRun, NamesInstance};
+ghost use Rattle.tftp_daemon.specs.CommandLine.{NamesPorts, NamesServer, PortsAs};
 ghost use Rattle.tftp_daemon.specs.Words.{WordsConfigure, any_number, bare_app};
 ghost use Rattle.tftp_daemon.specs.Words.{option_rule, tftpd_app, with_ending, with_limits};
-ghost use Rattle.tftp_daemon.specs.Words.{with_places, with_servers, with_writes};
+ghost use Rattle.tftp_daemon.specs.Words.{with_folder_and_ports, with_servers, with_writes};
 
-use crate::daemon::{DaemonConfig, Place};
+use crate::daemon::{DaemonConfig, Instance};
 use crate::error_output::ErrorOutput;
 use crate::listen::Listen;
 use crate::shown::Shown;
@@ -86,8 +86,14 @@ const SERVERS: &str = "servers";
 
 const SERVER: &str = "server";
 
-/// The configuration of a command line, or the status if there is nothing to serve.
-pub(crate) type Asked<'a> = std::result::Result<DaemonConfig<'a>, u8>;
+/// What a command line has the program do.
+#[derive(Clone, Copy)]
+pub(crate) enum CommandLine<'a> {
+    /// Serve by this configuration.
+    Run(DaemonConfig<'a>),
+    /// End with this status: what was to be printed is printed.
+    Exit(u8),
+}
 
 /// Reads the words.
 pub(crate) fn read_words<'a, P: Print + Eprint, S: AsStr>(
@@ -96,11 +102,11 @@ pub(crate) fn read_words<'a, P: Print + Eprint, S: AsStr>(
     texts: &'a Texts,
     words: &'a [S],
     errors: ErrorOutput,
-) -> Result<Asked<'a>>
-    ensures valid { IfOk result (λ asked. IfOk asked (λ config. IsConfig config.config)) }
-    ensures names { IfOk result (λ asked. IfOk asked (WordsConfigure (map S.text words.now))) }
-    ensures status { IfOk result (λ asked. IfErr asked (λ status. status ≤ 2)) }
-    ensures text { IfOk result (λ asked. IfErr asked (λ status. status ≡ 0
+) -> Result<CommandLine<'a>>
+    ensures valid { IfOk result (λ line. IfRun line (λ config. IsConfig config.config)) }
+    ensures names { IfOk result (λ line. IfRun line (WordsConfigure (map S.text words.now))) }
+    ensures status { IfOk result (λ line. IfExit line (λ status. status ≤ 2)) }
+    ensures text { IfOk result (λ line. IfExit line (λ status. status ≡ 0
         → AskForText tftpd_app (map S.text words.now))) }
 {
     match command(alloc, texts) {
@@ -116,48 +122,51 @@ fn match_words<'a, P: Print + Eprint, S: AsStr>(
     command: &mut Command<'a>,
     words: &'a [S],
     errors: ErrorOutput,
-) -> Result<Asked<'a>>
+) -> Result<CommandLine<'a>>
     requires { IsApp tftpd_app command.old }
-    ensures valid { IfOk result (λ asked. IfOk asked (λ config. IsConfig config.config)) }
-    ensures names { IfOk result (λ asked. IfOk asked (WordsConfigure (map S.text words.now))) }
-    ensures status { IfOk result (λ asked. IfErr asked (λ status. status ≤ 2)) }
-    ensures text { IfOk result (λ asked. IfErr asked (λ status. status ≡ 0
+    ensures valid { IfOk result (λ line. IfRun line (λ config. IsConfig config.config)) }
+    ensures names { IfOk result (λ line. IfRun line (WordsConfigure (map S.text words.now))) }
+    ensures status { IfOk result (λ line. IfExit line (λ status. status ≤ 2)) }
+    ensures text { IfOk result (λ line. IfExit line (λ status. status ≡ 0
         → AskForText tftpd_app (map S.text words.now))) }
 {
     match command.try_get_matches_from_mut(words) {
         Ok(matches) => read_matches(rt, alloc, command, &matches, errors),
-        Err(error) => Ok(Err(print_usage(rt, &error))),
+        Err(error) => Ok(CommandLine::Exit(print_usage(rt, &error))),
     }
 }
 
-/// The configuration of the matched words.
+/// What the matched words have the program do.
 fn read_matches<'a, P: Print + Eprint>(
     rt: &P,
     alloc: Global,
     command: &mut Command<'a>,
     matches: &ArgMatches<'a>,
     errors: ErrorOutput,
-) -> Result<Asked<'a>>
-    ensures valid { IfOk result (λ asked. IfOk asked (λ config. IsConfig config.config)) }
-    ensures names { IfOk result (λ asked. IfOk asked
+) -> Result<CommandLine<'a>>
+    ensures valid { IfOk result (λ line. IfRun line (λ config. IsConfig config.config)) }
+    ensures names { IfOk result (λ line. IfRun line
         (NamesServer (read_in (rows_of (found_of matches.now))))) }
-    ensures status { IfOk result (λ asked. IfErr asked (λ status. status ≡ 2)) }
+    ensures status { IfOk result (λ line. IfExit line (λ status. status ≡ 2)) }
 {
     if let Some(message) = excluded(matches) {
-        return Ok(Err(report_conflict(rt, command, message)?));
+        let status = report_conflict(rt, command, message)?;
+        return Ok(CommandLine::Exit(status));
     }
     let ports = match port_range(matches) {
         Ok(ports) => ports,
         Err(NoPorts(why)) => {
             let word = matches.get_str(PORTS);
-            return Ok(Err(report_invalid(rt, alloc, command, word, why)?));
+            let status = report_invalid(rt, alloc, command, word, why)?;
+            return Ok(CommandLine::Exit(status));
         }
     };
     match service(matches, ports, errors) {
-        Some(service) => Ok(Ok(service)),
+        Some(service) => Ok(CommandLine::Run(service)),
         None => {
             let word = matches.get_str(LISTEN);
-            Ok(Err(report_invalid(rt, alloc, command, word, NO_ADDRESS)?))
+            let status = report_invalid(rt, alloc, command, word, NO_ADDRESS)?;
+            Ok(CommandLine::Exit(status))
         }
     }
 }
@@ -305,7 +314,7 @@ fn service<'a>(
     let listen = Listen::named(matches.get_str(LISTEN)?)?;
     let config = config(matches)?;
     let ending = ending(matches)?;
-    let place = place(matches)?;
+    let instance = instance(matches)?;
     Some(DaemonConfig {
         root,
         config,
@@ -317,16 +326,16 @@ fn service<'a>(
         longest: matches.get_one::<u32>(LONGEST),
         drain: matches.get_str(DRAIN),
         logs: is_set(matches, "log"),
-        place,
+        instance,
         has_priority: errors.has_priority(),
     })
 }
 
 /// How many servers there are, and which this is.
-fn place(matches: &ArgMatches<'_>) -> Option<Place>
-    ensures { IfSome result (NamesPlace (read_of matches.now)) }
+fn instance(matches: &ArgMatches<'_>) -> Option<Instance>
+    ensures { IfSome result (NamesInstance (read_of matches.now)) }
 {
-    Some(Place {
+    Some(Instance {
         servers: matches.get_one::<u8>(SERVERS)?,
         server: matches.get_one::<u8>(SERVER),
     })
@@ -403,7 +412,7 @@ fn command<'a>(alloc: Global, texts: &'a Texts) -> Result<Command<'a>>
     ensures { IfOk result (IsApp tftpd_app) }
 {
     let command = bare_command(alloc)?;
-    let command = with_places(alloc, command)?;
+    let command = with_folder_and_ports(alloc, command)?;
     let command = with_limits(alloc, command, texts)?;
     let command = with_writes(alloc, command)?;
     let command = with_ending(alloc, command)?;
@@ -440,8 +449,8 @@ fn option<'a>(alloc: Global, name: &'a str, value: &'a str, help: &'a str) -> Ar
 }
 
 /// Adds the folder, the address of the request port and the ports of transfers.
-fn with_places<'a>(alloc: Global, command: Command<'a>) -> Result<Command<'a>>
-    ensures { (app : App) → IsApp app command.entry → IfOk result (IsApp (with_places app)) }
+fn with_folder_and_ports<'a>(alloc: Global, command: Command<'a>) -> Result<Command<'a>>
+    ensures { (app : App) → IsApp app command.entry → IfOk result (IsApp (with_folder_and_ports app)) }
 {
     let root = word(alloc, "ROOT", "The folder whose files are served");
     let command = command.arg(root)?;

@@ -48,14 +48,14 @@ pub(crate) struct DaemonConfig<'a> {
     /// Whether there is a log.
     pub(crate) logs: bool,
     /// How many servers there are, and which this is.
-    pub(crate) place: Place,
+    pub(crate) instance: Instance,
     /// Whether a warning of the log begins with its priority.
     pub(crate) has_priority: bool,
 }
 
 /// How many servers a command line starts, and which of several it is.
 #[derive(Clone, Copy)]
-pub(crate) struct Place {
+pub(crate) struct Instance {
     /// The number of servers that are to start.
     pub(crate) servers: u8,
     /// Which of several servers this is, counted from 1, if it is one of several.
@@ -121,7 +121,7 @@ pub(crate) fn serve<R: Files + Clone + Drop + ServerUdp + Clock + Print + Eprint
         ⟦<FolderSource<R::File> as Source>⟧.meaning config.now (status_of result.0) journal.events
         result.1.events }
 {
-    if config.place.servers > 1 {
+    if config.instance.servers > 1 {
         return (supervise_checked(rt, alloc, config, input), journal);
     }
     serve_alone(rt, alloc, config, input, journal)
@@ -151,7 +151,7 @@ fn serve_alone<R: Files + Clone + Drop + ServerUdp + Clock + Print + Eprint>(
     journal: Journal,
 ) -> (Result<(), DaemonFault>, Journal)
     requires valid { IsConfig config.now.config }
-    requires alone { config.now.place.servers ≤ 1 }
+    requires alone { config.now.instance.servers ≤ 1 }
     ensures status { status_of result.0 ≤ 2 }
     ensures runs { MayServe ⟦<FolderStore<R> as Store>⟧.meaning
         ⟦<FolderSource<R::File> as Source>⟧.meaning config.now (status_of result.0) journal.events
@@ -175,7 +175,7 @@ fn serve_handed<R: Files + Clone + Drop + ServerUdp + Clock + Print + Eprint>(
     journal: Journal,
 ) -> (Result<(), DaemonFault>, Journal)
     requires valid { IsConfig config.now.config }
-    requires alone { config.now.place.servers ≤ 1 }
+    requires alone { config.now.instance.servers ≤ 1 }
     requires handed { config.now.listen ≡ Listen.Handed }
     ensures status { status_of result.0 ≤ 2 }
     ensures runs { MayServe ⟦<FolderStore<R> as Store>⟧.meaning
@@ -204,7 +204,7 @@ fn handed_udp<'a, N: ServerUdp>(
     config: &DaemonConfig<'_>,
     socket: HandedSocket,
 ) -> io::Result<HandedUdp<'a, N>> {
-    match config.place.server {
+    match config.instance.server {
         Some(server) => HandedUdp::one_of_several(rt, alloc, socket, server),
         None => Ok(HandedUdp::new(rt, socket)),
     }
@@ -220,7 +220,7 @@ fn serve_at<N: ServerUdp + Clock + Print + Eprint, R: Files + Clone + Drop>(
     journal: Journal,
 ) -> (Result<(), DaemonFault>, Journal)
     requires valid { IsConfig config.now.config }
-    requires alone { config.now.place.servers ≤ 1 }
+    requires alone { config.now.instance.servers ≤ 1 }
     requires listens { ListensAt config.now.listen at }
     ensures status { status_of result.0 ≤ 2 }
     ensures runs { MayServe ⟦<FolderStore<R> as Store>⟧.meaning

@@ -1,10 +1,11 @@
 //! Runs `tftpd` by a command line.
 
-ghost use Rattle.std.specs.Prelude.{◌≡◌, ◌≤◌, map, IfOk, IfErr};
+ghost use Rattle.std.specs.Prelude.{◌≡◌, ◌≤◌, map};
 ghost use Rattle.tftp_server.specs.Config.{IsConfig};
+ghost use Rattle.tftp_daemon.specs.CommandLine.{IfExit, IfRun};
 ghost use Rattle.tftp_daemon.specs.Configured.{MayServe, ServesWords, status_of};
 
-use crate::command_line::{Asked, Texts, read_words};
+use crate::command_line::{CommandLine, Texts, read_words};
 use crate::daemon::{DaemonConfig, DaemonFault, serve};
 use crate::error_output::ErrorOutput;
 use crate::shown::Shown;
@@ -101,31 +102,31 @@ fn serve_texts<
         journal.events result.1.events }
 {
     match read_words(rt, alloc, texts, words, errors) {
-        Ok(asked) => serve_asked(rt, alloc, &asked, input, journal),
+        Ok(line) => serve_command_line(rt, alloc, &line, input, journal),
         Err(_) => (print_no_memory(rt, "tftpd"), journal),
     }
 }
 
-/// Serves by the words read.
-fn serve_asked<R: Files + Clone + Drop + ServerUdp + Clock + Print + Eprint + Supervise>(
+/// Does what the command line has the program do.
+fn serve_command_line<R: Files + Clone + Drop + ServerUdp + Clock + Print + Eprint + Supervise>(
     rt: &R,
     alloc: Global,
-    asked: &Asked<'_>,
+    line: &CommandLine<'_>,
     input: Input,
     journal: Journal,
 ) -> (u8, Journal)
-    requires config { IfOk asked.now (λ config. IsConfig config.config) }
-    requires status { IfErr asked.now (λ status. status ≤ 2) }
+    requires config { IfRun line.now (λ config. IsConfig config.config) }
+    requires status { IfExit line.now (λ status. status ≤ 2) }
     ensures status { result.0 ≤ 2 }
-    ensures same { IfErr asked.now (λ status. result.0 ≡ status) }
-    ensures runs { IfOk asked.now (λ config. MayServe ⟦<FolderStore<R> as Store>⟧.meaning
+    ensures same { IfExit line.now (λ status. result.0 ≡ status) }
+    ensures runs { IfRun line.now (λ config. MayServe ⟦<FolderStore<R> as Store>⟧.meaning
         ⟦<FolderSource<R::File> as Source>⟧.meaning config result.0 journal.events
         result.1.events) }
-    ensures none { IfErr asked.now (λ _. result.1.events ≡ journal.events) }
+    ensures none { IfExit line.now (λ _. result.1.events ≡ journal.events) }
 {
-    match asked {
-        Ok(config) => serve_config(rt, alloc, config, input, journal),
-        Err(status) => (*status, journal),
+    match line {
+        CommandLine::Run(config) => serve_config(rt, alloc, config, input, journal),
+        CommandLine::Exit(status) => (*status, journal),
     }
 }
 
@@ -166,7 +167,7 @@ fn report<R: Eprint>(
 
 /// Prints a fault. A second line has what was refused, and why, if that is known.
 fn print_fault<R: Eprint>(rt: &R, config: &DaemonConfig<'_>, fault: DaemonFault) -> io::Result<()> {
-    match config.place.server {
+    match config.instance.server {
         Some(server) => eprintln!(rt; "server {server}: {}", first_line(fault))?,
         None => rt.eprintln(first_line(fault))?,
     }

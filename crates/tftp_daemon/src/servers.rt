@@ -3,7 +3,7 @@
 ghost use Rattle.std.specs.Prelude.{◌≡◌, map, option_map, Some, IfOk, IfSome, IsTrue};
 ghost use Rattle.tftp_daemon.specs.Servers.{IsPart, IsServer, NamesServerOf, PartOf, start_of};
 
-use crate::command_line::{Texts, read_words};
+use crate::command_line::{CommandLine, Texts, read_words};
 use crate::daemon::{DaemonConfig, DaemonFault};
 use crate::error_output::ErrorOutput;
 use crate::listen::Listen;
@@ -69,7 +69,7 @@ fn command_lines<P: Print + Eprint>(
 ) -> Result<Vec<Vec<String>>, DaemonFault> {
     let texts = Texts::new(alloc)?;
     let mut lines = Vec::new(alloc);
-    for server in 1..=config.place.servers {
+    for server in 1..=config.instance.servers {
         let line = command_line_of(rt, alloc, &texts, config, server)?;
         if lines.push(line).is_err() {
             return Err(DaemonFault::Memory);
@@ -110,7 +110,7 @@ fn names<P: Print + Eprint>(
         (map ⟦<String as AsStr>⟧.text words.now) }
 {
     match read_words(rt, alloc, texts, words, ErrorOutput::Other) {
-        Ok(Ok(own)) => is_server(&own, config, server),
+        Ok(CommandLine::Run(own)) => is_server(&own, config, server),
         _ => false,
     }
 }
@@ -162,7 +162,7 @@ fn add_ports(
     let Some(range) = config.ports else {
         return Ok(());
     };
-    match part_of(range, config.place.servers, server) {
+    match part_of(range, config.instance.servers, server) {
         Some(part) => {
             let (first, last) = (part.first, part.last);
             add(words, format!(in alloc; "--ports={first}:{last}")?)
@@ -209,23 +209,23 @@ fn add_writes(
 fn is_server(own: &DaemonConfig<'_>, config: &DaemonConfig<'_>, server: u8) -> bool
     ensures { IsTrue result → IsServer config.now server own.now }
 {
-    if !is_place(own, server) || !has_same_paths(own, config) {
+    if !is_instance(own, server) || !has_same_paths(own, config) {
         return false;
     }
     if !has_same_settings(own, config) || !has_same_end(own, config) {
         return false;
     }
-    has_part(own.ports, config.ports, config.place.servers, server)
+    has_part(own.ports, config.ports, config.instance.servers, server)
 }
 
 /// Whether this is the configuration of this server of several.
-fn is_place(own: &DaemonConfig<'_>, server: u8) -> bool
+fn is_instance(own: &DaemonConfig<'_>, server: u8) -> bool
     ensures listen { IsTrue result → own.now.listen ≡ Listen.Handed }
-    ensures servers { IsTrue result → own.now.place.servers ≡ 1 }
-    ensures server { IsTrue result → own.now.place.server ≡ Some server }
+    ensures servers { IsTrue result → own.now.instance.servers ≡ 1 }
+    ensures server { IsTrue result → own.now.instance.server ≡ Some server }
 {
-    match own.place.server {
-        Some(place) => is_handed(own.listen) && own.place.servers == 1 && place == server,
+    match own.instance.server {
+        Some(number) => is_handed(own.listen) && own.instance.servers == 1 && number == server,
         None => false,
     }
 }

@@ -4,6 +4,6 @@ use Rattle.tftp_daemon.proofs.command_line.command.Goals as goal
 
 pub returns : goal.returns
 returns c =
-    let places = c.in_ok-command-2.ensures _ c.in_ok-command.ensures in
-    let writes = c.in_ok-command-4.ensures _ (c.in_ok-command-3.ensures _ places) in
+    let ports = c.in_ok-command-2.ensures _ c.in_ok-command.ensures in
+    let writes = c.in_ok-command-4.ensures _ (c.in_ok-command-3.ensures _ ports) in
     commands_grow.adds (c.in_ok-command-6.ensures _ (c.in_ok-command-5.ensures _ writes)) c.flag-log.ensures c.in_ok-arg.ensures

@@ -1,6 +1,6 @@
 -- Argument by argument.
 use Rattle.tftp_arguments.proofs.Commands.{commands_grow}
-use Rattle.tftp_daemon.proofs.command_line.with_places.Goals as goal
+use Rattle.tftp_daemon.proofs.command_line.with_folder_and_ports.Goals as goal
 
 pub returns : goal.returns
 returns c app is =

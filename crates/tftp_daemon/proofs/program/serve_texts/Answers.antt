@@ -5,5 +5,5 @@ use Rattle.tftp_daemon.proofs.program.serve_texts.Goals as goal
 
 pub returns-in-Ok-clause-runs : goal.returns-in-Ok-clause-runs
 returns-in-Ok-clause-runs g c =
-    serves_words (map g.S.AsStr.text c.args.words.now) c.in-Ok.asked c.in-Ok.ensures.names c.in-Ok.ensures.text
-    c.serve_asked.ensures.runs c.serve_asked.ensures.none c.serve_asked.ensures.same
+    serves_words (map g.S.AsStr.text c.args.words.now) c.in-Ok.line c.in-Ok.ensures.names c.in-Ok.ensures.text
+    c.serve_command_line.ensures.runs c.serve_command_line.ensures.none c.serve_command_line.ensures.same
