@@ -74,7 +74,8 @@ bare_app = on_top (λ top. record top { has_version = true }) (new_app (codes "t
 -- `tftpd`
 abbrev pub tftpd_app : App
 tftpd_app =
-    with_rule (with_servers (with_ending (with_writes (with_limits (with_folder_and_ports bare_app)))))
+    with_rule
+    (with_servers (with_ending (with_writes (with_limits (with_folder_and_ports bare_app)))))
     (flag_rule (codes "log"))
 
 -- ---- the configuration

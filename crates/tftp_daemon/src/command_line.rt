@@ -450,7 +450,8 @@ fn option<'a>(alloc: Global, name: &'a str, value: &'a str, help: &'a str) -> Ar
 
 /// Adds the folder, the address of the request port and the ports of transfers.
 fn with_folder_and_ports<'a>(alloc: Global, command: Command<'a>) -> Result<Command<'a>>
-    ensures { (app : App) → IsApp app command.entry → IfOk result (IsApp (with_folder_and_ports app)) }
+    ensures { (app : App) → IsApp app command.entry
+        → IfOk result (IsApp (with_folder_and_ports app)) }
 {
     let root = word(alloc, "ROOT", "The folder whose files are served");
     let command = command.arg(root)?;
