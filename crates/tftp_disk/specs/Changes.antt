@@ -1,7 +1,6 @@
 -- The calls of a disk journal that change something of the disk (ours).
-use Rattle.std.specs.Prelude.{ℕ, ◌≡◌, ◌⊎◌, ⊤, List, [], ◌∷◌, Option, Some, None, Ok, Err}
+use Rattle.std.specs.Prelude.{◌≡◌, ◌⊎◌, ⊤, List, [], ◌∷◌, Ok, Err}
 use Rattle.std.specs.IoError.{error_kind}
-use Rattle.std.specs.declared.io.Error.{Error}
 use Rattle.std.specs.declared.io.ErrorKind.TheVariants as kinds
 use Rattle.tftp_disk.specs.DiskJournal.{DiskEvent, Done}
 use Rattle.tftp_disk.specs.DiskJournal.DiskEvent.{Made, Linked, Renamed, Removed}

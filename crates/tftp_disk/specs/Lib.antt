@@ -3,7 +3,11 @@ pub mod Changes
 pub mod DiskEventRef
 pub mod DiskFault
 pub mod DiskJournal
+pub mod DiskSource
+pub mod DiskSourceLaws
 pub mod DiskWriter
 pub mod Folder
 pub mod Found
+pub mod Given
 pub mod NamedFolder
+pub mod ReadBuffer

@@ -7,16 +7,20 @@
 //! Begin with [`DiskFile`], an open file with the journal of its calls.
 #![tactic(auto)]
 
+mod ahead_buffer;
 mod calls;
 mod disk;
 mod disk_event_ref;
 mod disk_journal;
+mod disk_source;
 mod disk_writer;
 mod error_keeper;
 mod existing;
 mod folder;
 mod found;
+pub mod laws;
 mod named_folder;
+mod read_buffer;
 
 pub use calls::{
     DiskFile, DiskFolder, follow, link, look, make, open, open_folder, remove, rename, resolve,
@@ -24,6 +28,7 @@ pub use calls::{
 };
 pub use disk::{check_length, length_on_wire, name_fault, open_fault, write_fault};
 pub use disk_journal::DiskJournal;
+pub use disk_source::DiskSource;
 pub use disk_writer::{DiskWriter, write_buffer};
 pub use error_keeper::ErrorKeeper;
 pub use existing::Existing;

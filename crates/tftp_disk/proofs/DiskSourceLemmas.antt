@@ -1,0 +1,240 @@
+-- What a source moves from its file and its buffer.
+use Rattle.std.proofs.Common.{◌≡◌, ◌≤◌, ◌<◌, ℕ, ◌+◌, Bool, true, false, ◌==◌, if◌then◌else◌, List, [], ◌∷◌, ◌++◌, length, take, drop}
+use Rattle.std.proofs.Common.{Option, Some, None, IsSome, is_some, sym, ap, ◌∙◌, refl, subst, arith, append-nil, append_assoc, length-append, length-drop, length-take-le, take-append-drop}
+use Rattle.std.proofs.lemmas.Grind.{flat_map-append}
+use Rattle.std.proofs.lemmas.List.{drop_all, drop_at, take_at}
+use Rattle.std.proofs.Math.Seq.{take-add}
+use Rattle.tftp_wire.specs.declared.mode.Mode.{Mode}
+use Rattle.tftp_wire.specs.declared.mode.Mode.TheVariants as mode
+use Rattle.tftp_file.specs.Netascii.{wire_byte, wire_text, netascii_text}
+use Rattle.tftp_disk.specs.DiskJournal.{DiskEvent}
+use Rattle.tftp_disk.specs.DiskJournal.DiskEvent.{Given}
+use Rattle.tftp_disk.specs.Given.{Reads}
+use Rattle.tftp_disk.specs.DiskSource.{pending, source_calls, source_mode, AppendsRead, GivesPiece, HoldsAhead, Passes}
+use Rattle.tftp_disk.specs.declared.calls.DiskFile.{DiskFile}
+use Rattle.tftp_disk.specs.declared.disk_source.DiskSource.{DiskSource}
+use Rattle.std.specs.declared.io.Error.{Error}
+use Rattle.tftp_disk.specs.ReadBuffer.{ReadsSome, Refills}
+use Rattle.tftp_disk.specs.DiskSourceLaws.{no_text}
+use Rattle.tftp_disk.proofs.ReadLemmas.{no_length, reads_given, reads_more, reads_nothing}
+
+-- a read behind what a buffer had, which is then cut after the bytes that were read
+pub appends_read : (before after : List DiskEvent) (old zeros resized lent items full new : List ℕ) (start n : ℕ)
+    → start ≡ length old → resized ≡ old ++ zeros → lent ≡ resized → take start full ≡ take start lent
+    → start + n ≤ length full → items ≡ full → new ≡ take (start + n) items
+    → after ≡ Given (take n (drop start full)) ∷ before → AppendsRead before after old new n
+appends_read before after old zeros resized lent items full new start n at grown same kept within is cut noted =
+    let bytes = take n (drop start full) in
+    let front : take start full ≡ old = kept ∙ ap (take start) (same ∙ grown) ∙ take_at old zeros start (sym at) in
+    record {
+      bytes = bytes;
+      noted = noted;
+      appended = cut ∙ ap (take (start + n)) is ∙ take-add start n full ∙ ap (λ l. l ++ bytes) front;
+      long = length-take-le n (drop start full) (omega (arith, length-drop start full));
+    }
+
+pair_long : (is_end is_return : Bool) (b : ℕ)
+    → 0 < length (if is_end then 13 ∷ 10 ∷ [] else if is_return then 13 ∷ 0 ∷ [] else b ∷ [])
+pair_long true is_return b = omega arith
+pair_long false true b = omega arith
+pair_long false false b = omega arith
+
+-- bytes that have no wire text are none
+pub no_lines : (bytes : List ℕ) → netascii_text bytes ≡ [] → bytes ≡ []
+no_lines [] none = refl
+no_lines (x ∷ xs) none =
+    let long = pair_long (x == 10) (x == 13) x in
+    let both = length-append (wire_byte x) (netascii_text xs) in
+    let empty = ap length none in
+    absurd (omega (arith, long, both, empty))
+
+-- the wire text of two pieces
+pub wire_more : (mode : Mode) (xs ys : List ℕ) → wire_text mode (xs ++ ys) ≡ wire_text mode xs ++ wire_text mode ys
+wire_more mode.Octet xs ys = refl
+wire_more mode.Netascii xs ys = flat_map-append wire_byte xs ys
+
+-- nothing is moved
+pub passes_nothing : (mode : Mode) (left : List ℕ) (events : List DiskEvent) (old new : List ℕ) → new ≡ old
+    → Passes mode left left events events old new 0
+passes_nothing mode left events old new same = record {
+  bytes = [];
+  reads = reads_nothing events;
+  piece = [];
+  appended = same ∙ sym (append-nil old);
+  long = refl;
+  text = no_text mode left;
+}
+
+-- one piece is moved after another
+pub passes_more : (mode : Mode) (a b c : List ℕ) (before between after : List DiskEvent) (old mid new : List ℕ)
+    (m n : ℕ) → Passes mode a b before between old mid m → Passes mode b c between after mid new n
+    → Passes mode a c before after old new (m + n)
+passes_more mode a b c before between after old mid new m n p q = record {
+  bytes = p.bytes ++ q.bytes;
+  reads = reads_more before between after p.bytes q.bytes p.reads q.reads;
+  piece = p.piece ++ q.piece;
+  appended = q.appended ∙ ap (λ l. l ++ q.piece) p.appended ∙ append_assoc old p.piece q.piece;
+  long = let both = length-append p.piece q.piece in let first = p.long in let second = q.long in omega arith;
+  text =
+      ap (λ l. a ++ l) (wire_more mode p.bytes q.bytes)
+      ∙ sym (append_assoc a (wire_text mode p.bytes) (wire_text mode q.bytes))
+      ∙ ap (λ l. l ++ wire_text mode q.bytes) p.text
+      ∙ append_assoc p.piece b (wire_text mode q.bytes)
+      ∙ ap (λ l. p.piece ++ l) q.text ∙ sym (append_assoc p.piece q.piece c);
+}
+
+-- and nothing after it
+pub passes_end : (mode : Mode) (a b c : List ℕ) (before between after : List DiskEvent) (old mid new : List ℕ)
+    (m n : ℕ) → Passes mode a b before between old mid m → Passes mode b c between after mid new n → n ≡ 0
+    → Passes mode a c before after old new m
+passes_end mode a b c before between after old mid new m n p q none =
+    let same : m + n ≡ m = omega arith in
+    subst (λ (k : ℕ). Passes mode a c before after old new k) same
+    (passes_more mode a b c before between after old mid new m n p q)
+
+-- some of what a buffer has is moved, after a read if it had nothing
+pub passes_buffered : (mode : Mode) (left refilled left_after : List ℕ) (before after : List DiskEvent)
+    (old new : List ℕ) (n : ℕ) → Refills mode before after left refilled → n ≤ length refilled
+    → new ≡ old ++ take n refilled → left_after ≡ drop n refilled → Passes mode left left_after before after old new n
+passes_buffered mode left refilled left_after before after old new n more enough appended rest = record {
+  bytes = more.bytes;
+  reads = more.reads;
+  piece = take n refilled;
+  appended = appended;
+  long = length-take-le n refilled enough;
+  text = sym more.added ∙ sym (take-append-drop n refilled) ∙ ap (λ l. take n refilled ++ l) (sym rest);
+}
+
+-- a read that bypasses an empty buffer
+pub passes_read : (left left_after : List ℕ) (before after : List DiskEvent) (old new : List ℕ) (n : ℕ) → left ≡ []
+    → left_after ≡ left → AppendsRead before after old new n → Passes mode.Octet left left_after before after old new n
+passes_read left left_after before after old new n empty same read = record {
+  bytes = read.bytes;
+  reads = reads_given before after read.bytes read.noted;
+  piece = read.bytes;
+  appended = read.appended;
+  long = read.long;
+  text = ap (λ l. l ++ read.bytes) empty ∙ sym (ap (λ l. read.bytes ++ l) (same ∙ empty) ∙ append-nil read.bytes);
+}
+
+-- with nothing read ahead, what is moved follows it
+pub passes_none_ahead : (mode : Mode) (ahead ahead_after a b : List ℕ) (before after : List DiskEvent)
+    (old new : List ℕ) (n : ℕ) → ahead ≡ [] → ahead_after ≡ ahead → Passes mode a b before after old new n
+    → Passes mode (ahead ++ a) (ahead_after ++ b) before after old new n
+passes_none_ahead mode ahead ahead_after a b before after old new n empty same p =
+    let first : ahead ++ a ≡ a = ap (λ l. l ++ a) empty in
+    let last : ahead_after ++ b ≡ b = ap (λ l. l ++ b) (same ∙ empty) in
+    subst (λ (l : List ℕ). Passes mode l (ahead_after ++ b) before after old new n) (sym first)
+    (subst (λ (l : List ℕ). Passes mode a l before after old new n) (sym last) p)
+
+-- some of what was read ahead is moved
+pub passes_ahead : (mode : Mode) (ahead rest a : List ℕ) (events : List DiskEvent) (old new : List ℕ) (want : ℕ)
+    → want ≤ length ahead → new ≡ old ++ take want ahead → rest ≡ drop want ahead
+    → Passes mode (ahead ++ a) (rest ++ a) events events old new want
+passes_ahead mode ahead rest a events old new want enough appended left = record {
+  bytes = [];
+  reads = reads_nothing events;
+  piece = take want ahead;
+  appended = appended;
+  long = length-take-le want ahead enough;
+  text =
+      no_text mode (ahead ++ a) ∙ ap (λ l. l ++ a) (sym (take-append-drop want ahead))
+      ∙ append_assoc (take want ahead) (drop want ahead) a
+      ∙ ap (λ l. take want ahead ++ (l ++ a)) (sym left);
+}
+
+-- all that was read ahead is moved, and then what follows it
+pub passes_after : (mode : Mode) (ahead ahead_after a b : List ℕ) (before after : List DiskEvent)
+    (old mid new : List ℕ) (n : ℕ) → ahead_after ≡ [] → mid ≡ old ++ ahead → Passes mode a b before after mid new n
+    → Passes mode (ahead ++ a) (ahead_after ++ b) before after old new (length ahead + n)
+passes_after mode ahead ahead_after a b before after old mid new n empty begun p = record {
+  bytes = p.bytes;
+  reads = p.reads;
+  piece = ahead ++ p.piece;
+  appended = p.appended ∙ ap (λ l. l ++ p.piece) begun ∙ append_assoc old ahead p.piece;
+  long = let both = length-append ahead p.piece in let rest = p.long in omega arith;
+  text =
+      append_assoc ahead a (wire_text mode p.bytes) ∙ ap (λ l. ahead ++ l) p.text
+      ∙ sym (append_assoc ahead p.piece b)
+      ∙ ap (λ l. (ahead ++ p.piece) ++ (l ++ b)) (sym empty);
+}
+
+-- what is moved behind the space for a header is read ahead
+pub holds_passed : (mode : Mode) (a b : List ℕ) (before after : List DiskEvent) (old new : List ℕ) (n at : ℕ)
+    → at ≡ length old → Passes mode a b before after old new n → HoldsAhead mode a (drop at new) b before after
+holds_passed mode a b before after old new n at start p = record {
+  bytes = p.bytes;
+  reads = p.reads;
+  text = p.text ∙ ap (λ l. l ++ b) (sym (ap (drop at) p.appended ∙ drop_at old p.piece at (sym start)));
+}
+
+-- nothing is read ahead
+pub holds_nothing : (mode : Mode) (a b ahead : List ℕ) (before after : List DiskEvent) → b ≡ a → after ≡ before
+    → ahead ≡ [] → HoldsAhead mode a ahead b before after
+holds_nothing mode a b ahead before after same unread empty = record {
+  bytes = [];
+  reads = subst (λ (events : List DiskEvent). Reads before events []) (sym unread) (reads_nothing before);
+  text = no_text mode a ∙ sym same ∙ ap (λ l. l ++ b) (sym empty);
+}
+
+no_error : (error : Option Error) → is_some error ≡ false → error ≡ None
+no_error None none = refl
+no_error (Some error) none = absurd cc
+
+module _ {F : Type 0} where
+  -- a call that changes nothing gives nothing
+  pub gives_unmoved : (before after : DiskSource F) (old new : List ℕ) → after.file ≡ before.file
+      → after.buffer ≡ before.buffer → after.ahead ≡ before.ahead → after.mode ≡ before.mode
+      → after.error ≡ before.error → new ≡ old → GivesPiece before (drop (length old) new) after
+  gives_unmoved before after old new file buffer ahead same_mode error same =
+      let none : drop (length old) new ≡ [] = ap (drop (length old)) same ∙ drop_all (length old) old (omega arith) in
+      let left : pending before ≡ pending after =
+      ap (λ l. l ++ before.buffer) (sym ahead) ∙ ap (λ l. after.ahead ++ l) (sym buffer) in
+      record {
+        mode = same_mode;
+        bytes = [];
+        reads =
+            subst (λ (events : List DiskEvent). Reads (source_calls before) events [])
+            (sym (ap (λ (f : DiskFile F). f.journal.events) file)) (reads_nothing (source_calls before));
+        text = λ sound. (
+          sym error ∙ sound,
+          no_text (source_mode before) (pending before) ∙ left ∙ ap (λ l. l ++ pending after) (sym none),
+        );
+        none = λ failed. none;
+      }
+
+  ahead_by : (before after : DiskSource F) → before.ahead ≡ [] → after.mode ≡ before.mode → before.error ≡ None
+      → (after.error ≡ None
+      → HoldsAhead before.mode before.buffer after.ahead after.buffer (source_calls before) (source_calls after))
+      → (IsSome after.error → ReadsSome (source_calls before) (source_calls after))
+      → (error : Option Error) → after.error ≡ error → GivesPiece before [] after
+  ahead_by before after empty same_mode sound holds failed None is =
+      let held = holds is in
+      record {
+        mode = same_mode;
+        bytes = held.bytes;
+        reads = held.reads;
+        text = λ still.
+            (sound, ap (λ l. (l ++ before.buffer) ++ wire_text before.mode held.bytes) empty ∙ held.text);
+        none = λ some. refl;
+      }
+  ahead_by before after empty same_mode sound holds failed (Some error) is =
+      let some : IsSome after.error = ap is_some is in
+      let reads = failed some in
+      record {
+        mode = same_mode;
+        bytes = reads.0;
+        reads = reads.1;
+        text = λ still. absurd (let differ : Some error ≡ None = sym is ∙ still in cc);
+        none = λ some. refl;
+      }
+
+  -- a read ahead gives nothing
+  pub gives_ahead : (before after : DiskSource F) → length before.ahead ≤ 0 → after.mode ≡ before.mode
+      → is_some before.error ≡ false
+      → (after.error ≡ None
+      → HoldsAhead before.mode before.buffer after.ahead after.buffer (source_calls before) (source_calls after))
+      → (IsSome after.error → ReadsSome (source_calls before) (source_calls after)) → GivesPiece before [] after
+  gives_ahead before after empty same_mode sound holds failed =
+      ahead_by before after (no_length before.ahead empty) same_mode (no_error before.error sound) holds failed
+      after.error refl

@@ -1,0 +1,3 @@
+pub mod DiskSourceLemmas
+pub mod GivenLemmas
+pub mod ReadLemmas

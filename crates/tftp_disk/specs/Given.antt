@@ -1,0 +1,43 @@
+-- What an open file is, and what was read of it, by the calls on it (ours).
+use Rattle.std.specs.Prelude.{ℕ, ◌≡◌, Bool, false, ◌==◌, if◌then◌else◌, List, [], ◌∷◌, ◌++◌, Option}
+use Rattle.std.specs.Prelude.{Some, None, Ok}
+use Rattle.std.specs.declared.io.SeekFrom.{SeekFrom}
+use Rattle.std.specs.declared.io.SeekFrom.TheVariants.{Start}
+use Rattle.tftp_disk.specs.DiskJournal.{DiskEvent}
+use Rattle.tftp_disk.specs.DiskJournal.DiskEvent.{Opened, Examined, Given, Sought}
+use Rattle.tftp_disk.specs.declared.found.Found.{Found}
+
+-- the path of the open file of these calls
+abbrev pub opened_at : List DiskEvent → Option (List ℕ)
+opened_at [] = None
+opened_at (Opened path (Ok done) ∷ events) = Some path
+opened_at (event ∷ events) = opened_at events
+
+-- what the system said of it at the newest look
+abbrev pub examined : List DiskEvent → Option Found
+examined [] = None
+examined (Examined (Ok found) ∷ events) = Some found
+examined (event ∷ events) = examined events
+
+-- the next read is to begin at the first byte
+abbrev pub is_rewind : SeekFrom → Bool
+is_rewind (Start place) = place == 0
+is_rewind to = false
+
+-- the bytes that were read of it, in order, since its opening or its newest rewind
+abbrev pub given : List DiskEvent → List ℕ
+given [] = []
+given (Opened path (Ok done) ∷ events) = []
+given (Given bytes ∷ events) = given events ++ bytes
+given (Sought to (Ok place) ∷ events) = if is_rewind to then [] else given events
+given (event ∷ events) = given events
+
+-- the newest call is a read that returned no byte
+abbrev pub IsAtEnd : List DiskEvent → Type 0
+IsAtEnd events = (before : List DiskEvent) × (events ≡ Given [] ∷ before)
+
+-- calls on an open file that read these bytes: the file is the same, and what was said of it too
+pub record Reads (before after : List DiskEvent) (bytes : List ℕ) : Type 0 where
+  pub place : opened_at after ≡ opened_at before
+  pub found : examined after ≡ examined before
+  pub more : given after ≡ given before ++ bytes

@@ -1,0 +1,367 @@
+//! The source of a file: the wire text of what its reads return, in order.
+
+ghost use Rattle.std.specs.Prelude.{◌≡◌, ◌≤◌, ◌<◌, ◌+◌, ◌++◌, [], Ok, Err, IfOk, OnErr, ◌∷◌};
+ghost use Rattle.std.specs.Prelude.{length, take, drop, replicate, vec_len, vec_capacity};
+ghost use Rattle.tftp_disk.specs.DiskJournal.DiskEvent.{Given};
+ghost use Rattle.tftp_disk.specs.Given.{Reads, IsAtEnd};
+ghost use Rattle.tftp_disk.specs.ReadBuffer.{ReadsSome};
+ghost use Rattle.tftp_disk.specs.DiskSource.{Passes, AppendsRead, IsUnread};
+ghost use Rattle.tftp_disk.specs.DiskSource.{source_calls, source_error};
+ghost use Rattle.tftp_wire.specs.declared.mode.Mode.TheVariants.{Octet};
+
+use crate::ahead_buffer::AheadBuffer;
+use crate::calls::DiskFile;
+use crate::read_buffer::ReadBuffer;
+use std::alloc::{AllocError, Global};
+use std::io::{self, Read};
+use tftp_file::{FileFault, Source};
+use tftp_wire::Mode;
+
+/// A source of the wire text of a file's bytes, which are read once, in order.
+///
+/// It has a buffer. In octet a fill that requests at least its capacity bypasses it, and the file is
+/// read into the buffer of the fill. Between fills it can read ahead as many bytes as the last one
+/// requested. If a read fails, for any reason, the fill returns `Read`, as does each after it.
+#[derive(Drop)]
+pub struct DiskSource<F> {
+    file: DiskFile<F>,
+    buffer: ReadBuffer,
+    ahead: AheadBuffer,
+    mode: Mode,
+    /// The number of bytes that the last fill requested.
+    size: usize,
+    /// The error of the read that failed.
+    error: Option<io::Error>,
+}
+
+impl<F: Drop> DiskSource<F> {
+    /// A source of what is next read of the file, with a buffer for reads of so many bytes, at least
+    /// one. Reads nothing.
+    pub fn new(
+        alloc: Global,
+        file: DiskFile<F>,
+        mode: Mode,
+        capacity: usize,
+    ) -> Result<DiskSource<F>, AllocError>
+        ensures unread { IfOk result (IsUnread mode) }
+        ensures calls { IfOk result (λ source. source_calls source ≡ file.journal.events) }
+    {
+        Ok(DiskSource {
+            file,
+            buffer: ReadBuffer::new(alloc, mode, capacity.max(1))?,
+            ahead: AheadBuffer::new(alloc),
+            mode,
+            size: 0,
+            error: None,
+        })
+    }
+
+    /// The error of the read that failed, if one did.
+    pub fn error(&self) -> Option<io::Error>
+        ensures { result ≡ source_error self.now }
+    {
+        self.error
+    }
+}
+
+impl<F: Read> Source for DiskSource<F> {
+    ghost use Rattle.std.specs.Prelude.{None, IsSome, ⊤};
+    ghost use Rattle.tftp_disk.specs.DiskSource.{GivesPiece, source_error};
+    ghost use Rattle.tftp_disk.specs.DiskSourceLaws.{gives_nothing};
+
+    ghost meaning = { record {
+      left = λ _. None;
+      may_fail = λ _ _. ⊤;
+      fails = λ source _. IsSome (source_error source);
+      gives = GivesPiece;
+      opens = λ _ _ _ _. ⊤;
+    } };
+
+    /// Always true: it constrains nothing.
+    ghost is_same = { λ _ _. ⊤ };
+
+    ghost stays = { λ _. tt };
+
+    ghost joins = { λ _ _ _ _ _. tt };
+
+    ghost unmoved = { gives_nothing };
+
+    fn fill(&mut self, want: usize, out: &mut Vec<u8>) -> Result<usize, FileFault> {
+        if self.error.is_some() {
+            return Err(FileFault::Read);
+        }
+        self.size = want;
+        match fill_ahead(
+            &mut self.ahead,
+            &mut self.file,
+            &mut self.buffer,
+            self.mode,
+            want,
+            out,
+        ) {
+            Ok(count) => Ok(count),
+            Err(Failure::Memory) => Err(FileFault::Memory),
+            Err(Failure::Read(error)) => {
+                self.error = Some(error);
+                Err(FileFault::Read)
+            }
+        }
+    }
+
+    fn read_ahead(&mut self) {
+        if self.error.is_some() || self.size == 0 || self.ahead.len() > 0 {
+            return;
+        }
+        self.error = self
+            .ahead
+            .read(&mut self.file, &mut self.buffer, self.mode, self.size);
+    }
+}
+
+/// Why a fill failed.
+#[derive(Drop)]
+pub(crate) enum Failure {
+    /// There is no memory for what it requests.
+    Memory,
+    /// A read failed.
+    Read(io::Error),
+}
+
+/// Moves so many bytes of wire text, or as many as are left: first what was read ahead.
+fn fill_ahead<F: Read>(
+    ahead: &mut AheadBuffer,
+    file: &mut DiskFile<F>,
+    buffer: &mut ReadBuffer,
+    mode: Mode,
+    want: usize,
+    out: &mut Vec<u8>,
+) -> Result<usize, Failure>
+    ensures ok { IfOk result (Passes mode (ahead.old ++ buffer.old) (ahead.new ++ buffer.new)
+        file.old.journal.events file.new.journal.events out.old.items out.new.items) }
+    ensures bound { IfOk result (λ n. n ≤ want) }
+    ensures end { IfOk result (λ n. n < want → IsAtEnd file.new.journal.events) }
+    ensures capacity { vec_capacity out.old ≤ vec_capacity out.new }
+    ensures err { OnErr result (out.new.items ≡ out.old.items) }
+    ensures failed { OnErr result (ReadsSome file.old.journal.events file.new.journal.events) }
+    ensures memory { result ≡ Err Failure.Memory → (file.new ≡ file.old)
+        × (buffer.new ≡ buffer.old) × (ahead.new ≡ ahead.old) }
+{
+    let held = ahead.len();
+    if held == 0 {
+        return fill_from(file, buffer, mode, want, out);
+    }
+    if want <= held {
+        return match ahead.move_to(want, out) {
+            Ok(()) => Ok(want),
+            Err(_) => Err(Failure::Memory),
+        };
+    }
+    fill_after(ahead, file, buffer, mode, want, out)
+}
+
+/// Moves all that was read ahead, and then what follows it.
+fn fill_after<F: Read>(
+    ahead: &mut AheadBuffer,
+    file: &mut DiskFile<F>,
+    buffer: &mut ReadBuffer,
+    mode: Mode,
+    want: usize,
+    out: &mut Vec<u8>,
+) -> Result<usize, Failure>
+    requires { length ahead.old ≤ want }
+    ensures ok { IfOk result (Passes mode (ahead.old ++ buffer.old) (ahead.new ++ buffer.new)
+        file.old.journal.events file.new.journal.events out.old.items out.new.items) }
+    ensures bound { IfOk result (λ n. n ≤ want) }
+    ensures end { IfOk result (λ n. n < want → IsAtEnd file.new.journal.events) }
+    ensures capacity { vec_capacity out.old ≤ vec_capacity out.new }
+    ensures err { OnErr result (out.new.items ≡ out.old.items) }
+    ensures failed { OnErr result (ReadsSome file.old.journal.events file.new.journal.events) }
+    ensures memory { result ≡ Err Failure.Memory → (file.new ≡ file.old)
+        × (buffer.new ≡ buffer.old) × (ahead.new ≡ ahead.old) }
+{
+    let start = out.len();
+    let held = ahead.len();
+    let Ok(()) = out.extend_from_slice(ahead.as_slice()) else {
+        return Err(Failure::Memory);
+    };
+    match fill_from(file, buffer, mode, want - held, out) {
+        Ok(count) => {
+            ahead.clear();
+            Ok(held + count)
+        }
+        Err(failure) => {
+            out.truncate(start);
+            Err(failure)
+        }
+    }
+}
+
+/// Moves so many bytes of wire text that follow what was read ahead, or as many as are left.
+pub(crate) fn fill_from<F: Read>(
+    file: &mut DiskFile<F>,
+    buffer: &mut ReadBuffer,
+    mode: Mode,
+    want: usize,
+    out: &mut Vec<u8>,
+) -> Result<usize, Failure>
+    ensures ok { IfOk result (Passes mode buffer.old buffer.new
+        file.old.journal.events file.new.journal.events out.old.items out.new.items) }
+    ensures bound { IfOk result (λ n. n ≤ want) }
+    ensures end { IfOk result (λ n. n < want → IsAtEnd file.new.journal.events) }
+    ensures capacity { vec_capacity out.old ≤ vec_capacity out.new }
+    ensures err { OnErr result (out.new.items ≡ out.old.items) }
+    ensures failed { OnErr result (ReadsSome file.old.journal.events file.new.journal.events) }
+    ensures memory { result ≡ Err Failure.Memory → (file.new ≡ file.old)
+        × (buffer.new ≡ buffer.old) }
+{
+    let start = out.len();
+    let Ok(()) = out.reserve(want) else {
+        return Err(Failure::Memory);
+    };
+    let mut count = 0;
+    while count < want {
+        match give_some(file, buffer, mode, want - count, out) {
+            Ok(0) => return Ok(count),
+            Ok(more) => count += more,
+            Err(error) => {
+                out.truncate(start);
+                return Err(Failure::Read(error));
+            }
+        }
+    }
+    Ok(count)
+}
+
+/// Moves some bytes of wire text, and returns how many: 0 at the end. The capacity of `out` is
+/// enough.
+fn give_some<F: Read>(
+    file: &mut DiskFile<F>,
+    buffer: &mut ReadBuffer,
+    mode: Mode,
+    room: usize,
+    out: &mut Vec<u8>,
+) -> io::Result<usize>
+    requires some { 0 < room }
+    requires room { vec_len out.old + room ≤ vec_capacity out.old }
+    ensures ok { IfOk result (Passes mode buffer.old buffer.new
+        file.old.journal.events file.new.journal.events out.old.items out.new.items) }
+    ensures bound { IfOk result (λ n. n ≤ room) }
+    ensures end { IfOk result (λ n. n ≡ 0 → IsAtEnd file.new.journal.events) }
+    ensures capacity { vec_capacity out.old ≤ vec_capacity out.new }
+    ensures err { OnErr result (out.new.items ≡ out.old.items) }
+    ensures failed { OnErr result (ReadsSome file.old.journal.events file.new.journal.events) }
+{
+    match mode {
+        Mode::Octet => give_octet(file, buffer, room, out),
+        Mode::Netascii => give_buffered(file, buffer, Mode::Netascii, room, out),
+    }
+}
+
+/// The same in octet: at least as many bytes as the buffer has space for bypass it.
+fn give_octet<F: Read>(
+    file: &mut DiskFile<F>,
+    buffer: &mut ReadBuffer,
+    room: usize,
+    out: &mut Vec<u8>,
+) -> io::Result<usize>
+    requires some { 0 < room }
+    requires room { vec_len out.old + room ≤ vec_capacity out.old }
+    ensures ok { IfOk result (Passes Octet buffer.old buffer.new
+        file.old.journal.events file.new.journal.events out.old.items out.new.items) }
+    ensures bound { IfOk result (λ n. n ≤ room) }
+    ensures end { IfOk result (λ n. n ≡ 0 → IsAtEnd file.new.journal.events) }
+    ensures capacity { vec_capacity out.old ≤ vec_capacity out.new }
+    ensures err { OnErr result (out.new.items ≡ out.old.items) }
+    ensures failed { OnErr result (ReadsSome file.old.journal.events file.new.journal.events) }
+{
+    if buffer.len() == 0 && room >= buffer.capacity() {
+        return read_into(file, room, out);
+    }
+    give_buffered(file, buffer, Mode::Octet, room, out)
+}
+
+/// The same from the buffer, which is filled if it is empty.
+fn give_buffered<F: Read>(
+    file: &mut DiskFile<F>,
+    buffer: &mut ReadBuffer,
+    mode: Mode,
+    room: usize,
+    out: &mut Vec<u8>,
+) -> io::Result<usize>
+    requires some { 0 < room }
+    requires room { vec_len out.old + room ≤ vec_capacity out.old }
+    ensures ok { IfOk result (Passes mode buffer.old buffer.new
+        file.old.journal.events file.new.journal.events out.old.items out.new.items) }
+    ensures bound { IfOk result (λ n. n ≤ room) }
+    ensures end { IfOk result (λ n. n ≡ 0 → IsAtEnd file.new.journal.events) }
+    ensures capacity { vec_capacity out.old ≤ vec_capacity out.new }
+    ensures err { OnErr result (out.new.items ≡ out.old.items) }
+    ensures failed { OnErr result (ReadsSome file.old.journal.events file.new.journal.events) }
+{
+    match buffer.refill(file, mode) {
+        Ok(()) => {
+            let count = room.min(buffer.len());
+            append_reserved(&buffer.as_slice()[..count], out);
+            buffer.take(count);
+            Ok(count)
+        }
+        Err(error) => Err(error),
+    }
+}
+
+/// Reads once, at most so many bytes, to the end of `out`. Its capacity is enough.
+fn read_into<F: Read>(file: &mut DiskFile<F>, room: usize, out: &mut Vec<u8>) -> io::Result<usize>
+    requires { vec_len out.old + room ≤ vec_capacity out.old }
+    ensures ok { IfOk result (AppendsRead file.old.journal.events file.new.journal.events
+        out.old.items out.new.items) }
+    ensures bound { IfOk result (λ n. n ≤ room) }
+    ensures capacity { vec_capacity out.old ≤ vec_capacity out.new }
+    ensures err { OnErr result (out.new.items ≡ out.old.items) }
+    ensures failed { OnErr result (ReadsSome file.old.journal.events file.new.journal.events) }
+{
+    let start = out.len();
+    append_zeros(room, out);
+    match read_at(file, out.as_mut_slice(), start) {
+        Ok(count) => {
+            out.truncate(start + count);
+            Ok(count)
+        }
+        Err(error) => {
+            out.truncate(start);
+            Err(error)
+        }
+    }
+}
+
+/// Reads once into the buffer, from this place on.
+fn read_at<F: Read>(file: &mut DiskFile<F>, buffer: &mut [u8], at: usize) -> io::Result<usize>
+    requires { at ≤ length buffer.old }
+    ensures front { take at buffer.new ≡ take at buffer.old }
+    ensures bound { IfOk result (λ n. at + n ≤ length buffer.new) }
+    ensures noted { IfOk result (λ n. file.new.journal.events
+        ≡ Given (take n (drop at buffer.new)) ∷ file.old.journal.events) }
+    ensures failed { OnErr result (ReadsSome file.old.journal.events file.new.journal.events) }
+{
+    match file.read(&mut buffer[at..]) {
+        Ok(count) => Ok(count),
+        Err(error) => Err(error),
+    }
+}
+
+/// Appends bytes for which there is capacity.
+fn append_reserved(bytes: &[u8], out: &mut Vec<u8>)
+    requires { vec_len out.old + length bytes.now ≤ vec_capacity out.old }
+    ensures items { out.new.items ≡ out.old.items ++ bytes.now }
+    ensures capacity { vec_capacity out.old ≤ vec_capacity out.new }
+{
+    let _ = out.extend_from_slice(bytes);
+}
+
+/// Appends so many zeros, for which there is capacity.
+fn append_zeros(count: usize, out: &mut Vec<u8>)
+    requires { vec_len out.old + count ≤ vec_capacity out.old }
+    ensures items { out.new.items ≡ out.old.items ++ replicate count 0 }
+    ensures capacity { vec_capacity out.old ≤ vec_capacity out.new }
+{
+    let _ = out.resize(out.len() + count, 0);
+}
