@@ -117,6 +117,7 @@ bench-udp: bin/tftpd bin/tftp $(LIBRARY)
 	python3 bench/udp/allocations.py bin/tftpd bin/tftp
 	python3 bench/udp/beside.py bin/tftpd
 	python3 bench/udp/calls.py bin/tftpd
+	bench/udp/together.py bin/tftpd
 	bench/c/run.py bin/tftpd
 
 clean:

@@ -17,7 +17,7 @@ import peers
 from measure import CLIENT_CPU, GIB, MB, OWN_CPU, SHORTER, Running, compiled, have_priority, started
 
 # many.c prints these; the times are in microseconds
-Told = namedtuple("Told", "bytes whole seconds p99 longest arrived sent")
+Told = namedtuple("Told", "bytes whole seconds p99 longest arrived sent failed")
 # Of one run, with the processor seconds of the server, and the seconds of the put beside the gets
 Result = namedtuple("Result", "told cpu put_seconds")
 FIRST = "127.1.0.1"

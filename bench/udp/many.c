@@ -6,7 +6,8 @@
    answer, as of a slow link; loss=N of 1,000 datagrams, each way; seed=N of the loss; again=SECONDS, or until=PID of a
    process that runs, for which finished gets begin anew. Prints the bytes of blocks, the files that are whole, the
    seconds from the first request to the last block, the 99th percentile and the longest of the times between two blocks
-   of a client in microseconds, and the datagrams that arrived and that were sent. */
+   of a client in microseconds, the datagrams that arrived and that were sent, and the transfers that failed: refused,
+   with other bytes, or without an end. */
 #define _GNU_SOURCE
 #include <arpa/inet.h>
 #include <fcntl.h>
@@ -37,7 +38,7 @@ struct client {
 };
 
 struct sums {
-    size_t bytes, whole, arrived, sent, gaps[BUCKETS];
+    size_t bytes, whole, failed, arrived, sent, gaps[BUCKETS];
     double longest;
 };
 
@@ -276,6 +277,7 @@ static void run(unsigned from, unsigned count, unsigned address, int go) {
                 continue;
             sums->bytes += client->bytes;
             sums->whole += client->is_done == 1;
+            sums->failed += client->is_done == 2;
             if (client->is_done == 1 && goes_on()) {
                 ready(client, client->at, address + (client - clients), events);
                 send_last(client);
@@ -284,6 +286,7 @@ static void run(unsigned from, unsigned count, unsigned address, int go) {
         }
         send_due(clients, count);
     }
+    sums->failed += count - done;
 }
 
 static void read_file(const char *path) {
@@ -326,7 +329,7 @@ static void show(const struct sums *each, unsigned processes, double took) {
     double edge = 1e-6;
     for (unsigned at = 0; at < processes; at++) {
         all.bytes += each[at].bytes, all.whole += each[at].whole;
-        all.arrived += each[at].arrived, all.sent += each[at].sent;
+        all.arrived += each[at].arrived, all.sent += each[at].sent, all.failed += each[at].failed;
         all.longest = each[at].longest > all.longest ? each[at].longest : all.longest;
         for (int bucket = 0; bucket < BUCKETS; bucket++)
             all.gaps[bucket] += each[at].gaps[bucket], gaps += each[at].gaps[bucket];
@@ -335,8 +338,8 @@ static void show(const struct sums *each, unsigned processes, double took) {
         if ((so_far += all.gaps[bucket]) >= gaps - gaps / 100)
             break;
     edge = edge * 1e6 < all.longest * 1e6 ? edge : all.longest;
-    printf("%zu %zu %.4f %.0f %.0f %zu %zu\n", all.bytes, all.whole, took, edge * 1e6, all.longest * 1e6, all.arrived,
-           all.sent);
+    printf("%zu %zu %.4f %.0f %.0f %zu %zu %zu\n", all.bytes, all.whole, took, edge * 1e6, all.longest * 1e6, all.arrived,
+           all.sent, all.failed);
 }
 
 int main(int count, char **words) {

@@ -127,4 +127,5 @@ def main() -> None:
                     bench.compare(rounds, block, clients, count)
 
 
-main()
+if __name__ == "__main__":
+    main()
