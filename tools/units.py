@@ -3,9 +3,10 @@
 
 Debian's systemd is PID 1 of a container with a network of its own, in which what `make install` installs is at
 /usr/local. Its units are started, asked over a link by another host, killed, drained, handed their port, given a folder to
-write to, and spread over eight ports; Debian's package is installed, upgraded and removed. It takes the four programs of bin/.
-FOLDER (out/debian) is where the container's files are made, once, from Debian's archive; a run leaves no change in it. It
-needs root, and debootstrap, systemd-nspawn, ip, nft and unshare. It is run by hand, and not by the gate. The last line is a count; the status is 1 if a trial failed.
+write to, run with two servers each, and spread over eight ports; Debian's package is installed, upgraded and removed. It
+takes the four programs of bin/. FOLDER (out/debian) is where the container's files are made, once, from Debian's archive; a
+run leaves no change in it. It needs root, and debootstrap, systemd-nspawn, ip, nft and unshare. It is run by hand, and not
+by the gate. The last line is a count; the status is 1 if a trial failed.
 """
 import os
 import re
@@ -25,7 +26,7 @@ from network import CLIENT, MANY, PATIENCE, SERVER, TOP, Fault, Host, expect
 SUITE, ARCHIVE = "bookworm", "http://deb.debian.org/debian"
 PACKAGES = "systemd,systemd-sysv,dbus,nftables,iproute2,util-linux"
 # The longest time until systemd has started, and of all, in seconds
-BOOT, LIMIT = 120, 600
+BOOT, LIMIT = 120, 900
 # CAP_NET_BIND_SERVICE alone, as /proc has it
 BIND = f"{1 << 10:016x}"
 NOTHING = "0" * 16
@@ -279,7 +280,8 @@ def drained(it, unit, verb) -> None:
     with it.client_of(HOLDS) as held:
         expect(held.stdout.readline(), "begun\n", "what the client says")
         it.run(f"systemctl --no-block {verb} {unit}")
-        until("it drains", lambda: "draining: 1 transfers open" in it.run(journal).splitlines())
+        drains = r"(?m)^(server \d: )?draining: 1 transfers open$"
+        until("it drains", lambda: re.search(drains, it.run(journal)))
         expect(it.property(unit, "ActiveState"), "deactivating", f"{unit} while it drains")
         told = held.communicate("\n", timeout=PATIENCE)[0]
     expect(told, f"{len(it.content)}\n", "what the client says at its end")
@@ -418,6 +420,7 @@ def try_package(it) -> None:
     it.run(install, input=it.packages[0])
     expect(it.is_served(), True, "whether it is served after another installation")
     expect(process_ids(it, "tftpd-socket") in (["0"], before), False, "whether another process serves it")
+    upgrades_several(it)
     it.run("dpkg -r fanjuvery")
     left = it.told("readlink /proc/[0-9]*/exe | grep tftpd")
     expect(left, "", "the processes that a removal leaves")
@@ -426,7 +429,87 @@ def try_package(it) -> None:
     expect(left, "", "the files that a purge leaves")
 
 
-TRIALS = [try_no_folder, try_reading, try_kill, try_drain, try_socket, try_late_address, try_writing, try_instances, try_grade, try_package]
+def several(unit) -> str:
+    """The lines of `systemctl edit` that start two servers in place of one. "%t" is systemd's."""
+    words = " ".join(network.started_by(f"{unit}.service"))
+    return f"[Service]\nExecStart=\nExecStart=/usr/local/bin/tftpd {words} --servers 2\n"
+
+
+def servers_of(it, unit) -> list[str]:
+    """The processes of the servers of a unit, whose main process is their supervisor."""
+    main = it.property(unit, "MainPID")
+    return it.told(f"cat /proc/{main}/task/{main}/children").split() if main != "0" else []
+
+
+def serves_by_two(it, unit) -> list[str]:
+    """The port is served, by two servers and their supervisor, and by no other process. Returns the three."""
+    until("the port is served", it.is_served)
+    main, servers = it.property(unit, "MainPID"), servers_of(it, unit)
+    expect(len(servers), 2, f"how many servers {unit} has")
+    found = it.told("for it in /proc/[0-9]*; do test \"$(readlink $it/exe)\" = /usr/local/bin/tftpd && echo ${it#/proc/}; done")
+    expect(sorted(found.split()), sorted([main, *servers]), "the processes of tftpd")
+    return [main, *servers]
+
+
+def try_several_in(it, unit, capabilities) -> None:
+    """Two servers in a unit: each has what one has, and no more. A kill of a server or of their supervisor starts them again,
+    a stop drains both, and the journal has each line with its server."""
+    it.begin(unit, several(unit))
+    for place in [0, 1, 2]:
+        before = serves_by_two(it, unit)
+        it.run(f"kill -KILL {before[place]}")
+        until("others serve", lambda: it.is_served() and not set(before) & {it.property(unit, "MainPID"), *servers_of(it, unit)})
+    after = serves_by_two(it, unit)
+    for pid in after:
+        text = it.run(f"cat /proc/{pid}/status")
+        expect(re.search(r"CapEff:\t(\w+)", text)[1], capabilities, f"the capabilities of {pid} of {after}")
+    it.may(unit, None, capabilities)
+    it.sees(unit, False)
+    expect(it.put("new"), "tftp: PeerError(2)\ntftp: the server says: access violation\n", "the answer to a write")
+    journal = f"journalctl --quiet --output=cat _SYSTEMD_INVOCATION_ID={it.property(unit, 'InvocationID')}"
+    said = re.findall(r"(?m)^(?:server ([12]): )?(listening|opened|closed|refused) ", it.run(journal))
+    expect(sorted({number for number, _ in said}), ["1", "2"], f"the servers of the lines {said}")
+    warned = re.findall(r"(?m)^server [12]: (.*)$", it.run(f"{journal} --priority=warning"))
+    expect([line.split()[0] for line in warned], ["refused"], "the warnings of the journal")
+    drained(it, unit, "restart")
+    serves_by_two(it, unit)
+
+
+def try_several(it) -> None:
+    """`--servers 2` in the unit with the capability, and in the one of the socket."""
+    try_several_in(it, "tftpd", BIND)
+    it.revert("tftpd")
+    it.run("systemctl enable --now tftpd.socket")
+    try_several_in(it, "tftpd-socket", NOTHING)
+    for verb in ["stop", "restart"]:
+        it.told(f"systemctl {verb} tftpd-socket")
+        expect(it.is_served(), True, f"whether a request is answered that comes after a {verb}")
+    with it.client_of(MANY_ASK) as many:
+        expect(many.stdout.readline(), "begun\n", "what the clients say")
+        it.run("systemctl restart tftpd-socket")
+        told = many.communicate(timeout=PATIENCE)[0]
+    expect(told, "64 of 64\n", "how many clients are answered that ask once, during a restart of both")
+    it.run("systemctl disable --now tftpd.socket")
+    it.revert("tftpd-socket")
+    it.run("systemctl enable --now tftpd")
+    until("port 69 is served", it.is_served)
+
+
+def upgrades_several(it) -> None:
+    """An upgrade starts two servers again that systemd hands the port to, and no request is lost."""
+    it.run("systemctl stop tftpd-socket")
+    it.begin("tftpd-socket", several("tftpd-socket").replace("/usr/local/", "/usr/"))
+    expect(it.is_served(), True, "whether two servers serve the port that is handed over")
+    before = [it.property("tftpd-socket", "MainPID"), *servers_of(it, "tftpd-socket")]
+    expect(len(before), 3, f"how many processes there are: {before}")
+    it.run("cat > /it.deb; dpkg -i /it.deb", input=it.packages[1])
+    expect(it.is_served(), True, "whether the port is served after an upgrade")
+    after = {it.property("tftpd-socket", "MainPID"), *servers_of(it, "tftpd-socket")}
+    expect((after & set(before), len(after)), (set(), 3), f"the processes after an upgrade, {before} before")
+    it.run("rm -rf /etc/systemd/system/tftpd-socket.service.d; systemctl daemon-reload")
+
+
+TRIALS = [try_no_folder, try_reading, try_kill, try_drain, try_socket, try_several, try_late_address, try_writing, try_instances, try_grade, try_package]
 
 
 def run(folder) -> int:
