@@ -5,7 +5,7 @@ from itertools import product
 from typing import Any
 
 from datagrams import expect, free_ports, is_bound, text_of
-from scene import LIFE, RETRIES, Server, first_line
+from scene import Server, first_line
 from lib.programs import of_crate
 
 MODES = {"octet": [], "netascii": ["--netascii"]}
@@ -216,12 +216,12 @@ def test_closed_streams_of_a_server(scene) -> None:
         scene.make_folder(f"served{number}")
         # what it prints may be closed, too: it has a port that the test knows, and listens once that is bound
         word = text_of((scene.address, free_ports(1)))
-        words = [f"served{number}", "--listen", word, "--log", "--transfers", "2", *RETRIES]
+        words = [f"served{number}", "--listen", word, *scene.ending_words(["--log", "--transfers", "2"])]
         server = scene.start("tftpd", words, closed=number)
         is_bound(word)
         scene.tftp("put", word, "local", "n").completes(3)
         scene.tftp("get", word, "n", f"got{number}").completes(3)
-        expect(server.wait(LIFE), 0, "the status of the server")
+        expect(scene.end_of(server), 0, "the status of the server")
     copies = [f"{name}{number}{ending}" for name, ending in [("served", "/n"), ("got", "")] for number in range(3)]
     scene.has_files(dict.fromkeys(["local", *copies], b"ABC"))
 

@@ -4,7 +4,7 @@ import subprocess
 import sys
 from contextlib import ExitStack
 from pathlib import Path
-from typing import Any
+from typing import Any, Optional
 
 from datagrams import PATIENCE, Port, expect
 from proxy import Proxy
@@ -51,6 +51,11 @@ def endless(words) -> list[Any]:
     """The words of a server without what ends it."""
     kept = [word for at, word in enumerate(words) if not {word, *words[at - 1:at]} & {"--transfers", "--rounds"}]
     return [*kept, *([] if "--forever" in kept else ["--forever"])]
+
+
+def drain_of(process) -> Optional[Path]:
+    """The file that ends several servers, where it is not the test that makes it."""
+    return next((Path(word) for word in process.args if str(word).endswith(END)), None)
 
 
 class Client:
@@ -167,10 +172,13 @@ class Scene:
 
     def server_of(self, process) -> Server:
         """The server of a process that was started with such words, or the several."""
-        if self.servers == 1:
-            return Server(process)
-        own = [Path(word) for word in process.args if str(word).endswith(END)]
-        return Servers(process, self.servers, own[0] if own else None)
+        return Server(process) if self.servers == 1 else Servers(process, self.servers, drain_of(process))
+
+    def end_of(self, process) -> int:
+        """The status of such a process, once it has ended."""
+        if self.servers > 1:
+            drain_of(process).touch()
+        return process.wait(LIFE)
 
     def watch(self, *words, unsent=0) -> Server:
         """Starts a server of the folder with these words, whose calls are counted; the datagram of that number, counted

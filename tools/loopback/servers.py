@@ -139,7 +139,7 @@ def unmarked(line) -> str:
 NOT_OF_SEVERAL = {
     "it starts no tftpd, or by words that it is about": [
         "test_a_server_over_memory", "test_retries_of_the_client", "test_tsize", "test_no_fallback", "test_a_name_appears",
-        "test_a_server_that_does_not_start", "test_standard_input_is_no_request_port", "test_closed_streams_of_a_server"],
+        "test_a_server_that_does_not_start", "test_standard_input_is_no_request_port"],
     "the slots of one server": [
         "test_a_server_is_busy", "test_a_slot_is_freed_first", "test_cap", "test_a_client_drips", "test_longest"],
     "the end or the time of one server's loop": [

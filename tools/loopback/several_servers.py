@@ -162,6 +162,15 @@ def test_several_servers_at_a_port_that_is_taken(scene) -> None:
     expect((process.returncode, printed, errors), (2, "", said), "what is said of a port that is taken")
 
 
+def test_several_servers_of_no_folder(scene) -> None:
+    """No server starts, and that is said once."""
+    for words, said in [(["none"], "none"), ([".", "--uploads", "none"], "--uploads none")]:
+        process = scene.start("tftpd", [*words, "--listen", f"{scene.address}:0", "--servers", "3", "--forever"])
+        printed, errors = (text.decode() for text in process.communicate(timeout=PATIENCE))
+        found = (process.returncode, printed, errors)
+        expect(found, (2, "", f"tftpd: file fault\ntftpd: {said}: not found\n"), "what is said of no folder")
+
+
 def test_words_of_several_servers(scene) -> None:
     """Which words do not go together, and what a server is started with."""
     for words in [
