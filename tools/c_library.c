@@ -1,8 +1,8 @@
 /* Holds tftp.h to the types of the library: each field of each struct has the value that the library gives the field of
- * that name, each struct its size, and each number its value. Builds packets and reads their options. Tries the request
- * port of a server and its table. Counts the requests for memory of transfers. Then refuses each of a get, and of a
- * served write, in turn: the call reports it, changes nothing, and does its work when it is made again. It is linked
- * with --wrap for malloc and realloc. */
+ * that name, each struct its size, and each number its value, which a call returns. Builds packets and reads options.
+ * Tries the request port of a server and its table. Counts the requests for memory of transfers. Then refuses each of a
+ * get, and of a served write, in turn: the call reports it, changes nothing, and does its work when it is made again.
+ * It is linked with --wrap for malloc and realloc. */
 #include "tftp.h"
 #include <stdio.h>
 #include <stdlib.h>
@@ -111,6 +111,96 @@ static void blocks(bool puts, bool is_netascii) {
 }
 
 #define TEXT(text) (const uint8_t *)(text), sizeof(text) - 1
+
+/* A server's end asks as often as the README of tftp_c says: three times to receive; four times to send, and twice more
+ * at its first DATA if that is longer than what it has sent before. */
+static void served(bool writes, bool agrees) {
+    static const struct tftp_endpoint client = {{10, 0, 0, 1}, 1024};
+    static const uint8_t file[2000];
+    const size_t size = sizeof file;
+    static uint8_t out[TFTP_HEADER + 1428], stored[1428], datagram[TFTP_HEADER + 1428];
+    struct tftp_options options = {.max_file = 5000, .retries = 5};
+    struct tftp_end end = {0};
+    struct tftp_event event = {0};
+    uint8_t request[TFTP_MAX_REQUEST];
+    size_t len = tftp_request(writes ? 2 : 1, 1, TEXT("a"), request, sizeof request), at = 0;
+    if (agrees) len = tftp_add_option(len, TEXT("blksize"), TEXT("1428"), request, sizeof request);
+    asked = refused = 0;
+    uint8_t fault = writes ? tftp_serve_put(&end, &client, request, len, &options, out, sizeof out, &event)
+        : tftp_serve_get(&end, &client, request, len, size, file, size, &options, out, sizeof out, &event);
+    expect("a server's end", fault, TFTP_OK);
+    expect("how often a server's end asks for memory", asked, writes ? 3 : 4);
+    datagram[1] = writes ? 3 : 4;
+    for (unsigned number = writes || !agrees; !fault && !event.complete && number < 9; number++) {
+        at += event.file_len;
+        datagram[3] = (uint8_t)number;
+        size_t sent = agrees ? 1428 : 512;
+        if (sent > size - at) sent = size - at;
+        fault = writes
+            ? tftp_receive(&end, &client, datagram, TFTP_HEADER + sent, stored, sizeof stored, out, sizeof out, &event)
+            : tftp_send(&end, &client, datagram, TFTP_HEADER, file + at, size - at, out, sizeof out, &event);
+    }
+    expect("a served file", fault, TFTP_OK);
+    expect("whether it is complete", event.complete, 1);
+    expect("how often it asked for memory", asked, writes ? 3 : agrees ? 6 : 4);
+    tftp_close(&end);
+}
+
+/* How a get or a put of three bytes ends by a datagram of its peer, where `file` has so many bytes. */
+static uint8_t outcome(bool puts, struct tftp_options options, const uint8_t *bytes, size_t len, size_t room,
+                       struct tftp_event *event) {
+    static const struct tftp_endpoint server = {{10, 0, 0, 1}, 69}, peer = {{10, 0, 0, 1}, 1024};
+    uint8_t file[TFTP_DEFAULT_BLOCK] = {0}, out[TFTP_HEADER + TFTP_DEFAULT_BLOCK], name[] = "a";
+    struct tftp_end end = {0};
+    options.max_file = 1000;
+    uint8_t fault = puts ? tftp_put(&end, &server, name, 1, 3, &options, out, sizeof out, event)
+        : tftp_get(&end, &server, name, 1, &options, out, sizeof out, event);
+    expect("an opening", fault, TFTP_OK);
+    fault = puts ? tftp_send(&end, &peer, bytes, len, file, room, out, sizeof out, event)
+        : tftp_receive(&end, &peer, bytes, len, file, room, out, sizeof out, event);
+    if (puts && !event->outcome && !fault) /* its one DATA is acknowledged */
+        fault = tftp_send(&end, &peer, TEXT("\0\4\0\1"), file, 0, out, sizeof out, event);
+    expect("its peer's datagram", fault, TFTP_OK);
+    tftp_close(&end);
+    return event->outcome;
+}
+
+/* The numbers of outcomes, of the faults of a server's end, and of blocks. */
+static void numbers(void) {
+    static const struct tftp_endpoint at = {{10, 0, 0, 1}, 69};
+    static uint8_t out[TFTP_HEADER + TFTP_DEFAULT_BLOCK], file[TFTP_DEFAULT_BLOCK];
+    struct tftp_options none = {0}, text = {.is_netascii = 1}, sized = {.asks_tsize = 1}, large = {.max_file = 600};
+    struct tftp_event event = {0};
+    struct tftp_end end = {0};
+    size_t most = sizeof out;
+    expect("TFTP_COMPLETE", outcome(true, none, TEXT("\0\4\0\0"), 3, &event), TFTP_COMPLETE);
+    expect("TFTP_PEER_ERROR", outcome(false, none, TEXT("\0\5\0\7no\0"), 512, &event), TFTP_PEER_ERROR);
+    expect("its code", event.peer_code, 7);
+    expect("TFTP_ILLEGAL", outcome(false, none, TEXT("\0\4\0\1"), 512, &event), TFTP_ILLEGAL);
+    expect("TFTP_REFUSED", outcome(false, none, TEXT("\0\6blksize\0008\0"), 512, &event), TFTP_REFUSED);
+    expect("TFTP_TOO_LARGE", outcome(false, sized, TEXT("\0\6tsize\0001001\0"), 512, &event), TFTP_TOO_LARGE);
+    expect("TFTP_STORE_FAULT", outcome(false, none, TEXT("\0\3\0\1abc"), 2, &event), TFTP_STORE_FAULT);
+    expect("TFTP_SOURCE_FAULT", outcome(true, none, TEXT("\0\4\0\0"), 2, &event), TFTP_SOURCE_FAULT);
+    expect("TFTP_NOT_NETASCII", outcome(false, text, TEXT("\0\3\0\1a\rb"), 512, &event), TFTP_NOT_NETASCII);
+
+    static const char twice[] = "\0\1a\0octet\0blksize\0008\0blksize\0009";
+    const uint8_t *request = (const uint8_t *)twice;
+    uint8_t fault = tftp_serve_get(&end, &at, request, 10, 3, TEXT("ab"), &large, out, most, &event);
+    expect("TFTP_NO_SOURCE", fault, TFTP_NO_SOURCE);
+    fault = tftp_serve_get(&end, &at, request, sizeof twice, 3, TEXT("abc"), &large, out, most, &event);
+    expect("TFTP_REFUSED_OPTIONS", fault, TFTP_REFUSED_OPTIONS);
+    fault = tftp_serve_get(&end, &at, request, 10, sizeof file, file, sizeof file, &large, out, most, &event);
+    expect("a block of the default length", fault, TFTP_OK);
+    expect("TFTP_HEADER", event.send_len, TFTP_HEADER + TFTP_DEFAULT_BLOCK);
+    expect("TFTP_DEFAULT_BLOCK", event.block_size, TFTP_DEFAULT_BLOCK);
+    uint16_t sizes[] = {TFTP_MIN_BLOCK - 1, TFTP_MIN_BLOCK, TFTP_MAX_BLOCK, TFTP_MAX_BLOCK + 1};
+    for (int i = 0; i < 4; i++) {
+        large.blksize = sizes[i];
+        fault = tftp_get(&end, &at, TEXT("a"), &large, out, most, &event);
+        expect("a block size", fault, i % 3 ? TFTP_OK : TFTP_BAD_REQUEST);
+    }
+    tftp_close(&end);
+}
 
 static void expect_bytes(const char *what, const uint8_t *found, size_t len, const char *expected, size_t count) {
     expect(what, len, count);
@@ -391,8 +481,11 @@ int main(void) {
 
     packets();
     without_memory();
-    for (int kind = 0; kind < 4; kind++) blocks(kind & 1, kind & 2);
-
+    numbers();
+    for (int kind = 0; kind < 4; kind++) {
+        blocks(kind & 1, kind & 2);
+        served(kind & 1, kind & 2);
+    }
     request_port();
 
     int number = 1;

@@ -22,8 +22,7 @@ from typing import Optional, Sequence
 TOP = Path(__file__).resolve().parent.parent
 # The longest time of a check, in seconds, and of those that take longer; `rt ci` has as long as it takes
 LIMIT = 900
-LIMITS = {"tools/soak/run.py": 2_400, "tools/shipped.py": 3_600, "tools/loopback/run.py": 1_500,
-          "tools/c_library.py": 1_500}
+LIMITS = {"tools/soak/run.py": 2_400, "tools/shipped.py": 3_600, "tools/loopback/run.py": 1_500}
 # (each line is shown as it comes)
 UNBUFFERED = {**os.environ, "PYTHONUNBUFFERED": "1"}
 
