@@ -21,14 +21,15 @@ tools/install.sh install DESTDIR="$root" PREFIX=/usr UNITDIR=/lib/systemd/system
 # the library is apart
 dev=$room/dev
 if test -e "$root$libdir/libtftp.a"; then
-    mkdir -p "$dev/usr/share/man" "$dev/usr/share/doc/libfanjuvery-dev" "$dev/usr/lib"
+    examples=$dev/usr/share/doc/libfanjuvery-dev
+    mkdir -p "$dev/usr/share/man" "$examples/rust" "$dev/usr/lib"
     mv "$root/usr/include" "$dev/usr/include"
     mv "$root$libdir" "$dev/usr/lib/"
     rmdir "$root/usr/lib"
     mv "$root/usr/share/man/man3" "$dev/usr/share/man/"
     gzip -9n "$dev"/usr/share/man/man3/*
-    cp debian/copyright "$dev/usr/share/doc/libfanjuvery-dev/copyright"
-    cp examples/c/*.[ch] "$dev/usr/share/doc/libfanjuvery-dev/"
+    cp debian/copyright examples/c/*.[ch] examples/python/get.py "$examples/"
+    (cd examples/rust && cp -R Cargo.toml build.rs src examples "$examples/rust/")
 fi
 
 # where Debian has them

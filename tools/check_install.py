@@ -204,7 +204,7 @@ class Trial:
         self.expect(left, [], "what a purge leaves")
 
     def check_library(self) -> None:
-        """With the package for development and a compiler an example is built as any program is, and runs."""
+        """With the package for development and a compiler the examples are built as any program is, and run."""
         if not self.library or not shutil.which("dpkg-deb") or not shutil.which("pkg-config"):
             self.skipped.append("a program over the library")
             return
@@ -218,6 +218,13 @@ class Trial:
         flags = self.run(*config, "--cflags", "--libs", "tftp").split()
         self.run("cc", "examples/c/get.c", "-o", example, *flags, f"-Wl,-rpath,{found.parent.parent}")
         self.run(example, status=2)
+        examples = root / "usr/share/doc/libfanjuvery-dev"
+        self.run(examples / "get.py", found.parent.parent / "libtftp.so.0", "127.0.0.1", "9", "", "none", status=1)
+        if not shutil.which("cargo"):
+            self.skipped.append("the example in Rust over the library (no cargo)")
+            return
+        self.run(*config[:-1], "cargo", "--offline", "--quiet", "build", "--examples", folder=examples / "rust")
+        self.run(examples / "rust/target/debug/examples/get", status=1)
 
     def check_completions(self) -> None:
         """Each shell that is there reads its completions."""
