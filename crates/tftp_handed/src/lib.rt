@@ -8,6 +8,7 @@
 
 mod fault;
 mod reader;
+mod share;
 mod socket;
 mod udp;
 

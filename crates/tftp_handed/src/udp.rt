@@ -1,6 +1,9 @@
 //! The UDP sockets of a server whose request port was handed over.
 
+ghost use Rattle.std.specs.Prelude.{◌≡◌, ◌≤◌, IfOk, IsSome, IsSomeAnd, IsTrue, None};
+
 use crate::reader::{OutputReader, watch_output};
+use crate::share::Share;
 use crate::socket::HandedSocket;
 use mio::Poll;
 use std::alloc::Global;
@@ -9,8 +12,8 @@ use std::io::{self, ErrorKind};
 use std::net::{Net, SocketAddr, TcpListener, TcpStream, UdpSocket};
 use std::time::{Clock, Duration};
 use tftp_ends::Endpoint;
-use tftp_loop::{PortOrder, PortRange, ServerUdp};
-use tftp_sockets::{Journal, ServerSocket};
+use tftp_loop::{Load, PortOrder, PortRange, ServerUdp};
+use tftp_sockets::{Journal, Receipt, ServerSocket};
 
 /// The priority of a warning, for a standard error that is systemd's journal.
 const WARNING: &str = "<4>";
@@ -33,12 +36,17 @@ struct OneOfSeveral {
     server: u8,
     /// The reader of what it prints.
     reader: OutputReader,
+    /// When it takes a request.
+    share: Share,
     alloc: Global,
 }
 
 impl<'a, N> HandedUdp<'a, N> {
     /// This runtime, with this socket.
-    pub fn new(rt: &'a N, socket: HandedSocket) -> HandedUdp<'a, N> {
+    pub fn new(rt: &'a N, socket: HandedSocket) -> HandedUdp<'a, N>
+        ensures socket { result.socket ≡ socket }
+        ensures alone { result.several ≡ None }
+    {
         HandedUdp {
             rt,
             socket,
@@ -56,10 +64,14 @@ impl<'a, N> HandedUdp<'a, N> {
     ) -> io::Result<HandedUdp<'a, N>>
     where
         N: ServerUdp,
+        ensures socket { IfOk result (λ udp. udp.socket ≡ socket) }
+        ensures server { IfOk result (λ udp.
+            IsSomeAnd udp.several (λ several. several.server ≡ server)) }
     {
         let several = OneOfSeveral {
             server,
             reader: OutputReader::new(rt, alloc)?,
+            share: Share::new(),
             alloc,
         };
         Ok(HandedUdp {
@@ -68,9 +80,22 @@ impl<'a, N> HandedUdp<'a, N> {
             several: Some(several),
         })
     }
+
+    /// Whether what waits at the request port is left to other servers. One alone leaves nothing.
+    fn leaves(&self, requests: &ServerSocket, load: Load) -> bool
+    where
+        N: Clock,
+        ensures several { IsTrue result → IsSome self.now.several }
+        ensures open { IsTrue result → 1 ≤ load.open }
+    {
+        match &self.several {
+            Some(several) => several.share.leaves(self.rt, requests, load),
+            None => false,
+        }
+    }
 }
 
-impl<N: ServerUdp> ServerUdp for HandedUdp<'_, N> {
+impl<N: ServerUdp + Clock> ServerUdp for HandedUdp<'_, N> {
     /// The request port: the socket that was handed over, if it is bound to the endpoint.
     fn bind(&self, at: Endpoint) -> io::Result<ServerSocket> {
         if at == self.socket.endpoint {
@@ -90,6 +115,20 @@ impl<N: ServerUdp> ServerUdp for HandedUdp<'_, N> {
             watch_output(poll.registry())?;
         }
         Ok(poll)
+    }
+
+    /// Of several servers one with few transfers takes a datagram, which all of them find.
+    fn receive(
+        &self,
+        requests: &ServerSocket,
+        journal: &mut Journal,
+        load: Load,
+        buffer: &mut [u8],
+    ) -> Receipt {
+        if self.leaves(requests, load) {
+            return requests.leave(journal, load.open);
+        }
+        self.rt.receive(requests, journal, load, buffer)
     }
 
     fn order(&self, alloc: Global, range: PortRange) -> io::Result<PortOrder> {

@@ -28,5 +28,5 @@ mod transfer_port;
 
 pub use drain::{DrainSignal, NoSignal};
 pub use port_order::{PortOrder, PortRange};
-pub use server_udp::ServerUdp;
+pub use server_udp::{Load, ServerUdp};
 pub use serving::{Ending, LoopConfig, LoopFault, serve};

@@ -21,7 +21,7 @@ use crate::datagram::Datagram;
 use crate::log_entry::{LogEntry, reason_unasked};
 use crate::report::{Refusal, log_lost, log_refused, log_unopened, log_unsent_answer};
 use crate::server_loop::ServerLoop;
-use crate::server_udp::ServerUdp;
+use crate::server_udp::{Load, ServerUdp};
 use crate::sockets::Sockets;
 use crate::transfer_port::{TransferPort, TransferSocket, age_limit, next_look, reply};
 use tftp_ends::{DEFAULT_INTERVAL, Endpoint};
@@ -116,14 +116,26 @@ impl<S: ServedStore<Reason> + Drop> ServerLoop<S> {
         ensures rounds { self.new.rounds ≡ self.old.rounds }
         ensures room { HasRoom self.new }
     {
-        match self.sockets.requests.receive(&mut self.journal, request) {
+        let load = self.load();
+        match rt.receive(&self.sockets.requests, &mut self.journal, load, request) {
             Receipt::Datagram(from, count) => {
                 self.sockets.has_received = true;
                 self.take_received(rt, from, count, request);
             }
             Receipt::Nothing => self.sockets.is_ready = false,
-            // A datagram may be there: the port stays marked.
+            // A datagram may be there, or is left to another server: the port stays marked.
             Receipt::Failed => {}
+        }
+    }
+
+    /// How much the server has to do.
+    fn load(&self) -> Load
+        ensures open { result.open ≡ length self.now.ports.items }
+        ensures cap { result.cap ≡ self.now.server.config.cap }
+    {
+        Load {
+            open: self.ports.len(),
+            cap: usize::from(self.server.cap()),
         }
     }
 

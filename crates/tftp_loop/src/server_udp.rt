@@ -1,7 +1,8 @@
 //! Opens the UDP sockets of a server, and orders their ports.
 
-ghost use Rattle.std.specs.Prelude.{◌≡◌, ◌∷◌, IfOk, OnErr};
+ghost use Rattle.std.specs.Prelude.{◌≡◌, ◌∷◌, IfOk, OnErr, false};
 ghost use Rattle.tftp_sockets.specs.Bound.{IsBoundTo};
+ghost use Rattle.tftp_sockets.specs.Receipt.{Fits, receive_event};
 ghost use Rattle.tftp_sockets.specs.Journal.SocketEvent.{Quiet};
 ghost use Rattle.tftp_sockets.specs.Journal.QuietEvent.{New_socket, No_socket};
 ghost use Rattle.tftp_loop.specs.PortOrder.{IsOrderOf};
@@ -13,7 +14,16 @@ use std::io;
 use std::net::Net;
 use std::random::RandomSource;
 use tftp_ends::Endpoint;
-use tftp_sockets::{Journal, ServerSocket};
+use tftp_sockets::{Journal, Receipt, ServerSocket};
+
+/// How much a server has to do.
+#[derive(Clone, Copy)]
+pub struct Load {
+    /// The number of its open transfers.
+    pub open: usize,
+    /// The most that may be open.
+    pub cap: usize,
+}
 
 /// Opens UDP sockets, a [`Net`] without its streams and listeners, and orders their ports by random
 /// bytes of the system.
@@ -33,6 +43,19 @@ pub trait ServerUdp {
 
     /// Creates the poll of non-blocking sockets.
     fn poll(&self) -> io::Result<Poll>;
+
+    /// Receives a datagram at the request port, if one has arrived, and a server with this load does
+    /// not leave it to another one.
+    fn receive(
+        &self,
+        requests: &ServerSocket,
+        journal: &mut Journal,
+        load: Load,
+        buffer: &mut [u8],
+    ) -> Receipt
+        ensures noted { journal.new.events ≡ receive_event requests.now.port buffer.new result
+            ∷ journal.old.events }
+        ensures fits { Fits buffer.new result };
 
     /// The ports of the range in a random order. It fails if the system gives no random bytes, or
     /// when out of memory.
@@ -57,12 +80,25 @@ impl<N: Net + RandomSource> ServerUdp for N {
         Poll::new(self)
     }
 
+    /// A server alone leaves nothing.
+    fn receive(
+        &self,
+        requests: &ServerSocket,
+        journal: &mut Journal,
+        _load: Load,
+        buffer: &mut [u8],
+    ) -> Receipt {
+        requests.receive(journal, buffer)
+    }
+
     fn order(&self, alloc: Global, range: PortRange) -> io::Result<PortOrder> {
         PortOrder::new(self, alloc, range)
     }
 
     /// A server alone goes on until it has a line to print.
-    fn has_no_reader(&self) -> bool {
+    fn has_no_reader(&self) -> bool
+        ensures { result ≡ false }
+    {
         false
     }
 }

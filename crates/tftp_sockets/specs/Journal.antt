@@ -7,7 +7,8 @@ use Rattle.tftp_ends.specs.declared.endpoint.Endpoint.{Endpoint}
 pub data QuietEvent : Type 0 where
   -- a receive at the port found nothing
   Empty : (port : ℕ) → QuietEvent
-  -- a receive at the port failed otherwise: a datagram may be there
+  -- a receive at the port failed otherwise, or left what it found to another server: a datagram may
+  -- be there
   Failed : (port : ℕ) → QuietEvent
   -- a wait began, of at most so many milliseconds
   Slept : (millis : ℕ) → QuietEvent

@@ -9,7 +9,7 @@ pub enum Receipt {
     Datagram(Endpoint, usize),
     /// Nothing has arrived.
     Nothing,
-    /// The system refused for another reason than that nothing has arrived. A datagram may be
-    /// there.
+    /// The system refused for another reason than that nothing has arrived, or what has arrived is
+    /// left to another server. A datagram may be there.
     Failed,
 }

@@ -11,7 +11,7 @@
 //! versions are printed before that.
 //!
 //! A failed send counts as a lost datagram, and returns the reason. A poll that takes
-//! no time and reports no port is no event.
+//! no time and reports no port is no event, nor is a look whether a datagram has arrived.
 
 ghost use Rattle.std.specs.Prelude.{◌≡◌, ◌≢◌, ◌≤◌, ◌+◌, ◌∷◌, ◌↔◌, [], true, length, max, IsTrue};
 ghost use Rattle.std.specs.Prelude.{IfOk, OnErr, OnOk, if◌then◌else◌};
@@ -19,7 +19,7 @@ ghost use Rattle.tftp_lines.specs.ClientOutcome.{end_text};
 ghost use Rattle.tftp_lines.specs.Printed.{line_text};
 ghost use Rattle.tftp_sockets.specs.declared.watch.TheConstants.{LONGEST_WAIT};
 ghost use Rattle.tftp_sockets.specs.Journal.SocketEvent.{Sent, Watched, Printed as Line, Quiet};
-ghost use Rattle.tftp_sockets.specs.Journal.QuietEvent.{New_socket, No_socket, Slept, Woke};
+ghost use Rattle.tftp_sockets.specs.Journal.QuietEvent.{Failed, New_socket, No_socket, Slept, Woke};
 ghost use Rattle.tftp_sockets.specs.Bound.{IsBoundTo};
 ghost use Rattle.std.specs.IoError.{error_kind};
 ghost use Rattle.tftp_sockets.specs.Receipt.{FindsNothing, Fits, receive_event};
@@ -126,6 +126,26 @@ impl ServerSocket {
     {
         let received = self.udp.recv_from(buffer);
         note_receipt(journal, self.port, received, buffer)
+    }
+
+    /// The sender of the first datagram that has arrived, if one has. It stays there, and nothing is
+    /// noted.
+    pub fn first_sender(&self) -> Option<Endpoint> {
+        match self.udp.peek_from(&mut [0u8; 1]) {
+            Ok((_, address)) => endpoint_of(address),
+            Err(_) => None,
+        }
+    }
+
+    /// Leaves a datagram that has arrived to the other servers that have the socket, and notes a
+    /// receive that failed: a datagram may be there. A server without open transfers leaves none.
+    pub fn leave(&self, journal: &mut Journal, _open: usize) -> Receipt
+        requires { 1 ≤ _open }
+        ensures noted { journal.new.events ≡ Quiet (Failed self.now.port) ∷ journal.old.events }
+        ensures failed { result ≡ Receipt.Failed }
+    {
+        journal.note(&EventRef::Failed(self.port));
+        Receipt::Failed
     }
 
     /// Sends a datagram. If the system refuses it, the datagram is lost, and its reason returned.
