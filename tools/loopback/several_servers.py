@@ -9,11 +9,13 @@ from itertools import cycle
 from pathlib import Path
 from typing import Any, Iterator
 
-from datagrams import PATIENCE, PATIENT, ack, data, expect, free_ports, oack, rrq
+from datagrams import PATIENCE, PATIENT, ack, data, error, expect, free_ports, oack, rrq
 from scene import Server, patiently
 from server_alone import first_block_of
 from servers import MARKED, children_of, is_gone, wait_for_servers, wait_until
 
+# how often shares are tried
+TRIES = 5
 # the longest that servers may outlive their supervisor, in seconds, where the host does not stall
 SOON = 1
 # how often each kill is tried, at so many ports at once; without LIVES in the environment, for so many seconds at most
@@ -204,7 +206,6 @@ def test_lines_of_several_servers_are_whole(scene) -> None:
     """Clients by turns and at once: each close has one line, and it says which server printed it. Each server has its
     part of the ports."""
     scene.make("a", b"ABC")
-    # each server has room for all that ask at once: nothing divides requests evenly
     first = free_ports(160)
     server = serve(scene, 4, "--log", "--cap", "64", "--ports", f"{first}:{first + 159}")
     served, clients = Counter(), [scene.port() for _ in range(64)]
@@ -232,6 +233,55 @@ def test_lines_of_several_servers_are_whole(scene) -> None:
     marked = [bool(re.match(MARKED + "(listening |opened |closed |tftpd: output fault)", line)) for line in log]
     expect(all(marked), True, f"whether each line of the log is marked in {log}")
     expect(sum(" closed " in line for line in log), 64, "the closed lines of the log")
+
+
+def shares(scene, pause) -> list[int]:
+    """How many transfers each of four servers has, once 64 clients have asked, with such a pause between two of them, in
+    seconds. They stay open."""
+    first = free_ports(256)
+    server = serve(scene, 4, "--cap", "64", "--ports", f"{first}:{first + 255}")
+    clients = [scene.port() for _ in range(64)]
+    for port in clients:
+        port.send(rrq("a", **PATIENT), server.address)
+        time.sleep(pause)
+    served = Counter()
+    for port in clients:
+        answer, transfer = port.receive()
+        expect(answer, oack(**PATIENT), "the answer")
+        served[(transfer[1] - first) // 64] += 1
+    server.process.kill()
+    server.process.communicate(timeout=PATIENCE)
+    return [served[number] for number in range(4)]
+
+
+def is_even(shares) -> bool:
+    """Whether each of four servers has 12 to 20 of 64 transfers."""
+    return all(12 <= share <= 20 for share in shares)
+
+
+def test_requests_are_spread_over_servers(scene) -> None:
+    """All at once, and one after the other: each server has about as many. One that the host lets wait for a few
+    milliseconds has fewer, so that it is tried again."""
+    scene.make("a", b"ABC")
+    for pause in [0, 0.002]:
+        found = []
+        while not any(map(is_even, found)):
+            expect(len(found) < TRIES, True, f"whether one of the shares {found} is even, at {pause} s each")
+            found.append(shares(scene, pause))
+
+
+def test_a_full_server_leaves_requests_to_others(scene) -> None:
+    """None is refused as long as another server has room; a request more is, soon."""
+    scene.make("a", b"ABC")
+    server = serve(scene, 3, "--cap", "4")
+    clients = [scene.port() for _ in range(12)]
+    for port in clients:
+        port.send(rrq("a", **PATIENT), server.address)
+    expect([port.receive()[0] for port in clients], [oack(**PATIENT)] * 12, "the answers")
+    port, begun = scene.port(), time.monotonic()
+    port.send(rrq("a", **PATIENT), server.address)
+    expect(port.receive()[0], error(0, "server busy"), "the answer to one more")
+    expect(time.monotonic() < begun + SOON, True, "whether it comes soon")
 
 
 def test_servers_have_no_descriptor_of_each_other(scene) -> None:
