@@ -47,7 +47,7 @@ use Rattle.tftp_loop.proofs.PortStays.{stays_at}
 use Rattle.tftp_loop.proofs.Rounds.{InRound, begins_round, next_round, step_round, wait_or_work}
 use Rattle.tftp_loop.proofs.Sleeping.{step_kept}
 use Rattle.tftp_loop.proofs.Tables.{any_default, appended_at, appended_long, inserted_apart, removed_apart}
-use Rattle.tftp_loop.proofs.Tables.{not_taken, removed_place, set_other, set_own, taken_by}
+use Rattle.tftp_loop.proofs.Tables.{not_taken, removed_index, set_other, set_own, taken_by}
 use Rattle.tftp_loop.proofs.Waits.{deadline_later, waited_at}
 
 module _ {S F D : Type 0} (meaning : StoreMeaning S D) (sources : SourceMeaning F) (first : LoopState S F D)
@@ -72,10 +72,10 @@ module _ {S F D : Type 0} (meaning : StoreMeaning S D) (sources : SourceMeaning 
 
   -- the transfer is held still
   record Lasts (Quiet : Type 0) (since : ℕ) (s : LoopState S F D) : Type 0 where
-    pub place : ℕ
+    pub index : ℕ
     pub here : Timer
-    pub within : place < length s.timers
-    pub is : (d : Timer) → slice_index_or s.timers place d ≡ here
+    pub within : index < length s.timers
+    pub is : (d : Timer) → slice_index_or s.timers index d ≡ here
     pub same : SameTimer timer here
     pub transfer : TransferState F D
     pub found : at timer.port s.server.held ≡ Some transfer
@@ -111,10 +111,10 @@ module _ {S F D : Type 0} (meaning : StoreMeaning S D) (sources : SourceMeaning 
   same_lasts : (Quiet More : Type 0) (since : ℕ) (s t : LoopState S F D) → (More → Quiet) → Adds s.events t.events
       → t.timers ≡ s.timers → t.server.held ≡ s.server.held → Lasts Quiet since s → Lasts More since t
   same_lasts Quiet More since s t fewer adds timers held lasts = record {
-    place = lasts.place;
+    index = lasts.index;
     here = lasts.here;
-    within = subst (λ (ts : List Timer). lasts.place < length ts) (sym timers) lasts.within;
-    is = λ d. ap (λ (ts : List Timer). slice_index_or ts lasts.place d) timers ∙ lasts.is d;
+    within = subst (λ (ts : List Timer). lasts.index < length ts) (sym timers) lasts.within;
+    is = λ d. ap (λ (ts : List Timer). slice_index_or ts lasts.index d) timers ∙ lasts.is d;
     same = lasts.same;
     transfer = lasts.transfer;
     found = ap (λ (h : List (ℕ × TransferState F D)). at timer.port h) held ∙ lasts.found;
@@ -137,7 +137,7 @@ module _ {S F D : Type 0} (meaning : StoreMeaning S D) (sources : SourceMeaning 
       let stays = stays_at meaning sources s.now (port_state s own) next does in
       let long = set_long s.timers index next.timer in
       let inside = lasts.within in
-      elim (cases_eq lasts.place index) [
+      elim (cases_eq lasts.index index) [
         | inl here ↦
             let own_is : own ≡ lasts.here = is ∙ (ap (λ (j : ℕ). slice_index_or s.timers j own) (sym here)
             ∙ lasts.is own) in
@@ -153,7 +153,7 @@ module _ {S F D : Type 0} (meaning : StoreMeaning S D) (sources : SourceMeaning 
             let Idle = IsIdleAt meaning sources does in
             let Silent = ReceivesNoneAt meaning sources does in
             record {
-              place = index;
+              index = index;
               here = next.timer;
               within = omega (arith, long, within);
               is = λ d. set_own s.timers index next.timer d within;
@@ -179,13 +179,13 @@ module _ {S F D : Type 0} (meaning : StoreMeaning S D) (sources : SourceMeaning 
             }
         | inr other ↦
             let apart : timer.port ≡ own.port → ⊥ =
-            λ e. other (kept.apart lasts.place index own own lasts.within within
+            λ e. other (kept.apart lasts.index index own own lasts.within within
             (ap (λ (t : Timer). t.port) (lasts.is own) ∙ (lasts.same.port ∙ (e ∙ ap (λ (t : Timer). t.port) is)))) in
             record {
-              place = lasts.place;
+              index = lasts.index;
               here = lasts.here;
               within = omega (arith, long, inside);
-              is = λ d. set_other s.timers index next.timer lasts.place d other ∙ lasts.is d;
+              is = λ d. set_other s.timers index next.timer lasts.index d other ∙ lasts.is d;
               same = lasts.same;
               transfer = lasts.transfer;
               found = stays.held.others timer.port apart ∙ lasts.found;
@@ -218,10 +218,10 @@ module _ {S F D : Type 0} (meaning : StoreMeaning S D) (sources : SourceMeaning 
       let apart : timer.port ≡ tid → ⊥ = λ e. none-some lasts.transfer
       (sym free ∙ (ap (λ (p : ℕ). at p s.server.held) (sym e) ∙ lasts.found)) in
       record {
-        place = lasts.place;
+        index = lasts.index;
         here = lasts.here;
         within = omega (arith, long, inside);
-        is = λ d. appended_at s.timers opened lasts.place d lasts.within ∙ lasts.is d;
+        is = λ d. appended_at s.timers opened lasts.index d lasts.within ∙ lasts.is d;
         same = lasts.same;
         transfer = lasts.transfer;
         found = inserted_apart tid timer.port transfer s.server.held apart ∙ lasts.found;
@@ -280,7 +280,7 @@ module _ {S F D : Type 0} (meaning : StoreMeaning S D) (sources : SourceMeaning 
   step_lives Quiet More since s t (Store_set d) is idle fewer silent soon kept lasts =
       passes Quiet More since s t _ (Store_set d) fewer d.is refl refl lasts
   step_lives Quiet More since s t (Transfer_closed d) is idle fewer silent soon kept lasts =
-      elim (cases_eq lasts.place d.index) [
+      elim (cases_eq lasts.index d.index) [
         | inl here ↦
             let own_is : d.timer ≡ lasts.here = d.is_timer
             ∙ (ap (λ (j : ℕ). slice_index_or s.timers j d.timer) (sym here) ∙ lasts.is d.timer) in
@@ -310,17 +310,17 @@ module _ {S F D : Type 0} (meaning : StoreMeaning S D) (sources : SourceMeaning 
             })
         | inr other ↦
             let apart : timer.port ≡ d.timer.port → ⊥ =
-            λ e. other (kept.apart lasts.place d.index d.timer d.timer lasts.within d.within
+            λ e. other (kept.apart lasts.index d.index d.timer d.timer lasts.within d.within
             (ap (λ (u : Timer). u.port) (lasts.is d.timer)
             ∙ (lasts.same.port ∙ (e ∙ ap (λ (u : Timer). u.port) d.is_timer)))) in
-            let place = removed_place s.timers d.index d.timer lasts.place d.within lasts.within other in
+            let index = removed_index s.timers d.index d.timer lasts.index d.within lasts.within other in
             let adds = subst (λ (u : LoopState S F D). Adds s.events u.events) d.is
             (step_adds meaning sources s t (Transfer_closed d)) in
             inr (subst (Lasts More since) (sym d.is) (record {
-              place = place.0;
+              index = index.0;
               here = lasts.here;
-              within = place.1;
-              is = λ e. place.2 e ∙ lasts.is e;
+              within = index.1;
+              is = λ e. index.2 e ∙ lasts.is e;
               same = lasts.same;
               transfer = lasts.transfer;
               found = removed_apart d.timer.port timer.port s.server.held apart ∙ lasts.found;
@@ -344,7 +344,7 @@ module _ {S F D : Type 0} (meaning : StoreMeaning S D) (sources : SourceMeaning 
   rests_early Quiet since s t waits soon lasts =
       due_later s.now lasts.here
       (subst (λ (u : Timer). (s.now < u.deadline) ⊎ (u.deadline ≡ deadline_of s.now u.interval)) (lasts.is timer)
-      (waits.may.transfers lasts.place timer lasts.within).due) soon
+      (waits.may.transfers lasts.index timer lasts.within).due) soon
 
   rests_lives : (Quiet More : Type 0) (since : ℕ) (s t : LoopState S F D) → Waits meaning sources s t → (More → Quiet)
       → s.now ≤ last_moment → InRound meaning sources since s → Lasts Quiet since s → Lasts More s.now t
@@ -364,10 +364,10 @@ module _ {S F D : Type 0} (meaning : StoreMeaning S D) (sources : SourceMeaning 
       let adds = subst (λ (u : LoopState S F D). Adds s.events u.events) waits.is
       (step_adds meaning sources s t (Waited waits)) in
       subst (Lasts More s.now) (sym waits.is) (record {
-        place = lasts.place;
+        index = lasts.index;
         here = marked_by waits.ports (set_by waits.time lasts.here);
         within = omega (arith, more, as_many, inside);
-        is = λ d. waited_at waits.time waits.ports s.timers lasts.place d lasts.within
+        is = λ d. waited_at waits.time waits.ports s.timers lasts.index d lasts.within
             ∙ ap (λ (t : Timer). marked_by waits.ports (set_by waits.time t)) (lasts.is d);
         same = record {
           port = lasts.same.port;
@@ -456,8 +456,8 @@ module _ {S F D : Type 0} (meaning : StoreMeaning S D) (sources : SourceMeaning 
   late_idle Quiet since s t (At_port d) kept late lasts =
       let own_is : d.timer.port ≡ timer.port → d.timer ≡ lasts.here =
       λ e.
-      let here : lasts.place ≡ d.index =
-      kept.apart lasts.place d.index d.timer d.timer lasts.within d.within
+      let here : lasts.index ≡ d.index =
+      kept.apart lasts.index d.index d.timer d.timer lasts.within d.within
       (ap (λ (u : Timer). u.port) (lasts.is d.timer)
       ∙ (lasts.same.port ∙ (sym e ∙ ap (λ (u : Timer). u.port) d.is_timer))) in
       d.is_timer ∙ (ap (λ (j : ℕ). slice_index_or s.timers j d.timer) (sym here) ∙ lasts.is d.timer) in
@@ -527,12 +527,12 @@ module _ {S F D : Type 0} (meaning : StoreMeaning S D) (sources : SourceMeaning 
       → closing_time start timer.interval first.server.config.retries < s.now → Lasts Quiet since s → ⊥
   too_late Quiet since s t waits soon late lasts =
       let early = rests_early Quiet since s t waits soon lasts in
-      let port_is : (slice_index_or s.timers lasts.place timer).port ≡ timer.port =
+      let port_is : (slice_index_or s.timers lasts.index timer).port ≡ timer.port =
       ap (λ (u : Timer). u.port) (lasts.is timer) ∙ lasts.same.port in
       let not_closed : taken_of (Some lasts.transfer) ≡ None =
       ap (λ (o : Option (TransferState F D)). taken_of o) (sym lasts.found)
       ∙ (ap (λ (p : ℕ). taken_of (at p s.server.held)) (sym port_is)
-      ∙ (waits.may.transfers lasts.place timer lasts.within).not_closed) in
+      ∙ (waits.may.transfers lasts.index timer lasts.within).not_closed) in
       let some = open_left lasts.transfer.end.position.phase lasts.transfer.end.position.retries_left
       (not_taken (is_closed lasts.transfer) (record_of lasts.transfer.end, draft_of lasts.transfer.files)
       not_closed) in
@@ -575,7 +575,7 @@ module _ {S F D : Type 0} (meaning : StoreMeaning S D) (sources : SourceMeaning 
         in_round = begins_round meaning sources first;
         kept = sound.kept;
         lives = inr (record {
-          place = has.0;
+          index = has.0;
           here = timer;
           within = has.1;
           is = is;

@@ -7,14 +7,13 @@ pub mod NoteLemmas
 pub mod RequestRuns
 pub mod Reserving
 pub mod OrderLemmas
-pub mod PortTurns
-pub mod TurnLemmas
+pub mod PortUses
+pub mod VisitLemmas
 pub mod Tables
 pub mod PortStays
 pub mod LoopStays
 pub mod Opened
 pub mod Waits
-pub mod Surveys
 pub mod Counting
 pub mod PortCounts
 pub mod Visits

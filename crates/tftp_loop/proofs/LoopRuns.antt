@@ -115,13 +115,13 @@ module _ {S F D : Type 0} (meaning : StoreMeaning S D) (sources : SourceMeaning 
       })) tt)
 
   -- the same, for a list of ports
-  pub at_place : (s : LoopState S F D) (ports : List (Port TransferSocket)) (index : ℕ)
+  pub at_index : (s : LoopState S F D) (ports : List (Port TransferSocket)) (index : ℕ)
       (port port' : Port TransferSocket) (server : ServerState S F D) (es : List SocketEvent)
       → s.timers ≡ map timer_of ports → index < length ports → port ≡ slice_index_or ports index port
       → Run (PortStep meaning sources s.now) (here meaning sources s.now s.server (timer_of port) s.events)
       (here meaning sources s.now server (timer_of port') es)
       → Runs s (record s { server = server; timers = map timer_of (slice_set ports index port'); events = es })
-  at_place s ports index port port' server es listed within is r =
+  at_index s ports index port port' server es listed within is r =
       let At : List Timer → Type 0 = λ ts. Runs s (record s { server = server; timers = ts; events = es }) in
       let timers : slice_set s.timers index (timer_of port') ≡ map timer_of (slice_set ports index port') =
       ap (λ (ts : List Timer). slice_set ts index (timer_of port')) listed ∙ sym (map_set timer_of ports index port') in

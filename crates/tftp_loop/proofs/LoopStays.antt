@@ -79,11 +79,11 @@ pub removed_apart_timers : (timers : List Timer) (i : ℕ) (timer : Timer) → i
 removed_apart_timers timers i timer within apart j k d e hj hk h =
     let a = was_at timers i timer j d within hj in
     let b = was_at timers i timer k e within hk in
-    let same : a.place ≡ b.place =
-    apart a.place b.place d e a.within b.within (ap (λ (t : Timer). t.port) (sym (a.is d))
+    let same : a.index ≡ b.index =
+    apart a.index b.index d e a.within b.within (ap (λ (t : Timer). t.port) (sym (a.is d))
     ∙ (h ∙ ap (λ (t : Timer). t.port) (b.is e))) in
     let long = removed_long timers i timer in
-    which_same (length timers - 1) a.place b.place j k i (omega (arith, long, hj)) (omega (arith, long, hk)) a.which
+    which_same (length timers - 1) a.index b.index j k i (omega (arith, long, hj)) (omega (arith, long, hk)) a.which
     b.which same
 
 pub appended_apart : (timers : List Timer) (timer : Timer) →
@@ -113,10 +113,10 @@ appended_apart timers timer fresh apart j k d e hj hk h =
     ]
 
 -- ---- what holds of each timer, after one was replaced, removed or added
-later : (low i k place n : ℕ) → i < n → low ≤ i → low ≤ k → ((k ≡ i) × (place ≡ n - 1)) ⊎ ((k ≡ i → ⊥) × (place ≡ k)) →
-    low ≤ place
-later low i k place n within first hl (inl x) = let e = x.1 in omega (arith, e, within, first)
-later low i k place n within first hl (inr x) = let e = x.1 in omega (arith, e, hl)
+later : (low i k index n : ℕ) → i < n → low ≤ i → low ≤ k → ((k ≡ i) × (index ≡ n - 1)) ⊎ ((k ≡ i → ⊥) × (index ≡ k)) →
+    low ≤ index
+later low i k index n within first hl (inl x) = let e = x.1 in omega (arith, e, within, first)
+later low i k index n within first hl (inr x) = let e = x.1 in omega (arith, e, hl)
 
 pub some_none : {T : Type 0} (o : Option T) → IsSome o → o ≡ None → ⊥
 some_none o h e = let f : is_some o ≡ false = ap is_some e in (let g : true ≡ false = sym h ∙ f in cc)
@@ -142,7 +142,7 @@ module _ (Q : Timer → Type 0) (timers : List Timer) where
       Q (slice_index_or (swap_remove timers i timer) k d)
   all_removed low i timer first within rest k d hl h =
       let w = was_at timers i timer k d within h in
-      subst Q (sym (w.is d)) (rest w.place d (later low i k w.place (length timers) within first hl w.which) w.within
+      subst Q (sym (w.is d)) (rest w.index d (later low i k w.index (length timers) within first hl w.which) w.within
       w.other)
 
   pub all_appended : (timer : Timer) → ((k : ℕ) (d : Timer) → k < length timers → Q (slice_index_or timers k d)) →

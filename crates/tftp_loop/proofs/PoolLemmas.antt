@@ -9,7 +9,7 @@ use Rattle.tftp_sockets.specs.Journal.{SocketEvent}
 use Rattle.tftp_sockets.specs.Journal.SocketEvent.{Quiet}
 use Rattle.tftp_sockets.specs.Journal.QuietEvent.{New_socket, No_socket}
 use Rattle.tftp_loop.specs.Run.Run.{Start, Then}
-use Rattle.tftp_loop.specs.PortOrder.{HasPorts, IsOneOf, IsOrderOf, Turns, coming, ports_of}
+use Rattle.tftp_loop.specs.PortOrder.{HasPorts, IsOneOf, IsOrderOf, UsesNext, coming, ports_of}
 use Rattle.tftp_loop.specs.PortPool.{Binds, TriesInVain, TriesPorts}
 use Rattle.tftp_loop.specs.declared.port_order.PortOrder.{PortOrder}
 use Rattle.tftp_loop.specs.declared.port_order.PortRange.{PortRange}
@@ -44,49 +44,49 @@ order_within range order is =
           (All-permutation (IsOneOf (Some range)) (ports_of range) (coming order) is.all (all_within range));
     }
 
-module _ (old new : PortOrder) (port : ℕ) (has : HasPorts old) (turns : Turns old new port) where
-  comes : All (IsOneOf (Some old.range)) (port ∷ turns.others)
-  comes = All-same (IsOneOf (Some old.range)) (port ∷ turns.others) (coming old) (sym turns.was) has.each
+module _ (old new : PortOrder) (port : ℕ) (has : HasPorts old) (uses : UsesNext old new port) where
+  comes : All (IsOneOf (Some old.range)) (port ∷ uses.others)
+  comes = All-same (IsOneOf (Some old.range)) (port ∷ uses.others) (coming old) (sym uses.was) has.each
 
   -- so is the port that is used
   pub used_within : IsOneOf (Some old.range) port
-  used_within = All-head (IsOneOf (Some old.range)) port turns.others comes
+  used_within = All-head (IsOneOf (Some old.range)) port uses.others comes
 
   -- and those that come then
-  pub turned_within : HasPorts new
-  turned_within = record {
-    some = subst (λ (xs : List ℕ). 1 ≤ length xs) (sym turns.is) (pushed_some turns.others port);
+  pub next_has_ports : HasPorts new
+  next_has_ports = record {
+    some = subst (λ (xs : List ℕ). 1 ≤ length xs) (sym uses.is) (pushed_some uses.others port);
     each =
-        subst (λ (r : PortRange). All (IsOneOf (Some r)) (coming new)) (sym turns.range)
-        (All-same (IsOneOf (Some old.range)) (coming new) (turns.others ++ port ∷ []) turns.is
-        (All-push (IsOneOf (Some old.range)) turns.others port
-        (All-tail (IsOneOf (Some old.range)) port turns.others comes) used_within));
+        subst (λ (r : PortRange). All (IsOneOf (Some r)) (coming new)) (sym uses.range)
+        (All-same (IsOneOf (Some old.range)) (coming new) (uses.others ++ port ∷ []) uses.is
+        (All-push (IsOneOf (Some old.range)) uses.others port
+        (All-tail (IsOneOf (Some old.range)) port uses.others comes) used_within));
   }
 
 -- the same, whether or not a port comes
-abbrev MayTurn : PortOrder → PortOrder → Option ℕ → Type 0
-MayTurn old new made = MatchOption made ((coming old ≡ []) × (new ≡ old)) (λ port. Turns old new port)
+abbrev MayUseNext : PortOrder → PortOrder → Option ℕ → Type 0
+MayUseNext old new made = MatchOption made ((coming old ≡ []) × (new ≡ old)) (λ port. UsesNext old new port)
 
-pub same_range : (old new : PortOrder) (made : Option ℕ) → MayTurn old new made → new.range ≡ old.range
-same_range old new None turns = ap (λ (o : PortOrder). o.range) turns.1
-same_range old new (Some port) turns = turns.range
+pub same_range : (old new : PortOrder) (made : Option ℕ) → MayUseNext old new made → new.range ≡ old.range
+same_range old new None uses = ap (λ (o : PortOrder). o.range) uses.1
+same_range old new (Some port) uses = uses.range
 
-pub still_within : (old new : PortOrder) (made : Option ℕ) → HasPorts old → MayTurn old new made → HasPorts new
-still_within old new None has turns = subst (λ (o : PortOrder). HasPorts o) (sym turns.1) has
-still_within old new (Some port) has turns = turned_within old new port has turns
+pub still_within : (old new : PortOrder) (made : Option ℕ) → HasPorts old → MayUseNext old new made → HasPorts new
+still_within old new None has uses = subst (λ (o : PortOrder). HasPorts o) (sym uses.1) has
+still_within old new (Some port) has uses = next_has_ports old new port has uses
 
-pub next_within : (old new : PortOrder) (made : Option ℕ) → HasPorts old → MayTurn old new made
+pub next_within : (old new : PortOrder) (made : Option ℕ) → HasPorts old → MayUseNext old new made
     → IfSome made (IsOneOf (Some old.range))
-next_within old new None has turns = tt
-next_within old new (Some port) has turns = used_within old new port has turns
+next_within old new None has uses = tt
+next_within old new (Some port) has uses = used_within old new port has uses
 
 -- a port comes
-pub next_some : (old new : PortOrder) (made : Option ℕ) → HasPorts old → MayTurn old new made → IsSome made
-next_some old new None has turns =
+pub next_some : (old new : PortOrder) (made : Option ℕ) → HasPorts old → MayUseNext old new made → IsSome made
+next_some old new None has uses =
     let some = has.some in
-    let none : length (coming old) ≡ 0 = ap (λ (xs : List ℕ). length xs) turns.0 in
+    let none : length (coming old) ≡ 0 = ap (λ (xs : List ℕ). length xs) uses.0 in
     absurd (omega (arith, some, none))
-next_some old new (Some port) has turns = refl
+next_some old new (Some port) has uses = refl
 
 -- ---- what the journal says of ports that were tried
 pub binds : {range : Option PortRange} (port : ℕ) (es fs gs : List SocketEvent) → gs ≡ Quiet (New_socket port) ∷ fs

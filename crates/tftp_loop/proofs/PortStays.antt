@@ -1,4 +1,4 @@
--- What a turn at one port leaves of the others.
+-- What a visit of one port leaves of the others.
 use Rattle.std.proofs.Common.{arith, ◌≡◌, ◌≤◌, ◌==◌, ◌||◌, ℕ, Bool, true, false, List, ◌∷◌, Option, Some, None, IsSome}
 use Rattle.std.proofs.Common.{◌+◌}
 use Rattle.std.proofs.Common.{refl, sym, ap, subst, ◌∙◌}
@@ -121,7 +121,7 @@ module _ {S F D : Type 0} (meaning : StoreMeaning S D) (sources : SourceMeaning 
   works_held port None old new works = same_server port old new works
   works_held port (Some transfer) old new works = next_held port old.held new.held works.0 works.2
 
-  -- what a turn at a port keeps
+  -- what a visit of a port keeps
   pub record StaysAt (old new : PortState S F D) : Type 0 where
     pub port : new.timer.port ≡ old.timer.port
     pub held : StaysHeld old.timer.port old.server.held new.server.held

@@ -34,7 +34,7 @@ use Rattle.tftp_loop.proofs.NoteLemmas.{note_tried}
 use Rattle.tftp_loop.proofs.PortStays.{StaysAt, answered_tries, or_right, own_receive, replied_tries, stays_at}
 use Rattle.tftp_loop.proofs.Sleeping.{kept_along, step_kept}
 use Rattle.tftp_loop.proofs.Tables.{any_default, appended_at, appended_long, inserted_apart, removed_apart}
-use Rattle.tftp_loop.proofs.Tables.{removed_place, set_other, set_own}
+use Rattle.tftp_loop.proofs.Tables.{removed_index, set_other, set_own}
 use Rattle.tftp_loop.proofs.Visits.{works_unclosed}
 use Rattle.tftp_loop.proofs.Waits.{waited_at}
 
@@ -101,10 +101,10 @@ module _ {S F D : Type 0} (meaning : StoreMeaning S D) (sources : SourceMeaning 
   -- ---- at all ports
   -- the timer of the port is marked, and its transfer is open
   record IsDue (port : ℕ) (s : LoopState S F D) : Type 0 where
-    pub place : ℕ
-    pub within : place < length s.timers
-    pub has_port : (d : Timer) → (slice_index_or s.timers place d).port ≡ port
-    pub marked : (d : Timer) → (slice_index_or s.timers place d).marked ≡ true
+    pub index : ℕ
+    pub within : index < length s.timers
+    pub has_port : (d : Timer) → (slice_index_or s.timers index d).port ≡ port
+    pub marked : (d : Timer) → (slice_index_or s.timers index d).marked ≡ true
     pub unclosed : taken_of (at port s.server.held) ≡ None
 
   abbrev Reads : ℕ → LoopState S F D → Type 0
@@ -113,10 +113,10 @@ module _ {S F D : Type 0} (meaning : StoreMeaning S D) (sources : SourceMeaning 
   same_due : (port : ℕ) (s t : LoopState S F D) → t.timers ≡ s.timers → t.server.held ≡ s.server.held → IsDue port s →
       IsDue port t
   same_due port s t timers held due = record {
-    place = due.place;
-    within = subst (λ (ts : List Timer). due.place < length ts) (sym timers) due.within;
-    has_port = λ d. ap (λ (ts : List Timer). (slice_index_or ts due.place d).port) timers ∙ due.has_port d;
-    marked = λ d. ap (λ (ts : List Timer). (slice_index_or ts due.place d).marked) timers ∙ due.marked d;
+    index = due.index;
+    within = subst (λ (ts : List Timer). due.index < length ts) (sym timers) due.within;
+    has_port = λ d. ap (λ (ts : List Timer). (slice_index_or ts due.index d).port) timers ∙ due.has_port d;
+    marked = λ d. ap (λ (ts : List Timer). (slice_index_or ts due.index d).marked) timers ∙ due.marked d;
     unclosed = ap (λ (h : List (ℕ × TransferState F D)). taken_of (at port h)) held ∙ due.unclosed;
   }
 
@@ -132,9 +132,9 @@ module _ {S F D : Type 0} (meaning : StoreMeaning S D) (sources : SourceMeaning 
       let stays = stays_at meaning sources s.now (port_state s timer) next does in
       let t = record s { server = next.server; timers = slice_set s.timers index next.timer; events = next.events } in
       let long = set_long s.timers index next.timer in
-      elim (cases_eq due.place index) [
+      elim (cases_eq due.index index) [
         | inl same ↦
-            let here : timer ≡ slice_index_or s.timers due.place timer =
+            let here : timer ≡ slice_index_or s.timers due.index timer =
             is ∙ ap (λ (j : ℕ). slice_index_or s.timers j timer) (sym same) in
             let port_is : timer.port ≡ port = ap (λ (u : Timer). u.port) here ∙ due.has_port timer in
             let marked : timer.marked ≡ true = ap (λ (u : Timer). u.marked) here ∙ due.marked timer in
@@ -144,7 +144,7 @@ module _ {S F D : Type 0} (meaning : StoreMeaning S D) (sources : SourceMeaning 
             elim (due_at s.now (port_state s timer) next does marked unclosed) [
               | inl tried ↦ inl (subst (λ (p : ℕ). was_tried p next.events ≡ true) next_port tried)
               | inr still ↦ inr (record {
-                place = index;
+                index = index;
                 within = omega (arith, long, within);
                 has_port = λ d. ap (λ (u : Timer). u.port) (set_own s.timers index next.timer d within) ∙ next_port;
                 marked = λ d. ap (λ (u : Timer). u.marked) (set_own s.timers index next.timer d within) ∙ still.0;
@@ -153,16 +153,16 @@ module _ {S F D : Type 0} (meaning : StoreMeaning S D) (sources : SourceMeaning 
             ]
         | inr other ↦
             let apart_port : port ≡ timer.port → ⊥ =
-            λ e. other (apart due.place index timer timer due.within within
+            λ e. other (apart due.index index timer timer due.within within
             (due.has_port timer ∙ (e ∙ ap (λ (u : Timer). u.port) is))) in
             inr (record {
-              place = due.place;
+              index = due.index;
               within = (let w = due.within in omega (arith, long, w));
               has_port =
-                  λ d. ap (λ (u : Timer). u.port) (set_other s.timers index next.timer due.place d other)
+                  λ d. ap (λ (u : Timer). u.port) (set_other s.timers index next.timer due.index d other)
                   ∙ due.has_port d;
               marked =
-                  λ d. ap (λ (u : Timer). u.marked) (set_other s.timers index next.timer due.place d other)
+                  λ d. ap (λ (u : Timer). u.marked) (set_other s.timers index next.timer due.index d other)
                   ∙ due.marked d;
               unclosed =
                   ap (λ (o : Option (TransferState F D)). taken_of o) (stays.held.others port apart_port)
@@ -187,14 +187,14 @@ module _ {S F D : Type 0} (meaning : StoreMeaning S D) (sources : SourceMeaning 
       let timer = started now longest tid from (interval_at (at tid held)) in
       let long = appended_long s.timers timer in
       let apart : port ≡ tid → ⊥ =
-      λ e. some_none (at (slice_index_or s.timers due.place timer).port s.server.held)
-      (kept.each due.place timer due.within).there
+      λ e. some_none (at (slice_index_or s.timers due.index timer).port s.server.held)
+      (kept.each due.index timer due.within).there
       (ap (λ (p : ℕ). at p s.server.held) (due.has_port timer ∙ e) ∙ free) in
       record {
-        place = due.place;
+        index = due.index;
         within = (let w = due.within in omega (arith, long, w));
-        has_port = λ d. ap (λ (u : Timer). u.port) (appended_at s.timers timer due.place d due.within) ∙ due.has_port d;
-        marked = λ d. ap (λ (u : Timer). u.marked) (appended_at s.timers timer due.place d due.within) ∙ due.marked d;
+        has_port = λ d. ap (λ (u : Timer). u.port) (appended_at s.timers timer due.index d due.within) ∙ due.has_port d;
+        marked = λ d. ap (λ (u : Timer). u.marked) (appended_at s.timers timer due.index d due.within) ∙ due.marked d;
         unclosed =
             ap (λ (o : Option (TransferState F D)). taken_of o) (inserted_apart tid port transfer s.server.held apart)
             ∙ due.unclosed;
@@ -248,20 +248,20 @@ module _ {S F D : Type 0} (meaning : StoreMeaning S D) (sources : SourceMeaning 
       subst (Reads port) (sym d.is) (inr (same_due port s _ refl refl due))
   step_reads port s t (Transfer_closed d) is kept (inl tried) = subst (Reads port) (sym d.is) (inl tried)
   step_reads port s t (Transfer_closed d) is kept (inr due) =
-      let other : due.place ≡ d.index → ⊥ =
+      let other : due.index ≡ d.index → ⊥ =
       λ e. none-some d.taken
       (sym due.unclosed ∙ (ap (λ (p : ℕ). taken_of (at p s.server.held))
       (sym (due.has_port d.timer) ∙ ap (λ (u : Timer). u.port) (ap (λ (j : ℕ). slice_index_or s.timers j d.timer) e
       ∙ sym d.is_timer)) ∙ d.is_taken)) in
       let apart : port ≡ d.timer.port → ⊥ =
-      λ e. other (kept.apart due.place d.index d.timer d.timer due.within d.within
+      λ e. other (kept.apart due.index d.index d.timer d.timer due.within d.within
       (due.has_port d.timer ∙ (e ∙ ap (λ (u : Timer). u.port) d.is_timer))) in
-      let at_place = removed_place s.timers d.index d.timer due.place d.within due.within other in
+      let at_index = removed_index s.timers d.index d.timer due.index d.within due.within other in
       subst (Reads port) (sym d.is) (inr (record {
-        place = at_place.0;
-        within = at_place.1;
-        has_port = λ e. ap (λ (u : Timer). u.port) (at_place.2 e) ∙ due.has_port e;
-        marked = λ e. ap (λ (u : Timer). u.marked) (at_place.2 e) ∙ due.marked e;
+        index = at_index.0;
+        within = at_index.1;
+        has_port = λ e. ap (λ (u : Timer). u.port) (at_index.2 e) ∙ due.has_port e;
+        marked = λ e. ap (λ (u : Timer). u.marked) (at_index.2 e) ∙ due.marked e;
         unclosed =
             ap (λ (o : Option (TransferState F D)). taken_of o) (removed_apart d.timer.port port s.server.held apart)
             ∙ due.unclosed;
@@ -297,7 +297,7 @@ module _ {S F D : Type 0} (meaning : StoreMeaning S D) (sources : SourceMeaning 
       λ d. sym (map_at (λ (timer : Timer). timer.port) old.timers has.0 d)
       ∙ (any_default (map (λ (timer : Timer). timer.port) old.timers) has.0 d.port port has.1 ∙ has.2) in
       subst (IsDue port) (sym waits.is) (record {
-        place = has.0;
+        index = has.0;
         within = omega (arith, more, as_many, within);
         has_port =
             λ d. ap (λ (u : Timer). u.port) (waited_at waits.time waits.ports old.timers has.0 d within) ∙ port_of d;
@@ -329,5 +329,5 @@ module _ {S F D : Type 0} (meaning : StoreMeaning S D) (sources : SourceMeaning 
         | inr due ↦
             let d = started 0 None 0 (record { ip = []; port = 0 }) 0 in
             subst (λ (p : ℕ). was_tried p last.events ≡ true) (due.has_port d)
-            ((next.may.transfers due.place d due.within).read (due.marked d))
+            ((next.may.transfers due.index d due.within).read (due.marked d))
       ]

@@ -179,10 +179,10 @@ module _ {F D : Type 0} (held : List (ℕ × TransferState F D)) where
 
 module _ {S F D : Type 0} where
   -- a request that may open a transfer has a port in reserve
-  pub has_place : (server : ServerState S F D) (from : Endpoint) (bytes : List ℕ) (ask : Ask) (timers : List Timer)
+  pub has_reserved : (server : ServerState S F D) (from : Endpoint) (bytes : List ℕ) (ask : Ask) (timers : List Timer)
       (capacity : ℕ) → Admits server from bytes ask → asks_store ask ≡ true → AreKept server.held timers
       → server.config.cap ≤ capacity → length timers < capacity
-  has_place server from bytes ask timers capacity admits asks kept room =
+  has_reserved server from bytes ask timers capacity admits asks kept room =
       let below =
       opcode_below server.config.cap (length server.held) (has_error_opcode bytes) admits.repeated
       server.config.limits admits.decoded (ap asks_store (sym admits.asks_for) ∙ asks) in

@@ -70,11 +70,11 @@ module _ {X : Type 0} where
 
   -- where an element of the list without one was before
   pub record WasAt (xs : List X) (i k : ℕ) (y : X) : Type 0 where
-    pub place : ℕ
-    pub within : place < length xs
-    pub other : place ≡ i → ⊥
-    pub is : (e : X) → y ≡ slice_index_or xs place e
-    pub which : ((k ≡ i) × (place ≡ length xs - 1)) ⊎ ((k ≡ i → ⊥) × (place ≡ k))
+    pub index : ℕ
+    pub within : index < length xs
+    pub other : index ≡ i → ⊥
+    pub is : (e : X) → y ≡ slice_index_or xs index e
+    pub which : ((k ≡ i) × (index ≡ length xs - 1)) ⊎ ((k ≡ i → ⊥) × (index ≡ k))
 
   pub was_at : (xs : List X) (i : ℕ) (x : X) (k : ℕ) (d : X) → i < length xs → k < length (swap_remove xs i x) →
       WasAt xs i k (slice_index_or (swap_remove xs i x) k d)
@@ -85,7 +85,7 @@ module _ {X : Type 0} where
       let here = taken_at (length xs - 1) (slice_set xs i last) k d below in
       elim (cases_eq k i) [
         | inl same ↦ record {
-          place = length xs - 1;
+          index = length xs - 1;
           within = omega (arith, below);
           other = λ e. omega (arith, e, same, below);
           is =
@@ -94,7 +94,7 @@ module _ {X : Type 0} where
           which = inl (same, refl);
         }
         | inr apart ↦ record {
-          place = k;
+          index = k;
           within = omega (arith, below);
           other = apart;
           is = λ e. here ∙ (set_other xs i last k d apart ∙ any_default xs k d e (omega (arith, below)));
@@ -103,13 +103,13 @@ module _ {X : Type 0} where
       ]
 
   -- where an element is after another was removed
-  pub removed_place : (xs : List X) (i : ℕ) (x : X) (place : ℕ) → i < length xs → place < length xs → (place ≡ i → ⊥)
+  pub removed_index : (xs : List X) (i : ℕ) (x : X) (index : ℕ) → i < length xs → index < length xs → (index ≡ i → ⊥)
       → (k : ℕ) × (k < length (swap_remove xs i x))
-      × ((d : X) → slice_index_or (swap_remove xs i x) k d ≡ slice_index_or xs place d)
-  removed_place xs i x place inside within other =
+      × ((d : X) → slice_index_or (swap_remove xs i x) k d ≡ slice_index_or xs index d)
+  removed_index xs i x index inside within other =
       let last = slice_index_or xs (length xs - 1) x in
       let long = removed_long xs i x in
-      elim (cases_eq place (length xs - 1)) [
+      elim (cases_eq index (length xs - 1)) [
         | inl end ↦
             let before : i < length xs - 1 = omega (arith, inside, within, other, end) in (
               i,
@@ -120,10 +120,10 @@ module _ {X : Type 0} where
                   ∙ ap (λ (j : ℕ). slice_index_or xs j d) (sym end))),
             )
         | inr apart ↦
-            let before : place < length xs - 1 = omega (arith, within, apart) in (
-              place,
+            let before : index < length xs - 1 = omega (arith, within, apart) in (
+              index,
               omega (arith, long, before),
-              λ d. taken_at (length xs - 1) (slice_set xs i last) place d before ∙ set_other xs i last place d other,
+              λ d. taken_at (length xs - 1) (slice_set xs i last) index d before ∙ set_other xs i last index d other,
             )
       ]
 

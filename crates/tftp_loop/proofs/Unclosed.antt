@@ -1,4 +1,4 @@
--- A turn that did not close its transfer left it open.
+-- A visit that did not close its transfer left it open.
 use Rattle.std.proofs.Common.{◌≡◌, ◌⊎◌, ℕ, Bool, true, false, List, Option, Some, None, refl, sym, ap, subst, ◌∙◌}
 use Rattle.std.proofs.Common.{arith, inl, inr, ◌<◌, ◌≤◌, ◌+◌, length, map}
 use Rattle.std.specs.Prelude.{is_some, IfSome, if◌then◌else◌, slice_set, slice_index_or}
@@ -14,16 +14,16 @@ use Rattle.tftp_ends.specs.End.{EndState, outcome_of, record_of}
 use Rattle.tftp_store.specs.Store.{StoreMeaning}
 use Rattle.tftp_server.specs.State.{TransferState, ServerState, at, draft_of, is_closed, taken_of}
 use Rattle.tftp_server.specs.Steps.{KeepsHeld, TakesDatagramLent, TimesOutLent, with_end}
-use Rattle.tftp_loop.specs.declared.port_turn.PortStatus.{PortStatus}
-use Rattle.tftp_loop.specs.declared.port_turn.PortStatus.TheVariants as statuses
+use Rattle.tftp_loop.specs.declared.port_visit.PortStatus.{PortStatus}
+use Rattle.tftp_loop.specs.declared.port_visit.PortStatus.TheVariants as statuses
 use Rattle.tftp_sockets.specs.declared.port.Port.{Port}
-use Rattle.tftp_loop.specs.declared.port_turn.Turn.{Turn}
-use Rattle.tftp_loop.specs.declared.port_turn.Turn.TheVariants as turns
+use Rattle.tftp_loop.specs.declared.port_visit.Pass.{Pass}
+use Rattle.tftp_loop.specs.declared.port_visit.Pass.TheVariants as passes
 use Rattle.tftp_loop.specs.declared.server_loop.ServerLoop.{ServerLoop}
 use Rattle.tftp_loop.specs.declared.transfer_port.TransferSocket.{TransferSocket}
 use Rattle.tftp_loop.specs.LoopStates.{timer_of}
-use Rattle.tftp_loop.specs.MayWait.{AwaitTurn, HasNoTurn, HasTurned, HaveTurned, IsHeld, IsOpen, IsSettled, IsUnclosed}
-use Rattle.tftp_loop.specs.MayWait.{IsUnclosedBy, ReceivedFew, UnlessClosed, before_turn, timers_of}
+use Rattle.tftp_loop.specs.MayWait.{AwaitVisit, IsNotVisited, WasVisited, WereVisited, IsHeld, IsOpen, IsSettled, IsUnclosed}
+use Rattle.tftp_loop.specs.MayWait.{IsUnclosedBy, ReceivedFew, UnlessClosed, before_visit, timers_of}
 use Rattle.tftp_loop.specs.Steps.{Timer, WorksAtPort}
 use Rattle.tftp_loop.proofs.ListLemmas.{map_is, map_set, map_within}
 use Rattle.tftp_loop.proofs.PortLemmas.{found_next, found_timed, set_found}
@@ -124,7 +124,7 @@ timeout_open None status port old new keeps h = unless_all status keeps
 timeout_open (Some step) status port old new opens h = unless_map status (λ none was. opens none) h
 
 module _ {S F D : Type 0} where
-  -- a transfer whose turn left it open is open at its index
+  -- a transfer that a visit left open is open at its index
   pub open_at : (old : ServerLoop S F D) (index : ℕ) (port next : Port TransferSocket)
       (held : List (ℕ × TransferState F D)) (items : List (Port TransferSocket)) → index < length old.ports.items
       → port ≡ slice_index_or old.ports.items index port → items ≡ slice_set old.ports.items index next →
@@ -141,18 +141,18 @@ module _ {S F D : Type 0} where
       subst (IsOpen held) (sym own)
       (stays (subst (IsOpen old.server.held) (sym was) (settled.none_closed index (timer_of port) within)))
 
-  own_turned : (turn : Turn) (d : ServerLoop S F D) (timer : Timer) → HasNoTurn turn d.sockets.watch.now timer →
-      ReceivedFew (before_turn turn) timer → timer.look_at ≤ timer.deadline → HasTurned turn d timer
-  own_turned turns.Ready d timer none few look =
+  own_visited : (pass : Pass) (d : ServerLoop S F D) (timer : Timer) → IsNotVisited pass d.sockets.watch.now timer →
+      ReceivedFew (before_visit pass) timer → timer.look_at ≤ timer.deadline → WasVisited pass d timer
+  own_visited passes.Ready d timer none few look =
       ((λ marked. absurd (let e : false ≡ true = sym none ∙ marked in cc)), omega (arith, few))
-  own_turned turns.Due d timer none few look = record { due = inl (omega (arith, none, look)); look = inl none }
+  own_visited passes.Due d timer none few look = record { due = inl (omega (arith, none, look)); look = inl none }
 
-  -- a port without a turn has had it
-  pub idle_turned : (turn : Turn) (index : ℕ) (d : ServerLoop S F D) (port : Port TransferSocket) →
+  -- a port that a pass is not for was visited
+  pub idle_visited : (pass : Pass) (index : ℕ) (d : ServerLoop S F D) (port : Port TransferSocket) →
       index < length d.ports.items → port ≡ slice_index_or d.ports.items index port →
-      HasNoTurn turn d.sockets.watch.now (timer_of port) → IsSettled d → AwaitTurn turn (index + 1) d →
-      HaveTurned turn (index + 1) d → HaveTurned turn index d
-  idle_turned turn index d port inside is_port none settled waiting turned k t l h =
+      IsNotVisited pass d.sockets.watch.now (timer_of port) → IsSettled d → AwaitVisit pass (index + 1) d →
+      WereVisited pass (index + 1) d → WereVisited pass index d
+  idle_visited pass index d port inside is_port none settled waiting visited k t l h =
       let within = map_within timer_of d.ports.items index inside in
       let was : timer_of port ≡ slice_index_or (timers_of d) index (timer_of port) =
       map_is timer_of d.ports.items index port is_port in
@@ -161,10 +161,10 @@ module _ {S F D : Type 0} where
             let own : timer_of port ≡ slice_index_or (timers_of d) k t =
             was ∙ (any_default (timers_of d) index (timer_of port) t within
             ∙ ap (λ (j : ℕ). slice_index_or (timers_of d) j t) (sym same)) in
-            subst (HasTurned turn d) own
-            (own_turned turn d (timer_of port) none
-            (subst (ReceivedFew (before_turn turn)) (sym was)
+            subst (WasVisited pass d) own
+            (own_visited pass d (timer_of port) none
+            (subst (ReceivedFew (before_visit pass)) (sym was)
             (waiting index (timer_of port) (omega arith) within))
             (subst (IsHeld d.server.held) (sym was) (settled.kept.each index (timer_of port) within)).look)
-        | inr apart ↦ turned k t (omega (arith, l, apart)) h
+        | inr apart ↦ visited k t (omega (arith, l, apart)) h
       ]

@@ -1,4 +1,4 @@
--- A turn at a port, and what it leaves if its transfer closed and if not.
+-- A visit of a port, and what it leaves if its transfer closed and if not.
 use Rattle.std.proofs.Common.{arith, ◌≡◌, ◌<◌, ◌≤◌, ◌+◌, ◌-◌, ℕ, Bool, true, false, List, [], length, map, Option, Some}
 use Rattle.std.proofs.Common.{None, IsSome, refl, sym, ap, subst, ◌∙◌, inl, inr}
 use Rattle.std.specs.Prelude.{slice_set, slice_index_or, is_some, option_map, if◌then◌else◌}
@@ -18,16 +18,16 @@ use Rattle.tftp_loop.specs.declared.transfer_port.TransferSocket.{TransferSocket
 use Rattle.tftp_loop.specs.Steps.{Timer, PortState, LoopState, Closes, WorksAtPort}
 use Rattle.tftp_loop.specs.Steps.LoopStep.{Transfer_closed}
 use Rattle.tftp_loop.specs.declared.server_loop.ServerLoop.{ServerLoop}
-use Rattle.tftp_loop.specs.declared.port_turn.Turn.{Turn}
-use Rattle.tftp_loop.specs.declared.port_turn.Turn.TheVariants as turns
+use Rattle.tftp_loop.specs.declared.port_visit.Pass.{Pass}
+use Rattle.tftp_loop.specs.declared.port_visit.Pass.TheVariants as passes
 use Rattle.tftp_loop.specs.LoopStates.{OnlyWorks, Work_by, close_reported, state_of, timer_of}
-use Rattle.tftp_loop.specs.declared.port_turn.TheConstants.{MOST_AT_ONCE}
-use Rattle.tftp_loop.specs.MayWait.{AllBelow, AwaitTurn, ReceivedFew, before_turn}
-use Rattle.tftp_loop.specs.MayWait.{AllFrom, AreKept, AreRead, AreSettled, AreTimed, Finishes, Goes, HaveTurned, Stays}
-use Rattle.tftp_loop.specs.MayWait.{IsOpen, IsRead, IsSettled, IsTimed, KeepsTries, TakesTurn, leaves_by, leaves_read}
+use Rattle.tftp_loop.specs.declared.port_visit.TheConstants.{MOST_AT_ONCE}
+use Rattle.tftp_loop.specs.MayWait.{AllBelow, AwaitVisit, ReceivedFew, before_visit}
+use Rattle.tftp_loop.specs.MayWait.{AllFrom, AreKept, AreRead, AreSettled, AreTimed, Finishes, Goes, WereVisited, Stays}
+use Rattle.tftp_loop.specs.MayWait.{IsOpen, IsRead, IsSettled, IsTimed, KeepsTries, VisitsPort, leaves_by, leaves_read}
 use Rattle.tftp_loop.specs.MayWait.{leaves_timed, timers_of}
 use Rattle.tftp_loop.proofs.ListLemmas.{map_is, map_removed, map_set, map_within, set_long}
-use Rattle.tftp_loop.proofs.LoopRuns.{Runs, at_place, closes, none_taken}
+use Rattle.tftp_loop.proofs.LoopRuns.{Runs, at_index, closes, none_taken}
 use Rattle.tftp_loop.proofs.LoopStays.{all_removed, all_set, other_held, other_port, removed_held, set_kept}
 use Rattle.tftp_loop.proofs.PortLemmas.{set_found}
 use Rattle.tftp_loop.proofs.PortStays.{StaysAt, stays_along, works_held}
@@ -35,20 +35,20 @@ use Rattle.tftp_loop.proofs.RunLemmas.{idle, once, onward}
 use Rattle.tftp_loop.proofs.Tables.{any_default, removed_apart, set_other, set_own, was_at}
 use Rattle.tftp_loop.proofs.Counting.{counted_along}
 
--- a turn begins with few datagrams received
-pub few_before : (turn : Turn) (timer : Timer) → ReceivedFew (before_turn turn) timer → timer.received ≤ MOST_AT_ONCE
-few_before turns.Ready timer few = omega (arith, few)
-few_before turns.Due timer few = few
+-- a visit begins with few datagrams received
+pub few_before : (pass : Pass) (timer : Timer) → ReceivedFew (before_visit pass) timer → timer.received ≤ MOST_AT_ONCE
+few_before passes.Ready timer few = omega (arith, few)
+few_before passes.Due timer few = few
 
 module _ {S F D : Type 0} (meaning : StoreMeaning S D) (sources : SourceMeaning F)
     {leaves : PortState S F D → ℕ → Type 0} {index : ℕ} {old middle new : ServerLoop S F D}
-    (turns : TakesTurn meaning sources leaves index old middle)
+    (visits : VisitsPort meaning sources leaves index old middle)
     (finishes : Finishes meaning sources index middle new) where
   abbrev next : Timer
-  next = timer_of turns.next
+  next = timer_of visits.next
 
   abbrev was : Timer
-  was = timer_of turns.port
+  was = timer_of visits.port
 
   abbrev start : PortState S F D
   start = record { server = old.server; timer = was; events = old.journal.events }
@@ -60,19 +60,19 @@ module _ {S F D : Type 0} (meaning : StoreMeaning S D) (sources : SourceMeaning 
   put = slice_set (timers_of old) index next
 
   within : index < length (timers_of old)
-  within = map_within timer_of old.ports.items index turns.within
+  within = map_within timer_of old.ports.items index visits.within
 
   is_timer : was ≡ slice_index_or (timers_of old) index was
-  is_timer = map_is timer_of old.ports.items index turns.port turns.is_port
+  is_timer = map_is timer_of old.ports.items index visits.port visits.is_port
 
   timers : timers_of middle ≡ put
-  timers = ap (map timer_of) turns.items ∙ map_set timer_of old.ports.items index turns.next
+  timers = ap (map timer_of) visits.items ∙ map_set timer_of old.ports.items index visits.next
 
   stays : StaysAt meaning sources start end
-  stays = stays_along meaning sources old.sockets.watch.now start end turns.serves
+  stays = stays_along meaning sources old.sockets.watch.now start end visits.serves
 
   now_same : middle.sockets.watch.now ≡ old.sockets.watch.now
-  now_same = ap (λ (d : ServerLoop S F D). d.sockets.watch.now) turns.rest
+  now_same = ap (λ (d : ServerLoop S F D). d.sockets.watch.now) visits.rest
 
   kept_middle : AreKept old.server.held (timers_of old) → AreKept middle.server.held put
   kept_middle = set_kept meaning sources (state_of [] old) index was end within is_timer stays
@@ -230,8 +230,8 @@ module _ {S F D : Type 0} (meaning : StoreMeaning S D) (sources : SourceMeaning 
             ])
       ]
 
-  turn_runs : (buffer : List ℕ) → Runs meaning sources (state_of buffer old) (state_of buffer middle)
-  turn_runs buffer =
+  visit_runs : (buffer : List ℕ) → Runs meaning sources (state_of buffer old) (state_of buffer middle)
+  visit_runs buffer =
       let At : List (Port TransferSocket) → Type 0 =
       λ ps. Runs meaning sources (state_of buffer old)
       (record (state_of buffer old) {
@@ -239,10 +239,10 @@ module _ {S F D : Type 0} (meaning : StoreMeaning S D) (sources : SourceMeaning 
         timers = map timer_of ps;
         events = middle.journal.events;
       }) in
-      subst (λ (d : ServerLoop S F D). Runs meaning sources (state_of buffer old) (state_of buffer d)) (sym turns.rest)
-      (subst At (sym turns.items)
-      (at_place meaning sources (state_of buffer old) old.ports.items index turns.port turns.next middle.server
-      middle.journal.events refl turns.within turns.is_port turns.serves))
+      subst (λ (d : ServerLoop S F D). Runs meaning sources (state_of buffer old) (state_of buffer d)) (sym visits.rest)
+      (subst At (sym visits.items)
+      (at_index meaning sources (state_of buffer old) old.ports.items index visits.port visits.next middle.server
+      middle.journal.events refl visits.within visits.is_port visits.serves))
 
   finish_runs : (buffer : List ℕ) → Runs meaning sources (state_of buffer middle) (state_of buffer new)
   finish_runs buffer = elim finishes [
@@ -251,12 +251,12 @@ module _ {S F D : Type 0} (meaning : StoreMeaning S D) (sources : SourceMeaning 
   ]
 
   pub works_after : OnlyWorks meaning sources old new
-  works_after buffer = onward (turn_runs buffer) (finish_runs buffer)
+  works_after buffer = onward (visit_runs buffer) (finish_runs buffer)
 
 module _ {S F D : Type 0} (meaning : StoreMeaning S D) (sources : SourceMeaning F) where
-  -- how many were received in a turn
+  -- how many were received in a visit
   few_next : (most index : ℕ) (old middle : ServerLoop S F D) (leaves : PortState S F D → ℕ → Type 0)
-      (takes : TakesTurn meaning sources leaves index old middle)
+      (takes : VisitsPort meaning sources leaves index old middle)
       → (timer_of takes.port).received ≤ most → (timer_of takes.next).received ≤ most + MOST_AT_ONCE
   few_next most index old middle leaves takes began =
       let all = counted_along meaning sources old.sockets.watch.now _ _ takes.serves in
@@ -266,41 +266,41 @@ module _ {S F D : Type 0} (meaning : StoreMeaning S D) (sources : SourceMeaning 
 module _ {S F D : Type 0} (meaning : StoreMeaning S D) (sources : SourceMeaning F) {index : ℕ}
     {old middle new : ServerLoop S F D} where
   -- the ports from this one on were read
-  pub read_after : TakesTurn meaning sources leaves_read index old middle → Finishes meaning sources index middle new →
+  pub read_after : VisitsPort meaning sources leaves_read index old middle → Finishes meaning sources index middle new →
       AreRead (index + 1) old → AreRead index new
-  read_after turns finishes read =
-      let tries : KeepsTries middle.journal.events new.journal.events = tries_after meaning sources turns finishes in
-      let held = stays meaning sources turns finishes in
-      after meaning sources turns finishes (IsRead new.journal.events)
+  read_after visits finishes read =
+      let tries : KeepsTries middle.journal.events new.journal.events = tries_after meaning sources visits finishes in
+      let held = stays meaning sources visits finishes in
+      after meaning sources visits finishes (IsRead new.journal.events)
       (λ k d l h marked. tries (slice_index_or (timers_of old) k d).port
       (held.tries (slice_index_or (timers_of old) k d).port (read k d l h marked)))
-      (λ unclosed marked. tries (timer_of turns.next).port (turns.leaves_it marked))
+      (λ unclosed marked. tries (timer_of visits.next).port (visits.leaves_it marked))
 
   -- the ports from this one on are not due
-  pub timed_after : TakesTurn meaning sources leaves_timed index old middle →
+  pub timed_after : VisitsPort meaning sources leaves_timed index old middle →
       Finishes meaning sources index middle new → AreTimed (index + 1) old → AreTimed index new
-  timed_after turns finishes timed =
-      let now = now_after meaning sources turns finishes in
+  timed_after visits finishes timed =
+      let now = now_after meaning sources visits finishes in
       subst (λ (n : ℕ). AllFrom (IsTimed n) index (timers_of new)) (sym now)
-      (after meaning sources turns finishes (IsTimed old.sockets.watch.now) (λ k d l h. timed k d l h)
-      (λ unclosed. turns.leaves_it unclosed))
+      (after meaning sources visits finishes (IsTimed old.sockets.watch.now) (λ k d l h. timed k d l h)
+      (λ unclosed. visits.leaves_it unclosed))
 
-  -- the ports from this one on have had their turn
-  pub turned_after : (turn : Turn) → TakesTurn meaning sources (leaves_by turn) index old middle →
-      Finishes meaning sources index middle new → AwaitTurn turn (index + 1) old → HaveTurned turn (index + 1) old
-      → HaveTurned turn index new
-  turned_after turns.Ready takes finishes waiting turned =
-      let read = read_after takes finishes (λ k d l h. (turned k d l h).0) in
+  -- the ports from this one on were visited
+  pub visited_after : (pass : Pass) → VisitsPort meaning sources (leaves_by pass) index old middle →
+      Finishes meaning sources index middle new → AwaitVisit pass (index + 1) old → WereVisited pass (index + 1) old
+      → WereVisited pass index new
+  visited_after passes.Ready takes finishes waiting visited =
+      let read = read_after takes finishes (λ k d l h. (visited k d l h).0) in
       let own : (timer_of takes.port).received ≤ 0 =
       subst (ReceivedFew 0)
       (sym (map_is timer_of old.ports.items index takes.port takes.is_port))
       (waiting index (timer_of takes.port) (omega arith) (map_within timer_of old.ports.items index takes.within)) in
       let few =
-      after meaning sources takes finishes (ReceivedFew MOST_AT_ONCE) (λ k d l h. (turned k d l h).1)
+      after meaning sources takes finishes (ReceivedFew MOST_AT_ONCE) (λ k d l h. (visited k d l h).1)
       (λ unclosed. let some = few_next meaning sources 0 index old middle leaves_read takes own in omega (arith, some)) in
       λ k d l h. (read k d l h, few k d l h)
-  turned_after turns.Due takes finishes waiting turned =
-      λ k d l h. timed_after takes finishes (λ k d l h. turned k d l h) k d l h
+  visited_after passes.Due takes finishes waiting visited =
+      λ k d l h. timed_after takes finishes (λ k d l h. visited k d l h) k d l h
 
 not_taken : {X : Type 0} (b : Bool) (x : X) → (if b then Some x else None) ≡ None → b ≡ false
 not_taken true x e = absurd (none-some x (sym e))

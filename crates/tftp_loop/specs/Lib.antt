@@ -5,7 +5,7 @@ pub mod WholeRun
 pub mod LoopStates
 pub mod PortOrder
 pub mod PortPool
-pub mod PortTurn
+pub mod PortVisit
 pub mod MayWait
 pub mod Fair
 pub mod Sleeps

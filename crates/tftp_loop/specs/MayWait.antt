@@ -17,11 +17,11 @@ use Rattle.tftp_sockets.specs.Journal.SocketEvent.{Quiet, Watched}
 use Rattle.tftp_sockets.specs.Journal.QuietEvent.{Slept, Woke}
 use Rattle.tftp_sockets.specs.Quiet.{is_among, was_tried}
 use Rattle.tftp_loop.specs.declared.server_loop.ServerLoop.{ServerLoop}
-use Rattle.tftp_loop.specs.declared.port_turn.TheConstants.{MOST_AT_ONCE}
-use Rattle.tftp_loop.specs.declared.port_turn.Turn.{Turn}
-use Rattle.tftp_loop.specs.declared.port_turn.Turn.TheVariants as turns
-use Rattle.tftp_loop.specs.declared.port_turn.PortStatus.{PortStatus}
-use Rattle.tftp_loop.specs.declared.port_turn.PortStatus.TheVariants as statuses
+use Rattle.tftp_loop.specs.declared.port_visit.TheConstants.{MOST_AT_ONCE}
+use Rattle.tftp_loop.specs.declared.port_visit.Pass.{Pass}
+use Rattle.tftp_loop.specs.declared.port_visit.Pass.TheVariants as passes
+use Rattle.tftp_loop.specs.declared.port_visit.PortStatus.{PortStatus}
+use Rattle.tftp_loop.specs.declared.port_visit.PortStatus.TheVariants as statuses
 use Rattle.tftp_loop.specs.declared.transfer_port.Survey.{Survey}
 use Rattle.tftp_loop.specs.declared.transfer_port.TransferSocket.{TransferSocket}
 use Rattle.tftp_loop.specs.Fair.{ReceivesAtMost}
@@ -57,10 +57,10 @@ pub record IsTimed (now : ℕ) (timer : Timer) : Type 0 where
   pub look : (now < timer.look_at) ⊎ ((timer.look_at ≡ timer.deadline)
       ⊎ (timer.look_at ≡ next_look now timer.interval))
 
--- how many datagrams were received at a port when its turn begins, at most
-abbrev pub before_turn : Turn → ℕ
-before_turn turns.Ready = 0
-before_turn turns.Due = MOST_AT_ONCE
+-- how many datagrams were received at a port when a visit of this pass begins, at most
+abbrev pub before_visit : Pass → ℕ
+before_visit passes.Ready = 0
+before_visit passes.Due = MOST_AT_ONCE
 
 -- what a status states of the timer of its port
 abbrev pub LeavesTimer : PortStatus → ℕ → Timer → Type 0
@@ -71,10 +71,10 @@ LeavesTimer statuses.Onward now timer =
 LeavesTimer statuses.Unfinished now timer = timer.look_at ≡ timer.deadline
 LeavesTimer statuses.Closed now timer = ⊤
 
--- the port of the timer has no turn: it is not marked, or not due
-abbrev pub HasNoTurn : Turn → ℕ → Timer → Type 0
-HasNoTurn turns.Ready now timer = timer.marked ≡ false
-HasNoTurn turns.Due now timer = now < timer.look_at
+-- the pass is not for the port of the timer: it is not marked, or not due
+abbrev pub IsNotVisited : Pass → ℕ → Timer → Type 0
+IsNotVisited passes.Ready now timer = timer.marked ≡ false
+IsNotVisited passes.Due now timer = now < timer.look_at
 
 -- it holds unless the status is that the transfer closed
 abbrev pub UnlessClosed : PortStatus → Type 0 → Type 0
@@ -161,18 +161,18 @@ module _ {S F D : Type 0} where
   abbrev pub HasFew : ℕ → ServerLoop S F D → Type 0
   HasFew most d = All (ReceivedFew most) (timers_of d)
 
-  -- at each port before this index no more were received than before its turn
-  abbrev pub AwaitTurn : Turn → ℕ → ServerLoop S F D → Type 0
-  AwaitTurn turn below d = AllBelow (ReceivedFew (before_turn turn)) below (timers_of d)
+  -- at each port before this index no more were received than before its visit
+  abbrev pub AwaitVisit : Pass → ℕ → ServerLoop S F D → Type 0
+  AwaitVisit pass below d = AllBelow (ReceivedFew (before_visit pass)) below (timers_of d)
 
-  -- the port of a timer has had its turn
-  abbrev pub HasTurned : Turn → ServerLoop S F D → Timer → Type 0
-  HasTurned turns.Ready d timer = IsRead d.journal.events timer × ReceivedFew MOST_AT_ONCE timer
-  HasTurned turns.Due d timer = IsTimed d.sockets.watch.now timer
+  -- the port of a timer was visited
+  abbrev pub WasVisited : Pass → ServerLoop S F D → Timer → Type 0
+  WasVisited passes.Ready d timer = IsRead d.journal.events timer × ReceivedFew MOST_AT_ONCE timer
+  WasVisited passes.Due d timer = IsTimed d.sockets.watch.now timer
 
-  -- the ports from this index on have had their turn
-  abbrev pub HaveTurned : Turn → ℕ → ServerLoop S F D → Type 0
-  HaveTurned turn from d = AllFrom (HasTurned turn d) from (timers_of d)
+  -- the ports from this index on were visited
+  abbrev pub WereVisited : Pass → ℕ → ServerLoop S F D → Type 0
+  WereVisited pass from d = AllFrom (WasVisited pass d) from (timers_of d)
 
   -- the request port was read
   abbrev pub HasTriedRequests : ServerLoop S F D → Type 0
@@ -299,7 +299,7 @@ module _ {S F D : Type 0} where
     pub room : HasRoom old → HasRoom new
     pub events : new.journal.events ≡ Watched new.sockets.watch.now ∷ old.journal.events
 
-  -- what a turn leaves of a port at this time: it was read, or it is not due unless it has closed
+  -- what a visit leaves of a port at this time: it was read, or it is not due unless it has closed
   abbrev pub leaves_read : PortState S F D → ℕ → Type 0
   leaves_read new now = IsRead new.events new.timer
 
@@ -307,9 +307,9 @@ module _ {S F D : Type 0} where
   leaves_timed new now =
       (taken_of (at new.timer.port new.server.held) ≡ None) → IsTimed now new.timer
 
-  abbrev pub leaves_by : Turn → PortState S F D → ℕ → Type 0
-  leaves_by turns.Ready = leaves_read
-  leaves_by turns.Due = leaves_timed
+  abbrev pub leaves_by : Pass → PortState S F D → ℕ → Type 0
+  leaves_by passes.Ready = leaves_read
+  leaves_by passes.Due = leaves_timed
 
   -- the transfer at this index has not closed
   abbrev pub IsOpenAt : ℕ → ServerLoop S F D → Type 0
@@ -328,8 +328,8 @@ module _ {S F D : Type 0} where
     pub room : HasRoom old → HasRoom new
 
   module _ (meaning : StoreMeaning S D) (sources : SourceMeaning F) where
-    -- a turn at the port at this index
-    pub record TakesTurn (leaves : PortState S F D → ℕ → Type 0) (index : ℕ)
+    -- a visit of the port at this index
+    pub record VisitsPort (leaves : PortState S F D → ℕ → Type 0) (index : ℕ)
         (old new : ServerLoop S F D) : Type 0 where
       pub port : Port TransferSocket
       pub next : Port TransferSocket
@@ -350,12 +350,6 @@ module _ {S F D : Type 0} where
       Goes : ((buffer : List ℕ)
           → (closes : Closes meaning sources (state_of buffer old) (state_of buffer new))
           × (closes.index ≡ index)) → Finishes index old new
-
-    -- a turn at the port at this index, and then its transfer is removed if it has closed
-    pub record Visits (turn : Turn) (index : ℕ) (old new : ServerLoop S F D) : Type 0 where
-      pub middle : ServerLoop S F D
-      pub takes : TakesTurn (leaves_by turn) index old middle
-      pub finishes : Finishes index middle new
 
     -- what is done for a pending datagram before it is answered or lost: a note, or the store is set
     pub data Prepares (old new : LoopState S F D) : Type 0 where

@@ -37,7 +37,7 @@ pub record HasPorts (order : PortOrder) : Type 0 where
   pub each : All (IsOneOf (Some order.range)) (coming order)
 
 -- the first port is used: it comes again only after all others
-pub record Turns (old new : PortOrder) (port : ℕ) : Type 0 where
+pub record UsesNext (old new : PortOrder) (port : ℕ) : Type 0 where
   pub range : new.range ≡ old.range
   pub others : List ℕ
   pub was : coming old ≡ port ∷ others

@@ -4,13 +4,13 @@ use Rattle.std.specs.Prelude.{IsPermutation}
 use Rattle.std.specs.List.{IsDistinct}
 use Rattle.tftp_loop.specs.declared.port_order.PortOrder.{PortOrder}
 use Rattle.tftp_loop.specs.declared.port_order.PortRange.{PortRange}
-use Rattle.tftp_loop.specs.PortOrder.{Turns, coming, ports_of}
+use Rattle.tftp_loop.specs.PortOrder.{UsesNext, coming, ports_of}
 
 -- from one order to another these ports were used, the first one first
 pub data UsesPorts (first : PortOrder) : List ℕ → PortOrder → Type 0 where
   Unused : UsesPorts first [] first
   Uses : {ports : List ℕ} {middle last : PortOrder} {port : ℕ} → UsesPorts first ports middle
-      → Turns middle last port → UsesPorts first (ports ++ port ∷ []) last
+      → UsesNext middle last port → UsesPorts first (ports ++ port ∷ []) last
 
 -- as many times as the range has ports no port is used twice
 abbrev pub UsesNoPortTwice : Type 0

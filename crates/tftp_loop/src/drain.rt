@@ -1,6 +1,6 @@
 //! Whether a server takes new requests, and how it is told to take none.
 
-ghost use Rattle.std.specs.Prelude.{◌≡◌};
+ghost use Rattle.std.specs.Prelude.{◌≡◌, false};
 ghost use Rattle.tftp_loop.specs.Steps.{drain_of, is_draining};
 
 /// Tells a server to drain: to take no new request, to finish what is open, and then to end.
@@ -15,7 +15,9 @@ pub trait DrainSignal {
 pub struct NoSignal;
 
 impl DrainSignal for NoSignal {
-    fn is_given(&self) -> bool {
+    fn is_given(&self) -> bool
+        ensures { result ≡ false }
+    {
         false
     }
 }

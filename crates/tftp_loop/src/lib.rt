@@ -16,7 +16,7 @@ mod log;
 mod log_entry;
 mod port_order;
 mod port_pool;
-mod port_turn;
+mod port_visit;
 mod report;
 mod requests;
 mod reserved;

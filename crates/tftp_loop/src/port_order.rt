@@ -1,7 +1,7 @@
 //! The order in which transfers use the ports of a range.
 
 ghost use Rattle.std.specs.Prelude.{◌≡◌, ◌≤◌, [], length, IfOk, MatchOption};
-ghost use Rattle.tftp_loop.specs.PortOrder.{IsOrderOf, Turns, coming, coming_from, ports_of};
+ghost use Rattle.tftp_loop.specs.PortOrder.{IsOrderOf, UsesNext, coming, coming_from, ports_of};
 
 use rand::make_rng;
 use rand::rngs::StdRng;
@@ -53,7 +53,7 @@ impl PortOrder {
     pub fn next(&mut self) -> Option<u16>
         ensures { MatchOption result
             ((coming self.old ≡ []) × (self.new ≡ self.old))
-            (λ port. Turns self.old self.new port) }
+            (λ port. UsesNext self.old self.new port) }
     {
         let index = self.index();
         if index >= self.ports.len() {

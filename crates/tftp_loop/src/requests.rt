@@ -15,7 +15,7 @@ ghost use Rattle.tftp_loop.specs.Steps.{IsSet, answering_port, interval_at, star
 ghost use Rattle.tftp_loop.specs.LoopStates.{HasAnswered, HasRoom, IsAdmission, WorksRound, timer_of};
 ghost use Rattle.tftp_loop.specs.MayWait.{AnswersPending, HandlesReceived, HasTriedRequests};
 ghost use Rattle.tftp_loop.specs.MayWait.{HasFew, IsSettled, reads_of};
-ghost use Rattle.tftp_loop.specs.declared.port_turn.TheConstants.{MOST_AT_ONCE};
+ghost use Rattle.tftp_loop.specs.declared.port_visit.TheConstants.{MOST_AT_ONCE};
 
 use crate::datagram::Datagram;
 use crate::log_entry::{LogEntry, reason_unasked};

@@ -8,14 +8,14 @@ ghost use Rattle.tftp_loop.specs.Steps.{drain_of, marked_by, set_by};
 ghost use Rattle.tftp_loop.specs.LoopStates.{FailsToPrint, HasRoom, IsEmptied, IsReserved, OnlyWorks};
 ghost use Rattle.tftp_loop.specs.LoopStates.{OnlyServes, ServesRounds, StopsRunning, WorksRound};
 ghost use Rattle.tftp_loop.specs.MayWait.{ClosesPort, Finishes, HasRead, HasSlept, HasWoken};
-ghost use Rattle.tftp_loop.specs.MayWait.{AwaitTurn, HasFew, HaveTurned, before_turn};
+ghost use Rattle.tftp_loop.specs.MayWait.{AwaitVisit, HasFew, WereVisited, before_visit};
 ghost use Rattle.tftp_loop.specs.MayWait.{IsOpenAt, IsSurveyOf, UnlessClosed};
-ghost use Rattle.tftp_loop.specs.MayWait.{IsSettled, IsTended, TakesTurn, Visits, leaves_by};
+ghost use Rattle.tftp_loop.specs.MayWait.{IsSettled, IsTended, VisitsPort, leaves_by};
 ghost use Rattle.tftp_loop.specs.MayWait.{millis_of, reads_of, timers_of};
 
 use crate::drain::{Drain, DrainSignal};
 use crate::log::Log;
-use crate::port_turn::{Moment, PortStatus, Turn, has_turn, take_turn_at};
+use crate::port_visit::{Moment, Pass, PortStatus, is_visited, visit_port};
 use crate::report::{log_drain, log_unsent, record_of_closed, report_close};
 use crate::reserved::Reserved;
 use crate::server_udp::ServerUdp;
@@ -279,12 +279,12 @@ impl<S: ServedStore<Reason> + Drop> ServerLoop<S> {
         ensures fault { IfErr result (λ fault. FailsToPrint fault self.new.journal.events) }
         ensures room { HasRoom self.new }
     {
-        self.take_turns(rt, Turn::Ready, datagram)?;
+        self.pass_over(rt, Pass::Ready, datagram)?;
         if self.left == 0 {
             return Ok(());
         }
         self.take_request(rt, request);
-        self.take_turns(rt, Turn::Due, datagram)
+        self.pass_over(rt, Pass::Due, datagram)
     }
 
     /// Waits once, until a datagram has arrived or a port is to be read, for at most a second. A
@@ -461,18 +461,18 @@ impl<S: ServedStore<Reason> + Drop> ServerLoop<S> {
         survey.is_ready
     }
 
-    /// Takes a turn at the port of each transfer.
-    fn take_turns<P: Print + Eprint>(
+    /// Visits the port of each transfer that this pass is for.
+    fn pass_over<P: Print + Eprint>(
         &mut self,
         rt: &P,
-        turn: Turn,
+        pass: Pass,
         buffer: &mut [u8],
     ) -> Result<(), LoopFault>
         requires settled { IsSettled self.old }
-        requires few { HasFew (before_turn turn) self.old }
+        requires few { HasFew (before_visit pass) self.old }
         ensures works { OnlyWorks S.meaning S.Source.meaning self.old self.new }
         ensures settled { IsSettled self.new }
-        ensures turned { OnOk result (1 ≤ self.new.left → HaveTurned turn 0 self.new) }
+        ensures visited { OnOk result (1 ≤ self.new.left → WereVisited pass 0 self.new) }
         ensures asked { self.new.sockets.has_received ≡ self.old.sockets.has_received }
         ensures rounds { self.new.rounds ≡ self.old.rounds }
         ensures fault { IfErr result (λ fault. FailsToPrint fault self.new.journal.events) }
@@ -485,27 +485,27 @@ impl<S: ServedStore<Reason> + Drop> ServerLoop<S> {
                 return Ok(());
             }
             index -= 1;
-            self.visit(rt, turn, index, buffer)?;
+            self.visit(rt, pass, index, buffer)?;
         }
         Ok(())
     }
 
-    /// Takes a turn at the port at this index, if there is one, and removes its transfer if that
-    /// closes.
+    /// Visits the port at this index, if there is one and the pass is for it, logs what could not be
+    /// sent, and removes the transfer if that closes.
     fn visit<P: Print + Eprint>(
         &mut self,
         rt: &P,
-        turn: Turn,
+        pass: Pass,
         index: usize,
         buffer: &mut [u8],
     ) -> Result<(), LoopFault>
         requires left { 1 ≤ self.old.left }
         requires settled { IsSettled self.old }
-        requires waiting { AwaitTurn turn (index + 1) self.old }
+        requires waiting { AwaitVisit pass (index + 1) self.old }
         ensures works { OnlyWorks S.meaning S.Source.meaning self.old self.new }
         ensures settled { IsSettled self.new }
-        ensures turned { HaveTurned turn (index + 1) self.old → HaveTurned turn index self.new }
-        ensures waiting { AwaitTurn turn index self.new }
+        ensures visited { WereVisited pass (index + 1) self.old → WereVisited pass index self.new }
+        ensures waiting { AwaitVisit pass index self.new }
         ensures asked { self.new.sockets.has_received ≡ self.old.sockets.has_received }
         ensures rounds { self.new.rounds ≡ self.old.rounds }
         ensures fault { IfErr result (λ fault. FailsToPrint fault self.new.journal.events) }
@@ -514,32 +514,10 @@ impl<S: ServedStore<Reason> + Drop> ServerLoop<S> {
         if index >= self.ports.len() {
             return Ok(());
         }
-        if !has_turn(turn, self.sockets.watch.now, &self.ports[index]) {
+        if !is_visited(pass, self.sockets.watch.now, &self.ports[index]) {
             return Ok(());
         }
-        self.serve_port(rt, turn, index, buffer)
-    }
-
-    /// Takes a turn at the port at this index, logs what could not be sent, and removes the transfer
-    /// if that closes.
-    fn serve_port<P: Print + Eprint>(
-        &mut self,
-        rt: &P,
-        turn: Turn,
-        index: usize,
-        buffer: &mut [u8],
-    ) -> Result<(), LoopFault>
-        requires left { 1 ≤ self.old.left }
-        requires within { index < length self.old.ports.items }
-        requires settled { IsSettled self.old }
-        requires waiting { AwaitTurn turn (index + 1) self.old }
-        ensures visits { Visits S.meaning S.Source.meaning turn index self.old self.new }
-        ensures asked { self.new.sockets.has_received ≡ self.old.sockets.has_received }
-        ensures rounds { self.new.rounds ≡ self.old.rounds }
-        ensures fault { IfErr result (λ fault. FailsToPrint fault self.new.journal.events) }
-        ensures room { HasRoom self.old → HasRoom self.new }
-    {
-        let status = self.take_turn(turn, index, buffer);
+        let status = self.visit_at(pass, index, buffer);
         log_unsent(rt, &self.ports[index]);
         if !status.is_closed() {
             return Ok(());
@@ -547,12 +525,12 @@ impl<S: ServedStore<Reason> + Drop> ServerLoop<S> {
         self.finish(rt, index)
     }
 
-    /// Takes a turn at the port at this index.
-    fn take_turn(&mut self, turn: Turn, index: usize, buffer: &mut [u8]) -> PortStatus
+    /// Visits the port at this index.
+    fn visit_at(&mut self, pass: Pass, index: usize, buffer: &mut [u8]) -> PortStatus
         requires within { index < length self.old.ports.items }
         requires settled { IsSettled self.old }
-        requires waiting { AwaitTurn turn (index + 1) self.old }
-        ensures takes { TakesTurn S.meaning S.Source.meaning (leaves_by turn) index self.old
+        requires waiting { AwaitVisit pass (index + 1) self.old }
+        ensures visits { VisitsPort S.meaning S.Source.meaning (leaves_by pass) index self.old
             self.new }
         ensures open { UnlessClosed result (IsOpenAt index self.new) }
         ensures room { HasRoom self.old → HasRoom self.new }
@@ -562,12 +540,12 @@ impl<S: ServedStore<Reason> + Drop> ServerLoop<S> {
             active: self.active,
         };
         let port = &mut self.ports[index];
-        take_turn_at(
+        visit_port(
             &mut self.server,
             port,
             &mut self.journal,
             moment,
-            turn,
+            pass,
             buffer,
         )
     }

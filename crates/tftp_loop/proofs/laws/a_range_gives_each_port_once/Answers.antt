@@ -1,5 +1,5 @@
 -- The lemma that is the law.
-use Rattle.tftp_loop.proofs.PortTurns.{uses_no_port_twice}
+use Rattle.tftp_loop.proofs.PortUses.{uses_no_port_twice}
 use Rattle.tftp_loop.proofs.laws.a_range_gives_each_port_once.Goals as goal
 
 pub returns : goal.returns

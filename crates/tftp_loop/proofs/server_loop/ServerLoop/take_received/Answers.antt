@@ -7,7 +7,7 @@ use Rattle.tftp_loop.specs.LoopStates.{loop_state, timer_of}
 use Rattle.tftp_loop.specs.MayWait.{Concluded}
 use Rattle.tftp_loop.proofs.LoopRuns.{noted_state}
 use Rattle.tftp_loop.proofs.RequestRuns.{loses_as, loses_for_memory}
-use Rattle.tftp_loop.proofs.Reserving.{has_place}
+use Rattle.tftp_loop.proofs.Reserving.{has_reserved}
 use Rattle.tftp_loop.proofs.server_loop.ServerLoop.take_received.Goals as goal
 
 pub returns-in_default-clause-handles : goal.returns-in_default-clause-handles
@@ -35,7 +35,7 @@ open_request-requires-clause-reserved g c =
     let ports = c.args.self.now.ports in
     let long = length-map ports.items timer_of in
     let fewer =
-    has_place c.args.self.now.server c.args.from bytes c.in-Ok.admission.ask (map timer_of ports.items)
+    has_reserved c.args.self.now.server c.args.from bytes c.in-Ok.admission.ask (map timer_of ports.items)
     (vec_capacity ports) c.in-Ok.ensures.admits (sym c.may_open.ensures ∙ c.if-may_open.true) c.requires.settled.kept
     c.requires.room.each in
     omega (arith, ports.ok.0, long, fewer)

@@ -1,0 +1,79 @@
+-- A visit of the port of a transfer, call by call.
+use Rattle.std.proofs.Common.{arith, ◌≡◌, ◌≤◌, ◌+◌, ℕ, List, ◌∷◌, MutBor, refl, ap, subst, ◌∙◌}
+use Rattle.tftp_file.specs.Source.{SourceMeaning}
+use Rattle.tftp_store.specs.Store.{StoreMeaning}
+use Rattle.tftp_sockets.specs.declared.journal.Journal.{Journal}
+use Rattle.tftp_sockets.specs.Journal.{SocketEvent, QuietEvent}
+use Rattle.tftp_sockets.specs.Journal.SocketEvent.{Elapsed, Received, Quiet}
+use Rattle.tftp_loop.specs.declared.datagram.Datagram.{Datagram}
+use Rattle.tftp_loop.specs.declared.port_visit.PortVisit.{PortVisit}
+use Rattle.tftp_loop.specs.Fair.{ReceivesAtMost, received_in}
+use Rattle.tftp_loop.specs.PortVisit.{AnswersReceived, IsSameVisit, ServesVisit, at_visit}
+use Rattle.tftp_loop.specs.Run.{Run}
+use Rattle.tftp_loop.specs.Run.Run.{Start}
+use Rattle.tftp_loop.specs.Steps.{PortStep}
+use Rattle.tftp_loop.proofs.RunLemmas.{onward}
+
+-- an event that is no datagram
+pub receives_none : (event : QuietEvent) (most : ℕ) (es es' : List SocketEvent) → es' ≡ Quiet event ∷ es →
+    ReceivesAtMost most es es'
+receives_none event most es es' noted =
+    let same : received_in es' ≡ received_in es = ap received_in noted in omega (arith, same)
+
+pub elapses_none : (port time : ℕ) (es before es' : List SocketEvent) → before ≡ Elapsed port time ∷ es →
+    ReceivesAtMost 0 before es' → ReceivesAtMost 0 es es'
+elapses_none port time es before es' noted none =
+    let same : received_in before ≡ received_in es = ap received_in noted in omega (arith, same, none)
+
+module _ {S F D : Type 0} where
+  pub same_onward : {a b c : PortVisit S F D} → IsSameVisit a b → IsSameVisit b c → IsSameVisit a c
+  same_onward x y = record {
+    server = y.server ∙ x.server;
+    port = y.port ∙ x.port;
+    journal = y.journal ∙ x.journal;
+    now = y.now ∙ x.now;
+    active = y.active ∙ x.active;
+  }
+
+  module _ (meaning : StoreMeaning S D) (sources : SourceMeaning F) where
+    -- nothing was done
+    pub idles : (most : ℕ) (visit : PortVisit S F D) → ServesVisit meaning sources most visit visit
+    idles most visit = record {
+      same = record { server = refl; port = refl; journal = refl; now = refl; active = refl };
+      serves = Start;
+      received = omega arith;
+    }
+
+    pub serves_onward : (m n most : ℕ) (a b c : PortVisit S F D) → m + n ≤ most → ServesVisit meaning sources m a b →
+        ServesVisit meaning sources n b c → ServesVisit meaning sources most a c
+    serves_onward m n most a b c fits x y =
+        let At : ℕ → Type 0 = λ now. Run (PortStep meaning sources now) (at_visit b) (at_visit c) in
+        let before = x.received in
+        let after = y.received in
+        record {
+          same = same_onward x.same y.same;
+          serves = onward x.serves (subst At x.same.now y.serves);
+          received = omega (arith, fits, before, after);
+        }
+
+    -- a datagram was received, and then answered
+    pub serves_received : (datagram : Datagram) (old new : PortVisit S F D) (journal : MutBor Journal) →
+        journal.ghost_name ≡ old.journal.ghost_name → journal.now.events
+        ≡ Received old.port.now.socket.udp.port datagram.from datagram.bytes.now ∷ old.journal.now.events →
+        AnswersReceived meaning sources datagram (record old { journal = journal }) new →
+        ServesVisit meaning sources 1 old new
+    serves_received datagram old new journal name noted answers =
+        let one : received_in journal.now.events ≡ 1 + received_in old.journal.now.events = ap received_in noted in
+        let none = answers.received in
+        record {
+          same =
+              record {
+                server = answers.same.server;
+                port = answers.same.port;
+                journal = answers.same.journal ∙ name;
+                now = answers.same.now;
+                active = answers.same.active;
+              };
+          serves = answers.serves old.journal.now.events noted;
+          received = omega (arith, one, none);
+        }

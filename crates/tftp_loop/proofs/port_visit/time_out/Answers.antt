@@ -1,0 +1,24 @@
+use Rattle.std.proofs.Common.{ap}
+use Rattle.std.specs.Prelude.{option_map}
+use Rattle.tftp_ends.specs.Step.{lent}
+use Rattle.tftp_loop.proofs.PortLemmas.{bytes_lent, found_timed, timed_out}
+use Rattle.tftp_loop.proofs.Unclosed.{open_timed}
+use Rattle.tftp_loop.proofs.port_visit.time_out.Goals as goal
+
+pub returns-clause-steps : goal.returns-clause-steps
+returns-clause-steps g c =
+    let t = c.in-Ok.ensures.steps in
+    let found =
+    found_timed c.port-tid.result c.args.server.now c.handle_timeout.new.self c.in-Ok.step c.in-Ok.outgoing t in
+    let sent =
+    bytes_lent c.bytes_of.result _ c.unwrap_or-answer.result _ (lent c.in-Ok.outgoing t.end) c.bytes_of.ensures
+    (ap (option_map (λ held. lent c.in-Ok.outgoing held.end)) found) c.unwrap_or-answer.ensures in
+    timed_out c.port-tid.result c.args.server.now c.handle_timeout.new.self c.in-Ok.step c.in-Ok.outgoing
+    c.args.udp.now.port
+    c.args.journal.now.events c.reply-sent.new.journal.events c.unwrap_or-answer.result.now c.port-tid.ensures t
+    c.in-Ok.ensures.rest sent c.reply-sent.ensures.events
+
+pub returns-clause-open : goal.returns-clause-open
+returns-clause-open g c =
+    open_timed c.port-tid.result c.args.server.now c.handle_timeout.new.self c.in-Ok.step c.in-Ok.outgoing
+    c.args.udp.now.port c.port-tid.ensures c.in-Ok.ensures.steps

@@ -1,0 +1,51 @@
+use Rattle.std.proofs.Common.{arith, refl, ◌∙◌}
+use Rattle.std.proofs.lemmas.List.{length-map}
+use Rattle.tftp_loop.specs.Run.Run.{Start}
+use Rattle.tftp_loop.specs.LoopStates.{timer_of}
+use Rattle.tftp_loop.proofs.RunLemmas.{onward}
+use Rattle.tftp_loop.proofs.server_loop.ServerLoop.pass_over.Goals as goal
+
+pub loop-index-init : goal.loop-index-init
+loop-index-init g c =
+    let ports = c.args.self.now.ports in
+    let long = length-map ports.items timer_of in
+    record {
+      works = λ buffer. Start;
+      settled = c.requires.settled;
+      visited = λ k d l h. absurd (omega (arith, ports.ok.0, c.len-index.ensures, long, l, h));
+      waiting = λ k d l h. c.requires.few k d h;
+      asked = refl;
+      rounds = refl;
+      room = λ room. room;
+    }
+
+pub loop-index-preserved : goal.loop-index-preserved
+loop-index-preserved g c =
+    let i = c.loop-index.invariant in
+    let test = c.loop-index-test.true in
+    record {
+      works = λ buffer. onward (i.works buffer) (c.visit.ensures.works buffer);
+      settled = c.visit.ensures.settled;
+      visited = c.visit.ensures.visited (λ k d l h. i.visited k d (omega (arith, test, l)) h);
+      waiting = λ k d l h. c.visit.ensures.waiting k d l h;
+      asked = c.visit.ensures.asked ∙ i.asked;
+      rounds = c.visit.ensures.rounds ∙ i.rounds;
+      room = λ room. c.visit.ensures.room (i.room room);
+    }
+
+pub returns-then-self-eq0-clause-works : goal.returns-then-self-eq0-clause-works
+returns-then-self-eq0-clause-works g c = c.loop-index.invariant.works
+
+pub returns-in_err-visit-clause-works : goal.returns-in_err-visit-clause-works
+returns-in_err-visit-clause-works g c =
+    λ buffer. onward (c.loop-index.invariant.works buffer) (c.visit.ensures.works buffer)
+
+pub returns-clause-visited : goal.returns-clause-visited
+returns-clause-visited g c =
+    let test = c.loop-index-test.false in
+    λ some k d l h. c.loop-index.invariant.visited k d (omega (arith, test)) h
+
+pub visit-requires-clause-waiting : goal.visit-requires-clause-waiting
+visit-requires-clause-waiting g c =
+    let test = c.loop-index-test.true in
+    λ k d l h. c.loop-index.invariant.waiting k d (omega (arith, test, l)) h

@@ -1,0 +1,20 @@
+use Rattle.std.proofs.Common.{◌≡◌}
+use Rattle.tftp_loop.specs.LoopStates.{HasRoom, OnlyWorks}
+use Rattle.tftp_loop.specs.MayWait.{AwaitVisit, WereVisited, IsSettled}
+use Rattle.tftp_loop.proofs.server_loop.ServerLoop.pass_over.Given as goal
+
+-- the ports from the index on were visited
+abbrev pub invariant-loop-index : goal.invariant-loop-index
+invariant-loop-index g l =
+    record {
+      works : OnlyWorks g.S.Store.meaning g.S.Source.Source.meaning l.initial.self l.self;
+      settled : IsSettled l.self;
+      visited : WereVisited l.fn.pass l.index l.self;
+      waiting : AwaitVisit l.fn.pass l.index l.self;
+      asked : l.self.sockets.has_received ≡ l.initial.self.sockets.has_received;
+      rounds : l.self.rounds ≡ l.initial.self.rounds;
+      room : HasRoom l.initial.self → HasRoom l.self;
+    }
+
+abbrev pub decreases-loop-index : goal.decreases-loop-index
+decreases-loop-index g l = l.index
