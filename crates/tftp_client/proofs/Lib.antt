@@ -5,7 +5,9 @@ pub mod Conversing
 pub mod Counting
 pub mod HeldBytes
 pub mod NamedFile
+pub mod NamedOnDisk
 pub mod Running
 pub mod SameKind
+pub mod SameSink
 pub mod Silent
 pub mod StaysComplete

@@ -1,11 +1,11 @@
 -- A fetched file got its name, and the folder of that was synced.
 use Rattle.std.proofs.Common.{◌≡◌, ℕ, Bool, true, false, List, ◌∷◌, Option, Some, None, Result, Ok, Err, OnOk}
-use Rattle.std.proofs.Common.{inl, inr, ap, ◌∙◌, subst}
+use Rattle.std.proofs.Common.{[], inl, inr, ap, ◌∙◌, subst}
 use Rattle.tftp_disk.specs.DiskJournal.{DiskEvent, FileState}
-use Rattle.tftp_disk.specs.DiskJournal.DiskEvent.{Folder_synced, Linked}
+use Rattle.tftp_disk.specs.DiskJournal.DiskEvent.{Folder_synced, Linked, Removed, Renamed}
 use Rattle.tftp_disk.specs.NamedFolder.{IsFolderFor, SyncsAfter, SyncsFolder}
 use Rattle.tftp_disk.specs.declared.calls.DiskFolder.{DiskFolder}
-use Rattle.tftp_client.specs.Fetched.{IsWholeAt, KeepsOne, NamesBytes, NamesFile, Paths, WasNamed}
+use Rattle.tftp_client.specs.Fetched.{IsNamed, IsWholeAt, KeepsOne, NamesBytes, NamesFile, Paths, WasNamed}
 
 -- for a last call whose result is returned as it is
 pub on_ok : {T E : Type 0} (r : Result T E) {P Q : Type 0} → (P → Q) → OnOk r P → OnOk r Q
@@ -48,3 +48,19 @@ pub linked_named : (Syncs : List DiskEvent → List DiskEvent → Type 0) (paths
     → (f : FileState) × (b : List DiskEvent) × IsWholeAt paths.part bytes f × NamesFile Syncs false paths f b after
 linked_named Syncs paths bytes file before mid after whole is kept =
     (file, before, whole, inl (subst (λ (m : List DiskEvent). KeepsOne Syncs paths m after) is kept))
+
+syncs_after_some : (path : List ℕ) (event : DiskEvent) (before : List DiskEvent) → SyncsAfter path (event ∷ before) [] → ⊥
+syncs_after_some path event before (inl (at, answer, folder, synced, is)) = let never : ◌≡◌ {A = List DiskEvent} [] (Folder_synced (Some at) answer ∷ event ∷ before) = is in cc
+syncs_after_some path event before (inr (may, is)) = let never : ◌≡◌ {A = List DiskEvent} [] (event ∷ before) = is in cc
+
+names_some : (replaces : Bool) (paths : Paths) (file : FileState) (before : List DiskEvent)
+    → NamesFile (SyncsAfter paths.local) replaces paths file before [] → ⊥
+names_some true paths file before named = syncs_after_some paths.local (Renamed file paths.part paths.local (Ok tt)) before named
+names_some false paths file before (inl links) = let never : ◌≡◌ {A = List DiskEvent} [] (Removed paths.part links.1 ∷ links.0) = links.3 in cc
+names_some false paths file before (inr renames) = syncs_after_some paths.local (Renamed file paths.part paths.local (Ok tt)) renames.0 renames.2
+
+-- what was named just now is named
+pub is_named : (paths : Paths) (bytes : List ℕ) (after : List DiskEvent) → WasNamed paths bytes after
+    → IsNamed paths bytes after
+is_named paths bytes [] named = absurd (names_some paths.replaces paths named.0 named.1 named.3)
+is_named paths bytes (event ∷ events) named = inl named

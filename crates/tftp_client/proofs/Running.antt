@@ -7,17 +7,13 @@ use Rattle.tftp_file.specs.Source.{SourceMeaning}
 use Rattle.tftp_file.specs.declared.files.Files.{Files}
 use Rattle.tftp_ends.specs.End.{EndState}
 use Rattle.tftp_ends.specs.declared.outcome.Outcome.{Outcome}
-use Rattle.tftp_arguments.specs.Fault.{AskForText}
 use Rattle.tftp_lines.specs.ClientOutcome.{status_of}
 use Rattle.tftp_lines.specs.declared.client_outcome.ClientOutcome.{ClientOutcome}
 use Rattle.tftp_lines.specs.declared.client_outcome.ClientOutcome.TheVariants as ends
 use Rattle.tftp_sockets.specs.Journal.{SocketEvent}
 use Rattle.tftp_sockets.specs.Quiet.{waits}
-use Rattle.tftp_client.specs.declared.command_line.Order.{Order}
 use Rattle.tftp_client.specs.declared.transfer.Job.{Job}
 use Rattle.tftp_client.specs.Converses.{Converses, EndsBy, State}
-use Rattle.tftp_client.specs.Ordered.{RunsOrder, RunsWords}
-use Rattle.tftp_client.specs.Words.{WordsName, tftp_app}
 use Rattle.tftp_client.specs.Runs.{FailsBy, FailsEnd, FailsTransfer, Dallies, IsNew, Refused, Runs}
 use Rattle.tftp_client.specs.Runs.{IsFileOf, MayOpen, RunsAs, RunsJob, Stops, Transfers, begun, opens, plain}
 
@@ -126,13 +122,3 @@ module _ {S K : Type 0} (sources : SourceMeaning S) (sinks : SinkMeaning K) wher
       → Dallies sources sinks port first file after → Dallies sources sinks port first' file after
   goes_on {port} {file = file} {after = after} is run = let From : State
       → Type 0 = λ s. Dallies sources sinks port s file after in subst From is run
-
-  -- an order was run, or there is none and nothing was done
-  pub runs_words : {before after : List SocketEvent} (words : List (List ℕ)) {status : ℕ} (ordered : Result Order ℕ)
-      → IfOk ordered (λ order. WordsName words order.job)
-      → IfErr ordered (λ n. n ≡ 0 → AskForText tftp_app words)
-      → IfOk ordered (λ order. RunsOrder sources sinks order.job status before after)
-      → IfErr ordered (λ _. after ≡ before) → IfErr ordered (λ n. status ≡ n)
-      → RunsWords sources sinks words status before after
-  runs_words words (Ok order) names text runs none same = inr (order.job, names, runs)
-  runs_words words (Err n) names text runs none same = inl (none, λ zero. text (sym same ∙ zero))

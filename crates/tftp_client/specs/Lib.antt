@@ -7,6 +7,7 @@ pub mod Fallback
 pub mod Fetched
 pub mod LocalError
 pub mod Moved
+pub mod OnDisk
 pub mod Ordered
 pub mod Outbound
 pub mod PartFile

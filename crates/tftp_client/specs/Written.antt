@@ -1,5 +1,5 @@
 -- The file of a fetch that is being written, by the calls on it (own).
-use Rattle.std.specs.Prelude.{ℕ, ◌≡◌, List, [], Option, Some, None}
+use Rattle.std.specs.Prelude.{ℕ, ◌≡◌, List, [], ◌++◌, codes, Option, Some, None}
 use Rattle.std.specs.String.{string_bytes}
 use Rattle.tftp_disk.specs.declared.existing.Existing.{Existing}
 use Rattle.tftp_disk.specs.DiskFault.{is_replaced}
@@ -8,6 +8,11 @@ use Rattle.tftp_disk.specs.DiskWriter.{calls_of, handed}
 use Rattle.tftp_client.specs.Fetched.{IsWholeAt, Paths}
 use Rattle.tftp_client.specs.declared.local_names.LocalNames.{LocalNames}
 use Rattle.tftp_client.specs.declared.written.Written.{Written}
+
+-- the names of a file that is to get this path
+abbrev pub paths_for : List ℕ → Existing → Paths
+paths_for local existing =
+    record { local = local; part = local ++ codes ".part"; replaces = is_replaced existing }
 
 -- the names of a file that is fetched
 abbrev pub paths_of : LocalNames → Existing → Paths

@@ -3,9 +3,12 @@
 //!
 //! Clauses state by which calls of the system, as a journal has them: not what a disk then holds.
 
-ghost use Rattle.std.specs.Prelude.{◌≡◌, ◌≢◌, false, length, IfOk};
+ghost use Rattle.std.specs.Prelude.{◌≡◌, ◌≢◌, true, false, length, IfOk};
+ghost use Rattle.tftp_disk.specs.Changes.{changes};
 ghost use Rattle.tftp_file.specs.declared.fault.StoreFault.TheVariants.{Memory};
+ghost use Rattle.tftp_client.specs.Fetched.{AreOwn, IsNamed};
 ghost use Rattle.tftp_client.specs.Taken.{nothing};
+ghost use Rattle.tftp_client.specs.Written.{bytes_in, paths_for, paths_of};
 
 use crate::local_error::LocalError;
 use crate::part_file::PartFile;
@@ -30,7 +33,8 @@ pub(crate) fn read_error<F: Read + Drop>(source: LocalSource<F>) -> Option<Local
 /// It buffers what is appended, and writes it after a datagram is sent. It syncs every few
 /// megabytes, so that the commit has little left to sync.
 ///
-/// Its model is the bytes of the appends that succeeded, and whether a commit succeeded after them.
+/// Its model is the bytes of the appends that succeeded, and whether a commit succeeded after them:
+/// the file that was made then has just these bytes and the name. No other name was changed.
 #[derive(Drop)]
 pub(crate) struct LocalFile<R: Files + Drop> {
     part: PartFile<R>,
@@ -39,6 +43,11 @@ pub(crate) struct LocalFile<R: Files + Drop> {
     error: Option<LocalError>,
     ghost counts: { count ≡ length taken.holding.bytes },
     ghost never_refuses: { taken.holding.refuses ≡ false },
+    ghost content: { bytes_in part.written ≡ taken.holding.bytes },
+    ghost own: { ∥ AreOwn (paths_of part.names part.existing) (changes part.journal.events) ∥₁ },
+    ghost named: { taken.holding.committed ≡ true
+        → ∥ IsNamed (paths_of part.names part.existing) taken.holding.bytes
+        (changes part.journal.events) ∥₁ },
 }
 
 impl<R: Files + Drop> LocalFile<R> {
@@ -50,7 +59,9 @@ impl<R: Files + Drop> LocalFile<R> {
         local: &str,
         existing: Existing,
     ) -> Result<LocalFile<R>, LocalError>
-        ensures { IfOk result (λ local. local.taken.holding ≡ nothing) }
+        ensures empty { IfOk result (λ file. file.taken.holding ≡ nothing) }
+        ensures paths { IfOk result (λ file. paths_of file.part.names file.part.existing
+            ≡ paths_for local.now existing) }
     {
         match PartFile::new(files, alloc, local, existing) {
             Ok(part) => Ok(LocalFile {
@@ -79,6 +90,7 @@ impl<R: Files + Drop> LocalFile<R> {
     fn record_error(&mut self, error: LocalError) -> StoreFault
         ensures fault { result ≢ Memory }
         ensures taken { self.new.taken ≡ self.old.taken }
+        ensures part { self.new.part ≡ self.old.part }
     {
         let fault = error.fault();
         self.error = Some(error);
@@ -87,13 +99,14 @@ impl<R: Files + Drop> LocalFile<R> {
 }
 
 impl<R: Files + Drop> Sink for LocalFile<R> {
-    ghost use Rattle.std.specs.Prelude.{Some, ⊤};
+    ghost use Rattle.std.specs.Prelude.{Some, ⊤, refl};
+    ghost use Rattle.tftp_client.specs.PartFile.{SameNames};
 
     ghost meaning = { record {
       held = λ file. Some file.taken.holding;
       may_refuse_append = λ _ _ _. ⊤;
       may_refuse_commit = λ _ _. ⊤;
-      becomes = λ _ _ _. ⊤;
+      becomes = λ old new _. SameNames old.part new.part;
       after_append = λ _ _ _ _. ⊤;
       after_commit = λ _ _ _. ⊤;
     } };
@@ -104,7 +117,7 @@ impl<R: Files + Drop> Sink for LocalFile<R> {
 
     ghost joins = { λ _ _ _ _ _. tt };
 
-    ghost unmoved = { λ _. tt };
+    ghost unmoved = { λ _. record { names = refl; existing = refl } };
 
     /// It accepts at most 2^64 - 1 bytes, as many as it can count.
     fn append(&mut self, bytes: &[u8]) -> Result<(), StoreFault> {

@@ -7,7 +7,7 @@ ghost use Rattle.tftp_sockets.specs.Journal.SocketEvent.{Printed as Line};
 ghost use Rattle.tftp_sockets.specs.Quiet.{waits as waits_in};
 ghost use Rattle.tftp_client.specs.Conversation.{state_of};
 ghost use Rattle.tftp_client.specs.Converses.{most_waits};
-ghost use Rattle.tftp_client.specs.Ordered.{RunsOrder, RunsWords};
+ghost use Rattle.tftp_client.specs.OnDisk.{StoresOrder, StoresWords};
 ghost use Rattle.tftp_client.specs.Runs.{Dallies, printed};
 
 use crate::cause::CauseLine;
@@ -65,7 +65,7 @@ pub fn tftp_with_journal<R: Runtime + AllocGlobal + Net, S: AsStr, E: IsTerminal
     journal: &mut Journal,
 ) -> u8
     ensures status { result ≤ 2 }
-    ensures runs { RunsWords ⟦<LocalSource<R::File> as Source>⟧.meaning
+    ensures runs { StoresWords ⟦<LocalSource<R::File> as Source>⟧.meaning
         ⟦<LocalFile<R> as Sink>⟧.meaning (map S.text words.now) result
         journal.old.events journal.new.events }
     ensures waits { waits_in journal.new.events ≤ most_waits journal.old.events }
@@ -84,7 +84,7 @@ fn transfer_words<'a, R: Runtime + AllocGlobal + Net, S: AsStr>(
     journal: &mut Journal,
 ) -> anyhow::Result<u8>
     ensures status { IfOk result (λ status. status ≤ 2) }
-    ensures runs { IfOk result (λ status. RunsWords ⟦<LocalSource<R::File> as Source>⟧.meaning
+    ensures runs { IfOk result (λ status. StoresWords ⟦<LocalSource<R::File> as Source>⟧.meaning
         ⟦<LocalFile<R> as Sink>⟧.meaning (map S.text words.now) status
         journal.old.events journal.new.events) }
     ensures memory { IfErr result (λ _. journal.new.events ≡ journal.old.events) }
@@ -104,7 +104,7 @@ fn transfer_texts<'a, R: Files + Clone + Drop + ClientUdp + Clock + Print + Epri
     journal: &mut Journal,
 ) -> anyhow::Result<u8>
     ensures status { IfOk result (λ status. status ≤ 2) }
-    ensures runs { IfOk result (λ status. RunsWords ⟦<LocalSource<R::File> as Source>⟧.meaning
+    ensures runs { IfOk result (λ status. StoresWords ⟦<LocalSource<R::File> as Source>⟧.meaning
         ⟦<LocalFile<R> as Sink>⟧.meaning (map S.text words.now) status
         journal.old.events journal.new.events) }
     ensures memory { IfErr result (λ _. journal.new.events ≡ journal.old.events) }
@@ -125,7 +125,7 @@ fn run_ordered<R: Files + Clone + Drop + ClientUdp + Clock + Print + Eprint>(
 ) -> u8
     requires { IfErr ordered.now (λ status. status ≤ 2) }
     ensures status { result ≤ 2 }
-    ensures runs { IfOk ordered.now (λ order. RunsOrder
+    ensures runs { IfOk ordered.now (λ order. StoresOrder
         ⟦<LocalSource<R::File> as Source>⟧.meaning ⟦<LocalFile<R> as Sink>⟧.meaning
         order.job result journal.old.events journal.new.events) }
     ensures none { IfErr ordered.now (λ _. journal.new.events ≡ journal.old.events) }
@@ -146,7 +146,7 @@ fn run_order<R: Files + Clone + Drop + ClientUdp + Clock + Print + Eprint>(
     journal: &mut Journal,
 ) -> u8
     ensures status { result ≤ 2 }
-    ensures runs { RunsOrder ⟦<LocalSource<R::File> as Source>⟧.meaning
+    ensures runs { StoresOrder ⟦<LocalSource<R::File> as Source>⟧.meaning
         ⟦<LocalFile<R> as Sink>⟧.meaning order.now.job result
         journal.old.events journal.new.events }
     ensures waits { waits_in journal.new.events ≤ most_waits journal.old.events }

@@ -12,8 +12,10 @@ ghost use Rattle.tftp_lines.specs.declared.client_outcome.ClientOutcome.TheVaria
 ghost use Rattle.tftp_sockets.specs.Quiet.{waits as waits_in};
 ghost use Rattle.tftp_client.specs.Conversation.{IsReady, any_address, state_of};
 ghost use Rattle.tftp_client.specs.Converses.{Converses, IsOpen, deadline_at};
+ghost use Rattle.tftp_client.specs.OnDisk.{IsFor, job_paths};
 ghost use Rattle.tftp_client.specs.Stored.{count_of, stored};
 ghost use Rattle.tftp_client.specs.Taken.{nothing};
+ghost use Rattle.tftp_client.specs.Written.{paths_for, paths_of};
 ghost use Rattle.tftp_client.specs.Runs.{FailsBy, FailsEnd, FailsTransfer, MayFallBack, Runs};
 ghost use Rattle.tftp_client.specs.Runs.{RunsAs, RunsJob, Stops, Transfers};
 ghost use Rattle.tftp_client.specs.Runs.{IsFileOf, MayOpen, begun, measured, opens, plain, sent_from};
@@ -93,6 +95,7 @@ pub(crate) fn transfer<R: FileSystem + Clone + Drop + ClientUdp + Clock + Eprint
         (waits.old + waits_in journal.old.events) completed.conversation.socket.port job.now
         journal.old.events (state_of completed.conversation journal.new.events) completed.files
         completed.count) }
+    ensures local { IfOk result (λ completed. IsFor job.now completed.files) }
     ensures err { IfErr result (λ failure. FailsTransfer
         ⟦<LocalSource<R::File> as Source>⟧.meaning ⟦<LocalFile<R> as Sink>⟧.meaning
         (waits.old + waits_in journal.old.events) job.now
@@ -147,6 +150,7 @@ fn transfer_once<R: FileSystem + Clone + Drop + ClientUdp + Clock + Eprint>(
         completed.conversation.socket.port job.now
         journal.old.events (state_of completed.conversation journal.new.events) completed.files
         completed.count) }
+    ensures local { IfOk result (λ completed. IsFor job.now completed.files) }
     ensures err { IfErr result (λ failure. FailsBy
         ⟦<LocalSource<R::File> as Source>⟧.meaning ⟦<LocalFile<R> as Sink>⟧.meaning
         (waits.old + waits_in journal.old.events) job.now
@@ -172,6 +176,7 @@ fn get<R: FileSystem + Clone + Drop + ClientUdp + Clock + Eprint>(
         ⟦<LocalSource<R::File> as Source>⟧.meaning ⟦<LocalFile<R> as Sink>⟧.meaning
         completed.conversation.socket.port Read job.now journal.old.events
         (state_of completed.conversation journal.new.events) completed.files completed.count) }
+    ensures local { IfOk result (λ completed. IsFor job.now completed.files) }
     ensures err { IfErr result (λ failure. FailsEnd
         ⟦<LocalSource<R::File> as Source>⟧.meaning ⟦<LocalFile<R> as Sink>⟧.meaning
         (waits.old + waits_in journal.old.events) Read job.now 0
@@ -192,7 +197,9 @@ fn create_local<R: FileSystem + Clone + Drop>(
     path: &str,
     existing: Existing,
 ) -> Result<LocalFile<R>, Failure>
-    ensures ok { IfOk result (λ local. local.taken.holding ≡ nothing) }
+    ensures empty { IfOk result (λ local. local.taken.holding ≡ nothing) }
+    ensures paths { IfOk result (λ local. paths_of local.part.names local.part.existing
+        ≡ paths_for path.now existing) }
     ensures err { IfErr result (λ failure. status_of failure.end ≡ 2) }
 {
     let Ok(system) = rt.clone() else {
@@ -213,11 +220,13 @@ fn get_into<N: ClientUdp + Clock + Eprint, R: FileSystem + Drop>(
     waits: &mut u32,
     journal: &mut Journal,
 ) -> Result<Completed<R>, Failure>
-    requires { local.taken.holding ≡ nothing }
+    requires empty { local.taken.holding ≡ nothing }
+    requires paths { paths_of local.part.names local.part.existing ≡ job_paths job.now }
     ensures ok { IfOk result (λ completed. RunsAs
         ⟦<LocalSource<R::File> as Source>⟧.meaning ⟦<LocalFile<R> as Sink>⟧.meaning
         completed.conversation.socket.port Read job.now journal.old.events
         (state_of completed.conversation journal.new.events) completed.files completed.count) }
+    ensures local { IfOk result (λ completed. IsFor job.now completed.files) }
     ensures err { IfErr result (λ failure. FailsEnd
         ⟦<LocalSource<R::File> as Source>⟧.meaning ⟦<LocalFile<R> as Sink>⟧.meaning
         (waits.old + waits_in journal.old.events) Read job.now 0
@@ -333,6 +342,7 @@ fn put<R: FileSystem + Clone + Drop + ClientUdp + Clock + Eprint>(
         ⟦<LocalSource<R::File> as Source>⟧.meaning ⟦<LocalFile<R> as Sink>⟧.meaning
         completed.conversation.socket.port Write job.now journal.old.events
         (state_of completed.conversation journal.new.events) completed.files completed.count) }
+    ensures local { IfOk result (λ completed. IsFor job.now completed.files) }
     ensures err { IfErr result (λ failure. (length : ℕ) × FailsEnd
         ⟦<LocalSource<R::File> as Source>⟧.meaning ⟦<LocalFile<R> as Sink>⟧.meaning
         (waits.old + waits_in journal.old.events) Write job.now length
@@ -363,6 +373,7 @@ fn put_from<R: FileSystem + Drop + ClientUdp + Clock + Eprint>(
         × (outbound.wire_bytes ≤ MAX_WIRE) × MayOpen Write job.now outbound.wire_bytes
         × IsFileOf ⟦<LocalSource<R::File> as Source>⟧.meaning
         ⟦<LocalFile<R> as Sink>⟧.meaning Write runs.file) }
+    ensures local { IfOk result (λ completed. IsFor job.now completed.files) }
     ensures err { IfErr result (λ failure. FailsEnd
         ⟦<LocalSource<R::File> as Source>⟧.meaning ⟦<LocalFile<R> as Sink>⟧.meaning
         (waits.old + waits_in journal.old.events) Write job.now outbound.wire_bytes

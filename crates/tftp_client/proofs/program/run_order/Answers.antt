@@ -2,12 +2,14 @@
 use Rattle.std.proofs.Common.{arith, inl, inr, refl}
 use Rattle.tftp_client.specs.Conversation.{state_of}
 use Rattle.tftp_client.proofs.HeldBytes.{is_whole}
+use Rattle.tftp_client.proofs.NamedOnDisk.{is_on_disk}
 use Rattle.tftp_client.proofs.SameKind.{is_file_of}
 use Rattle.tftp_client.proofs.StaysComplete.{moves_nothing, stays_complete}
 use Rattle.tftp_client.proofs.program.run_order.Goals as goal
 
 pub returns-in-Ok-clause-runs : goal.returns-in-Ok-clause-runs
 returns-in-Ok-clause-runs g c =
+    let whole = is_whole _ _ (λ local. (local.taken.holding, refl)) c.in-Ok.ensures.ok c.in-Ok.completed.complete in (
     inl (
       c.conclude.ensures.ends,
       record {
@@ -18,18 +20,24 @@ returns-in-Ok-clause-runs g c =
         transfers = c.in-Ok.ensures.ok;
         complete = c.in-Ok.completed.complete;
         side = is_file_of _ _ c.in-Ok.ensures.ok;
-        whole = is_whole _ _ (λ local. (local.taken.holding, refl)) c.in-Ok.ensures.ok c.in-Ok.completed.complete;
+        whole = whole;
         stays = c.conclude.ensures.goes;
         stayed = stays_complete _ _ c.conclude.ensures.goes c.in-Ok.completed.complete;
         still = moves_nothing _ _ c.conclude.ensures.goes c.in-Ok.completed.complete;
         within = omega (arith, c.conclude.ensures.waits, c.in-Ok.ensures.counted);
       },
+    ),
+    is_on_disk _ _ (λ local. refl) c.args.order.now.job c.in-Ok.completed.files c.in-Ok.completed.count _
+    c.in-Ok.ensures.local whole,
     )
 
 pub returns-in-Err-clause-runs : goal.returns-in-Err-clause-runs
-returns-in-Err-clause-runs g c = inr (
-  c.report.ensures.fails.0,
-  c.in-Err.failure.end,
-  c.report.ensures.status,
-  c.in-Err.ensures.err,
+returns-in-Err-clause-runs g c = (
+  inr (
+    c.report.ensures.fails.0,
+    c.in-Err.failure.end,
+    c.report.ensures.status,
+    c.in-Err.ensures.err,
+  ),
+  tt,
 )

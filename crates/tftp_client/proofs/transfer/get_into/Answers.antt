@@ -6,6 +6,7 @@ use Rattle.tftp_client.specs.Conversation.{state_of}
 use Rattle.tftp_client.specs.Runs.{opens}
 use Rattle.tftp_client.proofs.Conversing.{begun_open, begun_ready, opens_open}
 use Rattle.tftp_client.proofs.Counting.{runs_as}
+use Rattle.tftp_client.proofs.NamedOnDisk.{is_for}
 use Rattle.tftp_client.proofs.Running.{fails, if_err, runs}
 use Rattle.tftp_client.proofs.transfer.get_into.Goals as goal
 
@@ -13,7 +14,13 @@ pub returns-in-Ok-clause-ok : goal.returns-in-Ok-clause-ok
 returns-in-Ok-clause-ok g c =
     IfOk-weaker c.converse.result _ _
     (λ completed ran. runs_as _ _ (λ local. refl) c.args.job.now Read 0 0 c.in-Ok.ensures.may
-    (runs _ _ c.in-Ok.ensures.begins (ap Some c.requires) (ran.0, ran.1)) tt (λ octet. refl) ran.2)
+    (runs _ _ c.in-Ok.ensures.begins (ap Some c.requires.empty) (ran.0, ran.1)) tt (λ octet. refl) ran.2)
+    c.converse.ensures.ok
+
+pub returns-in-Ok-clause-local : goal.returns-in-Ok-clause-local
+returns-in-Ok-clause-local g c =
+    IfOk-weaker c.converse.result _ _
+    (λ completed ran. is_for _ _ (λ before after committed same. same) c.args.job.now ran.1 c.requires.paths)
     c.converse.ensures.ok
 
 pub returns-in-Ok-clause-err : goal.returns-in-Ok-clause-err

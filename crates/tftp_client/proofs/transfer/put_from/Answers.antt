@@ -4,6 +4,7 @@ use Rattle.tftp_negotiate.specs.declared.known.Kind.TheVariants.{Write}
 use Rattle.tftp_client.specs.Conversation.{state_of}
 use Rattle.tftp_client.specs.Runs.{opens}
 use Rattle.tftp_client.proofs.Conversing.{begun_open, begun_ready, opens_open}
+use Rattle.tftp_client.proofs.NamedOnDisk.{is_for}
 use Rattle.tftp_client.proofs.Running.{fails, if_err, runs}
 use Rattle.tftp_client.proofs.transfer.put_from.Goals as goal
 
@@ -11,6 +12,12 @@ pub returns-in-Ok-clause-ok : goal.returns-in-Ok-clause-ok
 returns-in-Ok-clause-ok g c =
     IfOk-weaker c.converse.result _ _ (λ completed ran.
     (runs _ _ c.in-Ok.ensures.begins tt (ran.0, ran.1), ran.2, c.in-Ok.ensures.fits, c.in-Ok.ensures.may, tt)) c.converse.ensures.ok
+
+pub returns-in-Ok-clause-local : goal.returns-in-Ok-clause-local
+returns-in-Ok-clause-local g c =
+    IfOk-weaker c.converse.result _ _
+    (λ completed ran. is_for _ _ (λ before after committed same. same) c.args.job.now ran.1 tt)
+    c.converse.ensures.ok
 
 pub returns-in-Ok-clause-err : goal.returns-in-Ok-clause-err
 returns-in-Ok-clause-err g c =

@@ -1,5 +1,6 @@
 -- Without options, once these were refused.
 use Rattle.std.proofs.lemmas.Result.{IfOk-weaker}
+use Rattle.tftp_client.proofs.NamedOnDisk.{for_plain}
 use Rattle.tftp_client.proofs.Running.{fails_again, if_err, runs_again}
 use Rattle.tftp_client.proofs.transfer.transfer.Goals as goal
 
@@ -27,3 +28,9 @@ returns-clause-err g c =
     })
     c.plain.ensures c.transfer_once.ensures.counted failed)
     c.transfer_once-2.ensures.err
+
+pub returns-clause-local : goal.returns-clause-local
+returns-clause-local g c =
+    IfOk-weaker c.transfer_once-2.result _ _
+    (λ completed is. for_plain c.args.job.now c.plain.result completed.files c.plain.ensures is)
+    c.transfer_once-2.ensures.local
