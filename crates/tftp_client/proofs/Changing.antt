@@ -1,6 +1,8 @@
 -- The changes by calls on a fetched file are its own, and what was named stays named.
 use Rattle.std.proofs.Common.{◌≡◌, List, ◌∷◌, Option, Some, None, Result, Ok, Err, OnOk, OnErr, inl, inr, refl, sym, subst}
 use Rattle.std.specs.declared.io.Error.{Error}
+use Rattle.std.proofs.Common.{ℕ}
+use Rattle.std.proofs.Math.Logic.{∥∥₁_map}
 use Rattle.tftp_disk.specs.DiskJournal.{DiskEvent, FileState, folder_at}
 use Rattle.tftp_disk.specs.DiskJournal.DiskEvent.{Folder_synced, Linked, Removed}
 use Rattle.tftp_disk.specs.NamedFolder.{SyncsFolder}
@@ -27,6 +29,17 @@ pub and_then : (paths : Paths) (before middle after : List DiskEvent) → Keeps 
     → Keeps paths middle after → Keeps paths before after
 and_then paths before middle after first rest =
     record { own = λ own. rest.own (first.own own); named = λ bytes named. rest.named bytes (first.named bytes named) }
+
+-- the same, of a file whose names are the same
+pub still_own : (paths same : Paths) (before after : List DiskEvent) → same ≡ paths → Keeps paths before after
+    → ∥ AreOwn paths before ∥₁ → ∥ AreOwn same after ∥₁
+still_own paths same before after is keeps own =
+    ∥∥₁_map own (λ own. subst (λ (p : Paths). AreOwn p after) (sym is) (keeps.own own))
+
+pub still_named : (paths same : Paths) (bytes : List ℕ) (before after : List DiskEvent) → same ≡ paths
+    → Keeps paths before after → ∥ IsNamed paths bytes before ∥₁ → ∥ IsNamed same bytes after ∥₁
+still_named paths same bytes before after is keeps named =
+    ∥∥₁_map named (λ named. subst (λ (p : Paths). IsNamed p bytes after) (sym is) (keeps.named bytes named))
 
 synced_keeps : {F : Type 0} (folder : Option (DiskFolder F)) (paths : Paths) (before after : List DiskEvent)
     → SyncsFolder folder before after → Keeps paths before after

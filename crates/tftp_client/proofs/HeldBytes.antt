@@ -35,28 +35,28 @@ use Rattle.tftp_client.specs.Taken.{nothing}
 use Rattle.tftp_client.proofs.Committing.{Kept, StoresNone, datagram_stores_none, is_committed}
 
 -- it closed before it was complete
-abbrev failed : Phase → Bool
+abbrev pub failed : Phase → Bool
 failed (Waiting asked limit) = false
 failed (Sending terms number) = false
 failed (Receiving terms number) = false
 failed (Dallying terms number dally) = false
 failed (Closed terms number complete outcome) = not complete
 
-open_goes_on : (phase : Phase) → (IsSome (outcome_of phase) → ⊥) → failed phase ≡ false
+pub open_goes_on : (phase : Phase) → (IsSome (outcome_of phase) → ⊥) → failed phase ≡ false
 open_goes_on (Waiting asked limit) is_open = refl
 open_goes_on (Sending terms number) is_open = refl
 open_goes_on (Receiving terms number) is_open = refl
 open_goes_on (Dallying terms number dally) is_open = refl
 open_goes_on (Closed terms number complete outcome) is_open = absurd (is_open refl)
 
-complete_goes_on : (phase : Phase) → is_complete phase ≡ true → failed phase ≡ false
+pub complete_goes_on : (phase : Phase) → is_complete phase ≡ true → failed phase ≡ false
 complete_goes_on (Waiting asked limit) done = refl
 complete_goes_on (Sending terms number) done = refl
 complete_goes_on (Receiving terms number) done = refl
 complete_goes_on (Dallying terms number dally) done = refl
 complete_goes_on (Closed terms number complete outcome) done = ap not done
 
-undone : (b : Bool) → (b ≡ true → ⊥) → b ≡ false
+pub undone : (b : Bool) → (b ≡ true → ⊥) → b ≡ false
 undone true never = absurd (never refl)
 undone false never = refl
 

@@ -19,7 +19,7 @@ use Rattle.tftp_client.specs.Converses.{Converses, State}
 use Rattle.tftp_client.specs.Fetched.{AreOwn, IsNamed, Paths}
 use Rattle.tftp_client.specs.OnDisk.{IsFor, IsOnDisk, StoresOrder, StoresWords, job_paths}
 use Rattle.tftp_client.specs.PartFile.{SameNames}
-use Rattle.tftp_client.specs.Runs.{IsWhole, plain}
+use Rattle.tftp_client.specs.Runs.{IsWhole, Transfers, moved_by, plain}
 use Rattle.tftp_client.specs.Words.{WordsName, tftp_app}
 use Rattle.tftp_client.specs.Written.{paths_of}
 use Rattle.tftp_client.proofs.SameSink.{OfSink, run_stays}
@@ -70,12 +70,11 @@ module _ {S R F D : Type 0} {reads : read.Ghosts F} {writes : write.Ghosts F} {s
         (λ before after committed same. same_paths (job_paths job) before after (becomes before after committed same))
         run (of_sink job file is))
 
-  -- what moved is in the file of the job, which has its name
-  pub is_on_disk : ((local : Local) → sinks.held local ≡ Some local.taken.holding)
+  of_file : ((local : Local) → sinks.held local ≡ Some local.taken.holding)
       → (job : Job) (files : Files S Local) (count : ℕ) (bytes : List ℕ) → IsFor job files
       → IsWhole sources sinks files count bytes → IsOnDisk job files bytes
-  is_on_disk known job (Source source) count bytes is whole = tt
-  is_on_disk known job (Sink local) count bytes is whole =
+  of_file known job (Source source) count bytes is whole = tt
+  of_file known job (Sink local) count bytes is whole =
       let same : whole.0 ≡ local.taken.holding = same_Some whole.0 local.taken.holding (sym whole.1 ∙ known local) in
       let held : local.taken.holding.bytes ≡ bytes = ap (λ (h : Holding). h.bytes) (sym same) ∙ whole.3 in
       let done : local.taken.holding.committed ≡ true = ap (λ (h : Holding). h.committed) (sym same) ∙ whole.2 in
@@ -86,6 +85,15 @@ module _ {S R F D : Type 0} {reads : read.Ghosts F} {writes : write.Ghosts F} {s
             (subst (λ (p : Paths). IsNamed p local.taken.holding.bytes events) is named));
         own = ∥∥₁_map local.own (λ own. subst (λ (p : Paths). AreOwn p events) is own);
       }
+
+  -- what moved is in the file of the job, which has its name
+  pub is_on_disk : ((local : Local) → sinks.held local ≡ Some local.taken.holding)
+      → {most port : ℕ} {job : Job} {before : List SocketEvent} {s : State} {files : Files S Local} {count : ℕ}
+      (transfers : Transfers sources sinks most port job before s files count) → IsFor job files
+      → IsWhole sources sinks files count (moved_by sources sinks transfers).bytes
+      → IsOnDisk job files (moved_by sources sinks transfers).bytes
+  is_on_disk known {job = job} {files = files} {count = count} transfers is whole =
+      of_file known job files count (moved_by sources sinks transfers).bytes is whole
 
   -- an order was run, or there is none and nothing was done
   pub stores_words : {before after : List SocketEvent} (words : List (List ℕ)) {status : ℕ} (ordered : Result Order ℕ)

@@ -32,12 +32,12 @@ use Rattle.tftp_client.specs.Runs.{Dallies}
 use Rattle.tftp_client.proofs.Committing.{by_tests, if_either, waits_complete}
 
 -- a response that begins no transfer
-abbrev BeginsNone : Response → Type 0
+abbrev pub BeginsNone : Response → Type 0
 BeginsNone (Accept terms) = ⊥
 BeginsNone _ = Unit {0}
 
 -- an action that is such a response
-abbrev OnlyResponds : Action → Type 0
+abbrev pub OnlyResponds : Action → Type 0
 OnlyResponds (Respond response) = BeginsNone response
 OnlyResponds (Send terms number) = ⊥
 OnlyResponds (Store terms number) = ⊥
@@ -66,7 +66,7 @@ garbled (Receiving terms number) = tt
 garbled (Dallying terms number dally) = tt
 garbled (Closed terms number complete outcome) = tt
 
-at_datagram : (e : EndState) (from : Endpoint) (bytes : List ℕ) (decoded : Option Packet)
+pub at_datagram : (e : EndState) (from : Endpoint) (bytes : List ℕ) (decoded : Option Packet)
     → is_complete e.position.phase ≡ true → OnlyResponds (datagram_action e from bytes decoded)
 at_datagram e from bytes decoded done =
     by_tests OnlyResponds e from bytes decoded tt tt (garbled e.position.phase)

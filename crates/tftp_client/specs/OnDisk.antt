@@ -21,19 +21,21 @@ use Rattle.tftp_client.specs.Written.{paths_for, paths_of}
 abbrev pub job_paths : Job → Paths
 job_paths job = paths_for job.local.now job.existing
 
-module _ {S R F D : Type 0} {reads : read.Ghosts F} {writes : write.Ghosts F}
+module _ {R F D : Type 0} {reads : read.Ghosts F} {writes : write.Ghosts F}
     {seeks : seek.Ghosts F} {lists : read.Ghosts D} where
-  -- a received file is to get the name of the job, and is written under its other one
-  abbrev pub IsFor : Job → Files S (LocalFile R F D reads writes seeks lists) → Type 0
-  IsFor job (Source source) = Unit {0}
-  IsFor job (Sink local) = paths_of local.part.names local.part.existing ≡ job_paths job
-
   -- a file of just these bytes was made under the other name of the job, written, synced and then
   -- named; its folder was synced after that, and no other name was changed
   pub record IsStored (job : Job) (local : LocalFile R F D reads writes seeks lists)
       (bytes : List ℕ) : Type 0 where
     pub named : ∥ IsNamed (job_paths job) bytes (changes local.part.journal.events) ∥₁
     pub own : ∥ AreOwn (job_paths job) (changes local.part.journal.events) ∥₁
+
+module _ {S R F D : Type 0} {reads : read.Ghosts F} {writes : write.Ghosts F}
+    {seeks : seek.Ghosts F} {lists : read.Ghosts D} where
+  -- a received file is to get the name of the job, and is written under its other one
+  abbrev pub IsFor : Job → Files S (LocalFile R F D reads writes seeks lists) → Type 0
+  IsFor job (Source source) = Unit {0}
+  IsFor job (Sink local) = paths_of local.part.names local.part.existing ≡ job_paths job
 
   -- these bytes moved between the socket of a job and the disk: those of a received file are stored
   abbrev pub IsOnDisk : Job → Files S (LocalFile R F D reads writes seeks lists) → List ℕ → Type 0

@@ -19,5 +19,6 @@ mod transfer;
 mod without_options;
 mod written;
 
+pub use local::LocalFile;
 pub use program::{tftp_command, tftp_with_journal, tftp_words};
 pub use without_options::fallback;

@@ -36,7 +36,7 @@ pub(crate) fn read_error<F: Read + Drop>(source: LocalSource<F>) -> Option<Local
 /// Its model is the bytes of the appends that succeeded, and whether a commit succeeded after them:
 /// the file that was made then has just these bytes and the name. No other name was changed.
 #[derive(Drop)]
-pub(crate) struct LocalFile<R: Files + Drop> {
+pub struct LocalFile<R: Files + Drop> {
     part: PartFile<R>,
     count: u64,
     taken: Taken,

@@ -10,25 +10,24 @@ use Rattle.tftp_client.proofs.program.run_order.Goals as goal
 pub returns-in-Ok-clause-runs : goal.returns-in-Ok-clause-runs
 returns-in-Ok-clause-runs g c =
     let whole = is_whole _ _ (λ local. (local.taken.holding, refl)) c.in-Ok.ensures.ok c.in-Ok.completed.complete in (
-    inl (
-      c.conclude.ensures.ends,
-      record {
-        port = c.in-Ok.completed.conversation.socket.port;
-        last = state_of c.in-Ok.completed.conversation c.transfer.new.journal.events;
-        files = c.in-Ok.completed.files;
-        count = c.in-Ok.completed.count;
-        transfers = c.in-Ok.ensures.ok;
-        complete = c.in-Ok.completed.complete;
-        side = is_file_of _ _ c.in-Ok.ensures.ok;
-        whole = whole;
-        stays = c.conclude.ensures.goes;
-        stayed = stays_complete _ _ c.conclude.ensures.goes c.in-Ok.completed.complete;
-        still = moves_nothing _ _ c.conclude.ensures.goes c.in-Ok.completed.complete;
-        within = omega (arith, c.conclude.ensures.waits, c.in-Ok.ensures.counted);
-      },
-    ),
-    is_on_disk _ _ (λ local. refl) c.args.order.now.job c.in-Ok.completed.files c.in-Ok.completed.count _
-    c.in-Ok.ensures.local whole,
+      inl (
+        c.conclude.ensures.ends,
+        record {
+          port = c.in-Ok.completed.conversation.socket.port;
+          last = state_of c.in-Ok.completed.conversation c.transfer.new.journal.events;
+          files = c.in-Ok.completed.files;
+          count = c.in-Ok.completed.count;
+          transfers = c.in-Ok.ensures.ok;
+          complete = c.in-Ok.completed.complete;
+          side = is_file_of _ _ c.in-Ok.ensures.ok;
+          whole = whole;
+          stays = c.conclude.ensures.goes;
+          stayed = stays_complete _ _ c.conclude.ensures.goes c.in-Ok.completed.complete;
+          still = moves_nothing _ _ c.conclude.ensures.goes c.in-Ok.completed.complete;
+          within = omega (arith, c.conclude.ensures.waits, c.in-Ok.ensures.counted);
+        },
+      ),
+      is_on_disk _ _ (λ local. refl) c.in-Ok.ensures.ok c.in-Ok.ensures.local whole,
     )
 
 pub returns-in-Err-clause-runs : goal.returns-in-Err-clause-runs
