@@ -1,45 +1,63 @@
 -- In the end state of the journals what a receiver was handed is what its peer's file gave: the invariant by the run
 -- says it of a text that is padded, and no padding is part of what is claimed.
-use Rattle.std.proofs.Common.{◌≡◌, ℕ, true, false, List, [], length, Some, None, refl, sym, ap, ◌∙◌, subst, inl}
+use Rattle.std.proofs.Common.{◌≡◌, ℕ, true, false, List, [], ◌++◌, length, Some, None, refl, sym, ap, ◌∙◌, subst, inl}
 use Rattle.std.proofs.Common.{inr}
-use Rattle.std.specs.Prelude.{◌≢◌, slice_get, option_map}
+use Rattle.std.specs.Prelude.{◌≢◌, if◌then◌else◌, not, slice_get, option_map}
 use Rattle.std.proofs.lemmas.Bool.{true≢false}
 use Rattle.std.proofs.lemmas.Option.{same_Some, slice_get-map}
 use Rattle.tftp_wire.specs.declared.mode.Mode.{Mode}
 use Rattle.tftp_file.specs.Block.{IsPrefixOf}
+use Rattle.tftp_file.specs.Netascii.{wire_text}
 use Rattle.tftp_file.specs.Sink.{SinkMeaning}
 use Rattle.tftp_file.specs.Source.{SourceMeaning}
 use Rattle.tftp_file.specs.declared.files.Files.{Files}
 use Rattle.tftp_file.specs.declared.files.Files.TheVariants.{Source, Sink}
+use Rattle.tftp_ends.specs.declared.phase.Phase.{Phase}
+use Rattle.tftp_ends.specs.declared.phase.Phase.TheVariants.{Waiting, Sending, Receiving, Dallying, Closed}
 use Rattle.tftp_ends.specs.declared.role.Role.{Role}
 use Rattle.tftp_ends.specs.End.{EndState, is_client, is_complete, is_sender, record_of}
 use Rattle.tftp_store.specs.Store.{StoreMeaning}
 use Rattle.tftp_server.specs.State.{TransferState}
 use Rattle.tftp_rules.specs.Machine.{Elsewhere, Endpoint}
-use Rattle.tftp_rules.specs.OpenEnds.{OpenEnd, open_view, received_text}
+use Rattle.tftp_rules.specs.OpenEnds.{OpenEnd, goes_on, open_view, received_text}
 use Rattle.tftp_rules.specs.Safety.{IsCompleteAt, IsSenderAt}
 use Rattle.tftp_rules.specs.Shows.{EndView}
 use Rattle.tftp_rules.specs.ViewSafety.{IsAmong, IsSafeViews, safety_view}
 use Rattle.tftp_rules.proofs.ViewSafe.{shown_safe}
 use Rattle.tftp_promises.specs.ClientRuns.{moved_in}
-use Rattle.tftp_promises.specs.AnyFiles.{IsEnd, IsOurs, KeepAnyFiles, ProgramEnd, WasOpened, client_end}
-use Rattle.tftp_promises.specs.AnyFiles.{has_of, peer_of}
+use Rattle.tftp_promises.specs.AnyFiles.{HasGiven, HasGot, HasPut, IsEnd, IsOurs, KeepAnyFiles}
+use Rattle.tftp_promises.specs.AnyFiles.{ProgramEnd, Serves, WasGiven, WasOpened, client_end, has_of, peer_of}
 use Rattle.tftp_promises.specs.AnyFiles.{safety_of, transfer_end}
 use Rattle.tftp_promises.specs.Arrived.{ViewsEnd}
+use Rattle.tftp_promises.specs.Given.{GaveSince, StoreOpened}
 use Rattle.tftp_promises.specs.Moved.{Moved}
 use Rattle.tftp_promises.specs.Openings.{ArePortsFresh, moved_at, opened_at}
 use Rattle.tftp_promises.specs.Order.{Programs, IsStranger, requests_at}
 use Rattle.tftp_promises.specs.Programs.{ClientProgram, endpoint}
 use Rattle.tftp_promises.specs.Promises.{HasOpened, joined}
 use Rattle.tftp_promises.specs.Snapshots.{Has_asked, all_of}
+use Rattle.tftp_promises.proofs.ClientRoles.{run_role}
 use Rattle.tftp_promises.proofs.ClientsServed.{one_there, served_by}
-use Rattle.tftp_promises.proofs.Invariant.{By_run, ClientKept, GaveSo, HasFile, HasStored, IsKept, IsOpened, IsViewed}
-use Rattle.tftp_promises.proofs.Invariant.{TookSo}
+use Rattle.tftp_promises.proofs.Invariant.{By_run, ClientKept, GaveSo, HasFile, HasStored, IsGiven, IsKept, IsOpened}
+use Rattle.tftp_promises.proofs.Invariant.{IsViewed, TookSo}
 use Rattle.tftp_promises.proofs.Invariant.{length_of}
 use Rattle.tftp_promises.proofs.KeptShown.{receiver_text, text_if, views_end}
 use Rattle.tftp_promises.proofs.KeptViews.{view_there}
 use Rattle.tftp_promises.proofs.Places.{strangers_elsewhere}
 use Rattle.tftp_promises.proofs.Texts.{begin_each_other, begins_unpadded, pad_length, pad_to}
+
+-- what a complete receiver has is what its sink was handed
+whole_text : (e : EndState) (stored : List ℕ) (phase : Phase) → e.position.phase ≡ phase →
+    is_complete phase ≡ true → received_text e stored ≡ wire_text e.role.mode stored
+whole_text e stored (Waiting asked limit) is complete = absurd (true≢false (sym complete))
+whole_text e stored (Sending terms number) is complete = absurd (true≢false (sym complete))
+whole_text e stored (Receiving terms number) is complete = absurd (true≢false (sym complete))
+whole_text e stored (Dallying terms number dally) is complete =
+    ap (λ (p : Phase). if goes_on p then wire_text e.role.mode stored ++ e.position.held_back else
+    wire_text e.role.mode stored) is
+whole_text e stored (Closed terms number done outcome) is complete =
+    ap (λ (p : Phase). if goes_on p then wire_text e.role.mode stored ++ e.position.held_back else
+    wire_text e.role.mode stored) is
 
 module _ {S F D G K : Type 0} {stores : StoreMeaning S D} {sources : SourceMeaning F} {inputs : SourceMeaning G}
     {outputs : SinkMeaning K}
@@ -413,6 +431,206 @@ module _ {S F D G K : Type 0} {stores : StoreMeaning S D} {sources : SourceMeani
       let h = (kept 0).transfers port transfer a opened in
       opened_so transfer a h.end h.address h.state h.path (opened_of transfer.files h.end h.has)
 
+  -- what it has given since the store opened it
+  given_so : (transfer : TransferState F D) (a : Endpoint) (x : OpenEnd) → x.address ≡ a → x.state ≡ transfer.end →
+      x.path ≡ transfer.path → x.request ≡ transfer.request → (source : F) → transfer.files ≡ Source source →
+      IsGiven programs (all_of programs) x source → WasGiven programs transfer a
+  given_so transfer a x at state path request source is h = record {
+    opening = h.opening;
+    first =
+        subst (λ (m : Mode). StoreOpened programs.server.run transfer.path transfer.request m h.opening)
+        (ap (λ (e : EndState). e.role.mode) state)
+        (subst (λ (r : List ℕ). StoreOpened programs.server.run transfer.path r x.state.role.mode h.opening) request
+        (subst (λ (p : List ℕ). StoreOpened programs.server.run p x.request x.state.role.mode h.opening) path h.first));
+    long = ap (λ (e : EndState). e.role.length) (sym state) ∙ h.long;
+    source = source;
+    is_source = is;
+    since =
+        subst (λ (b : Endpoint). GaveSince sources h.opening.source transfer.end
+        (moved_at programs b programs.server.run).bytes source) at
+        (subst (λ (e : EndState). GaveSince sources h.opening.source e
+        (moved_at programs x.address programs.server.run).bytes source) state h.since);
+  }
+
+  given_of : (transfer : TransferState F D) (a : Endpoint) (x : OpenEnd) → x.address ≡ a → x.state ≡ transfer.end →
+      x.path ≡ transfer.path → x.request ≡ transfer.request → is_sender transfer.end.role.side ≡ true →
+      (files : Files F D) → transfer.files ≡ files → HasStored programs (By_run 0) (all_of programs) x files →
+      WasGiven programs transfer a
+  given_of transfer a x at state path request sends (Source source) is has =
+      given_so transfer a x at state path request source is has.given
+  given_of transfer a x at state path request sends (Sink draft) is has =
+      absurd (true≢false (sym sends ∙ (ap (λ (e : EndState). is_sender e.role.side) (sym state) ∙ has.receiver)))
+
+  was_given : (port : ℕ) (transfer : TransferState F D) (a : Endpoint) → HasOpened programs port transfer a →
+      is_sender transfer.end.role.side ≡ true → WasGiven programs transfer a
+  was_given port transfer a opened sends =
+      let h = (kept 0).transfers port transfer a opened in
+      given_of transfer a h.end h.address h.state h.path h.request sends transfer.files refl h.has
+
+  -- what the source of a client has given
+  module _ (k : ℕ) (client : Client) (found : slice_get programs.clients k ≡ Some client)
+      (sends : is_sender client.first.role.side ≡ true) where
+    abbrev its_kept : ClientKept programs (By_run 0) (views 0) (kept 0).messages client client.last client.files
+        (moved_in client.runs)
+    its_kept = client_kept 0 k client found
+
+    given_by : (files : Files G K) → client.files ≡ files →
+        HasFile programs (By_run 0) client its_kept.end files (moved_in client.runs) → HasGiven programs client
+    given_by (Source source) is has = record {
+      first = has.given.first;
+      is_first = has.given.is_first;
+      source = source;
+      is_source = is;
+      since =
+          subst (λ (e : EndState). GaveSince inputs has.given.first e (moved_in client.runs).bytes source)
+          its_kept.state has.given.since;
+    }
+    given_by (Sink sink) is has =
+        absurd (true≢false (sym sends ∙ (ap (λ (r : Role). is_sender r.side) (sym (run_role client.runs))
+        ∙ (ap (λ (e : EndState). is_sender e.role.side) (sym its_kept.state) ∙ has.receiver))))
+
+    has_given : HasGiven programs client
+    has_given = given_by client.files refl its_kept.has
+
+  -- what a complete client was handed
+  module _ (k : ℕ) (client : Client) (found : slice_get programs.clients k ≡ Some client)
+      (receiver : is_sender client.first.role.side ≡ false)
+      (complete : is_complete client.last.end.position.phase ≡ true) where
+    abbrev its_end : ProgramEnd
+    its_end = client_end programs client
+
+    its_role : client.last.end.role ≡ client.first.role
+    its_role = run_role client.runs
+
+    receives : is_sender client.last.end.role.side ≡ false
+    receives = ap (λ (r : Role). is_sender r.side) its_role ∙ receiver
+
+    in_it : IsEnd programs its_end
+    in_it = inl (k, client, found, refl)
+
+    its_side : is_client client.last.end.role.side ≡ true
+    its_side =
+        let h = client_kept 0 k client found in
+        ap (λ (e : EndState). is_client e.role.side) (sym h.state) ∙ h.side
+
+    -- its peer, and the transfer that serves it
+    got_from : (p : Endpoint) → peer_of its_end ≡ Some p → (y : ProgramEnd) →
+        SendsAt p client.last.end.role.mode y → has_of its_end ≡ y.moved.bytes →
+        length y.moved.bytes ≡ y.state.role.length → HasGot programs client
+    got_from p peer y at all long =
+        let s : Serves programs p client = served_by programs (kept 0) k client p found peer in
+        let z = transfer_end programs s.transfer p in
+        let same : y ≡ z =
+        one_there programs (kept 0) fresh y z at.is_end (inr (s.port, s.transfer, p, s.opened, refl)) at.address in
+        let sends : is_sender s.transfer.end.role.side ≡ true =
+        ap (λ (w : ProgramEnd). is_sender w.state.role.side) (sym same) ∙ at.sends in
+        let given = was_given s.port s.transfer p s.opened sends in
+        let measured : length (moved_at programs p programs.server.run).bytes ≡ s.transfer.end.role.length =
+        ap (λ (w : ProgramEnd). length w.moved.bytes) (sym same)
+        ∙ (long ∙ ap (λ (w : ProgramEnd). w.state.role.length) same) in
+        record {
+          peer = p;
+          serves = s;
+          given = given;
+          same_mode =
+              ap (λ (w : ProgramEnd). w.state.role.mode) (sym same)
+              ∙ (at.mode ∙ ap (λ (r : Role). r.mode) its_role);
+          sent =
+              ap (λ (r : Role). wire_text r.mode (moved_in client.runs).bytes) (sym its_role)
+              ∙ (sym (whole_text client.last.end (moved_in client.runs).bytes client.last.end.position.phase refl
+              complete)
+              ∙ (all ∙ ap (λ (w : ProgramEnd). w.moved.bytes) same));
+          no_more = given.since.whole measured;
+          measured = measured ∙ given.long;
+          committed = has_committed its_end in_it receives complete;
+        }
+
+    has_got : HasGot programs client
+    has_got =
+        let w = whole its_end in_it receives complete in
+        let its = w.2 (client_peer its_end w.0 in_it its_side w.1) in
+        got_from w.0 w.1 its.0 its.1 its.3 its.4
+
+  -- what a complete client sent
+  module _ (k : ℕ) (client : Client) (found : slice_get programs.clients k ≡ Some client)
+      (sender : is_sender client.first.role.side ≡ true)
+      (complete : is_complete client.last.end.position.phase ≡ true) where
+    abbrev the_end : ProgramEnd
+    the_end = client_end programs client
+
+    among_ends : IsEnd programs the_end
+    among_ends = inl (k, client, found, refl)
+
+    the_role : client.last.end.role ≡ client.first.role
+    the_role = run_role client.runs
+
+    sends : is_sender client.last.end.role.side ≡ true
+    sends = ap (λ (r : Role). is_sender r.side) the_role ∙ sender
+
+    module _ (p : Endpoint) (peer : peer_of the_end ≡ Some p) where
+      abbrev its_server : Serves programs p client
+      its_server = served_by programs (kept 0) k client p found peer
+
+      abbrev other_end : ProgramEnd
+      other_end = transfer_end programs its_server.transfer p
+
+      other_in : IsEnd programs other_end
+      other_in = inr (its_server.port, its_server.transfer, p, its_server.opened, refl)
+
+      other_receives : is_sender its_server.transfer.end.role.side ≡ false
+      other_receives = its_server.other ∙ ap not sends
+
+      -- the end that its peer has as its own peer is the client
+      put_to : is_complete its_server.transfer.end.position.phase ≡ true → (q : Endpoint) →
+          peer_of other_end ≡ Some q → (v : ProgramEnd) → SendsAt q its_server.transfer.end.role.mode v →
+          has_of other_end ≡ v.moved.bytes → length v.moved.bytes ≡ v.state.role.length → HasPut programs client
+      put_to done q back v at all long =
+          let q_is : q ≡ the_end.address = same_Some q the_end.address (sym back ∙ its_server.peer) in
+          let same : v ≡ the_end = one_there programs (kept 0) fresh v the_end at.is_end among_ends (at.address ∙ q_is) in
+          let mode : its_server.transfer.end.role.mode ≡ client.first.role.mode =
+          sym at.mode ∙ (ap (λ (w : ProgramEnd). w.state.role.mode) same ∙ ap (λ (r : Role). r.mode) the_role) in
+          let given = has_given k client found sender in
+          let measured : length (moved_in client.runs).bytes ≡ client.last.end.role.length =
+          ap (λ (w : ProgramEnd). length w.moved.bytes) (sym same)
+          ∙ (long ∙ ap (λ (w : ProgramEnd). w.state.role.length) same) in
+          record {
+            peer = p;
+            serves = its_server;
+            given = given;
+            same_mode = mode;
+            stored =
+                ap (λ (n : Mode). wire_text n (moved_at programs p programs.server.run).bytes) (sym mode)
+                ∙ (sym (whole_text its_server.transfer.end (moved_at programs p programs.server.run).bytes
+                its_server.transfer.end.position.phase refl done)
+                ∙ (all ∙ ap (λ (w : ProgramEnd). w.moved.bytes) same));
+            no_more = given.since.whole measured;
+            measured = measured ∙ ap (λ (r : Role). r.length) the_role;
+            complete = done;
+            committed = has_committed other_end other_in other_receives done;
+          }
+
+      put_by : (y : ProgramEnd) → CompletesAt p the_end.address y → HasPut programs client
+      put_by y at =
+          let same : y ≡ other_end = one_there programs (kept 0) fresh y other_end at.is_end other_in at.address in
+          let done : is_complete its_server.transfer.end.position.phase ≡ true =
+          ap (λ (w : ProgramEnd). is_complete w.state.position.phase) (sym same) ∙ at.complete in
+          let w = whole other_end other_in other_receives done in
+          let is_client_there : w.0 ≡ the_end.address =
+          same_Some w.0 the_end.address (sym w.1 ∙ its_server.peer) in
+          let ours : IsOurs programs w.0 = λ stranger. stranger.clients k client found (sym is_client_there) in
+          let its = w.2 ours in
+          put_to done w.0 w.1 its.0 its.1 its.3 its.4
+
+    has_put : HasPut programs client
+    has_put =
+        let side =
+        let h = client_kept 0 k client found in
+        ap (λ (e : EndState). is_client e.role.side) (sym h.state) ∙ h.side in
+        let last = last_sender the_end among_ends sends complete in
+        let ours = client_peer the_end last.0 among_ends side last.1 in
+        let y = last.2 ours in
+        put_by last.0 last.1 y.0 y.1
+
   pub any_kept : KeepAnyFiles programs
   any_kept = record {
     safe = record {
@@ -428,4 +646,8 @@ module _ {S F D G K : Type 0} {stores : StoreMeaning S D} {sources : SourceMeani
     served = λ k client p found peer. served_by programs (kept 0) k client p found peer;
     at_port = at_its_port;
     opened = was_opened;
+    given = was_given;
+    got = has_got;
+    gave = has_given;
+    put = has_put;
   }

@@ -2,7 +2,7 @@
 -- that its request opened, for the path of its name.
 use Rattle.std.proofs.Common.{◌≡◌, ℕ, Bool, true, false, not, List, [], ◌∷◌, Ok, Some, refl, sym, ap, ◌∙◌, subst}
 use Rattle.std.proofs.Common.{inl, inr}
-use Rattle.std.specs.Prelude.{slice_get, option_map}
+use Rattle.std.specs.Prelude.{not, slice_get, option_map}
 use Rattle.std.specs.List.{Contains}
 use Rattle.std.proofs.lemmas.Bool.{true≢false}
 use Rattle.std.proofs.lemmas.Option.{same_Some, slice_get-map}
@@ -15,7 +15,7 @@ use Rattle.tftp_file.specs.Path.{path_of_name}
 use Rattle.tftp_file.specs.Sink.{SinkMeaning}
 use Rattle.tftp_file.specs.Source.{SourceMeaning}
 use Rattle.tftp_file.specs.declared.files.Files.{Files}
-use Rattle.tftp_ends.specs.End.{EndState, is_client}
+use Rattle.tftp_ends.specs.End.{EndState, is_client, is_sender}
 use Rattle.tftp_ends.specs.Opening.{request_of}
 use Rattle.tftp_store.specs.Store.{StoreMeaning}
 use Rattle.tftp_rules.specs.Facts.{Attests, IsServing}
@@ -237,6 +237,13 @@ module _ {S F D G K : Type 0} {stores : StoreMeaning S D} {sources : SourceMeani
       its_peer =
           sym (views_end y.end p transfer.end y.address y.state).peer ∙ (sym its_match.peer ∙ serving.peer)
 
+      -- one of the two sends
+      its_side : is_sender transfer.end.role.side ≡ not (is_sender client.last.end.role.side)
+      its_side =
+          ap (λ (e : EndState). is_sender e.role.side) (sym y.state)
+          ∙ (sym its_match.sender ∙ (serving.sender ∙ ap not (ap (λ (a : Endpoint). (m.party a).sender) (sym x.address)
+          ∙ (matches.sender ∙ ap (λ (e : EndState). is_sender e.role.side) x.state))))
+
       its_path : path_of_name (name_of client.opens) ≡ Ok transfer.path
       its_path =
           let name : name_of client.opens ≡ y.named.request.name =
@@ -252,6 +259,7 @@ module _ {S F D G K : Type 0} {stores : StoreMeaning S D} {sources : SourceMeani
         opened = opened;
         server = ap (λ (e : EndState). is_client e.role.side) (sym y.state) ∙ y.side;
         peer = its_peer;
+        other = its_side;
         asked =
             subst (λ (q : WirePacket). Spells q transfer.request) (sym (packet_is client.opens)) its_request;
         path = its_path;

@@ -16,6 +16,7 @@ use Rattle.tftp_file.specs.declared.files.Files.{Files}
 use Rattle.tftp_file.specs.declared.files.Files.TheVariants.{Source, Sink}
 use Rattle.tftp_ends.specs.End.{EndState, is_sender, is_client, is_complete, outcome_of}
 use Rattle.tftp_store.specs.Store.{StoreMeaning}
+use Rattle.tftp_store.specs.declared.store.Opening.{Opening}
 use Rattle.tftp_rules.specs.EndKept.{EndKept}
 pub use Rattle.tftp_rules.specs.EndShown.{IsThere, HasArrived}
 use Rattle.tftp_rules.specs.KnownFiles.{HasLeft}
@@ -28,6 +29,7 @@ use Rattle.tftp_sockets.specs.Journal.{SocketEvent}
 use Rattle.tftp_client.specs.Converses.{State}
 use Rattle.tftp_loop.specs.Steps.{LoopState}
 use Rattle.tftp_promises.specs.ClientRuns.{moved_in}
+use Rattle.tftp_promises.specs.Given.{GaveSince, StoreOpened}
 use Rattle.tftp_promises.specs.Joint.{WasSentBefore}
 use Rattle.tftp_promises.specs.Modelled.{AreModelled}
 use Rattle.tftp_promises.specs.Moved.{Moved}
@@ -106,12 +108,20 @@ module _ {S F D G K : Type 0} {stores : StoreMeaning S D} {sources : SourceMeani
     pub text : x.text ≡ wire_text x.state.role.mode x.file
     pub left : outcome_of x.state.position.phase ≡ None → HasLeft inputs source x.left
 
+  -- its source has given since what was sent
+  pub record ClientGiven (client : ClientProgram inputs outputs (requests_at programs)) (x : OpenEnd) (source : G)
+      (moved : Moved) : Type 0 where
+    pub first : G
+    pub is_first : client.file ≡ Source first
+    pub since : GaveSince inputs first x.state moved.bytes source
+
   pub record ClientGave (pad : ℕ) (client : ClientProgram inputs outputs (requests_at programs))
-      (x : OpenEnd) (moved : Moved) : Type 0 where
+      (x : OpenEnd) (source : G) (moved : Moved) : Type 0 where
     pub sender : is_sender x.state.role.side ≡ true
     pub role : x.state.role ≡ client.first.role
     pub text : x.text ≡ client_text pad client
     pub gave : GaveSo x moved
+    pub given : ClientGiven client x source moved
 
   -- one that receives
   pub record ClientStores (x : OpenEnd) (sink : K) : Type 0 where
@@ -127,7 +137,7 @@ module _ {S F D G K : Type 0} {stores : StoreMeaning S D} {sources : SourceMeani
       Files G K → Moved → Type 0
   HasFile (By_models models) client x (Source source) moved = ClientSends (models.file_of client) x source
   HasFile (By_models models) client x (Sink sink) moved = ClientStores x sink
-  HasFile (By_run pad) client x (Source source) moved = ClientGave pad client x moved
+  HasFile (By_run pad) client x (Source source) moved = ClientGave pad client x source moved
   HasFile (By_run pad) client x (Sink sink) moved = ClientTook x moved
 
   -- the end of a client that has asked
@@ -189,12 +199,20 @@ module _ {S F D G K : Type 0} {stores : StoreMeaning S D} {sources : SourceMeani
     pub path : opening.path ≡ x.path
     pub role : opening.end.role ≡ x.state.role
 
+  -- the store opened its file so, and its source has given since what was sent
+  pub record IsGiven (snapshot : Snapshot programs) (x : OpenEnd) (source : F) : Type 0 where
+    pub opening : Opening F
+    pub first : StoreOpened snapshot.run x.path x.request x.state.role.mode opening
+    pub long : x.state.role.length ≡ opening.length
+    pub since : GaveSince sources opening.source x.state (moved_at programs x.address snapshot.run).bytes source
+
   -- what a transfer sends, and what it stored, by the run
-  pub record SendsMoved (pad : ℕ) (snapshot : Snapshot programs) (x : OpenEnd) : Type 0 where
+  pub record SendsMoved (pad : ℕ) (snapshot : Snapshot programs) (x : OpenEnd) (source : F) : Type 0 where
     pub sender : is_sender x.state.role.side ≡ true
     pub opened : IsOpened snapshot x
     pub text : x.text ≡ place_text pad x.address
     pub gave : GaveSo x (moved_at programs x.address snapshot.run)
+    pub given : IsGiven snapshot x source
 
   pub record StoresMoved (snapshot : Snapshot programs) (x : OpenEnd) : Type 0 where
     pub receiver : is_sender x.state.role.side ≡ false
@@ -205,7 +223,7 @@ module _ {S F D G K : Type 0} {stores : StoreMeaning S D} {sources : SourceMeani
   abbrev pub HasStored : How → Snapshot programs → OpenEnd → Files F D → Type 0
   HasStored (By_models models) snapshot x (Source source) = SendsKept snapshot x source
   HasStored (By_models models) snapshot x (Sink draft) = StoresKept snapshot x draft
-  HasStored (By_run pad) snapshot x (Source source) = SendsMoved pad snapshot x
+  HasStored (By_run pad) snapshot x (Source source) = SendsMoved pad snapshot x source
   HasStored (By_run pad) snapshot x (Sink draft) = StoresMoved snapshot x
 
   -- the end of a transfer, held or removed, which is at its port, or a stranger's

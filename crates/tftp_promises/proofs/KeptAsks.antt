@@ -10,7 +10,7 @@ use Rattle.tftp_wire.specs.Spelling.{IsValid, Spells, canonical}
 use Rattle.tftp_wire.specs.declared.packet.Request.{Request as WireRequest}
 use Rattle.tftp_file.specs.Netascii.{wire_text}
 use Rattle.tftp_file.specs.Sink.{SinkMeaning}
-use Rattle.tftp_file.specs.Source.{SourceMeaning}
+use Rattle.tftp_file.specs.Source.{SourceMeaning, Gave_nothing}
 use Rattle.tftp_file.specs.declared.files.Files.{Files}
 use Rattle.tftp_file.specs.declared.files.Files.TheVariants.{Source, Sink}
 use Rattle.tftp_ends.specs.End.{EndState, is_client}
@@ -39,6 +39,7 @@ use Rattle.tftp_promises.specs.Programs.{To_write}
 use Rattle.tftp_promises.specs.Programs.{OpensToRead, OpensToWrite}
 use Rattle.tftp_promises.specs.Promises.{joined}
 use Rattle.tftp_promises.specs.Snapshots.{Snapshot, Unasked, Has_asked, just_asked, client_did}
+use Rattle.tftp_promises.proofs.GivenSteps.{gave_first}
 use Rattle.tftp_promises.proofs.Invariant.{How, By_models, By_run, client_text, IsThere, HasFile, IsKept, IsFreshBy}
 use Rattle.tftp_promises.proofs.KeptClients.{ClientTurns, client_keeps, transfer_apart}
 use Rattle.tftp_promises.proofs.KeptEvents.{only_one}
@@ -194,6 +195,7 @@ module _ {S F D G K : Type 0} {stores : StoreMeaning S D} {sources : SourceMeani
         role = ap (λ (z : EndState). z.role) (sym h.is);
         text = refl;
         gave = record { prefix = (text, refl); left = λ _. refl };
+        given = record { first = h.source; is_first = h.is_file; since = gave_first Gave_nothing };
       }))
 
   by_how : (w : How programs) → how ≡ w → Requests client.first client.file

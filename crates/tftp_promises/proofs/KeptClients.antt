@@ -53,7 +53,19 @@ module _ {S F D G K : Type 0} {stores : StoreMeaning S D} {sources : SourceMeani
   stored_still (By_models models) old k stage x (Sink draft) h =
       record { receiver = h.receiver; drafted = h.drafted; was = h.was; stays = h.stays }
   stored_still (By_run pad) old k stage x (Source source) h =
-      record { sender = h.sender; opened = opened_still old k stage x h.opened; text = h.text; gave = h.gave }
+      record {
+        sender = h.sender;
+        opened = opened_still old k stage x h.opened;
+        text = h.text;
+        gave = h.gave;
+        given =
+            record {
+              opening = h.given.opening;
+              first = h.given.first;
+              long = h.given.long;
+              since = h.given.since;
+            };
+      }
   stored_still (By_run pad) old k stage x (Sink draft) h =
       record { receiver = h.receiver; opened = opened_still old k stage x h.opened; took = h.took }
 

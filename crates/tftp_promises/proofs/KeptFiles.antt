@@ -1,5 +1,5 @@
 -- What is known of a client's file, before a step and after it.
-use Rattle.std.proofs.Common.{◌≡◌, ℕ, Bool, true, false, List, ◌++◌, Some, None, refl, sym, ap, ◌∙◌, subst}
+use Rattle.std.proofs.Common.{◌≡◌, ℕ, Bool, true, false, List, [], ◌++◌, length, Some, None, refl, sym, ap, ◌∙◌, subst}
 use Rattle.std.specs.Prelude.{is_some, if◌then◌else◌}
 use Rattle.std.proofs.lemmas.Bool.{true≢false}
 use Rattle.tftp_file.specs.Block.{IsPrefixOf}
@@ -29,10 +29,11 @@ use Rattle.tftp_promises.specs.Modelled.{AreModelled}
 use Rattle.tftp_promises.specs.Moved.{Moved, step_moves}
 use Rattle.tftp_promises.specs.Order.{Programs, requests_at}
 use Rattle.tftp_promises.specs.Programs.{ClientProgram}
+use Rattle.tftp_promises.proofs.GivenSteps.{gave_none, gave_still, step_gives}
 use Rattle.tftp_promises.proofs.Invariant.{How, By_models, By_run, HasFile}
 use Rattle.tftp_promises.proofs.MovedSends.{source_moves}
 use Rattle.tftp_promises.proofs.MovedStores.{sink_moves}
-use Rattle.tftp_promises.proofs.Texts.{pad_to}
+use Rattle.tftp_promises.proofs.Texts.{pad_length, pad_to}
 
 -- a step over the content of a client's file, and what is known of the file after it
 pub record StepsOver {S F D G K : Type 0} {stores : StoreMeaning S D} {sources : SourceMeaning F}
@@ -155,12 +156,24 @@ module _ {S F D G K : Type 0} {stores : StoreMeaning S D} {sources : SourceMeani
         let m =
         source_moves inputs outputs x from source source' turn moved h.gave still pad (moved_in client.runs).bytes
         text network kept h.sender bytes step told in
+        let measured : length x.text ≡ x.state.role.length =
+        ap (λ (t : List ℕ). length t) text ∙ pad_length pad x.state.role.length (moved_in client.runs).bytes in
+        let since =
+        step_gives inputs outputs x from h.given.first source source' turn moved h.gave h.given.since still measured
+        network kept h.sender bytes step in
         record {
           content = Source m.left;
           steps =
               subst (λ (f : Files (List ℕ) Holding). DatagramStep known_source known_sink from bytes x.state f turn
               (Source m.left)) (source_is x h.sender) m.steps;
-          has = record { sender = h.sender; role = h.role; text = h.text; gave = m.gave };
+          has =
+              record {
+                sender = h.sender;
+                role = h.role;
+                text = h.text;
+                gave = m.gave;
+                given = record { first = h.given.first; is_first = h.given.is_first; since = since };
+              };
         }
     moved_step pad (Sink sink) (Sink sink') moved h step told fits =
         let m = sink_moves inputs outputs from turn x moved h.took sink sink' bytes step in
@@ -223,6 +236,12 @@ module _ {S F D G K : Type 0} {stores : StoreMeaning S D} {sources : SourceMeani
               left = λ o. ap (λ (t : List ℕ). moved.bytes
                   ++ t) l ∙ h.gave.left (still (ap is_some o));
             };
+        given =
+            record {
+              first = h.given.first;
+              is_first = h.given.is_first;
+              since = gave_still refl (λ o. still (ap is_some o)) h.given.since;
+            };
       }
   same_by (By_run pad) turn (Sink sink) moved still h (Sink now) e =
       let n = now_is now (holding_of x) (e ∙ sym (sink_is x h.receiver)) in
@@ -249,6 +268,22 @@ module _ {S F D G K : Type 0} {stores : StoreMeaning S D} {sources : SourceMeani
       Has how (end_after x turn (files_of x)) files moved
   file_same how turn files moved still h = same_by how turn files moved still h (files_of x) refl
 
+  -- its source gave no bytes
+  none_given : (pad : ℕ) (source source' : G) (moved : Moved) → Has (By_run pad) x (Source source) moved →
+      inputs.gives source [] source' → Has (By_run pad) x (Source source') moved
+  none_given pad source source' moved h none = record {
+    sender = h.sender;
+    role = h.role;
+    text = h.text;
+    gave = h.gave;
+    given =
+        record {
+          first = h.given.first;
+          is_first = h.given.is_first;
+          since = gave_none h.given.since none;
+        };
+  }
+
   -- after a datagram that was lost
   pub file_kept : (how : How programs) (files files' : Files G K) (moved : Moved) → Has how x files moved →
       KeepsFiles inputs outputs files files' → Has how x files' moved
@@ -265,7 +300,8 @@ module _ {S F D G K : Type 0} {stores : StoreMeaning S D} {sources : SourceMeani
         held = content_kept inputs outputs (Sink sink) (Sink sink') (Sink
             (holding_of x)) h.held keeps;
       }
-  file_kept (By_run pad) (Source source) (Source source') moved h keeps = h
+  file_kept (By_run pad) (Source source) (Source source') moved h keeps =
+      none_given pad source source' moved h keeps.gave
   file_kept (By_run pad) (Sink sink) (Sink sink') moved h keeps = h
   file_kept how (Source source) (Sink sink') moved h keeps = absurd keeps
   file_kept how (Sink sink) (Source source') moved h keeps = absurd keeps
@@ -282,7 +318,8 @@ module _ {S F D G K : Type 0} {stores : StoreMeaning S D} {sources : SourceMeani
       }
   file_worked (By_models models) (Sink sink) (Sink sink') moved h works =
       record { receiver = h.receiver; held = held_written_behind outputs sink sink' (holding_of x) h.held works.0 }
-  file_worked (By_run pad) (Source source) (Source source') moved h works = h
+  file_worked (By_run pad) (Source source) (Source source') moved h works =
+      none_given pad source source' moved h works.gave
   file_worked (By_run pad) (Sink sink) (Sink sink') moved h works = h
   file_worked how (Source source) (Sink sink') moved h works = absurd works
   file_worked how (Sink sink) (Source source') moved h works = absurd works

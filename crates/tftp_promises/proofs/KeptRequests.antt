@@ -30,6 +30,7 @@ use Rattle.tftp_rules.specs.OpenEnds.{OpenEnd}
 use Rattle.tftp_rules.specs.Rules.{message}
 use Rattle.tftp_rules.specs.Shows.{requested}
 use Rattle.tftp_rules.proofs.EndOpenings.{opens_to_send, opens_to_store}
+use Rattle.tftp_promises.specs.Given.{GaveSince}
 use Rattle.tftp_promises.specs.Modelled.{AreModelled}
 use Rattle.tftp_promises.specs.Moved.{Moved, first_moved, opening_moves, or_before}
 use Rattle.tftp_promises.specs.Openings.{moved_at, opened_at, place}
@@ -37,13 +38,14 @@ use Rattle.tftp_promises.specs.Order.{Programs}
 use Rattle.tftp_promises.specs.Ports.{IsStored, opened_ports}
 use Rattle.tftp_promises.specs.Promises.{joined}
 use Rattle.tftp_promises.specs.Snapshots.{Snapshot, server_did}
+use Rattle.tftp_promises.proofs.GivenSteps.{gave_first}
 use Rattle.tftp_promises.proofs.Invariant.{How, By_models, By_run, GaveSo, HasStored, IsFreshBy, IsKept, IsKnown, IsNamed}
-use Rattle.tftp_promises.proofs.Invariant.{TookSo}
+use Rattle.tftp_promises.proofs.Invariant.{IsGiven, TookSo}
 use Rattle.tftp_promises.proofs.Invariant.{length_of, place_text}
 use Rattle.tftp_promises.proofs.KeptAsks.{says_request}
 use Rattle.tftp_promises.proofs.KeptOpenings.{at_server, came_here, its_place, none_there, opening_keeps, store_is}
 use Rattle.tftp_promises.proofs.KeptRefusals.{refusal_keeps, silent_keeps}
-use Rattle.tftp_promises.proofs.PortAnswers.{Begins_to_send, Begins_to_store, IfKnown, OpensToSend}
+use Rattle.tftp_promises.proofs.PortAnswers.{Begins_to_send, Begins_to_store, IfKnown, IsOpenedBy, OpensToSend}
 use Rattle.tftp_promises.proofs.PortAnswers.{OpensToStore, PortAnswers, Says_error, SendsFile, Silent, port_answers}
 use Rattle.tftp_promises.proofs.Requested.{IsAsked}
 use Rattle.tftp_promises.proofs.RequestedEnds.{first_of_text, read_length, read_mode, read_peer, read_sends}
@@ -195,6 +197,19 @@ module _ {S F D G K : Type 0} {stores : StoreMeaning S D} {sources : SourceMeani
         let x = new_sender a answers.bytes o.agreed answers.from r.mode path [] text server.config.retries in
         let gave : GaveSo x (moved_at programs a now.run) =
         subst (λ (m : Moved). GaveSo x m) (sym its_moved) (record { prefix = f.1; left = λ _. f.2 }) in
+        let opened = subst (λ (m : Mode). IsOpenedBy stores sources server answers.from answers.bytes
+        (content_by programs how old.state) path m answers.steps.came o.opening)
+        (sym (read_mode o.agreed answers.from r.mode text server.config.retries)) o.opened in
+        let given : IsGiven programs now x o.rest = record {
+          opening = o.opening;
+          first = inl (refl, opened.0, opened.1, opened.2);
+          long =
+              ap (λ (e : EndState). e.role.length) (sym f.0)
+              ∙ (read_length o.agreed answers.from r.mode o.measured server.config.retries o.piece ∙ o.long);
+          since =
+              subst (λ (m : Moved). GaveSince sources o.opening.source x.state m.bytes o.rest) (sym its_moved)
+              (gave_first o.gave);
+        } in
         send_text [] text measured f.0
         (subst (λ (w : How programs). HasStored programs w now x (Source o.rest)) (sym is)
         (record {
@@ -203,6 +218,7 @@ module _ {S F D G K : Type 0} {stores : StoreMeaning S D} {sources : SourceMeani
               record { opening = sent; opened = its_opening; path = refl; role = ap (λ (e : EndState). e.role) f.0 };
           text = refl;
           gave = gave;
+          given = given;
         }))
 
     sending_by : (w : How programs) → how ≡ w → IsKept programs how now

@@ -66,6 +66,8 @@ pub mod Texts
 pub mod MovedSends
 pub mod MovedStores
 pub mod MovedSteps
+pub mod GivenSteps
+pub mod ClientRoles
 pub mod MovedFiles
 pub mod ClientsServed
 pub mod AnyKept

@@ -1,5 +1,5 @@
 -- A step of a transfer over any files, by what the finished run moved.
-use Rattle.std.proofs.Common.{◌≡◌, ℕ, Bool, true, false, List, None, subst}
+use Rattle.std.proofs.Common.{◌≡◌, ℕ, Bool, true, false, List, length, None, ap, ◌∙◌, subst}
 use Rattle.std.specs.Prelude.{⊤}
 use Rattle.tftp_file.specs.Block.{IsPrefixOf}
 use Rattle.tftp_file.specs.Sink.{Holding}
@@ -10,23 +10,34 @@ use Rattle.tftp_ends.specs.End.{is_sender, outcome_of}
 use Rattle.tftp_ends.specs.Files.{AreSame}
 use Rattle.tftp_ends.specs.Step.{Turn, DatagramStep}
 use Rattle.tftp_store.specs.Store.{StoreMeaning}
+use Rattle.tftp_store.specs.declared.store.Opening.{Opening}
 use Rattle.tftp_server.specs.Draft.{Drafting, files_in, drafting_sink}
 use Rattle.tftp_server.specs.Steps.{StepIn}
 use Rattle.tftp_rules.specs.EndKept.{EndKept}
 use Rattle.tftp_rules.specs.KnownFiles.{known_source, known_sink}
 use Rattle.tftp_rules.specs.Machine.{Endpoint, Network}
 use Rattle.tftp_rules.specs.OpenEnds.{OpenEnd, files_of, end_after}
+use Rattle.tftp_promises.specs.Given.{GaveSince}
 use Rattle.tftp_promises.specs.Moved.{Moved, step_moves}
+use Rattle.tftp_promises.proofs.GivenSteps.{step_gives}
 use Rattle.tftp_promises.proofs.Invariant.{GaveSo, TookSo}
 use Rattle.tftp_promises.proofs.KeptFiles.{source_is, sink_is}
 use Rattle.tftp_promises.proofs.MovedSends.{source_moves}
 use Rattle.tftp_promises.proofs.MovedStores.{sink_moves}
-use Rattle.tftp_promises.proofs.Texts.{pad_to}
+use Rattle.tftp_promises.proofs.Texts.{pad_length, pad_to}
 
-module _ {S F D : Type 0} (stores : StoreMeaning S D) (sources : SourceMeaning F) where
+module _ {S F D : Type 0} (stores : StoreMeaning S D) (sources : SourceMeaning F) (IsFirst : Opening F → Type 0) where
+  -- what a source has given since it was opened
+  pub record GivenSo (source : F) (x : OpenEnd) (moved : Moved) : Type 0 where
+    pub opening : Opening F
+    pub first : IsFirst opening
+    pub long : x.state.role.length ≡ opening.length
+    pub since : GaveSince sources opening.source x.state moved.bytes source
+
   -- what has moved at the end of a transfer with these files
   abbrev pub GotSo : Files F D → OpenEnd → Moved → Type 0
-  GotSo (Source source) x moved = (is_sender x.state.role.side ≡ true) × GaveSo x moved
+  GotSo (Source source) x moved =
+      (is_sender x.state.role.side ≡ true) × GaveSo x moved × GivenSo source x moved
   GotSo (Sink draft) x moved = (is_sender x.state.role.side ≡ false) × TookSo x moved
 
   -- a step over what moves
@@ -53,12 +64,17 @@ module _ {S F D : Type 0} (stores : StoreMeaning S D) (sources : SourceMeaning F
         let m =
         source_moves sources (drafting_sink stores) x from source source' turn moved h.1 still pad all
         (text h.0) network kept h.0 bytes step told in
+        let measured : length x.text ≡ x.state.role.length =
+        ap (λ (t : List ℕ). length t) (text h.0) ∙ pad_length pad x.state.role.length all in
+        let given =
+        step_gives sources (drafting_sink stores) x from h.2.opening.source source source' turn moved h.1 h.2.since still
+        measured network kept h.0 bytes step in
         record {
           content = Source m.left;
           steps =
               subst (λ (f : Files (List ℕ) Holding). DatagramStep known_source known_sink from bytes x.state f turn
               (Source m.left)) (source_is x h.0) m.steps;
-          got = (h.0, m.gave);
+          got = (h.0, m.gave, record { opening = h.2.opening; first = h.2.first; long = h.2.long; since = given });
         }
     files_move (Sink draft) (Sink draft') kind h step told =
         let d : Drafting S D = record { store = store; draft = draft; path = path; replace = replace } in

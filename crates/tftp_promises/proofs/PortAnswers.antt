@@ -15,7 +15,7 @@ use Rattle.tftp_negotiate.specs.Agreed.{size}
 use Rattle.tftp_negotiate.specs.Answer.{answer}
 use Rattle.tftp_negotiate.specs.Ranges.{IsBlockSize}
 use Rattle.tftp_file.specs.Netascii.{wire_text}
-use Rattle.tftp_file.specs.Source.{SourceMeaning}
+use Rattle.tftp_file.specs.Source.{SourceMeaning, GivesInTurn, Gave_more, Gave_nothing}
 use Rattle.tftp_file.specs.declared.fault.StoreFault.{StoreFault}
 use Rattle.tftp_file.specs.declared.fault.StoreFault.TheVariants as store_faults
 use Rattle.tftp_file.specs.declared.files.Files.TheVariants.{Source, Sink}
@@ -35,6 +35,7 @@ use Rattle.tftp_server.specs.State.{ServerState}
 use Rattle.tftp_rules.specs.EndOpens.{AreGranted, left_at_first, sending}
 use Rattle.tftp_rules.proofs.FirstSent.{read_opens}
 use Rattle.tftp_rules.proofs.Granted.{answer_granted, answer_small}
+use Rattle.tftp_promises.specs.Moved.{first_moved}
 use Rattle.tftp_promises.proofs.Measured.{measured_whole}
 use Rattle.tftp_promises.proofs.MovedSends.{piece_length}
 use Rattle.tftp_promises.proofs.Requested.{Implies, IsAsked, asks_imply}
@@ -68,6 +69,12 @@ module _ {S F D : Type 0} (meaning : StoreMeaning S D) (sources : SourceMeaning 
         (wire_text mode file) old.config.retries
     pub left : sources.left rest ≡ Some (left_at_first agreed (wire_text mode file))
 
+  -- the store opened this file when it was asked for the path
+  abbrev pub IsOpenedBy : List ℕ → Mode → Came S F D → Opening F → Type 0
+  IsOpenedBy path mode came opening =
+      (options : List RawOption) × (asks : AsksToRead meaning sources old from bytes path mode options came)
+      × (asks.file ≡ Ok opening)
+
   -- a transfer sends what the store opened under this path
   pub record OpensToSend (path : List ℕ) (mode : Mode) (came : Came S F D) : Type 0 where
     pub agreed : List Known
@@ -77,6 +84,12 @@ module _ {S F D : Type 0} (meaning : StoreMeaning S D) (sources : SourceMeaning 
     pub piece : List ℕ
     pub first : IsFirst agreed measured piece
     pub rest : F
+    -- how the store opened it, and what the source has given since
+    pub opening : Opening F
+    pub opened : IsOpenedBy path mode came opening
+    pub long : measured ≡ opening.length
+    pub gave : GivesInTurn sources opening.source
+        (first_moved (serving_read agreed from mode measured old.config.retries piece)).bytes rest
     pub file : IfKnown content (λ stored. SendsFile stored path mode agreed measured piece rest)
     pub is : came ≡ A_transfer (record {
       end = serving_read agreed from mode measured old.config.retries piece;
@@ -134,6 +147,7 @@ module _ {S F D : Type 0} (meaning : StoreMeaning S D) (sources : SourceMeaning 
     Has_sent service opening = Sent meaning sources old from bytes service (Ok opening) came
 
     module _ (path : List ℕ) (mode : Mode) (options : List RawOption) (opening : Opening F)
+        (opened : IsOpenedBy path mode came opening)
         (opens : Opens sources (meaning.stored old.store) path mode (Ok opening)) where
       -- a length of so few blocks fits 64 bits
       word : (agreed : List Known) → size agreed ≤ MAX_BLOCK → opening.length < 65535 * size agreed →
@@ -145,13 +159,21 @@ module _ {S F D : Type 0} (meaning : StoreMeaning S D) (sources : SourceMeaning 
           ServesRead sources agreed from mode opening.length old.config.retries opening.source rest e →
           (piece : List ℕ) × IsFirst agreed opening.length piece
           × (e ≡ serving_read agreed from mode opening.length old.config.retries piece)
+          × GivesInTurn sources opening.source
+          (first_moved (serving_read agreed from mode opening.length old.config.retries piece)).bytes rest
       the_piece [] rest e h = (
         h.0,
         piece_length (sources.left opening.source) (sources.left rest)
             (block_length opening.length DEFAULT_BLOCK 1) h.0 h.1.fills,
         h.2,
+        Gave_more Gave_nothing h.3,
       )
-      the_piece (k ∷ agreed) rest e h = ([], tt, h.1)
+      the_piece (k ∷ agreed) rest e h = (
+        [],
+        tt,
+        h.1,
+        subst (λ (s : F). GivesInTurn sources opening.source [] s) (sym h.0) Gave_nothing,
+      )
 
       -- the file, if it is known
       the_file : (stored : Stored) → Opens sources (Some stored) path mode (Ok opening) → (agreed : List Known) →
@@ -184,6 +206,10 @@ module _ {S F D : Type 0} (meaning : StoreMeaning S D) (sources : SourceMeaning 
             piece = p.0;
             first = p.1;
             rest = serves.rest;
+            opening = opening;
+            opened = opened;
+            long = refl;
+            gave = p.3;
             file = if_known (λ stored. SendsFile stored path mode agreed opening.length p.0 serves.rest)
                 (λ stored e. the_file stored (subst (λ (s : Option Stored). Opens sources s path mode (Ok opening))
                 (known stored e) opens) agreed granted.small few serves.rest serves.end p.0 p.2 serves.serves);
@@ -211,18 +237,21 @@ module _ {S F D : Type 0} (meaning : StoreMeaning S D) (sources : SourceMeaning 
       answered (Ok agreed) e h = numbered agreed e (nat_lt opening.length (65535 * size agreed)) refl h
 
     read_by : (path : List ℕ) (mode : Mode) (options : List RawOption) (file : Result (Opening F) StoreFault) →
+        ((opening : Opening F) → file ≡ Ok opening →
+        IsOpenedBy path mode came opening) →
         Opens sources (meaning.stored old.store) path mode file →
         Sent meaning sources old from bytes (by_file old.config.limits path mode options (opened_length file)) file
         came → Read_answers path mode
-    read_by path mode options (Err fault) opens h = inl (refuses came (open_reply fault) h)
-    read_by path mode options (Ok opening) opens h =
-        answered path mode options opening opens (answer options kinds.Read mode opening.length old.config.limits) refl
-        h
+    read_by path mode options (Err fault) opened opens h = inl (refuses came (open_reply fault) h)
+    read_by path mode options (Ok opening) opened opens h =
+        answered path mode options opening (opened opening refl) opens
+        (answer options kinds.Read mode opening.length old.config.limits) refl h
 
     -- a read is refused, or a transfer opens
     pub read_answered : (path : List ℕ) (mode : Mode) (options : List RawOption) →
         AsksToRead meaning sources old from bytes path mode options came → Read_answers path mode
-    read_answered path mode options h = read_by path mode options h.file h.opens h.goes_on
+    read_answered path mode options h =
+        read_by path mode options h.file (λ opening is. (options, h, is)) h.opens h.goes_on
 
     -- ---- a write
     abbrev Write_answers : List ℕ → Mode → Type 0

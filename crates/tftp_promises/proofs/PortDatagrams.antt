@@ -20,6 +20,7 @@ use Rattle.tftp_ends.specs.End.{EndState, Position, is_sender, outcome_of}
 use Rattle.tftp_ends.specs.Files.{AreSame}
 use Rattle.tftp_ends.specs.Step.{Reply, Turn, Acts, DatagramStep, after_turn, error_bytes, with_position}
 use Rattle.tftp_store.specs.Store.{StoreMeaning}
+use Rattle.tftp_store.specs.declared.store.Opening.{Opening}
 use Rattle.tftp_server.specs.Draft.{files_in, drafting_sink}
 use Rattle.tftp_server.specs.State.{ServerState, with_next}
 use Rattle.tftp_server.specs.Steps.{StepIn, TakesDatagramLent}
@@ -35,6 +36,7 @@ use Rattle.tftp_rules.specs.OpenEnds.{OpenEnd, files_of, in_state, end_after, op
 use Rattle.tftp_rules.proofs.EndMoves.{end_armed}
 use Rattle.tftp_rules.proofs.EndTurns.{datagram_goes}
 use Rattle.tftp_rules.proofs.KnownSteps.{step_known}
+use Rattle.tftp_promises.specs.Given.{GaveSince, StoreOpened}
 use Rattle.tftp_promises.specs.Modelled.{AreModelled}
 use Rattle.tftp_promises.specs.Moved.{Moved, acts_move, port_moves, step_moves}
 use Rattle.tftp_promises.specs.Openings.{is_ours, moved_at, opened_at, place_at}
@@ -43,10 +45,10 @@ use Rattle.tftp_promises.specs.Programs.{endpoint}
 use Rattle.tftp_promises.specs.Promises.{joined}
 use Rattle.tftp_promises.specs.Snapshots.{Snapshot, server_did}
 use Rattle.tftp_promises.proofs.ClosedEnds.{ClosedAnswers, closed_datagram_goes, wrong_datagram_goes}
-use Rattle.tftp_promises.proofs.Invariant.{How, By_models, By_run, GaveSo, TookSo, IsKnown, IsOpened, IsToldAt, length_of}
+use Rattle.tftp_promises.proofs.Invariant.{How, By_models, By_run, GaveSo, TookSo, IsGiven, IsKnown, IsOpened, IsToldAt, length_of}
 use Rattle.tftp_promises.proofs.Invariant.{place_text, HasArrived, HasStored, IsThere, TransferKept, IsKept, IsFreshBy}
 use Rattle.tftp_promises.proofs.Invariant.{IsStrangers}
-use Rattle.tftp_promises.proofs.MovedFiles.{GotSo, MovesOver, files_move}
+use Rattle.tftp_promises.proofs.MovedFiles.{GivenSo, GotSo, MovesOver, files_move}
 use Rattle.tftp_promises.proofs.MovedSteps.{moves_here, none_at_port, none_beside}
 use Rattle.tftp_promises.proofs.Places.{not_ours}
 use Rattle.tftp_promises.proofs.PortEnds.{after_rest, has_peer, same_in}
@@ -386,10 +388,24 @@ module _ {S F D G K : Type 0} {stores : StoreMeaning S D} {sources : SourceMeani
     x_place : x.address ≡ place
     x_place = was.address
 
+    -- how its source began
+    abbrev Began : Opening F → Type 0
+    Began opening = StoreOpened old.run x.path x.request x.state.role.mode opening
+
     got_before : (pad : ℕ) (files : Files F D) → HasStored programs (By_run pad) old x files →
-        GotSo stores sources files x before
-    got_before pad (Source source) has =
-        (has.sender, subst (λ (a : Endpoint). GaveSo x (moved_at programs a old.run)) x_place has.gave)
+        GotSo stores sources Began files x before
+    got_before pad (Source source) has = (
+      has.sender,
+      subst (λ (a : Endpoint). GaveSo x (moved_at programs a old.run)) x_place has.gave,
+      record {
+        opening = has.given.opening;
+        first = has.given.first;
+        long = has.given.long;
+        since =
+            subst (λ (a : Endpoint). GaveSince sources has.given.opening.source x.state
+            (moved_at programs a old.run).bytes source) x_place has.given.since;
+      },
+    )
     got_before pad (Sink draft) has =
         (has.receiver, subst (λ (a : Endpoint). TookSo x (moved_at programs a old.run)) x_place has.took)
 
@@ -426,15 +442,41 @@ module _ {S F D G K : Type 0} {stores : StoreMeaning S D} {sources : SourceMeani
         subst (λ (a : Endpoint). So (end_after x turn content) (moved_at programs a now.run)) (sym x_place)
         (subst (So (end_after x turn content)) (sym moved_now) so)
 
+    -- what its source gave then
+    given_left : (source : F) (left : List ℕ) →
+        GivenSo stores sources Began source (end_after x turn (Source left)) moved_then →
+        IsGiven programs now (end_after x turn (Source left)) source
+    given_left source left h = record {
+      opening = h.opening;
+      first = inr h.first;
+      long = h.long;
+      since =
+          moved_after (λ (y : OpenEnd) (m : Moved). GaveSince sources h.opening.source y.state m.bytes source)
+          (Source left) h.since;
+    }
+
+    given_held : (source : F) (holding : Holding) →
+        GivenSo stores sources Began source (end_after x turn (Sink holding)) moved_then →
+        IsGiven programs now (end_after x turn (Sink holding)) source
+    given_held source holding h = record {
+      opening = h.opening;
+      first = inr h.first;
+      long = h.long;
+      since =
+          moved_after (λ (y : OpenEnd) (m : Moved). GaveSince sources h.opening.source y.state m.bytes source)
+          (Sink holding) h.since;
+    }
+
     got_has : (pad : ℕ) (files files' : Files F D) → AreSame (λ (a b : F). ⊤) (λ (a b : D). ⊤) files files' →
         HasStored programs (By_run pad) old x files → (content : Files (List ℕ) Holding) →
-        GotSo stores sources files' (end_after x turn content) moved_then →
+        GotSo stores sources Began files' (end_after x turn content) moved_then →
         HasStored programs (By_run pad) now (end_after x turn content) files'
     got_has pad (Source source) (Source source') kind has (Source left) got = record {
       sender = has.sender;
       opened = opened_after (Source left) has.opened;
       text = has.text;
       gave = moved_after GaveSo (Source left) got.1;
+      given = given_left source' left got.2;
     }
     got_has pad (Sink draft) (Sink draft') kind has (Sink holding) got = record {
       receiver = has.receiver;
@@ -446,6 +488,7 @@ module _ {S F D G K : Type 0} {stores : StoreMeaning S D} {sources : SourceMeani
       opened = opened_after (Sink holding) has.opened;
       text = has.text;
       gave = moved_after GaveSo (Sink holding) got.1;
+      given = given_held source' holding got.2;
     }
     got_has pad (Sink draft) (Sink draft') kind has (Source left) got = record {
       receiver = has.receiver;
@@ -467,9 +510,9 @@ module _ {S F D G K : Type 0} {stores : StoreMeaning S D} {sources : SourceMeani
         (long pad taken.transfer.files has) in
         let Over : EndState → Type 0 =
         λ (e : EndState). (step : step_x e) → IsPrefixOf (after_by e step).bytes all →
-        MovesOver stores sources x from bytes turn taken.next.files (after_by e step) in
+        MovesOver stores sources Began x from bytes turn taken.next.files (after_by e step) in
         let at_x : Over x.state = λ step begins.
-        files_move stores sources x (joined programs) was.viewed.kept (no_outcome (outcome_of x.state.position.phase) o)
+        files_move stores sources Began x (joined programs) was.viewed.kept (no_outcome (outcome_of x.state.position.phase) o)
         from bytes turn old.state.server.store serves.next.server.store taken.transfer.path taken.next.path
         old.state.server.config.overwrite pad all text before taken.transfer.files taken.next.files taken.takes.kind
         (got_before pad taken.transfer.files has) step begins

@@ -34,6 +34,7 @@ use Rattle.tftp_promises.specs.Programs.{endpoint}
 use Rattle.tftp_promises.specs.Promises.{joined}
 use Rattle.tftp_promises.specs.Snapshots.{Snapshot, server_did}
 use Rattle.tftp_promises.proofs.ClosedEnds.{closed_timeout_goes}
+use Rattle.tftp_promises.proofs.GivenSteps.{gave_still}
 use Rattle.tftp_promises.proofs.Invariant.{How, By_models, By_run, HasStored, IsOpened, TransferKept, IsKept, IsFreshBy}
 use Rattle.tftp_promises.proofs.Invariant.{IsStrangers}
 use Rattle.tftp_promises.proofs.KeptEvents.{SendsOnly, elapsed_silent}
@@ -168,6 +169,13 @@ module _ {S F D G K : Type 0} {stores : StoreMeaning S D} {sources : SourceMeani
                 prefix = h.gave.prefix;
                 left = λ o. ap (λ (t : List ℕ). (moved_at programs x.address now.run).bytes ++ t) l
                     ∙ h.gave.left (still o);
+              };
+          given =
+              record {
+                opening = h.given.opening;
+                first = h.given.first;
+                long = h.given.long;
+                since = gave_still refl still h.given.since;
               };
         }
     has_left (By_run pad) (Sink draft) h (Sink held) e still done =

@@ -29,6 +29,7 @@ use Rattle.tftp_promises.specs.Promises.{joined}
 use Rattle.tftp_promises.specs.Snapshots.{Snapshot, server_did}
 use Rattle.tftp_promises.proofs.ClosedEnds.{set_same}
 use Rattle.tftp_promises.proofs.DraftSteps.{are_held}
+use Rattle.tftp_promises.proofs.GivenSteps.{gave_none}
 use Rattle.tftp_promises.proofs.Invariant.{How, By_models, By_run, IsKnown, HasStored, TransferKept, IsKept, IsFreshBy}
 use Rattle.tftp_promises.proofs.KeptEvents.{IsSilent, IsUnsent, none_silent, unsent_silent}
 use Rattle.tftp_promises.proofs.KeptPorts.{PortTurns, port_keeps}
@@ -246,17 +247,31 @@ module _ {S F D G K : Type 0} {stores : StoreMeaning S D} {sources : SourceMeani
           stay = subst (λ (w : How programs). FilesStay programs w old.state new) (sym by) h.stay;
         }
 
-    same_kind : (pad : ℕ) (x : OpenEnd) (files files' : Files F D) →
-        AreSame (λ (a b : F). ⊤) (λ (a b : D). ⊤) files files' → HasStored programs (By_run pad) now x files →
-        HasStored programs (By_run pad) now x files'
-    same_kind pad x (Source source) (Source source') kind h = h
+    -- a source gave no bytes
+    abbrev GaveNone : Files F D → Files F D → Type 0
+    GaveNone files files' = AreSame (λ (a b : F). sources.gives a [] b) (λ (a b : D). ⊤) files files'
+
+    same_kind : (pad : ℕ) (x : OpenEnd) (files files' : Files F D) → GaveNone files files' →
+        HasStored programs (By_run pad) now x files → HasStored programs (By_run pad) now x files'
+    same_kind pad x (Source source) (Source source') none h = record {
+      sender = h.sender;
+      opened = h.opened;
+      text = h.text;
+      gave = h.gave;
+      given =
+          record {
+            opening = h.given.opening;
+            first = h.given.first;
+            long = h.given.long;
+            since = gave_none h.given.since none;
+          };
+    }
     same_kind pad x (Sink draft) (Sink draft') kind h = h
     same_kind pad x (Source source) (Sink draft') kind h = absurd kind
     same_kind pad x (Sink draft) (Source source') kind h = absurd kind
 
     run_left : (transfer next : TransferState F D) (found : at port old.state.server.held ≡ Some transfer) (pad : ℕ) →
-        how ≡ By_run pad → AreSame (λ (a b : F). ⊤) (λ (a b : D). ⊤) transfer.files next.files →
-        IsLeft transfer next found
+        how ≡ By_run pad → GaveNone transfer.files next.files → IsLeft transfer next found
     run_left transfer next found pad by kind =
         let h = its_end port transfer found in
         let has =
@@ -271,7 +286,7 @@ module _ {S F D G K : Type 0} {stores : StoreMeaning S D} {sources : SourceMeani
         }
 
     left_by_how : (transfer next : TransferState F D) (found : at port old.state.server.held ≡ Some transfer) →
-        AreSame (λ (a b : F). ⊤) (λ (a b : D). ⊤) transfer.files next.files →
+        GaveNone transfer.files next.files →
         ((models : AreModelled programs) → IsSome (stores.stored old.state.server.store) →
         HasStored programs (By_models models) old (its_end port transfer found).end transfer.files →
         FilesLeft programs models old (At_port serves) added (its_end port transfer found).end next.files) →
@@ -281,18 +296,18 @@ module _ {S F D G K : Type 0} {stores : StoreMeaning S D} {sources : SourceMeani
       by_case (By_models models) by = models_left transfer next found models by (left models)
       by_case (By_run pad) by = run_left transfer next found pad by kind
 
-    -- the files of a transfer that was not handled, or that worked, are of one kind
+    -- the files of a transfer that was not handled, or that worked, are of one kind, and gave no bytes
     kept_kind : (store store' : S) (path path' : List ℕ) (replace : Bool) (files files' : Files F D) →
         KeepsFiles sources (drafting_sink stores) (files_in store path replace files)
-        (files_in store' path' replace files') → AreSame (λ (a b : F). ⊤) (λ (a b : D). ⊤) files files'
-    kept_kind store store' path path' replace (Source source) (Source source') keeps = tt
+        (files_in store' path' replace files') → GaveNone files files'
+    kept_kind store store' path path' replace (Source source) (Source source') keeps = keeps.gave
     kept_kind store store' path path' replace (Sink draft) (Sink draft') keeps = tt
     kept_kind store store' path path' replace (Source source) (Sink draft') keeps = absurd keeps
     kept_kind store store' path path' replace (Sink draft) (Source source') keeps = absurd keeps
 
     work_kind : (store store' : S) (files files' : Files F D) → FilesWork stores sources store store' files files' →
-        AreSame (λ (a b : F). ⊤) (λ (a b : D). ⊤) files files'
-    work_kind store store' (Source source) (Source source') works = tt
+        GaveNone files files'
+    work_kind store store' (Source source) (Source source') works = works.1.gave
     work_kind store store' (Sink draft) (Sink draft') works = tt
     work_kind store store' (Source source) (Sink draft') works = absurd works
     work_kind store store' (Sink draft) (Source source') works = absurd works

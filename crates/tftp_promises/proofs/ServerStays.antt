@@ -14,13 +14,14 @@ use Rattle.tftp_sockets.specs.Journal.{SocketEvent}
 use Rattle.tftp_loop.specs.Steps.{LoopState, LoopStep}
 use Rattle.tftp_rules.specs.Machine.{Endpoint}
 use Rattle.tftp_rules.specs.OpenEnds.{OpenEnd}
+use Rattle.tftp_promises.specs.Given.{GaveSince}
 use Rattle.tftp_promises.specs.Moved.{Moved, or_before}
 use Rattle.tftp_promises.specs.Openings.{HasClosed, moved_at, opened_at, place_at}
 use Rattle.tftp_promises.specs.Order.{Programs, requests_at}
 use Rattle.tftp_promises.specs.Ports.{IsStored, Removes}
 use Rattle.tftp_promises.specs.Snapshots.{Snapshot, server_did}
 use Rattle.tftp_promises.proofs.RunPlaces.{placed_by, places}
-use Rattle.tftp_promises.proofs.Invariant.{How, By_models, By_run, HasArrived, IsKnown, IsOpened, GaveSo, TookSo, HasStored}
+use Rattle.tftp_promises.proofs.Invariant.{How, By_models, By_run, HasArrived, IsGiven, IsKnown, IsOpened, GaveSo, TookSo, HasStored}
 use Rattle.tftp_promises.proofs.Invariant.{IsKept}
 use Rattle.tftp_promises.proofs.MovedSteps.{MovesNone}
 use Rattle.tftp_promises.proofs.PortAnswers.{IfKnown}
@@ -137,6 +138,19 @@ module _ {S F D G K : Type 0} {stores : StoreMeaning S D} {sources : SourceMeani
       moved_at programs x.address old.run ≡ moved_at programs x.address (server_did programs old does added).run
   moved_after old does added x none = sym (none.moves (moved_at programs x.address old.run))
 
+  -- what its source gave is the same
+  given_after : (old : Snapshot programs) {new : LoopState S F D} (does : LoopStep stores sources old.state new)
+      (added : List SocketEvent) (x : OpenEnd) → MovesNone programs old.run does x.address → (source : F) →
+      IsGiven programs old x source → IsGiven programs (server_did programs old does added) x source
+  given_after old does added x none source h = record {
+    opening = h.opening;
+    first = inr h.first;
+    long = h.long;
+    since =
+        subst (λ (m : Moved). GaveSince sources h.opening.source x.state m.bytes source)
+        (moved_after old does added x none) h.since;
+  }
+
   -- what is known of a transfer's file stays known
   pub stored_after : (how : How programs) (old : Snapshot programs) {new : LoopState S F D}
       (does : LoopStep stores sources old.state new) (added : List SocketEvent) → FilesStay programs how old.state new →
@@ -163,6 +177,7 @@ module _ {S F D G K : Type 0} {stores : StoreMeaning S D} {sources : SourceMeani
         opened = opened_after old does added x none h.opened;
         text = h.text;
         gave = subst (λ (m : Moved). GaveSo x m) (moved_after old does added x none) h.gave;
+        given = given_after old does added x none source h.given;
       }
   stored_after (By_run pad) old does added stay x none (Sink draft) h =
       record {

@@ -1,17 +1,21 @@
 -- The promises of a transfer in the end state of the journals, over any store and any files: what
 -- moved at an end is read off its run.
-use Rattle.std.specs.Prelude.{ℕ, ◌≡◌, ◌⊎◌, false, List, slice_get, Option, Some, Ok}
+use Rattle.std.specs.Prelude.{ℕ, ◌≡◌, ◌⊎◌, true, false, not, List, [], length, slice_get, Option, Some, Ok}
 use Rattle.tftp_wire.specs.Spelling.{Spells}
+use Rattle.tftp_file.specs.Netascii.{wire_text}
 use Rattle.tftp_file.specs.Path.{path_of_name}
 use Rattle.tftp_file.specs.Sink.{SinkMeaning}
 use Rattle.tftp_file.specs.Source.{SourceMeaning}
+use Rattle.tftp_file.specs.declared.files.Files.TheVariants.{Source}
 use Rattle.tftp_ends.specs.End.{EndState, is_client, is_complete, is_sender, record_of}
 use Rattle.tftp_store.specs.Store.{StoreMeaning}
+use Rattle.tftp_store.specs.declared.store.Opening.{Opening}
 use Rattle.tftp_rules.specs.Machine.{Endpoint}
 use Rattle.tftp_rules.specs.OpenEnds.{received_text}
 use Rattle.tftp_rules.specs.Safety.{AreSafe, SafetyView}
 use Rattle.tftp_server.specs.State.{TransferState}
 use Rattle.tftp_promises.specs.ClientRuns.{moved_in}
+use Rattle.tftp_promises.specs.Given.{GaveSince, StoreOpened}
 use Rattle.tftp_promises.specs.Moved.{Moved}
 use Rattle.tftp_promises.specs.Openings.{moved_at, opened_at}
 use Rattle.tftp_promises.specs.Order.{Programs, IsStranger, requests_at}
@@ -98,6 +102,8 @@ module _ {S F D G K : Type 0} {stores : StoreMeaning S D} {sources : SourceMeani
     pub server : is_client transfer.end.role.side ≡ false
     pub peer : peer_of (transfer_end transfer p)
         ≡ Some (client_at inputs outputs (requests_at programs) client)
+    -- one of the two sends, and the other receives
+    pub other : is_sender transfer.end.role.side ≡ not (is_sender client.last.end.role.side)
     pub asked : Spells (packet_of client.opens) transfer.request
     pub path : path_of_name (name_of client.opens) ≡ Ok transfer.path
 
@@ -107,6 +113,56 @@ module _ {S F D G K : Type 0} {stores : StoreMeaning S D} {sources : SourceMeani
     pub opened : opened_at programs a programs.server.run ≡ Some opening
     pub path : opening.path ≡ transfer.path
     pub role : opening.end.role ≡ transfer.end.role
+
+  -- the store opened a file for the request of the transfer, under its path and in its mode, and the
+  -- source of that file has given since, call by call, what the transfer sent
+  pub record WasGiven (transfer : TransferState F D) (a : Endpoint) : Type 0 where
+    pub opening : Opening F
+    pub first : StoreOpened programs.server.run transfer.path transfer.request
+        transfer.end.role.mode opening
+    -- which measured it so
+    pub long : transfer.end.role.length ≡ opening.length
+    pub source : F
+    pub is_source : transfer.files ≡ Source source
+    pub since : GaveSince sources opening.source transfer.end
+        (moved_at programs a programs.server.run).bytes source
+
+  -- the source that a client began with has given since, call by call, what the client sent
+  pub record HasGiven (client : ClientProgram inputs outputs (requests_at programs)) : Type 0 where
+    pub first : G
+    pub is_first : client.file ≡ Source first
+    pub source : G
+    pub is_source : client.files ≡ Source source
+    pub since : GaveSince inputs first client.last.end (moved_in client.runs).bytes source
+
+  -- the file of a client, once it is complete: what it was handed, as wire text, is all that the
+  -- source gave, call by call, that the server's store opened for this client's request, under the
+  -- path of the name that it asked for; and it is committed
+  pub record HasGot (client : ClientProgram inputs outputs (requests_at programs)) : Type 0 where
+    pub peer : Endpoint
+    pub serves : Serves peer client
+    pub given : WasGiven serves.transfer peer
+    pub same_mode : serves.transfer.end.role.mode ≡ client.first.role.mode
+    pub sent : wire_text client.first.role.mode (moved_in client.runs).bytes
+        ≡ (moved_at programs peer programs.server.run).bytes
+    pub no_more : given.since.rest ≡ []
+    pub measured : length (moved_at programs peer programs.server.run).bytes ≡ given.opening.length
+    pub committed : (moved_in client.runs).committed ≡ true
+
+  -- the file of a client, once it has sent all of it: what the client's source gave is all that the
+  -- draft was handed, as wire text, that the server's store began for this client's request, under
+  -- the path of its name; and a commit of that succeeded
+  pub record HasPut (client : ClientProgram inputs outputs (requests_at programs)) : Type 0 where
+    pub peer : Endpoint
+    pub serves : Serves peer client
+    pub given : HasGiven client
+    pub same_mode : serves.transfer.end.role.mode ≡ client.first.role.mode
+    pub stored : wire_text client.first.role.mode (moved_at programs peer programs.server.run).bytes
+        ≡ (moved_in client.runs).bytes
+    pub no_more : given.since.rest ≡ []
+    pub measured : length (moved_in client.runs).bytes ≡ client.first.role.length
+    pub complete : is_complete serves.transfer.end.position.phase ≡ true
+    pub committed : (moved_at programs peer programs.server.run).committed ≡ true
 
   -- the promises of a transfer
   pub record KeepAnyFiles : Type 0 where
@@ -127,3 +183,19 @@ module _ {S F D G K : Type 0} {stores : StoreMeaning S D} {sources : SourceMeani
     -- what a transfer sends was opened under its path, and what it stores was begun under its path
     pub opened : (port : ℕ) (transfer : TransferState F D) (a : Endpoint) →
         HasOpened programs port transfer a → WasOpened transfer a
+    -- what a transfer sends was given by the source that the store opened for it
+    pub given : (port : ℕ) (transfer : TransferState F D) (a : Endpoint) →
+        HasOpened programs port transfer a → is_sender transfer.end.role.side ≡ true →
+        WasGiven transfer a
+    -- and all of it, once a client that received it is complete
+    pub got : (k : ℕ) (client : ClientProgram inputs outputs (requests_at programs)) →
+        slice_get programs.clients k ≡ Some client → is_sender client.first.role.side ≡ false →
+        is_complete client.last.end.position.phase ≡ true → HasGot client
+    -- what a client sends was given by its source
+    pub gave : (k : ℕ) (client : ClientProgram inputs outputs (requests_at programs)) →
+        slice_get programs.clients k ≡ Some client → is_sender client.first.role.side ≡ true →
+        HasGiven client
+    -- and all of it, once the client is complete
+    pub put : (k : ℕ) (client : ClientProgram inputs outputs (requests_at programs)) →
+        slice_get programs.clients k ≡ Some client → is_sender client.first.role.side ≡ true →
+        is_complete client.last.end.position.phase ≡ true → HasPut client

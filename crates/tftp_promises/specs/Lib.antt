@@ -6,6 +6,7 @@ pub mod ClientPrograms
 pub mod Order
 pub mod Ports
 pub mod Openings
+pub mod Given
 pub mod Modelled
 pub mod Arrived
 pub mod Promises
