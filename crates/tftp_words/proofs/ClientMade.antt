@@ -24,7 +24,8 @@ use Rattle.tftp_client.specs.Runs.{Dallies, Transfers, measured, moved_by, opens
 use Rattle.tftp_client.specs.Words.{WordsName}
 use Rattle.tftp_promises.specs.ClientPrograms.{ClientsArePrograms, IsClientRun, IsCounted, Mode, Netascii, Octet}
 use Rattle.tftp_promises.specs.Programs.{ClientOpens, ClientProgram, To_read, To_write, name_of}
-use Rattle.tftp_words.specs.Ran.{AreRunsOf, ClientRan, CountsLast, IsRunOf, Job, NotedBy, count_by, count_in, side_of}
+use Rattle.tftp_words.specs.Ran.{AreRunsOf, ClientRan, Finished, IsRunFor, IsRunOf, Job, LastDid, NotedBy}
+use Rattle.tftp_words.specs.Ran.{finished_by, finished_in, side_of}
 
 module _ {G K : Type 0} (inputs : SourceMeaning G) (outputs : SinkMeaning K) {to : Endpoint} where
   -- the end of a job opens to this server
@@ -81,14 +82,16 @@ module _ {G K : Type 0} {inputs : SourceMeaning G} {outputs : SinkMeaning K} {to
   both P (client ∷ clients) more h k = (h.0, both P clients more h.1 k)
 
 -- the last of both
-last_of : {G K : Type 0} {inputs : SourceMeaning G} {outputs : SinkMeaning K} {to : Endpoint} (count : Option ℕ)
-    (clients more : List (ClientProgram inputs outputs to)) → CountsLast count more → CountsLast count (clients ++ more)
+last_of : {G K : Type 0} {inputs : SourceMeaning G} {outputs : SinkMeaning K} {to : Endpoint} (done : Option Finished)
+    (clients more : List (ClientProgram inputs outputs to)) → LastDid done more → LastDid done (clients ++ more)
 last_of None clients more h = tt
-last_of {inputs = inputs} {outputs = outputs} {to = to} (Some count) clients more h = (
+last_of {inputs = inputs} {outputs = outputs} {to = to} (Some done) clients more h = (
   clients ++ h.0,
   h.1,
   ap (λ (all : List (ClientProgram inputs outputs to)). clients ++ all) h.2 ∙ sym (append_assoc clients h.0 (h.1 ∷ [])),
   h.3,
+  h.4,
+  h.5,
 )
 
 job_mode : (kind : Kind) (job : Job) (length : ℕ) → (opens kind job length).role.mode ≡ job.mode
@@ -107,50 +110,48 @@ job_length Write job length is = refl
 module _ {G K : Type 0} {inputs : SourceMeaning G} {outputs : SinkMeaning K}
     (are_programs : ClientsArePrograms inputs outputs) (ran : ClientRan inputs outputs) (to : Endpoint) where
   -- programs that noted what leads from the one journal to the other
-  record Made (count : Option ℕ) (before after : List SocketEvent) : Type 0 where
+  record Made (done : Option Finished) (before after : List SocketEvent) : Type 0 where
     clients : List (ClientProgram inputs outputs to)
     noted : NotedBy before clients after
     each : AllByRecursion (IsRunOf ran) clients
-    counts : CountsLast count clients
+    last : LastDid done clients
 
   made_none : {before after : List SocketEvent} → after ≡ before → Made None before after
-  made_none same = record { clients = []; noted = same; each = tt; counts = tt }
+  made_none same = record { clients = []; noted = same; each = tt; last = tt }
 
-  made_both : {count : Option ℕ} {before middle after : List SocketEvent} → Made None before middle →
-      Made count middle after → Made count before after
-  made_both {count} {before} {middle} {after} first then = record {
+  made_both : {done : Option Finished} {before middle after : List SocketEvent} → Made None before middle →
+      Made done middle after → Made done before after
+  made_both {done} {before} {middle} {after} first then = record {
     clients = first.clients ++ then.clients;
     noted = noted_then before middle after first.clients then.clients first.noted then.noted;
     each = both (IsRunOf ran) first.clients then.clients first.each then.each;
-    counts = last_of count first.clients then.clients then.counts;
+    last = last_of done first.clients then.clients then.last;
   }
 
   module _ (job : Job) (named : WordsName ran.words job) (there : job.server ≡ to) where
     -- the run of an end of the job, with these options
     module _ (tried : Job) (name : tried.name.now ≡ job.name.now) (mode : tried.mode ≡ job.mode)
         (kind : tried.kind ≡ job.kind) (server : tried.server ≡ to) where
-      made_one : {before : List SocketEvent} {s : State} {moved : Moved} (count : Option ℕ) (length : ℕ) (file : Files G K)
+      module _ {before : List SocketEvent} {s : State} {moved : Moved} (length : ℕ) (file : Files G K)
           (may : MayOpen tried.kind tried length) (side : IsFileOf inputs outputs tried.kind file)
           (run : IsClientRun inputs outputs ran.ip (job_opens inputs outputs tried.kind tried length file server may side)
-          before s moved) → CountsLast count (run.client ∷ []) → Made count before s.events
-      made_one count length file may side run counts = record {
-        counts = counts;
-        clients = run.client ∷ [];
-        noted = (run.begins, run.notes);
-        each = (
-          record {
-            address = run.address;
-            job = job;
-            named = named;
-            name = run.name ∙ (its_name inputs outputs tried.kind tried length file server may side ∙ name);
-            mode = ap (λ (e : EndState). e.role.mode) run.end ∙ (job_mode tried.kind tried length ∙ mode);
-            side =
-                ap (λ (e : EndState). e.role.side) run.end
-                ∙ (job_side tried.kind tried length ∙ ap side_of kind);
-          },
-          tt,
-        );
-      }
+          before s moved) where
+        runs_for : IsRunFor job run.client
+        runs_for = record {
+          name = run.name ∙ (its_name inputs outputs tried.kind tried length file server may side ∙ name);
+          mode = ap (λ (e : EndState). e.role.mode) run.end ∙ (job_mode tried.kind tried length ∙ mode);
+          side =
+              ap (λ (e : EndState). e.role.side) run.end
+              ∙ (job_side tried.kind tried length ∙ ap side_of kind);
+        }
+
+        made_one : (its : Option Finished) → LastDid its (run.client ∷ []) → Made its before s.events
+        made_one its last = record {
+          last = last;
+          clients = run.client ∷ [];
+          noted = (run.begins, run.notes);
+          each = (record { address = run.address; job = job; named = named; runs = runs_for }, tt);
+        }
 
       -- it failed, if it opened
       made_stopped : (most : ℕ) (before after : List SocketEvent) (end : ClientOutcome) →
@@ -162,7 +163,7 @@ module _ {G K : Type 0} {inputs : SourceMeaning G} {outputs : SinkMeaning K}
           are_programs to ran.ip (opens tried.kind tried failed.0) f.fails.file opened before f.fails.port
           f.fails.stops.last f.fails.stops.files f.fails.stops.converses in
           subst (λ (events : List SocketEvent). Made None before events) f.fails.stops.events
-          (made_one None failed.0 f.fails.file f.may f.side run.runs_so tt)
+          (made_one failed.0 f.fails.file f.may f.side run.runs_so None tt)
       made_stopped most before after (ends.Complete count) failed = made_none failed.1
       made_stopped most before after ends.FileFault failed = made_none failed.1
       made_stopped most before after ends.SocketFault failed = made_none failed.1
@@ -193,7 +194,10 @@ module _ {G K : Type 0} {inputs : SourceMeaning G} {outputs : SinkMeaning K}
         sent Write (Sink sink) m of counts is octet = absurd of
         sent Read f m of counts is octet = cc
 
-        made_complete : IsWhole inputs outputs files count moved.bytes → Made (Some count) before after
+        abbrev finished : Finished
+        finished = record { job = job; count = count; moved = moved }
+
+        made_complete : IsWhole inputs outputs files count moved.bytes → Made (Some finished) before after
         made_complete whole =
             let opened = job_opens inputs outputs tried.kind tried runs.length runs.runs.file server runs.may runs.side in
             let run =
@@ -213,19 +217,29 @@ module _ {G K : Type 0} {inputs : SourceMeaning G} {outputs : SinkMeaning K}
                   ∙ (sym (job_length tried.kind tried runs.length (sym side_is ∙ is))
                   ∙ ap (λ (e : EndState). e.role.length) (sym run.end));
             } in
-            subst (λ (events : List SocketEvent). Made (Some count) before events) stays.events
-            (made_one (Some count) runs.length runs.runs.file runs.may runs.side run ([], run.client, refl, counted))
+            subst (λ (events : List SocketEvent). Made (Some finished) before events) stays.events
+            (made_one runs.length runs.runs.file runs.may runs.side run (Some finished) (
+              [],
+              run.client,
+              refl,
+              runs_for runs.length runs.runs.file runs.may runs.side run,
+              counted,
+              run.moves ∙ still moved,
+            ))
 
     itself_stopped : (most : ℕ) (before after : List SocketEvent) (end : ClientOutcome) →
         FailsBy inputs outputs most job before after end → Made None before after
     itself_stopped most before after end failed = made_stopped job refl refl refl there most before after end failed
 
+    abbrev done_by : ℕ → Moved → Option Finished
+    done_by count moved = Some (record { job = job; count = count; moved = moved })
+
     made_completes : (before after : List SocketEvent) (h : Completes inputs outputs job before after) →
-        Made (Some h.count) before after
+        Made (done_by h.count (moved_by inputs outputs h.transfers)) before after
     made_completes before after h = by_transfers h.transfers h.whole where
       by_transfers : (transfers : Transfers inputs outputs (most_waits before) h.port job before h.last h.files h.count) →
           IsWhole inputs outputs h.files h.count (moved_by inputs outputs transfers).bytes →
-          Made (Some h.count) before after
+          Made (done_by h.count (moved_by inputs outputs transfers)) before after
       by_transfers (inl runs) whole =
           made_complete job refl refl refl there runs h.stays h.stayed h.still h.side whole
       by_transfers (inr again) whole =
@@ -242,14 +256,14 @@ module _ {G K : Type 0} {inputs : SourceMeaning G} {outputs : SinkMeaning K}
     ]
 
     made_order : (status : ℕ) (before after : List SocketEvent) (h : RunsOrder inputs outputs job status before after) →
-        Made (count_by inputs outputs job status before after h) before after
+        Made (finished_by inputs outputs job status before after h) before after
     made_order status before after (inl done) = made_completes before after done.1
     made_order status before after (inr failed) = made_failed (most_waits before) before after failed.1 failed.3
 
   -- what the command did
   made_words : ((job : Job) → WordsName ran.words job → job.server ≡ to) →
       (h : RunsWords inputs outputs ran.words ran.status ran.before ran.after) →
-      Made (count_in inputs outputs ran.words ran.status ran.before ran.after h) ran.before ran.after
+      Made (finished_in inputs outputs ran.words ran.status ran.before ran.after h) ran.before ran.after
   made_words asks (inl nothing) = made_none nothing.0
   made_words asks (inr did) =
       made_order did.0 did.1 (asks did.0 did.1) ran.status ran.before ran.after did.2
@@ -258,4 +272,4 @@ module _ {G K : Type 0} {inputs : SourceMeaning G} {outputs : SinkMeaning K}
       (clients : List (ClientProgram inputs outputs to)) × AreRunsOf ran clients
   client_made asks =
       let made = made_words asks ran.ran in
-      (made.clients, record { noted = made.noted; each = made.each; counts = made.counts })
+      (made.clients, record { noted = made.noted; each = made.each; last = made.last })

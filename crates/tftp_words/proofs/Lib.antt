@@ -1,2 +1,3 @@
 pub mod ClientMade
 pub mod WordsMade
+pub mod EndToEndMade

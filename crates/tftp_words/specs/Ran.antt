@@ -16,12 +16,15 @@ use Rattle.tftp_sockets.specs.Journal.{SocketEvent}
 use Rattle.tftp_loop.specs.WholeRun.{Serves, Unbound, Bound, listening}
 use Rattle.tftp_loop.specs.declared.serving.LoopConfig.{LoopConfig}
 use Rattle.tftp_loop.specs.declared.serving.LoopFault.{LoopFault}
+use Rattle.tftp_client.specs.Moved.{Moved}
 use Rattle.tftp_client.specs.Ordered.{RunsOrder, RunsWords}
+use Rattle.tftp_client.specs.Runs.{moved_by}
 use Rattle.tftp_client.specs.Words.{WordsName}
 use Rattle.tftp_folder.specs.declared.folder_store.FolderStore.{FolderStore}
 use Rattle.tftp_daemon.specs.Configured.{ListensAt, ServesWords}
 use Rattle.tftp_daemon.specs.Words.{WordsConfigure}
 use Rattle.tftp_promises.specs.ClientPrograms.{IsCounted}
+use Rattle.tftp_promises.specs.ClientRuns.{moved_in}
 use Rattle.tftp_promises.specs.Order.{Programs}
 use Rattle.tftp_promises.specs.Programs.{ClientProgram, ServerProgram, name_of}
 use Rattle.tftp_promises.specs.Several.{Several}
@@ -75,19 +78,30 @@ abbrev pub port_of : {R G H F D : Type 0} {stores : StoreMeaning (FolderStore R 
     {sources : SourceMeaning F} → ServerRan stores sources → Option ℕ
 port_of ran = bound_in ran.words ran.status ran.before ran.after ran.ran
 
--- N of the line `complete N` that a command printed, if its job is complete
-abbrev pub count_by : {G K : Type 0} (inputs : SourceMeaning G) (outputs : SinkMeaning K) (job : Job)
-    (status : ℕ) (before after : List SocketEvent)
-    → RunsOrder inputs outputs job status before after → Option ℕ
-count_by inputs outputs job status before after (inl done) = Some done.1.count
-count_by inputs outputs job status before after (inr failed) = None
+-- a job that is complete: N of the line `complete N` that was printed, and what moved in the run
+pub record Finished : Type 0 where
+  pub job : Job
+  pub count : ℕ
+  pub moved : Moved
 
-abbrev pub count_in : {G K : Type 0} (inputs : SourceMeaning G) (outputs : SinkMeaning K)
+-- the job of a command, if it is complete
+abbrev pub finished_by : {G K : Type 0} (inputs : SourceMeaning G) (outputs : SinkMeaning K) (job : Job)
+    (status : ℕ) (before after : List SocketEvent)
+    → RunsOrder inputs outputs job status before after → Option Finished
+finished_by inputs outputs job status before after (inl done) =
+    Some (record {
+      job = job;
+      count = done.1.count;
+      moved = moved_by inputs outputs done.1.transfers;
+    })
+finished_by inputs outputs job status before after (inr failed) = None
+
+abbrev pub finished_in : {G K : Type 0} (inputs : SourceMeaning G) (outputs : SinkMeaning K)
     (words : List (List ℕ)) (status : ℕ) (before after : List SocketEvent)
-    → RunsWords inputs outputs words status before after → Option ℕ
-count_in inputs outputs words status before after (inl nothing) = None
-count_in inputs outputs words status before after (inr did) =
-    count_by inputs outputs did.0 status before after did.2
+    → RunsWords inputs outputs words status before after → Option Finished
+finished_in inputs outputs words status before after (inl nothing) = None
+finished_in inputs outputs words status before after (inr did) =
+    finished_by inputs outputs did.0 status before after did.2
 
 -- the end of a job
 abbrev pub side_of : Kind → Side
@@ -102,16 +116,20 @@ module _ {G K : Type 0} {inputs : SourceMeaning G} {outputs : SinkMeaning K} whe
       (job : Job) → WordsName ran.words job → job.server ≡ to) clients
 
   -- ---- the programs of a client
-  -- a program runs the end of the job that the words name, for that name, or of the same job
-  -- without its options
+  -- a program runs the end of this job, for its name, or of the same job without its options
+  pub record IsRunFor (job : Job) {to : Endpoint} (client : ClientProgram inputs outputs to)
+      : Type 0 where
+    pub name : name_of client.opens ≡ job.name.now
+    pub mode : client.first.role.mode ≡ job.mode
+    pub side : client.first.role.side ≡ side_of job.kind
+
+  -- a program is a run of the job that the words name
   pub record IsRunOf (ran : ClientRan inputs outputs) {to : Endpoint}
       (client : ClientProgram inputs outputs to) : Type 0 where
     pub address : client.ip ≡ ran.ip
     pub job : Job
     pub named : WordsName ran.words job
-    pub name : name_of client.opens ≡ job.name.now
-    pub mode : client.first.role.mode ≡ job.mode
-    pub side : client.first.role.side ≡ side_of job.kind
+    pub runs : IsRunFor job client
 
   -- the programs noted all that leads from the one journal to the other, one after another
   abbrev pub NotedBy : {to : Endpoint} → List SocketEvent → List (ClientProgram inputs outputs to)
@@ -120,22 +138,23 @@ module _ {G K : Type 0} {inputs : SourceMeaning G} {outputs : SinkMeaning K} whe
   NotedBy before (client ∷ clients) after =
       (client.before ≡ before) × NotedBy (client.noted ++ before) clients after
 
-  -- the number, if there is one, is N of the last of them
-  abbrev pub CountsLast : {to : Endpoint} → Option ℕ → List (ClientProgram inputs outputs to)
+  -- the job, if it is complete, was done by the last of them, with this N, and this moved there
+  abbrev pub LastDid : {to : Endpoint} → Option Finished → List (ClientProgram inputs outputs to)
       → Type 0
-  CountsLast None clients = Unit {0}
-  CountsLast {to} (Some count) clients =
+  LastDid None clients = Unit {0}
+  LastDid {to} (Some done) clients =
       (earlier : List (ClientProgram inputs outputs to)) × (client : ClientProgram inputs outputs to)
-      × (clients ≡ earlier ++ client ∷ []) × IsCounted count client
+      × (clients ≡ earlier ++ client ∷ []) × IsRunFor done.job client
+      × IsCounted done.count client × (moved_in client.runs ≡ done.moved)
 
   -- these programs are what a `tftp` ran: none, one, or two where its options were refused; the
-  -- last is complete if its line was printed, with this N
+  -- last is complete if its line was printed
   pub record AreRunsOf (ran : ClientRan inputs outputs) {to : Endpoint}
       (clients : List (ClientProgram inputs outputs to)) : Type 0 where
     pub noted : NotedBy ran.before clients ran.after
     pub each : AllByRecursion (IsRunOf ran) clients
-    pub counts : CountsLast
-        (count_in inputs outputs ran.words ran.status ran.before ran.after ran.ran) clients
+    pub last : LastDid
+        (finished_in inputs outputs ran.words ran.status ran.before ran.after ran.ran) clients
 
   -- and these what all of them ran
   abbrev pub AreAllRuns : {to : Endpoint} → List (ClientRan inputs outputs)

@@ -1,5 +1,6 @@
 //! The law from command lines to the promises, over the definitions alone.
 
+ghost use Rattle.tftp_words.specs.EndToEnd.{WordsMoveFiles};
 ghost use Rattle.tftp_words.specs.WordsKept.{SeveralKeepAnyFiles, WordsKeepAnyFiles};
 
 use std::rt::Files;
@@ -12,11 +13,16 @@ use tftp_server::Store;
 
 /// If `tftpd` ran these words, and each `tftp` those, which name that server, then what they noted
 /// is what programs of a network noted, which keep the promises over any files if the network is
-/// honest and their ports are fresh. Of several `tftpd` at one address and request port, each and
-/// each client that it serves keep them, and of one that passes it over it has nothing (RFC 1350,
+/// honest and their ports are fresh. What the file of a complete get was handed is then just what
+/// the source gave, call by call, that the server's store opened under the path of its name; and what
+/// that of a complete put gave is just what the draft was handed that the store began under the path
+/// of its name, and committed. Of several `tftpd` at one address and request port, each and each
+/// client that it serves keep the promises, and of one that passes it over it has nothing (RFC 1350,
 /// sections 2, 4 and 6).
 pub fn words_keep_promises<R: Files + Drop, G: Source, K: Sink>()
     ensures one { WordsKeepAnyFiles ⟦<FolderStore<R> as Store>⟧.meaning
+        ⟦<FolderSource<R::File> as Source>⟧.meaning G.meaning K.meaning }
+    ensures files { WordsMoveFiles ⟦<FolderStore<R> as Store>⟧.meaning
         ⟦<FolderSource<R::File> as Source>⟧.meaning G.meaning K.meaning }
     ensures several { SeveralKeepAnyFiles ⟦<FolderStore<R> as Store>⟧.meaning
         ⟦<FolderSource<R::File> as Source>⟧.meaning G.meaning K.meaning }

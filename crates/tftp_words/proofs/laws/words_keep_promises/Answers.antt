@@ -1,4 +1,5 @@
 -- The lemmas that are the law.
+use Rattle.tftp_words.proofs.EndToEndMade.{words_move}
 use Rattle.tftp_words.proofs.WordsMade.{several_keep, words_keep}
 use Rattle.tftp_words.proofs.laws.words_keep_promises.Goals as goal
 
@@ -6,6 +7,12 @@ pub returns-clause-one : goal.returns-clause-one
 returns-clause-one g c =
     words_keep _ _ _ _ c.a_server_is_one_run.ensures c.a_client_is_one_run.ensures.programs
     c.programs_keep_promises.ensures.any_files c.programs_keep_promises.ensures.alone
+
+pub returns-clause-files : goal.returns-clause-files
+returns-clause-files g c =
+    words_move _ _ _ _
+    (words_keep _ _ _ _ c.a_server_is_one_run.ensures c.a_client_is_one_run.ensures.programs
+    c.programs_keep_promises.ensures.any_files c.programs_keep_promises.ensures.alone)
 
 pub returns-clause-several : goal.returns-clause-several
 returns-clause-several g c =

@@ -1,0 +1,109 @@
+-- From end to end: what a complete get was handed is just what its server's source gave, and what a
+-- complete put sent is just what its server's draft was handed.
+use Rattle.std.specs.Prelude.{ℕ, ◌≡◌, List, length, slice_get, Some, Ok}
+use Rattle.std.specs.List.{AllByRecursion}
+use Rattle.std.proofs.Common.{inl, inr}
+use Rattle.tftp_wire.specs.declared.mode.Mode.TheVariants.{Octet}
+use Rattle.tftp_file.specs.Netascii.{wire_text}
+use Rattle.tftp_file.specs.Path.{path_of_name}
+use Rattle.tftp_file.specs.Sink.{SinkMeaning}
+use Rattle.tftp_file.specs.Source.{SourceMeaning, GivesInTurn}
+use Rattle.tftp_file.specs.declared.files.Files.{Files}
+use Rattle.tftp_file.specs.declared.files.Files.TheVariants.{Source, Sink}
+use Rattle.tftp_store.specs.Store.{StoreMeaning}
+use Rattle.tftp_store.specs.declared.store.Opening.{Opening}
+use Rattle.tftp_sockets.specs.Journal.{SocketEvent}
+use Rattle.tftp_client.specs.Ordered.{RunsOrder, RunsWords}
+use Rattle.tftp_client.specs.Runs.{moved_by}
+use Rattle.tftp_folder.specs.declared.folder_store.FolderStore.{FolderStore}
+use Rattle.tftp_promises.specs.AnyFiles.{HasGot, HasPut, KeepAnyFiles}
+use Rattle.tftp_promises.specs.ClientRuns.{moved_in}
+use Rattle.tftp_promises.specs.Given.{StoreOpened}
+use Rattle.tftp_promises.specs.Openings.{ArePortsFresh, moved_at}
+use Rattle.tftp_promises.specs.Order.{IsHonest, IsOrder, Noted, Programs, requests_at}
+use Rattle.tftp_promises.specs.Programs.{ClientProgram, endpoint}
+use Rattle.tftp_words.specs.Ran.{AllAsk, AreRan, ClientRan, Job, ServerRan, port_of}
+
+module _ {S F D G K : Type 0} {stores : StoreMeaning S D} {sources : SourceMeaning F}
+    {inputs : SourceMeaning G} {outputs : SinkMeaning K}
+    (programs : Programs stores sources inputs outputs) where
+  -- the file of a complete get, of which N was printed, was handed these bytes
+  pub record GotFile (job : Job) (count : ℕ) (bytes : List ℕ) : Type 0 where
+    -- N counts them
+    pub counted : count ≡ length bytes
+    -- a program of the network got them
+    pub k : ℕ
+    pub program : ClientProgram inputs outputs (requests_at programs)
+    pub found : slice_get programs.clients k ≡ Some program
+    pub moved : (moved_in program.runs).bytes ≡ bytes
+    pub got : HasGot programs program
+    -- the server's store opened the file of that name for it, and what the source of that gave
+    -- then, call by call, are these bytes as wire text, and no others
+    pub path : List ℕ
+    pub named : path_of_name job.name.now ≡ Ok path
+    pub opening : Opening F
+    pub opened : StoreOpened programs.server.run path got.serves.transfer.request job.mode opening
+    pub source : F
+    pub held : got.serves.transfer.files ≡ Source source
+    pub gave : GivesInTurn sources opening.source (wire_text job.mode bytes) source
+    pub measured : length (wire_text job.mode bytes) ≡ opening.length
+
+  -- the file of a complete put, of which N was printed, gave this wire text
+  pub record PutFile (job : Job) (count : ℕ) (text : List ℕ) : Type 0 where
+    -- N counts it in octet
+    pub counted : job.mode ≡ Octet → count ≡ length text
+    -- a program of the network put it
+    pub k : ℕ
+    pub program : ClientProgram inputs outputs (requests_at programs)
+    pub found : slice_get programs.clients k ≡ Some program
+    pub moved : (moved_in program.runs).bytes ≡ text
+    pub put : HasPut programs program
+    -- the source with which it began gave just this text, call by call
+    pub first : G
+    pub is_first : program.file ≡ Source first
+    pub source : G
+    pub held : program.files ≡ Source source
+    pub gave : GivesInTurn inputs first text source
+    -- the server's store began a draft for that name, which was handed just these bytes, and a
+    -- commit after them succeeded
+    pub path : List ℕ
+    pub named : path_of_name job.name.now ≡ Ok path
+    pub is_path : put.serves.transfer.path ≡ path
+    pub bytes : List ℕ
+    pub handed : (moved_at programs put.peer programs.server.run).bytes ≡ bytes
+    pub same : wire_text job.mode bytes ≡ text
+
+  -- the file of a complete job, in whose run these bytes moved
+  abbrev pub FileDone : Job → Files G K → ℕ → List ℕ → Type 0
+  FileDone job (Source source) count bytes = PutFile job count bytes
+  FileDone job (Sink sink) count bytes = GotFile job count bytes
+
+  abbrev pub OrderDone : (job : Job) (status : ℕ) (before after : List SocketEvent)
+      → RunsOrder inputs outputs job status before after → Type 0
+  OrderDone job status before after (inl done) =
+      FileDone job done.1.files done.1.count (moved_by inputs outputs done.1.transfers).bytes
+  OrderDone job status before after (inr failed) = Unit {0}
+
+  -- and of words
+  abbrev pub WordsDone : (words : List (List ℕ)) (status : ℕ) (before after : List SocketEvent)
+      → RunsWords inputs outputs words status before after → Type 0
+  WordsDone words status before after (inl none) = Unit {0}
+  WordsDone words status before after (inr did) = OrderDone did.0 status before after did.2
+
+  abbrev pub HasDone : ClientRan inputs outputs → Type 0
+  HasDone ran = WordsDone ran.words ran.status ran.before ran.after ran.ran
+
+-- `tftpd` ran these words, and its request port was bound; each `tftp` ran those, which name that
+-- server: then there are programs that noted just that, and in whatever order an honest network
+-- joined them, if their ports are fresh they keep the promises; what the file of a complete get was
+-- handed is just what the server's source gave, and what that of a complete put gave is just what
+-- the server's draft was handed
+abbrev pub WordsMoveFiles : {R G H F D I K : Type 0} (stores : StoreMeaning (FolderStore R G H) D)
+    (sources : SourceMeaning F) (inputs : SourceMeaning I) (outputs : SinkMeaning K) → Type 0
+WordsMoveFiles stores sources inputs outputs =
+    (server : ServerRan stores sources) (port : ℕ) (clients : List (ClientRan inputs outputs))
+    → port_of server ≡ Some port → AllAsk (endpoint server.ip port) clients
+    → (programs : Programs stores sources inputs outputs) × AreRan server port clients programs
+    × ((order : List Noted) → IsOrder stores sources inputs outputs programs order
+    → IsHonest stores sources inputs outputs programs order → ArePortsFresh programs
+    → KeepAnyFiles programs × AllByRecursion (HasDone programs) clients)
