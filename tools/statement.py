@@ -75,6 +75,9 @@ COMMANDS = {
     "SourceMeaning": "the model of a source of bytes, which may say nothing",
     "SinkMeaning": "the model of a sink, which may say nothing",
     "StoreMeaning": "the model of a store, which may say nothing",
+    "StoreOpens": "this step answers this request: the store was asked for the path in this mode, and opened this",
+    "GivesInTurn": "the calls of a source in turn, from the one state to the other, gave these bytes",
+    "moved_by": "what moved in the run that completed the job, the second one if its options were refused",
     "moved_in": "what moved in a client's run: the block of each DATA that it sent, or the bytes that its sink was handed",
     "moved_at": "the same of the transfer that a server's run opened at a place",
     "came_if": "the transfer that opened, if this is its place",
@@ -104,10 +107,12 @@ WORLD = {
 
 HEADLINES = [
     Headline(
-        "Command lines", "tftp_words", "WordsKept", "WordsKeepAnyFiles",
+        "Command lines", "tftp_words", "EndToEnd", "WordsMoveFiles",
         "`tftpd` ran these words and noted this, each `tftp` ran those and noted that, and a network joined them: then the "
-        "transfers keep their promises, over any store and any files. The law is `tftp_words::laws::words_keep_promises`. "
-        "Its premises on the runs are the clauses `runs` of `tftp_daemon::tftpd_with_journal` and "
+        "transfers keep their promises, over any store and any files, and each job that is complete moved its file whole. "
+        "What the file of a get was handed is what the source gave that the server's store opened for it; what that of a "
+        "put gave is what the server's draft was handed, and committed. The law is `tftp_words::laws::words_keep_promises`, "
+        "clause `files`. Its premises on the runs are the clauses `runs` of `tftp_daemon::tftpd_with_journal` and "
         "`tftp_client::tftp_with_journal`. For programs of any start, as these are, it is the clause `any_files` of "
         "`tftp_promises::laws::programs_keep_promises`. `others`, and what is said of it, is empty here.",
         {}, COMMANDS),
