@@ -1,3 +1,5 @@
 pub mod ClientMade
 pub mod WordsMade
 pub mod EndToEndMade
+pub mod OpenedAt
+pub mod FromDiskMade

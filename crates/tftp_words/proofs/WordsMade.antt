@@ -1,6 +1,7 @@
 -- What `tftpd` and each `tftp` ran for their words are programs of a network.
 use Rattle.std.proofs.Common.{◌≡◌, ℕ, List, [], ◌∷◌, ◌++◌, Some, None, Result, refl, sym, ap, ◌∙◌, subst, inl, inr}
 use Rattle.std.proofs.lemmas.Option.{same_Some}
+use Rattle.std.specs.String.{string_bytes}
 use Rattle.tftp_negotiate.specs.Ranges.{IsBlockSize}
 use Rattle.tftp_file.specs.Sink.{SinkMeaning}
 use Rattle.tftp_file.specs.Source.{SourceMeaning}
@@ -13,7 +14,7 @@ use Rattle.tftp_loop.specs.Steps.{LoopState, at_start}
 use Rattle.tftp_loop.specs.WholeRun.{Serves, ServesFrom, Unbound, Bound, listening}
 use Rattle.tftp_loop.specs.declared.serving.LoopFault.{LoopFault}
 use Rattle.tftp_folder.specs.declared.folder_store.FolderStore.{FolderStore}
-use Rattle.tftp_daemon.specs.Configured.{IsServerOf, ListensAt, ServesWords, service_at}
+use Rattle.tftp_daemon.specs.Configured.{IsRootAt, IsServerOf, ListensAt, ServesWords, service_at}
 use Rattle.tftp_daemon.specs.Words.{WordsConfigure}
 use Rattle.tftp_promises.specs.ClientPrograms.{ClientsArePrograms}
 use Rattle.tftp_promises.specs.Joined.{ProgramsKeepAnyFiles, ServersAloneAreJoined}
@@ -62,6 +63,9 @@ module _ {R G H F D : Type 0} {stores : StoreMeaning (FolderStore R G H) D} {sou
             config = config;
             named = named;
             limits = ap (λ (s : LoopState (FolderStore R G H) F D). s.server.config) r.starts ∙ of.limits;
+            root =
+                subst (λ (s : LoopState (FolderStore R G H) F D). IsRootAt config.root.now
+                (string_bytes s.server.store.folder.root)) (sym r.starts) of.root;
             at = at;
             listens = listens;
             bound = subst (λ (p : ℕ). IsBoundTo at at.ip p) same is_bound;

@@ -1,3 +1,4 @@
 pub mod Ran
 pub mod WordsKept
 pub mod EndToEnd
+pub mod FromDisk

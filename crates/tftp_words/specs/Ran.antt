@@ -2,6 +2,7 @@
 use Rattle.std.specs.Prelude.{ℕ, ◌≡◌, List, [], ◌∷◌, ◌++◌, Option, Some, None, Result}
 use Rattle.std.specs.List.{AllByRecursion}
 use Rattle.std.proofs.Common.{inl, inr}
+use Rattle.std.specs.String.{string_bytes}
 use Rattle.tftp_negotiate.specs.declared.known.Kind.{Kind}
 use Rattle.tftp_negotiate.specs.declared.known.Kind.TheVariants.{Read, Write}
 use Rattle.tftp_file.specs.Sink.{SinkMeaning}
@@ -21,7 +22,7 @@ use Rattle.tftp_client.specs.Ordered.{RunsOrder, RunsWords}
 use Rattle.tftp_client.specs.Runs.{moved_by}
 use Rattle.tftp_client.specs.Words.{WordsName}
 use Rattle.tftp_folder.specs.declared.folder_store.FolderStore.{FolderStore}
-use Rattle.tftp_daemon.specs.Configured.{ListensAt, ServesWords}
+use Rattle.tftp_daemon.specs.Configured.{IsRootAt, ListensAt, ServesWords}
 use Rattle.tftp_daemon.specs.Words.{WordsConfigure}
 use Rattle.tftp_promises.specs.ClientPrograms.{IsCounted}
 use Rattle.tftp_promises.specs.ClientRuns.{moved_in}
@@ -175,6 +176,8 @@ module _ {R G H F D : Type 0} {stores : StoreMeaning (FolderStore R G H) D}
     pub config : DaemonConfig
     pub named : WordsConfigure ran.words config
     pub limits : server.start.server.config ≡ config.config
+    -- its folder is the one that the system said that the word ROOT leads to
+    pub root : IsRootAt config.root.now (string_bytes server.start.server.store.folder.root)
     pub at : Endpoint
     pub listens : ListensAt config.listen at
     pub bound : IsBoundTo at at.ip port

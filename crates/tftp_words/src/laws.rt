@@ -1,10 +1,14 @@
 //! The law from command lines to the promises, over the definitions alone.
 
 ghost use Rattle.tftp_words.specs.EndToEnd.{WordsMoveFiles};
+ghost use Rattle.tftp_words.specs.FromDisk.{FromDiskToDisk};
 ghost use Rattle.tftp_words.specs.WordsKept.{SeveralKeepAnyFiles, WordsKeepAnyFiles};
 
 use std::rt::Files;
+use tftp_client::LocalFile;
+use tftp_daemon::laws::a_run_keeps_the_settings;
 use tftp_file::{Sink, Source};
+use tftp_folder::laws::gives_its_file;
 use tftp_folder::{FolderSource, FolderStore};
 use tftp_promises::laws::{
     a_client_is_one_run, a_server_is_one_run, each_client_keeps_promises, programs_keep_promises,
@@ -31,4 +35,19 @@ pub fn words_keep_promises<R: Files + Drop, G: Source, K: Sink>()
     a_server_is_one_run::<FolderStore<R>>();
     programs_keep_promises::<FolderStore<R>, G, K>();
     each_client_keeps_promises::<FolderStore<R>, G, K>();
+}
+
+/// From disk to disk: if `tftpd` ran these words, and each `tftp` those, which name that server, and
+/// an honest network joined them with fresh ports, then each `tftp get` that printed `complete N` has
+/// made, written, synced and then named a file of N bytes, which are just what reads of the file of
+/// its name in ROOT returned at the server, in order, or a beginning of that. The server found that
+/// file at the path of the name in its folder, and opened it there. What a `tftp put` sent is what
+/// the server's draft was handed (RFC 1350, sections 2, 4 and 6).
+pub fn complete_gets_go_from_disk_to_disk<R: Files + Drop, L: Files + Drop, G: Source>()
+    ensures { FromDiskToDisk G.meaning ⟦<LocalFile<L> as Sink>⟧.meaning
+        ⟦<FolderStore<R> as Store>⟧.meaning ⟦<FolderSource<R::File> as Source>⟧.meaning }
+{
+    words_keep_promises::<R, G, LocalFile<L>>();
+    a_run_keeps_the_settings::<R>();
+    gives_its_file::<R::File>();
 }

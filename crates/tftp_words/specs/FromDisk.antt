@@ -1,0 +1,108 @@
+-- From disk to disk: a complete get has named a file of just the bytes that reads of ROOT/NAME
+-- returned at its server.
+use Rattle.std.specs.Prelude.{ℕ, ◌≡◌, List, map, Some}
+use Rattle.std.specs.List.{AllByRecursion}
+use Rattle.std.proofs.Common.{inl, inr}
+use Rattle.std.specs.declared.io.traits.Read as read
+use Rattle.std.specs.declared.io.traits.Write as write
+use Rattle.std.specs.declared.io.traits.Seek as seek
+use Rattle.std.specs.String.{string_bytes}
+use Rattle.tftp_file.specs.Netascii.{wire_text}
+use Rattle.tftp_file.specs.Sink.{SinkMeaning}
+use Rattle.tftp_file.specs.Source.{SourceMeaning}
+use Rattle.tftp_file.specs.declared.files.Files.{Files}
+use Rattle.tftp_file.specs.declared.files.Files.TheVariants.{Source, Sink}
+use Rattle.tftp_store.specs.Store.{StoreMeaning}
+use Rattle.tftp_sockets.specs.Journal.{SocketEvent}
+use Rattle.tftp_client.specs.OnDisk.{IsStored, StoresWords}
+use Rattle.tftp_client.specs.Ordered.{RunsOrder, RunsWords}
+use Rattle.tftp_client.specs.Runs.{moved_by}
+use Rattle.tftp_client.specs.declared.local.LocalFile.{LocalFile}
+use Rattle.tftp_disk.specs.DiskSourceLaws.{GivenInOrder}
+use Rattle.tftp_folder.specs.Source.{OpensSource, text_of}
+use Rattle.tftp_folder.specs.declared.folder_source.FolderSource.{FolderSource}
+use Rattle.tftp_folder.specs.declared.folder_store.FolderStore.{FolderStore}
+use Rattle.tftp_promises.specs.AnyFiles.{KeepAnyFiles}
+use Rattle.tftp_promises.specs.Openings.{ArePortsFresh}
+use Rattle.tftp_promises.specs.Order.{IsHonest, IsOrder, Noted, Programs}
+use Rattle.tftp_promises.specs.Programs.{endpoint}
+use Rattle.tftp_words.specs.EndToEnd.{GotFile, PutFile}
+use Rattle.tftp_words.specs.Ran.{AllAsk, AreRan, ClientRan, Job, ServerRan, port_of}
+
+module _ {S L F D : Type 0} {reads : read.Ghosts F} {writes : write.Ghosts F} {seeks : seek.Ghosts F}
+    {lists : read.Ghosts D} (inputs : SourceMeaning S)
+    (outputs : SinkMeaning (LocalFile L F D reads writes seeks lists)) where
+  -- a `tftp` ran these words, with its local file on the disk
+  pub record ClientStored : Type 0 where
+    pub ip : List ℕ
+    pub words : List (List ℕ)
+    pub status : ℕ
+    pub before : List SocketEvent
+    pub after : List SocketEvent
+    pub stored : StoresWords inputs outputs words status before after
+
+  abbrev pub ran_of : ClientStored → ClientRan inputs outputs
+  ran_of client =
+      record {
+        ip = client.ip;
+        words = client.words;
+        status = client.status;
+        before = client.before;
+        after = client.after;
+        ran = client.stored.0;
+      }
+
+  module _ {R G H E B : Type 0} {stores : StoreMeaning (FolderStore R G H) B}
+      {sources : SourceMeaning (FolderSource E)} (programs : Programs stores sources inputs outputs) where
+    -- the path of the server's folder, which the words of `tftpd` name (`IsServerRan`)
+    abbrev pub root : List ℕ
+    root = string_bytes programs.server.start.server.store.folder.root
+
+    -- a complete get: a file of just these bytes was made, written, synced and then named. The
+    -- server's store found a file at the path of the name in its folder, and opened it there; these
+    -- bytes are, as wire text, a beginning of what reads of that file returned, in order from its
+    -- first byte, and all of it but what the source still has, unless a read failed
+    pub record IsGot (job : Job) (local : LocalFile L F D reads writes seeks lists) (count : ℕ)
+        (bytes : List ℕ) : Type 0 where
+      pub stored : IsStored job local bytes
+      pub got : GotFile programs job count bytes
+      pub opens : OpensSource root got.path job.mode got.opening.source
+      pub read : GivenInOrder (text_of got.opening.source) (text_of got.source)
+          (wire_text job.mode bytes)
+
+    -- a complete job, in whose run these bytes moved
+    abbrev pub FileStored : Job → Files S (LocalFile L F D reads writes seeks lists) → ℕ → List ℕ
+        → Type 0
+    FileStored job (Source source) count bytes = PutFile programs job count bytes
+    FileStored job (Sink local) count bytes = IsGot job local count bytes
+
+    abbrev pub OrderStored : (job : Job) (status : ℕ) (before after : List SocketEvent)
+        → RunsOrder inputs outputs job status before after → Type 0
+    OrderStored job status before after (inl done) =
+        FileStored job done.1.files done.1.count (moved_by inputs outputs done.1.transfers).bytes
+    OrderStored job status before after (inr failed) = Unit {0}
+
+    -- and of words
+    abbrev pub WordsStored : (words : List (List ℕ)) (status : ℕ) (before after : List SocketEvent)
+        → RunsWords inputs outputs words status before after → Type 0
+    WordsStored words status before after (inl none) = Unit {0}
+    WordsStored words status before after (inr did) = OrderStored did.0 status before after did.2
+
+    abbrev pub HasStored : ClientStored → Type 0
+    HasStored client =
+        WordsStored client.words client.status client.before client.after client.stored.0
+
+  -- `tftpd` ran these words, and its request port was bound; each `tftp` ran those, which name that
+  -- server: then there are programs that noted just that, and in whatever order an honest network
+  -- joined them, if their ports are fresh they keep the promises, and each file that a complete get
+  -- named has just the bytes that reads of the file of its name in the server's folder returned
+  abbrev pub FromDiskToDisk : {R G H E B : Type 0} (stores : StoreMeaning (FolderStore R G H) B)
+      (sources : SourceMeaning (FolderSource E)) → Type 0
+  FromDiskToDisk stores sources =
+      (server : ServerRan stores sources) (port : ℕ) (clients : List ClientStored)
+      → port_of server ≡ Some port → AllAsk (endpoint server.ip port) (map ran_of clients)
+      → (programs : Programs stores sources inputs outputs)
+      × AreRan server port (map ran_of clients) programs
+      × ((order : List Noted) → IsOrder stores sources inputs outputs programs order
+      → IsHonest stores sources inputs outputs programs order → ArePortsFresh programs
+      → KeepAnyFiles programs × AllByRecursion (HasStored programs) clients)
