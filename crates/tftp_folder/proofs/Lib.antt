@@ -1,2 +1,5 @@
+pub mod ChangingLemmas
+pub mod LengthLemmas
 mod NamingLemmas
+pub mod SourceLemmas
 mod UploadLemmas

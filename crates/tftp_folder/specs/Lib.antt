@@ -1,4 +1,5 @@
 pub mod Begin
+pub mod Changing
 pub mod Commit
 pub mod Draft
 pub mod Opened

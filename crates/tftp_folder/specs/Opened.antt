@@ -1,11 +1,9 @@
 -- How a store over a folder finds and opens a file to be read (ours).
-use Rattle.std.specs.Prelude.{ℕ, ◌≡◌, ◌≤◌, ◌⊎◌, Bool, true, false, ◌==◌, max, if◌then◌else◌, List, []}
-use Rattle.std.specs.Prelude.{◌∷◌, ◌++◌, length, Option, Some, None, IfSome, Ok, codes}
-use Rattle.std.specs.declared.io.SeekFrom.{SeekFrom}
-use Rattle.std.specs.declared.io.SeekFrom.TheVariants.{Start}
+use Rattle.std.specs.Prelude.{ℕ, ◌≡◌, ◌≤◌, ◌⊎◌, true, max, List, []}
+use Rattle.std.specs.Prelude.{◌∷◌, ◌++◌, length, Option, Some, IfSome, Ok, codes}
 use Rattle.tftp_disk.specs.DiskJournal.{DiskEvent}
 use Rattle.tftp_disk.specs.DiskJournal.DiskEvent.{Looked, Followed, Resolved, Opened}
-use Rattle.tftp_disk.specs.DiskJournal.DiskEvent.{Examined, Given, Sought}
+use Rattle.tftp_disk.specs.Given.{examined, opened_at}
 use Rattle.tftp_disk.specs.Folder.{IsFolderOf}
 use Rattle.tftp_disk.specs.Found.{is_same_file}
 use Rattle.tftp_disk.specs.declared.found.FileId.{FileId}
@@ -20,30 +18,6 @@ pub record IsRootOf (path root : List ℕ) (after : List DiskEvent) : Type 0 whe
   pub looked : after ≡ Followed text (Ok found) ∷ Resolved path (Ok text) ∷ []
   pub is_folder : found.kind ≡ Folder
   pub whole : (text ≡ root) ⊎ (text ≡ root ++ codes "/")
-
--- the path of the open file of these calls
-abbrev pub opened_at : List DiskEvent → Option (List ℕ)
-opened_at [] = None
-opened_at (Opened path (Ok done) ∷ events) = Some path
-opened_at (event ∷ events) = opened_at events
-
--- what the system said of it at the newest look
-abbrev pub examined : List DiskEvent → Option Found
-examined [] = None
-examined (Examined (Ok found) ∷ events) = Some found
-examined (event ∷ events) = examined events
-
--- the next read is to begin at the first byte
-abbrev pub is_rewind : SeekFrom → Bool
-is_rewind (Start place) = place == 0
-is_rewind to = false
-
--- the bytes that were read of it, in order, since its opening or its newest rewind
-abbrev pub given : List DiskEvent → List ℕ
-given [] = []
-given (Given bytes ∷ events) = given events ++ bytes
-given (Sought to (Ok place) ∷ events) = if is_rewind to then [] else given events
-given (event ∷ events) = given events
 
 -- the path and each above it, up to the root, was looked at, and is a folder and no link
 pub data AreFolders (root : List ℕ) : List ℕ → List DiskEvent → List DiskEvent → Type 0 where

@@ -1,34 +1,54 @@
 -- The file of a source of a folder, and how long its text is (ours).
-use Rattle.std.specs.Prelude.{ℕ, ◌≡◌, ◌+◌, ◌<◌, ◌≤◌, min, List, []}
-use Rattle.std.specs.Io.Buffered.{reader_inner}
+use Rattle.std.specs.Prelude.{ℕ, ◌≡◌, ◌+◌, ◌<◌, ◌≤◌, min, List, [], length, Option, Some, IfSome}
 use Rattle.tftp_wire.specs.declared.mode.Mode.{Mode}
-use Rattle.tftp_wire.specs.declared.mode.Mode.TheVariants.{Octet}
+use Rattle.tftp_wire.specs.declared.mode.Mode.TheVariants.{Octet, Netascii}
 use Rattle.tftp_disk.specs.DiskJournal.{DiskEvent}
+use Rattle.tftp_disk.specs.DiskSource.{IsUnread, source_calls}
+use Rattle.tftp_disk.specs.DiskSourceLaws.{GivenInOrder}
+use Rattle.tftp_disk.specs.Given.{examined, given, opened_at, IsAtEnd, Reads}
+use Rattle.tftp_disk.specs.declared.calls.DiskFile.{DiskFile}
+use Rattle.tftp_disk.specs.declared.disk_source.DiskSource.{DiskSource}
 use Rattle.tftp_disk.specs.declared.found.Found.{Found}
-use Rattle.tftp_file.specs.Stream.{source_reader}
+use Rattle.tftp_file.specs.Length.{up_to}
+use Rattle.tftp_file.specs.Netascii.{wire_text}
+use Rattle.tftp_file.specs.Source.{GivesInTurn, SourceMeaning}
 use Rattle.tftp_file.specs.declared.length.TheConstants.{MAX_WIRE}
 use Rattle.tftp_store.specs.declared.store.Opening.{Opening}
-use Rattle.tftp_folder.specs.Opened.{examined, given, opened_at, OpensAt}
+use Rattle.tftp_folder.specs.Opened.{OpensAt}
 use Rattle.tftp_folder.specs.declared.folder_source.FolderSource.{FolderSource}
-use Rattle.tftp_folder.specs.declared.folder_source.NotedFile.{NotedFile}
 
 module _ {F : Type 0} where
-  -- the file that a source reads
-  abbrev pub file_of : FolderSource F → NotedFile F
-  file_of source = reader_inner (source_reader source.text.source)
+  -- the text of the file that a source reads
+  abbrev pub text_of : FolderSource F → DiskSource F
+  text_of source = source.text
 
   -- the calls on an open file
-  abbrev pub calls_on : NotedFile F → List DiskEvent
-  calls_on noted = noted.file.journal.events
+  abbrev pub calls_on : DiskFile F → List DiskEvent
+  calls_on file = file.journal.events
 
   -- the calls on the open file of a source
   abbrev pub calls_of : FolderSource F → List DiskEvent
-  calls_of source = calls_on (file_of source)
+  calls_of source = source_calls source.text
 
   -- calls on an open file, after which it is the same, and what was last said of it too
-  pub record StaysOpen (before after : NotedFile F) : Type 0 where
+  pub record StaysOpen (before after : DiskFile F) : Type 0 where
     pub place : opened_at (calls_on after) ≡ opened_at (calls_on before)
     pub found : examined (calls_on after) ≡ examined (calls_on before)
+
+-- one read counted so much wire text in netascii: none only at the end of the file
+pub record CountsChunk (before after : List DiskEvent) (counted : ℕ) : Type 0 where
+  pub bytes : List ℕ
+  pub reads : Reads before after bytes
+  pub count : counted ≡ length (wire_text Netascii bytes)
+  pub end : counted ≡ 0 → IsAtEnd after
+
+-- one pass over a file read these bytes, to its end unless their text is too long: what it counted is
+-- the length of their text in netascii
+pub record CountsPass (before after : List DiskEvent) (counted : Option ℕ) : Type 0 where
+  pub bytes : List ℕ
+  pub reads : Reads before after bytes
+  pub count : counted ≡ up_to MAX_WIRE (length (wire_text Netascii bytes))
+  pub end : IfSome counted (λ count. IsAtEnd after)
 
 -- how long a file is said to be that was found so, if the longest that can be sent is so long: in
 -- octet as long as the system says, and in each mode too long if it is so by that
@@ -36,11 +56,38 @@ pub record StatesLength (longest : ℕ) (mode : Mode) (found : Found) (stated : 
   pub long : min longest MAX_WIRE < found.bytes → stated ≡ MAX_WIRE + 1
   pub octet : mode ≡ Octet → found.bytes ≤ min longest MAX_WIRE → stated ≡ found.bytes
 
--- the source of a file that was found at the path of a request and opened there: it begins with the
--- first byte, and its length is stated so
-pub record OpensFile {F : Type 0} (root path : List ℕ) (longest : ℕ) (mode : Mode)
-    (opening : Opening (FolderSource F)) : Type 0 where
-  pub opened : Found
-  pub opens : OpensAt root path opened opening.source.found.events (calls_of opening.source)
-  pub start : given (calls_of opening.source) ≡ []
-  pub length : StatesLength longest mode opened opening.length
+module _ {F : Type 0} where
+  -- the source of a file that was found at the path of a request and opened there, in this mode: it
+  -- begins with the first byte, and has read nothing since
+  pub record OpensSource (root path : List ℕ) (mode : Mode) (source : FolderSource F) : Type 0 where
+    pub opened : Found
+    pub opens : OpensAt root path opened source.found.events (calls_of source)
+    pub start : given (calls_of source) ≡ []
+    pub unread : IsUnread mode (text_of source)
+
+  -- the model of a source of a folder: that of its text, and how a store opens it
+  abbrev pub folder_source : SourceMeaning (DiskSource F) → SourceMeaning (FolderSource F)
+  folder_source texts =
+      record {
+        left = λ s. texts.left s.text;
+        may_fail = λ s want. texts.may_fail s.text want;
+        fails = λ s want. texts.fails s.text want;
+        gives = λ s piece t. texts.gives s.text piece t.text;
+        opens = OpensSource;
+      }
+
+  -- the length of an opened file is stated by what the system said of it
+  pub record StatesOpened (longest : ℕ) (mode : Mode) (opening : Opening (FolderSource F))
+      : Type 0 where
+    pub found : Found
+    pub told : examined (calls_of opening.source) ≡ Some found
+    pub states : StatesLength longest mode found opening.length
+
+  -- whatever calls there are of a source since it was opened, what they gave is a beginning of the
+  -- wire text of what reads of that file returned, in order and each byte once, and it is all of it
+  -- but what the source still has, unless a read failed
+  abbrev pub GivesFile : SourceMeaning (FolderSource F) → Type 0
+  GivesFile sources =
+      (root path : List ℕ) (mode : Mode) (first last : FolderSource F) (text : List ℕ)
+      → OpensSource root path mode first → GivesInTurn sources first text last
+      → GivenInOrder (text_of first) (text_of last) text

@@ -8,7 +8,8 @@ ghost use Rattle.tftp_disk.specs.DiskJournal.DiskEvent.{Made, Looked, Opened, Ex
 ghost use Rattle.tftp_disk.specs.Found.{is_same_file};
 ghost use Rattle.tftp_disk.specs.declared.found.Found.{Found};
 ghost use Rattle.tftp_folder.specs.Opened.{FindsAt, FollowsTo, LooksLast, IsStill, OpensAt};
-ghost use Rattle.tftp_folder.specs.Opened.{OpensSeen, given};
+ghost use Rattle.tftp_disk.specs.Given.{given};
+ghost use Rattle.tftp_folder.specs.Opened.{OpensSeen};
 ghost use Rattle.tftp_folder.specs.Begin.{draft_name, MakesDraft};
 ghost use Rattle.tftp_folder.specs.Uploads.{path_below};
 ghost use Rattle.tftp_disk.specs.DiskFault.{MayNotOpen, MayNotStore, MayNotName, is_replaced};

@@ -1,19 +1,15 @@
 //! A file of a folder that is being read.
 
-ghost use Rattle.std.specs.Prelude.{◌≡◌, ◌∷◌, None, IfOk};
-ghost use Rattle.std.specs.Io.{ReadsAtMost};
-ghost use Rattle.std.specs.Io.KnownBytes.{Keeps, ReadConsumes};
-ghost use Rattle.std.specs.Io.Seek.{SeekMoves};
-ghost use Rattle.tftp_disk.specs.Calls.{read_event};
-ghost use Rattle.tftp_disk.specs.DiskJournal.DiskEvent.{Sought};
-ghost use Rattle.tftp_folder.specs.Source.{file_of};
+ghost use Rattle.std.specs.Prelude.{◌≡◌, [], IfOk};
+ghost use Rattle.tftp_disk.specs.DiskSource.{IsUnread};
+ghost use Rattle.tftp_folder.specs.Source.{calls_of, text_of};
 
 use std::alloc::{AllocError, Global};
 use std::cell::Cell;
-use std::io::{self, BufReader, Read, Seek, SeekFrom};
+use std::io::Read;
 use std::rc::Rc;
-use tftp_disk::{DiskFile, DiskJournal};
-use tftp_file::{Ahead, FileFault, ReadSource, Source};
+use tftp_disk::{DiskFile, DiskJournal, DiskSource};
+use tftp_file::{FileFault, Source};
 use tftp_lines::{Reason, reason_of};
 use tftp_wire::Mode;
 
@@ -55,76 +51,13 @@ impl SharedReason {
     }
 }
 
-/// An open file that keeps the reason for its last failed call.
-#[derive(Drop)]
-pub(crate) struct NotedFile<F: Drop> {
-    file: DiskFile<F>,
-    failure: SharedReason,
-}
-
-impl<F: Drop> NotedFile<F> {
-    /// A file that has not failed.
-    pub(crate) fn new(alloc: Global, file: DiskFile<F>) -> Result<NotedFile<F>, AllocError>
-        ensures { IfOk result (λ noted. noted.file ≡ file) }
-    {
-        let failure = SharedReason::new(alloc)?;
-        Ok(NotedFile { file, failure })
-    }
-
-    /// Why a call failed.
-    pub(crate) fn failure(&self) -> Reason {
-        self.failure.take().unwrap_or(Reason::Other)
-    }
-
-    /// Keeps the reason of an error.
-    fn note(&self, error: io::Error) -> io::Error
-        ensures { result ≡ error }
-    {
-        self.failure.set(reason_of(&error));
-        error
-    }
-}
-
-impl<F: Read + Drop> Read for NotedFile<F> {
-    fn read(&mut self, buffer: &mut [u8]) -> io::Result<usize>
-        ensures bound { ReadsAtMost result buffer.new }
-        ensures bytes { ReadConsumes None None result buffer.new }
-        ensures noted { self.new.file.journal.events ≡ read_event result buffer.new
-            ∷ self.old.file.journal.events }
-    {
-        match self.file.read(buffer) {
-            Ok(count) => Ok(count),
-            Err(error) => Err(self.note(error)),
-        }
-    }
-}
-
-impl<F: Seek + Drop> Seek for NotedFile<F> {
-    fn seek(&mut self, to: SeekFrom) -> io::Result<u64>
-        ensures moves { SeekMoves None None None to result }
-        ensures bytes { Keeps None None }
-        ensures noted { self.new.file.journal.events ≡ Sought to result
-            ∷ self.old.file.journal.events }
-    {
-        match self.file.seek(to) {
-            Ok(at) => Ok(at),
-            Err(error) => Err(self.note(error)),
-        }
-    }
-}
-
-/// The wire text of a file, which is read ahead.
-type FileText<F> = Ahead<ReadSource<BufReader<NotedFile<F>>>>;
-
 /// The source of a file of a [`FolderStore`](crate::FolderStore). Its store gets the reason for a
 /// fill that fails, or that finds fewer bytes than it requests.
 #[derive(Drop)]
 pub struct FolderSource<F: Read + Drop> {
-    text: FileText<F>,
+    text: DiskSource<F>,
     /// The calls that found the file.
     found: DiskJournal,
-    /// The reason of the file's failure.
-    failure: SharedReason,
     /// The reason of the store.
     reason: SharedReason,
 }
@@ -133,53 +66,60 @@ impl<F: Read + Drop> FolderSource<F> {
     /// The source of an open file whose text has this length. It fails only when out of memory.
     pub(crate) fn new(
         alloc: Global,
-        file: NotedFile<F>,
+        file: DiskFile<F>,
         found: DiskJournal,
         mode: Mode,
         length: u64,
         reason: SharedReason,
-    ) -> io::Result<FolderSource<F>>
-        ensures file { IfOk result (λ source. file_of source ≡ file) }
+    ) -> Result<FolderSource<F>, AllocError>
+        ensures unread { IfOk result (λ source. IsUnread mode (text_of source)) }
+        ensures calls { IfOk result (λ source. calls_of source ≡ file.journal.events) }
         ensures found { IfOk result (λ source. source.found ≡ found) }
     {
-        let failure = file.failure.share()?;
         let room = length.min(READ_BUFFER) as usize;
-        let reader = BufReader::with_capacity(alloc, room, file)?;
-        Ok(FolderSource {
-            text: Ahead::new(alloc, ReadSource::new(reader, mode)),
-            found,
-            failure,
-            reason,
-        })
+        match DiskSource::new(alloc, file, mode, room) {
+            Ok(text) => Ok(FolderSource {
+                text,
+                found,
+                reason,
+            }),
+            Err(error) => Err(error),
+        }
     }
 
     /// Keeps the reason of a fill that failed, or that found too few bytes.
     fn note(&self, filled: Result<usize, FileFault>, want: usize) {
         match filled {
             Ok(count) if count < want => self.reason.set(Reason::FileCut),
-            Err(FileFault::Read) => {
-                self.reason
-                    .set(self.failure.take().unwrap_or(Reason::Other));
-            }
+            Err(FileFault::Read) => self.reason.set(self.read_failure()),
             _ => {}
+        }
+    }
+
+    /// Why a read failed.
+    fn read_failure(&self) -> Reason {
+        match self.text.error() {
+            Some(error) => reason_of(&error),
+            None => Reason::Other,
         }
     }
 }
 
 impl<F: Read + Drop> Source for FolderSource<F> {
-    ghost use Rattle.std.specs.Prelude.{◌≡◌, true};
-    ghost use Rattle.tftp_file.specs.Source.{source_through};
+    ghost use Rattle.std.specs.Prelude.{⊤};
+    ghost use Rattle.tftp_disk.specs.DiskSourceLaws.{gives_nothing};
+    ghost use Rattle.tftp_folder.specs.Source.{folder_source, text_of};
 
-    ghost meaning = { source_through ⟦<FileText<F> as Source>⟧.meaning (λ s. s.text) };
+    ghost meaning = { folder_source ⟦<DiskSource<F> as Source>⟧.meaning };
 
-    /// A read ahead that failed stays so.
-    ghost is_same = { λ a b. a.text.failed ≡ true → b.text.failed ≡ true };
+    /// Always true: it constrains nothing.
+    ghost is_same = { λ _ _. ⊤ };
 
-    ghost stays = { λ a. λ failed. failed };
+    ghost stays = { λ _. tt };
 
-    ghost joins = { λ a b c p q. λ failed. q (p failed) };
+    ghost joins = { λ _ _ _ _ _. tt };
 
-    ghost unmoved = { λ _. tt };
+    ghost unmoved = { λ a. gives_nothing (text_of a) };
 
     fn fill(&mut self, want: usize, out: &mut Vec<u8>) -> Result<usize, FileFault> {
         let filled = self.text.fill(want, out);

@@ -6,7 +6,8 @@ ghost use Rattle.std.specs.String.{string_bytes};
 ghost use Rattle.tftp_file.specs.Path.{path_of_name};
 ghost use Rattle.tftp_disk.specs.Changes.{changes};
 ghost use Rattle.tftp_disk.specs.DiskFault.{MayNotOpen, MayNotStore, MayNotName, is_replaced};
-ghost use Rattle.tftp_folder.specs.Opened.{given, IsRootOf};
+ghost use Rattle.tftp_disk.specs.Given.{given};
+ghost use Rattle.tftp_folder.specs.Opened.{IsRootOf};
 ghost use Rattle.tftp_folder.specs.Settings.{SameSettings};
 ghost use Rattle.tftp_folder.specs.Source.{calls_on, StatesLength, StaysOpen};
 ghost use Rattle.tftp_folder.specs.Uploads.{IsBelow, path_below};
@@ -14,7 +15,7 @@ ghost use Rattle.tftp_folder.specs.Uploads.{IsBelow, path_below};
 use crate::beginning::{DraftMemory, begin_draft};
 use crate::below::is_below;
 use crate::folder_draft::FolderDraft;
-use crate::folder_source::{FolderSource, NotedFile, SharedReason};
+use crate::folder_source::{FolderSource, SharedReason};
 use crate::naming::{NameFault, give_name, has_no_link};
 use crate::served_folder::ServedFolder;
 use crate::wire_lengths::{WireLengths, check_empty};
@@ -22,9 +23,9 @@ use std::alloc::Global;
 use std::cell::Cell;
 use std::io::{self, ErrorKind};
 use std::rt::Files;
-use tftp_disk::{DiskJournal, Existing, Found, Kind};
-use tftp_file::{FileFault, MAX_WIRE, Path, PathFault, StoreFault, path_of};
-use tftp_lines::Reason;
+use tftp_disk::{DiskFile, DiskJournal, Existing, Found, Kind};
+use tftp_file::{MAX_WIRE, Path, PathFault, StoreFault, path_of};
+use tftp_lines::{Reason, reason_of};
 use tftp_store::{Opening, ServedStore, Store};
 use tftp_wire::Mode;
 
@@ -136,7 +137,7 @@ impl<R: Files + Drop> FolderStore<R> {
     /// file cannot be read, or has a byte though its length is 0.
     fn measure(
         &self,
-        file: &mut NotedFile<R::File>,
+        file: &mut DiskFile<R::File>,
         found: &Found,
         mode: Mode,
     ) -> Result<u64, StoreFault>
@@ -152,8 +153,7 @@ impl<R: Files + Drop> FolderStore<R> {
         match self.lengths.length_of(file, found, mode) {
             Ok(Some(length)) => Ok(length),
             Ok(None) => Ok(MAX_WIRE + 1),
-            Err(FileFault::Memory) => Err(StoreFault::Memory),
-            Err(FileFault::Read) => Err(self.folder.refused(file.failure())),
+            Err(error) => Err(self.folder.refused(reason_of(&error))),
         }
     }
 
@@ -268,7 +268,7 @@ impl<R: Files + Drop> ServedStore<Reason> for FolderStore<R> {
 
 impl<R: Files + Drop> Store for FolderStore<R> {
     ghost use Rattle.std.specs.Prelude.{◌≡◌, ◌≢◌, ◌++◌, refl, None, true, Err, IfOk, IfErr, IfSome};
-    ghost use Rattle.std.specs.Prelude.{IsErrOf, OnOk, OnErr, []};
+    ghost use Rattle.std.specs.Prelude.{IsErrOf, OnOk, OnErr};
     ghost use Rattle.std.specs.String.{string_bytes};
     ghost use Rattle.tftp_disk.specs.Changes.{changes};
     ghost use Rattle.tftp_folder.specs.Begin.{draft_name, BeginsNone};
@@ -277,7 +277,7 @@ impl<R: Files + Drop> Store for FolderStore<R> {
     ghost use Rattle.tftp_disk.specs.DiskFault.{MayNotOpen, MayNotStore, MayNotBegin, MayNotName};
     ghost use Rattle.std.specs.Result.{result_err};
     ghost use Rattle.tftp_folder.specs.Settings.{HasBegun, SameSettings};
-    ghost use Rattle.tftp_folder.specs.Source.{OpensFile};
+    ghost use Rattle.tftp_folder.specs.Source.{OpensSource, StatesOpened};
     ghost use Rattle.tftp_folder.specs.Uploads.{IsBelow, path_below};
 
     type Source = FolderSource<R::File>;
@@ -285,7 +285,7 @@ impl<R: Files + Drop> Store for FolderStore<R> {
     type Draft = FolderDraft<R::File>;
 
     ghost meaning = { record {
-      root = λ _. [];
+      root = λ store. string_bytes store.folder.root;
       stored = λ _. None;
       drafted = λ _. None;
       may_refuse_open = λ _ _ fault. MayNotOpen fault;
@@ -300,7 +300,7 @@ impl<R: Files + Drop> Store for FolderStore<R> {
       may_refuse_commit = λ _ _ _ replace fault. MayNotName replace fault;
     } };
 
-    ghost unmoved = { λ _. record { read_only = refl; uploads = refl } };
+    ghost unmoved = { λ _. record { read_only = refl; uploads = refl; root = refl } };
 
     fn open(
         &self,
@@ -309,13 +309,14 @@ impl<R: Files + Drop> Store for FolderStore<R> {
         mode: Mode,
     ) -> Result<Opening<FolderSource<R::File>>, StoreFault>
         ensures refused { IfErr result MayNotOpen }
-        ensures opened { IfOk result (OpensFile (string_bytes self.now.folder.root) path.now
-            self.now.lengths.longest mode) }
+        ensures opened { IfOk result (λ opening. OpensSource (string_bytes self.now.folder.root)
+            path.now mode opening.source) }
+        ensures stated { IfOk result (StatesOpened self.now.lengths.longest mode) }
     {
         self.folder.reason.clear();
         let mut journal = DiskJournal::new();
         let opened = self.folder.open_file(&mut journal, alloc, path)?;
-        let mut file = NotedFile::new(alloc, opened.file)?;
+        let mut file = opened.file;
         let length = self.measure(&mut file, &opened.found, mode)?;
         let reason = self.folder.reason.share()?;
         match FolderSource::new(alloc, file, journal, mode, length, reason) {

@@ -12,6 +12,7 @@ mod finding;
 mod folder_draft;
 mod folder_source;
 mod folder_store;
+pub mod laws;
 mod naming;
 mod replacing;
 mod served_folder;

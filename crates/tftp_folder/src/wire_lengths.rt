@@ -3,17 +3,16 @@
 ghost use Rattle.std.specs.Prelude.{◌≡◌, ◌≤◌, ◌<◌, min, [], Ok, None, IfOk, OnOk};
 ghost use Rattle.tftp_file.specs.Length.{up_to};
 ghost use Rattle.tftp_wire.specs.declared.mode.Mode.TheVariants.{Octet};
-ghost use Rattle.tftp_folder.specs.Opened.{given};
-ghost use Rattle.tftp_folder.specs.Source.{calls_on, StaysOpen};
+ghost use Rattle.tftp_disk.specs.Given.{given};
+ghost use Rattle.tftp_folder.specs.Source.{calls_on, CountsChunk, CountsPass, StaysOpen};
 
-use crate::folder_source::NotedFile;
 use lru::LruCache;
 use std::alloc::{AllocError, Global};
 use std::cell::RefCell;
 use std::io::{self, ErrorKind, Read, Seek, SeekFrom};
 use std::num::NonZeroUsize;
-use tftp_disk::{FileId, Found};
-use tftp_file::{FileFault, MAX_WIRE, wire_length_within};
+use tftp_disk::{DiskFile, FileId, Found};
+use tftp_file::{MAX_WIRE, wire_length_within};
 use tftp_wire::Mode;
 
 /// How many bytes are read at once of a file that is measured.
@@ -76,10 +75,10 @@ impl WireLengths {
     /// is too long by its own length is not read.
     pub(crate) fn length_of<F: Read + Seek + Drop>(
         &self,
-        file: &mut NotedFile<F>,
+        file: &mut DiskFile<F>,
         found: &Found,
         mode: Mode,
-    ) -> Result<Option<u64>, FileFault>
+    ) -> io::Result<Option<u64>>
         requires { given (calls_on file.old) ≡ [] }
         ensures long { min self.now.longest MAX_WIRE < found.now.bytes → result ≡ Ok None }
         ensures octet { mode ≡ Octet
@@ -99,9 +98,9 @@ impl WireLengths {
     /// The length of a file in netascii, which is read once.
     fn netascii_length<F: Read + Seek + Drop>(
         &self,
-        file: &mut NotedFile<F>,
+        file: &mut DiskFile<F>,
         found: &Found,
-    ) -> Result<Option<u64>, FileFault>
+    ) -> io::Result<Option<u64>>
         requires { given (calls_on file.old) ≡ [] }
         ensures start { OnOk result (given (calls_on file.new) ≡ []) }
         ensures stays { StaysOpen file.old file.new }
@@ -111,11 +110,13 @@ impl WireLengths {
             return Ok(length);
         }
         let length = count_netascii(file)?;
-        let Ok(_) = file.seek(SeekFrom::Start(0)) else {
-            return Err(FileFault::Read);
-        };
-        self.remember(contents, length);
-        Ok(length)
+        match file.seek(SeekFrom::Start(0)) {
+            Ok(_) => {
+                self.remember(contents, length);
+                Ok(length)
+            }
+            Err(error) => Err(error),
+        }
     }
 
     /// The remembered length of these contents.
@@ -136,7 +137,8 @@ impl WireLengths {
 
 /// The length of an open file in netascii, which is read from its beginning to its end, at most
 /// until `MAX_WIRE` is passed: then it is `None`.
-fn count_netascii<F: Read + Drop>(file: &mut NotedFile<F>) -> Result<Option<u64>, FileFault>
+fn count_netascii<F: Read + Drop>(file: &mut DiskFile<F>) -> io::Result<Option<u64>>
+    ensures counts { IfOk result (CountsPass (calls_on file.old) (calls_on file.new)) }
     ensures stays { StaysOpen file.old file.new }
 {
     let mut chunk = [0; CHUNK];
@@ -152,17 +154,16 @@ fn count_netascii<F: Read + Drop>(file: &mut NotedFile<F>) -> Result<Option<u64>
 }
 
 /// Reads the next bytes, and counts them in netascii: 0 at the end.
-fn count_next<F: Read + Drop>(
-    file: &mut NotedFile<F>,
-    chunk: &mut [u8; CHUNK],
-) -> Result<u64, FileFault>
+fn count_next<F: Read + Drop>(file: &mut DiskFile<F>, chunk: &mut [u8; CHUNK]) -> io::Result<u64>
     ensures within { IfOk result (λ count. count ≤ MOST_IN_CHUNK) }
+    ensures counts { IfOk result (λ count. CountsChunk (calls_on file.old) (calls_on file.new)
+        count) }
     ensures stays { StaysOpen file.old file.new }
 {
-    let Ok(count) = file.read(&mut chunk[..]) else {
-        return Err(FileFault::Read);
-    };
-    Ok(wire_length_within(&chunk[..count], Mode::Netascii, MOST_IN_CHUNK))
+    match file.read(&mut chunk[..]) {
+        Ok(count) => Ok(wire_length_within(&chunk[..count], Mode::Netascii, MOST_IN_CHUNK)),
+        Err(error) => Err(error),
+    }
 }
 
 /// Fails if a file that states a length of 0 has a byte, as a file of `/proc` does: its length is
@@ -170,7 +171,7 @@ fn count_next<F: Read + Drop>(
 /// another length is not read.
 ///
 /// `InvalidData` if it has a byte, else the error of the read.
-pub(crate) fn check_empty<F: Read + Drop>(file: &mut NotedFile<F>, found: &Found) -> io::Result<()>
+pub(crate) fn check_empty<F: Read + Drop>(file: &mut DiskFile<F>, found: &Found) -> io::Result<()>
     requires { given (calls_on file.old) ≡ [] }
     ensures start { OnOk result (given (calls_on file.new) ≡ []) }
     ensures stays { StaysOpen file.old file.new }

@@ -3,12 +3,14 @@ use Rattle.std.proofs.Common.{◌+◌, ◌-◌, ◌≤◌}
 use Rattle.tftp_file.specs.declared.length.TheConstants.{MAX_WIRE}
 use Rattle.tftp_folder.specs.declared.wire_lengths.TheConstants.{MOST_IN_CHUNK}
 use Rattle.tftp_folder.specs.Source.{StaysOpen}
+use Rattle.tftp_folder.proofs.LengthLemmas.{Counted}
 use Rattle.tftp_folder.proofs.wire_lengths.count_netascii.Given as goal
 
 abbrev pub invariant-loop-total : goal.invariant-loop-total
 invariant-loop-total g l = record {
   same : StaysOpen l.fn.file l.file;
   small : l.total ≤ MAX_WIRE + MOST_IN_CHUNK;
+  counted : Counted l.fn.file.journal.events l.file.journal.events l.total;
 }
 
 abbrev pub decreases-loop-total : goal.decreases-loop-total

@@ -1,0 +1,94 @@
+-- What a store over a folder changes on the disk (ours).
+use Rattle.std.specs.Prelude.{ℕ, ◌≡◌, ◌⊎◌, ⊤, Bool, true, false, List, [], ◌∷◌, Option, IfSome}
+use Rattle.std.specs.String.{string_bytes}
+use Rattle.tftp_file.specs.Path.{IsPath}
+use Rattle.tftp_disk.specs.DiskJournal.{DiskEvent}
+use Rattle.tftp_disk.specs.DiskJournal.DiskEvent.{Made, Linked, Renamed, Removed}
+use Rattle.tftp_disk.specs.DiskJournal.DiskEvent.{Folder_opened, Folder_synced}
+use Rattle.tftp_folder.specs.Begin.{draft_name, BeginsNone}
+use Rattle.tftp_folder.specs.Draft.{BeginsAt, GivesName, NamesNothing}
+use Rattle.tftp_folder.specs.Uploads.{IsBelow, path_below}
+use Rattle.tftp_folder.specs.declared.folder_draft.FolderDraft.{FolderDraft}
+
+-- where a store may change files: its root, the folder of its drafts, whether it refuses writes, and
+-- the folder below the root that takes all writes, if one does
+pub record Limits : Type 0 where
+  pub root : List ℕ
+  pub drafts : List ℕ
+  pub read_only : Bool
+  pub uploads : Option (List ℕ)
+
+-- the path of a draft in this folder
+abbrev pub IsDraftIn : List ℕ → List ℕ → Type 0
+IsDraftIn folder path = (port : ℕ) × (path ≡ draft_name folder port)
+
+-- the place of a path that a client can name, below the folder of uploads if there is one
+pub record IsTarget (limits : Limits) (target : List ℕ) : Type 0 where
+  pub path : List ℕ
+  pub is_path : IsPath path
+  pub place : target ≡ path_below limits.root path
+  pub uploads : IfSome limits.uploads (λ folder. IsBelow folder path)
+
+-- the store asked the system to give a file this name
+abbrev pub IsGiven : List ℕ → List DiskEvent → Type 0
+IsGiven path [] = ⊥
+IsGiven path (Linked file from to answer ∷ events) = (path ≡ to) ⊎ IsGiven path events
+IsGiven path (Renamed file from to answer ∷ events) = (path ≡ to) ⊎ IsGiven path events
+IsGiven path (event ∷ events) = IsGiven path events
+
+-- a change by a store that does not refuse writes
+pub record Admits (limits : Limits) (Change : Type 0) : Type 0 where
+  pub admitted : limits.read_only ≡ false
+  pub change : Change
+
+-- a call after these others, the newest first, that changes something: a draft is made or removed, or
+-- is given a name that a client can spell, and a name that was asked for is removed; no other file is
+-- made, removed or renamed. Folders are opened and synced for such a name alone
+abbrev pub IsChange : Limits → DiskEvent → List DiskEvent → Type 0
+IsChange limits (Made path answer) before = Admits limits (IsDraftIn limits.drafts path)
+IsChange limits (Removed path answer) before =
+    Admits limits (IsDraftIn limits.drafts path ⊎ (IsTarget limits path × IsGiven path before))
+IsChange limits (Linked file from to answer) before =
+    Admits limits (IsDraftIn limits.drafts from × IsTarget limits to)
+IsChange limits (Renamed file from to answer) before =
+    Admits limits (IsDraftIn limits.drafts from × IsTarget limits to)
+IsChange limits (Folder_opened path answer) before = Admits limits ⊤
+IsChange limits (Folder_synced path answer) before = Admits limits ⊤
+IsChange limits event before = ⊤
+
+-- each of these calls is such
+abbrev pub AreChanges : Limits → List DiskEvent → Type 0
+AreChanges limits [] = ⊤
+AreChanges limits (event ∷ events) = IsChange limits event events × AreChanges limits events
+
+-- a draft's path and the place of its file, as a store that admits it gives them
+pub record IsOwn (limits : Limits) (draft target : List ℕ) : Type 0 where
+  pub admitted : limits.read_only ≡ false
+  pub is_draft : IsDraftIn limits.drafts draft
+  pub is_target : IsTarget limits target
+
+-- a call that begins no draft, or one at its path, changes nothing else, and in a store that refuses
+-- writes nothing
+abbrev pub BeginStaysWithin : Type 0
+BeginStaysWithin =
+    (limits : Limits) (port : ℕ) (before after : List DiskEvent)
+    → (limits.read_only ≡ true → after ≡ before)
+    → BeginsNone (draft_name limits.drafts port) before after → AreChanges limits before
+    → AreChanges limits after
+
+module _ {F : Type 0} where
+  -- a draft that is begun at its path for a path that the store admits is the store's
+  abbrev pub BeginsOwn : FolderDraft F → Type 0
+  BeginsOwn draft =
+      (limits : Limits) (port : ℕ) (path : List ℕ) (before after : List DiskEvent)
+      → IsPath path → limits.read_only ≡ false → IfSome limits.uploads (λ folder. IsBelow folder path)
+      → BeginsAt (draft_name limits.drafts port) (path_below limits.root path) draft before after
+      → IsOwn limits (string_bytes draft.draft) (string_bytes draft.target)
+
+  -- calls that give a draft its name, if it is the store's
+  abbrev pub CommitStaysWithin : FolderDraft F → Type 0
+  CommitStaysWithin draft =
+      (limits : Limits) (replaces : Bool) (before after : List DiskEvent)
+      → IsOwn limits (string_bytes draft.draft) (string_bytes draft.target)
+      → GivesName draft before replaces after ⊎ NamesNothing draft before replaces after
+      → AreChanges limits before → AreChanges limits after
