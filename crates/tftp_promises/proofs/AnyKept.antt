@@ -25,7 +25,7 @@ use Rattle.tftp_rules.specs.Shows.{EndView}
 use Rattle.tftp_rules.specs.ViewSafety.{IsAmong, IsSafeViews, safety_view}
 use Rattle.tftp_rules.proofs.ViewSafe.{shown_safe}
 use Rattle.tftp_promises.specs.ClientRuns.{moved_in}
-use Rattle.tftp_promises.specs.AnyFiles.{HasGiven, HasGot, HasPut, IsEnd, IsOurs, KeepAnyFiles}
+use Rattle.tftp_promises.specs.AnyFiles.{WasGivenBy, HasGot, HasPut, IsEnd, IsOurs, KeepAnyFiles}
 use Rattle.tftp_promises.specs.AnyFiles.{ProgramEnd, Serves, WasGiven, WasOpened, client_end, has_of, peer_of}
 use Rattle.tftp_promises.specs.AnyFiles.{safety_of, transfer_end}
 use Rattle.tftp_promises.specs.Arrived.{ViewsEnd}
@@ -475,7 +475,7 @@ module _ {S F D G K : Type 0} {stores : StoreMeaning S D} {sources : SourceMeani
     its_kept = client_kept 0 k client found
 
     given_by : (files : Files G K) → client.files ≡ files →
-        HasFile programs (By_run 0) client its_kept.end files (moved_in client.runs) → HasGiven programs client
+        HasFile programs (By_run 0) client its_kept.end files (moved_in client.runs) → WasGivenBy programs client
     given_by (Source source) is has = record {
       first = has.given.first;
       is_first = has.given.is_first;
@@ -489,7 +489,7 @@ module _ {S F D G K : Type 0} {stores : StoreMeaning S D} {sources : SourceMeani
         absurd (true≢false (sym sends ∙ (ap (λ (r : Role). is_sender r.side) (sym (run_role client.runs))
         ∙ (ap (λ (e : EndState). is_sender e.role.side) (sym its_kept.state) ∙ has.receiver))))
 
-    has_given : HasGiven programs client
+    has_given : WasGivenBy programs client
     has_given = given_by client.files refl its_kept.has
 
   -- what a complete client was handed

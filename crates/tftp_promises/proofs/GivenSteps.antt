@@ -111,7 +111,7 @@ module _ {S K : Type 0} (sources : SourceMeaning S) (sinks : SinkMeaning K) (x :
     whole = λ l. refl;
   }
 
-  -- a block that was not read is none, if all was sent
+  -- a block that was not read has no bytes, if all was sent
   no_piece : (terms : Terms) (number : ℕ) (h : Sends sources terms number from x.state s turn s') →
       want terms number ≤ length x.left → length (moved.bytes ++ []) ≡ x.state.role.length → h.piece ≡ []
   no_piece terms number h within all =

@@ -1,6 +1,7 @@
 -- The promises of a transfer in the end state of the journals, over any store and any files: what
 -- moved at an end is read off its run.
-use Rattle.std.specs.Prelude.{ℕ, ◌≡◌, ◌⊎◌, true, false, not, List, [], length, slice_get, Option, Some, Ok}
+use Rattle.std.specs.Prelude.{ℕ, ◌≡◌, ◌⊎◌, true, false, not, List, [], length, slice_get}
+use Rattle.std.specs.Prelude.{Option, Some, Ok}
 use Rattle.tftp_wire.specs.Spelling.{Spells}
 use Rattle.tftp_file.specs.Netascii.{wire_text}
 use Rattle.tftp_file.specs.Path.{path_of_name}
@@ -114,8 +115,8 @@ module _ {S F D G K : Type 0} {stores : StoreMeaning S D} {sources : SourceMeani
     pub path : opening.path ≡ transfer.path
     pub role : opening.end.role ≡ transfer.end.role
 
-  -- the store opened a file for the request of the transfer, under its path and in its mode, and the
-  -- source of that file has given since, call by call, what the transfer sent
+  -- the store opened a file for the request of the transfer, under its path and in its mode, and
+  -- the source of that file has given since, call by call, what the transfer sent
   pub record WasGiven (transfer : TransferState F D) (a : Endpoint) : Type 0 where
     pub opening : Opening F
     pub first : StoreOpened programs.server.run transfer.path transfer.request
@@ -128,7 +129,8 @@ module _ {S F D G K : Type 0} {stores : StoreMeaning S D} {sources : SourceMeani
         (moved_at programs a programs.server.run).bytes source
 
   -- the source that a client began with has given since, call by call, what the client sent
-  pub record HasGiven (client : ClientProgram inputs outputs (requests_at programs)) : Type 0 where
+  pub record WasGivenBy (client : ClientProgram inputs outputs (requests_at programs))
+      : Type 0 where
     pub first : G
     pub is_first : client.file ≡ Source first
     pub source : G
@@ -155,7 +157,7 @@ module _ {S F D G K : Type 0} {stores : StoreMeaning S D} {sources : SourceMeani
   pub record HasPut (client : ClientProgram inputs outputs (requests_at programs)) : Type 0 where
     pub peer : Endpoint
     pub serves : Serves peer client
-    pub given : HasGiven client
+    pub given : WasGivenBy client
     pub same_mode : serves.transfer.end.role.mode ≡ client.first.role.mode
     pub stored : wire_text client.first.role.mode (moved_at programs peer programs.server.run).bytes
         ≡ (moved_in client.runs).bytes
@@ -194,7 +196,7 @@ module _ {S F D G K : Type 0} {stores : StoreMeaning S D} {sources : SourceMeani
     -- what a client sends was given by its source
     pub gave : (k : ℕ) (client : ClientProgram inputs outputs (requests_at programs)) →
         slice_get programs.clients k ≡ Some client → is_sender client.first.role.side ≡ true →
-        HasGiven client
+        WasGivenBy client
     -- and all of it, once the client is complete
     pub put : (k : ℕ) (client : ClientProgram inputs outputs (requests_at programs)) →
         slice_get programs.clients k ≡ Some client → is_sender client.first.role.side ≡ true →

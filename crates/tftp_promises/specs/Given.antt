@@ -30,8 +30,8 @@ module _ {S F D : Type 0} {stores : StoreMeaning S D} {sources : SourceMeaning F
   StoreOpened (Then run does) path request mode opening =
       StoreOpens does path request mode opening ⊎ StoreOpened run path request mode opening
 
--- a source gave these bytes since it was opened, which its end sent; and more than these only if the
--- end has closed since, and what it sent is shorter than the file was measured
+-- a source gave these bytes since it was opened, which its end sent; and more than these only if
+-- the end has closed since, and what it sent is shorter than the file was measured
 pub record GaveSince {F : Type 0} (sources : SourceMeaning F) (first : F) (e : EndState)
     (bytes : List ℕ) (last : F) : Type 0 where
   pub rest : List ℕ

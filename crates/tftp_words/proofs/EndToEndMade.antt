@@ -1,6 +1,6 @@
 -- What the file of a complete get was handed is what the server's source gave, and what that of a complete put gave is
 -- what the server's draft was handed.
-use Rattle.std.proofs.Common.{◌≡◌, ℕ, false, List, [], ◌∷◌, ◌++◌, append_assoc, append-nil, length, Some, refl, sym, ap}
+use Rattle.std.proofs.Common.{◌≡◌, ℕ, List, [], ◌∷◌, ◌++◌, append_assoc, append-nil, length, Some, refl, sym, ap}
 use Rattle.std.proofs.Common.{◌∙◌, subst, inl, inr}
 use Rattle.std.specs.Prelude.{slice_get}
 use Rattle.std.specs.List.{AllByRecursion}
@@ -14,7 +14,6 @@ use Rattle.tftp_file.specs.Source.{SourceMeaning, GivesInTurn}
 use Rattle.tftp_file.specs.declared.files.Files.{Files}
 use Rattle.tftp_file.specs.declared.files.Files.TheVariants.{Source, Sink}
 use Rattle.tftp_ends.specs.End.{is_sender}
-use Rattle.tftp_ends.specs.declared.side.Side.{Side}
 use Rattle.tftp_ends.specs.declared.side.Side.TheVariants.{ClientRead, ClientWrite}
 use Rattle.tftp_store.specs.Store.{StoreMeaning}
 use Rattle.tftp_sockets.specs.Journal.{SocketEvent}
@@ -28,7 +27,7 @@ use Rattle.tftp_promises.specs.ClientRuns.{moved_in}
 use Rattle.tftp_promises.specs.Given.{StoreOpened}
 use Rattle.tftp_promises.specs.Openings.{moved_at}
 use Rattle.tftp_promises.specs.Order.{Programs, requests_at}
-use Rattle.tftp_promises.specs.Programs.{ClientProgram, endpoint}
+use Rattle.tftp_promises.specs.Programs.{ClientProgram}
 use Rattle.tftp_words.specs.EndToEnd.{FileDone, GotFile, HasDone, OrderDone, PutFile, WordsDone, WordsMoveFiles}
 use Rattle.tftp_words.specs.Ran.{AreAllRuns, ClientRan, IsRunFor, Job, LastDid, finished_by, finished_in, side_of}
 use Rattle.tftp_words.specs.WordsKept.{WordsKeepAnyFiles}

@@ -23,7 +23,7 @@ use Rattle.tftp_folder.specs.declared.folder_store.FolderStore.{FolderStore}
 use Rattle.tftp_daemon.specs.Leaves.{RunKeepsSettings}
 use Rattle.tftp_promises.specs.Order.{Programs}
 use Rattle.tftp_words.specs.EndToEnd.{FileDone, GotFile, HasDone, OrderDone, WordsDone, WordsMoveFiles}
-use Rattle.tftp_words.specs.FromDisk.{ClientStored, FileStored, FromDiskToDisk, HasStored, OrderStored, WordsStored, ran_of}
+use Rattle.tftp_words.specs.FromDisk.{ClientStored, FileReaches, FromDiskToDisk, ReachesDisk, OrderReaches, WordsReach, ran_of}
 use Rattle.tftp_words.specs.FromDisk.{root}
 use Rattle.tftp_words.specs.Ran.{Job}
 use Rattle.tftp_words.proofs.OpenedAt.{opened_there}
@@ -52,7 +52,7 @@ module _ {S L F D : Type 0} {reads : read.Ghosts F} {writes : write.Ghosts F} {s
 
     its_file : (job : Job) (files : Files S (LocalFile L F D reads writes seeks lists)) (count : ℕ) (bytes : List ℕ) →
         IsOnDisk job files bytes → FileDone programs job files count bytes →
-        FileStored inputs outputs programs job files count bytes
+        FileReaches inputs outputs programs job files count bytes
     its_file job (Source source) count bytes stored done = done
     its_file job (Sink local) count bytes stored done =
         let opens = its_opening job count bytes done in
@@ -67,7 +67,7 @@ module _ {S L F D : Type 0} {reads : read.Ghosts F} {writes : write.Ghosts F} {s
 
     its_order : (job : Job) (status : ℕ) (before after : List SocketEvent)
         (h : RunsOrder inputs outputs job status before after) → OrderOnDisk inputs outputs job status before after h →
-        OrderDone programs job status before after h → OrderStored inputs outputs programs job status before after h
+        OrderDone programs job status before after h → OrderReaches inputs outputs programs job status before after h
     its_order job status before after (inl done) stored moved =
         its_file job done.1.files done.1.count _ stored moved
     its_order job status before after (inr failed) stored moved = tt
@@ -75,14 +75,14 @@ module _ {S L F D : Type 0} {reads : read.Ghosts F} {writes : write.Ghosts F} {s
     its_words : (words : List (List ℕ)) (status : ℕ) (before after : List SocketEvent)
         (h : RunsWords inputs outputs words status before after) →
         WordsOnDisk inputs outputs words status before after h → WordsDone programs words status before after h →
-        WordsStored inputs outputs programs words status before after h
+        WordsReach inputs outputs programs words status before after h
     its_words words status before after (inl none) stored moved = tt
     its_words words status before after (inr did) stored moved =
         its_order did.0 status before after did.2 stored moved
 
     all_stored : (clients : List (ClientStored inputs outputs)) →
         AllByRecursion (HasDone programs) (map (ran_of inputs outputs) clients) →
-        AllByRecursion (HasStored inputs outputs programs) clients
+        AllByRecursion (ReachesDisk inputs outputs programs) clients
     all_stored [] done = tt
     all_stored (client ∷ clients) done = (
       its_words client.words client.status client.before client.after client.stored.0 client.stored.1 done.0,

@@ -1,5 +1,5 @@
 -- What the store opened for a request is a source of its root, if the root stays.
-use Rattle.std.proofs.Common.{◌≡◌, List, ℕ, Ok, Result, refl, subst, inl, inr}
+use Rattle.std.proofs.Common.{◌≡◌, List, ℕ, Result, subst, inl, inr}
 use Rattle.std.specs.Prelude.{IfOk}
 use Rattle.tftp_wire.specs.declared.mode.Mode.{Mode}
 use Rattle.tftp_file.specs.Source.{SourceMeaning}

@@ -29,8 +29,8 @@ use Rattle.tftp_promises.specs.Programs.{endpoint}
 use Rattle.tftp_words.specs.EndToEnd.{GotFile, PutFile}
 use Rattle.tftp_words.specs.Ran.{AllAsk, AreRan, ClientRan, Job, ServerRan, port_of}
 
-module _ {S L F D : Type 0} {reads : read.Ghosts F} {writes : write.Ghosts F} {seeks : seek.Ghosts F}
-    {lists : read.Ghosts D} (inputs : SourceMeaning S)
+module _ {S L F D : Type 0} {reads : read.Ghosts F} {writes : write.Ghosts F}
+    {seeks : seek.Ghosts F} {lists : read.Ghosts D} (inputs : SourceMeaning S)
     (outputs : SinkMeaning (LocalFile L F D reads writes seeks lists)) where
   -- a `tftp` ran these words, with its local file on the disk
   pub record ClientStored : Type 0 where
@@ -53,7 +53,8 @@ module _ {S L F D : Type 0} {reads : read.Ghosts F} {writes : write.Ghosts F} {s
       }
 
   module _ {R G H E B : Type 0} {stores : StoreMeaning (FolderStore R G H) B}
-      {sources : SourceMeaning (FolderSource E)} (programs : Programs stores sources inputs outputs) where
+      {sources : SourceMeaning (FolderSource E)}
+      (programs : Programs stores sources inputs outputs) where
     -- the path of the server's folder, which the words of `tftpd` name (`IsServerRan`)
     abbrev pub root : List ℕ
     root = string_bytes programs.server.start.server.store.folder.root
@@ -71,26 +72,26 @@ module _ {S L F D : Type 0} {reads : read.Ghosts F} {writes : write.Ghosts F} {s
           (wire_text job.mode bytes)
 
     -- a complete job, in whose run these bytes moved
-    abbrev pub FileStored : Job → Files S (LocalFile L F D reads writes seeks lists) → ℕ → List ℕ
+    abbrev pub FileReaches : Job → Files S (LocalFile L F D reads writes seeks lists) → ℕ → List ℕ
         → Type 0
-    FileStored job (Source source) count bytes = PutFile programs job count bytes
-    FileStored job (Sink local) count bytes = IsGot job local count bytes
+    FileReaches job (Source source) count bytes = PutFile programs job count bytes
+    FileReaches job (Sink local) count bytes = IsGot job local count bytes
 
-    abbrev pub OrderStored : (job : Job) (status : ℕ) (before after : List SocketEvent)
+    abbrev pub OrderReaches : (job : Job) (status : ℕ) (before after : List SocketEvent)
         → RunsOrder inputs outputs job status before after → Type 0
-    OrderStored job status before after (inl done) =
-        FileStored job done.1.files done.1.count (moved_by inputs outputs done.1.transfers).bytes
-    OrderStored job status before after (inr failed) = Unit {0}
+    OrderReaches job status before after (inl done) =
+        FileReaches job done.1.files done.1.count (moved_by inputs outputs done.1.transfers).bytes
+    OrderReaches job status before after (inr failed) = Unit {0}
 
     -- and of words
-    abbrev pub WordsStored : (words : List (List ℕ)) (status : ℕ) (before after : List SocketEvent)
+    abbrev pub WordsReach : (words : List (List ℕ)) (status : ℕ) (before after : List SocketEvent)
         → RunsWords inputs outputs words status before after → Type 0
-    WordsStored words status before after (inl none) = Unit {0}
-    WordsStored words status before after (inr did) = OrderStored did.0 status before after did.2
+    WordsReach words status before after (inl none) = Unit {0}
+    WordsReach words status before after (inr did) = OrderReaches did.0 status before after did.2
 
-    abbrev pub HasStored : ClientStored → Type 0
-    HasStored client =
-        WordsStored client.words client.status client.before client.after client.stored.0
+    abbrev pub ReachesDisk : ClientStored → Type 0
+    ReachesDisk client =
+        WordsReach client.words client.status client.before client.after client.stored.0
 
   -- `tftpd` ran these words, and its request port was bound; each `tftp` ran those, which name that
   -- server: then there are programs that noted just that, and in whatever order an honest network
@@ -105,4 +106,4 @@ module _ {S L F D : Type 0} {reads : read.Ghosts F} {writes : write.Ghosts F} {s
       × AreRan server port (map ran_of clients) programs
       × ((order : List Noted) → IsOrder stores sources inputs outputs programs order
       → IsHonest stores sources inputs outputs programs order → ArePortsFresh programs
-      → KeepAnyFiles programs × AllByRecursion (HasStored programs) clients)
+      → KeepAnyFiles programs × AllByRecursion (ReachesDisk programs) clients)

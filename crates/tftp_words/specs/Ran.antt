@@ -86,8 +86,8 @@ pub record Finished : Type 0 where
   pub moved : Moved
 
 -- the job of a command, if it is complete
-abbrev pub finished_by : {G K : Type 0} (inputs : SourceMeaning G) (outputs : SinkMeaning K) (job : Job)
-    (status : ℕ) (before after : List SocketEvent)
+abbrev pub finished_by : {G K : Type 0} (inputs : SourceMeaning G) (outputs : SinkMeaning K)
+    (job : Job) (status : ℕ) (before after : List SocketEvent)
     → RunsOrder inputs outputs job status before after → Option Finished
 finished_by inputs outputs job status before after (inl done) =
     Some (record {
@@ -144,7 +144,8 @@ module _ {G K : Type 0} {inputs : SourceMeaning G} {outputs : SinkMeaning K} whe
       → Type 0
   LastDid None clients = Unit {0}
   LastDid {to} (Some done) clients =
-      (earlier : List (ClientProgram inputs outputs to)) × (client : ClientProgram inputs outputs to)
+      (earlier : List (ClientProgram inputs outputs to))
+      × (client : ClientProgram inputs outputs to)
       × (clients ≡ earlier ++ client ∷ []) × IsRunFor done.job client
       × IsCounted done.count client × (moved_in client.runs ≡ done.moved)
 
