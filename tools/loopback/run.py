@@ -42,7 +42,7 @@ HERE = Path(__file__).resolve()
 # of one server each
 OF_SERVERS = [both_programs, server_alone, server_loop, served_folder, served_disk, options, handed_over, draining]
 MODULES = [*OF_SERVERS, client_alone, command_lines, several_servers, repeated_requests]
-TESTS_AT_LEAST = 192
+TESTS_AT_LEAST = 194
 AT_ONCE = 8
 # The longest time of a test, and of all together, in seconds, however slow the host is
 TEST_LIMIT = float(os.environ.get("LOOPBACK_SECONDS", "600"))

@@ -16,8 +16,9 @@ from servers import MARKED, children_of, is_gone, wait_for_servers, wait_until
 
 # how often shares are tried
 TRIES = 5
-# the longest that servers may outlive their supervisor, in seconds, where the host does not stall
-SOON = 1
+# the longest that servers may outlive their supervisor or one of them, in seconds, and where more programs wait for a
+# processor than two for each
+SOON, SOON_BESIDE_OTHERS = 1, 3
 # how often each kill is tried, at so many ports at once; without LIVES in the environment, for so many seconds at most
 LIVES_ARE_GIVEN = "LIVES" in os.environ
 LIVES, AT_ONCE, LIVES_SECONDS = int(os.environ.get("LIVES", "100")), 5, 20
@@ -72,12 +73,13 @@ def lives(scene, count) -> Iterator[list[Server]]:
         print(f"several servers: {lived} of {LIVES} in {LIVES_SECONDS} s")
 
 
-def is_over(server, pids, begun) -> float:
-    """A supervisor and all its servers are gone, and nobody has their port. Returns the seconds that it took."""
+def is_over_soon(server, pids, begun) -> None:
+    """A supervisor and all its servers are gone soon after this moment, and nobody has their port."""
     wait_until(lambda: server.process.poll() is not None and all(map(is_gone, pids)), "servers that end")
     lasted = time.monotonic() - begun
+    soon = SOON_BESIDE_OTHERS if os.getloadavg()[0] > 2 * (os.cpu_count() or 1) else SOON
+    expect(lasted < soon, True, f"whether {lasted:.3f} s until all servers have ended are less than {soon}")
     expect(is_free(server.address), True, "whether the port is free")
-    return lasted
 
 
 def test_a_server_that_ends_ends_all(scene) -> None:
@@ -92,7 +94,7 @@ def test_a_server_that_ends_ends_all(scene) -> None:
             killed.append((server, pids, next(ends), time.monotonic()))
             os.kill(pids[killed[-1][2][0] - 1], killed[-1][2][1])
         for server, pids, (number, _, name), begun in killed:
-            expect(is_over(server, pids, begun) < SOON, True, "whether all servers end within a second")
+            is_over_soon(server, pids, begun)
             lines = ["tftpd: server fault", f"tftpd: server {number}: signal: {name}"]
             expect(ended(server), (2, [], lines), "what the supervisor says")
 
@@ -103,8 +105,8 @@ def ends_with_its_supervisor(scene, by) -> None:
         killed = [(server, children_of(server.process), time.monotonic()) for server in servers]
         for server in servers:
             os.kill(server.process.pid, by)
-        slowest = max(is_over(*each) for each in killed)
-        expect(slowest < SOON, True, f"whether servers end within a second, where the slowest took {slowest:.3f} s")
+        for each in killed:
+            is_over_soon(*each)
         expect({ended(server)[0] for server in servers}, {-by}, "how the supervisors ended")
 
 
@@ -135,7 +137,7 @@ def test_busy_servers_end_with_their_supervisor(scene) -> None:
             block = block + 1 if block < 1_900 else 1
             expect(time.monotonic() < begun + PATIENCE, True, "whether the servers end")
             time.sleep(0.001)
-        expect(is_over(server, pids, begun) < SOON, True, "whether they end soon")
+        is_over_soon(server, pids, begun)
         expect(ended(server)[0], -by, "how the supervisor ended")
 
 
