@@ -251,10 +251,10 @@ struct tftp_packet {
 /* Reads a datagram, and returns 0 or the number of its first fault. */
 uint8_t tftp_decode(const uint8_t *datagram, size_t datagram_len, struct tftp_packet *packet);
 
-/* Writes the option at this place, from 0, of the request or the OACK that a datagram spells: its name
+/* Writes the option at this index, from 0, of the request or the OACK that a datagram spells: its name
  * and its value, each ended by a zero byte, so that both are C strings. Returns how many bytes they are,
  * or 0: there is none, or they do not fit, or out of memory. TFTP_MAX_REQUEST bytes are enough. */
-size_t tftp_option(const uint8_t *datagram, size_t datagram_len, size_t place, uint8_t *text,
+size_t tftp_option(const uint8_t *datagram, size_t datagram_len, size_t index, uint8_t *text,
                    size_t text_len);
 
 /* As tftp_option, the first option of this name, in any case. */

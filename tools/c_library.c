@@ -207,7 +207,7 @@ static void expect_bytes(const char *what, const uint8_t *found, size_t len, con
     if (len == count) expect(what, memcmp(found, expected, len), 0);
 }
 
-/* A request that is built, its options by place and by name, and what each of these calls refuses. */
+/* A request that is built, its options by index and by name, and what each of these calls refuses. */
 static void packets(void) {
     static const char whole[] = "\0\1boot\0octet\0blksize\0001428\0TSize\0000";
     uint8_t request[TFTP_MAX_REQUEST + 1], text[TFTP_MAX_REQUEST], name[TFTP_MAX_REQUEST], ack[] = {0, 4, 0, 0};

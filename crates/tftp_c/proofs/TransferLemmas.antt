@@ -22,7 +22,7 @@ use Rattle.tftp_c.specs.declared.event.TftpEvent.{TftpEvent}
 use Rattle.tftp_c.specs.declared.slice_sink.SliceSink.{SliceSink}
 use Rattle.tftp_c.specs.Handled.{Received, Sent, Stored, Taken, TimedOut}
 use Rattle.tftp_c.specs.Reports.{Reports, Sends, endpoint_of}
-use Rattle.tftp_c.specs.Served.{StepsAt, Table, Transfer}
+use Rattle.tftp_c.specs.Served.{CallersTransfer, StepsAt, Table}
 use Rattle.tftp_c.proofs.ReplyLemmas.{steps_of, timed_out}
 use Rattle.tftp_c.proofs.StoredLemmas.{seen, stored_made}
 
@@ -50,7 +50,7 @@ some_of {T = T} o x is = subst (λ (p : Option T). IsSome p) (sym is) refl
 
 module _ (tid : ℕ) {does : EndState → EndState → Type 0} (old new : Table) (h : StepsAt tid does old new) where
   -- the transfer after its step
-  abbrev stepped : Transfer
+  abbrev stepped : CallersTransfer
   stepped = with_end h.end h.transfer
 
   stepped_there : at tid new.held ≡ Some stepped
@@ -63,7 +63,7 @@ module _ (tid : ℕ) {does : EndState → EndState → Type 0} (old new : Table)
 
   -- what is known of the end after it
   pub steps_as : (makes : EndState → EndState → Type 0) (after : EndState → Type 0) →
-      ((it : Transfer) → at tid new.held ≡ Some it → after it.end) →
+      ((it : CallersTransfer) → at tid new.held ≡ Some it → after it.end) →
       ((before e : EndState) → does before e → after e → makes before e) →
       StepsAt tid makes old new
   steps_as makes after known then =
@@ -81,10 +81,10 @@ Told step outgoing reply event e = Sends step.to (lent outgoing e) reply event �
 
 module _ (tid : ℕ) (old new : Table) (step : Step) (outgoing : Outgoing) (count : ℕ) (reply : List ℕ)
     (event : TftpEvent)
-    (sends : (it : Transfer) → at tid new.held ≡ Some it → Sends step.to (lent outgoing it.end) reply event)
-    (reports : (it : Transfer) → at tid new.held ≡ Some it → Reports it.end event)
+    (sends : (it : CallersTransfer) → at tid new.held ≡ Some it → Sends step.to (lent outgoing it.end) reply event)
+    (reports : (it : CallersTransfer) → at tid new.held ≡ Some it → Reports it.end event)
     (file : event.file_len ≡ count) (progress : event.progress ≡ step.progress) where
-  told : (it : Transfer) → at tid new.held ≡ Some it → Told step outgoing reply event it.end
+  told : (it : CallersTransfer) → at tid new.held ≡ Some it → Told step outgoing reply event it.end
   told it there = (sends it there, reports it there)
 
   pub received_at : (from : TftpEndpoint) (at : Endpoint) (datagram room bytes : List ℕ) → at ≡ endpoint_of from →
@@ -129,8 +129,8 @@ module _ (tid : ℕ) (old new : Table) (step : Step) (outgoing : Outgoing) (coun
 -- ---- what the server's calls make, as steps of a transfer
 module _ (tid : ℕ) (old new : Table) (step : Step) (outgoing : Outgoing) (rest : new ≡ record old { held = new.held }) where
   -- the table has the transfer after its step
-  with_step : (it : Transfer) → new.held ≡ with_next tid it old.held → new ≡ record old { held = with_next tid it old.held }
-  with_step it held = rest ∙ ap (λ (h : List (ℕ × Transfer)). record old { held = h }) held
+  with_step : (it : CallersTransfer) → new.held ≡ with_next tid it old.held → new ≡ record old { held = with_next tid it old.held }
+  with_step it held = rest ∙ ap (λ (h : List (ℕ × CallersTransfer)). record old { held = h }) held
 
   pub lent_at : TimesOutLent tid old.held new.held step outgoing →
       StepsAt tid (λ before e. Lends before (timeout_turn before) e step.to outgoing

@@ -1,4 +1,4 @@
--- The options of a packet, for C: by their place and by name.
+-- The options of a packet, for C: by their index and by name.
 use Rattle.std.specs.Prelude.{ℕ, ◌≡◌, ◌==◌, ◌-◌, Bool, if◌then◌else◌, List, [], ◌∷◌, Option}
 use Rattle.std.specs.Prelude.{Some, None, length, take, bytes_eq}
 use Rattle.std.specs.Str.{str_to_ascii_lowercase}
@@ -17,10 +17,10 @@ options_of (Ack block) = None
 options_of (Error code text) = None
 options_of (Oack options) = Some options
 
--- the option at this place
+-- the option at this index
 abbrev pub option_at : ℕ → List RawOption → Option RawOption
-option_at place [] = None
-option_at place (o ∷ os) = if place == 0 then Some o else option_at (place - 1) os
+option_at index [] = None
+option_at index (o ∷ os) = if index == 0 then Some o else option_at (index - 1) os
 
 -- the option has this name, in any case
 abbrev pub is_named : List ℕ → RawOption → Bool

@@ -23,8 +23,8 @@ use Rattle.tftp_c.specs.Reports.{endpoint_of}
 use Rattle.tftp_c.specs.Serves.{limits_of, ServesGet, ServesPut}
 
 -- a transfer of such a server, and the server
-abbrev pub Transfer : Type 0
-Transfer = TransferState Absent Absent
+abbrev pub CallersTransfer : Type 0
+CallersTransfer = TransferState Absent Absent
 
 abbrev pub Table : Type 0
 Table = ServerState Elsewhere Absent Absent
@@ -88,7 +88,7 @@ pub record OpensAt (tid : ℕ) (from : TftpEndpoint) (request : List ℕ) (serve
     (old new : Table) : Type 0 where
   pub ask : Ask
   pub admits : Admits old (endpoint_of from) request ask
-  pub transfer : Transfer
+  pub transfer : CallersTransfer
   pub asked : asked_path ask ≡ Some transfer.path
   pub vacant : IsSome (at tid old.held) → ⊥
   pub by_request : transfer.request ≡ request
@@ -97,7 +97,7 @@ pub record OpensAt (tid : ℕ) (from : TftpEndpoint) (request : List ℕ) (serve
 
 -- the transfer that has the identifier makes a step; nothing else changes
 pub record StepsAt (tid : ℕ) (does : EndState → EndState → Type 0) (old new : Table) : Type 0 where
-  pub transfer : Transfer
+  pub transfer : CallersTransfer
   pub found : at tid old.held ≡ Some transfer
   pub end : EndState
   pub steps : does transfer.end end

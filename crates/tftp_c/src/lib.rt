@@ -295,18 +295,18 @@ pub extern "C" fn tftp_error(alloc: Global, code: u16, text: &[u8], datagram: &m
     write_error(alloc, code, text, datagram)
 }
 
-/// Writes the option at this place of the packet that a datagram spells, its name and its value each
+/// Writes the option at this index of the packet that a datagram spells, its name and its value each
 /// ended by a zero byte, and returns how many bytes they are; 0 if there is none.
 #[unsafe(no_mangle)]
 pub extern "C" fn tftp_option(
     alloc: Global,
     datagram: &[u8],
-    place: usize,
+    index: usize,
     text: &mut [u8],
 ) -> usize
-    ensures { (result ≡ 0 → ⊥) → WritesOption (option_at place) datagram.now text.new result }
+    ensures { (result ≡ 0 → ⊥) → WritesOption (option_at index) datagram.now text.new result }
 {
-    options::write_at(alloc, datagram, place, text)
+    options::write_at(alloc, datagram, index, text)
 }
 
 /// As [`tftp_option`], the first option of this name, in any case.

@@ -1,4 +1,4 @@
-//! The options of a packet, for C: by their place and by name.
+//! The options of a packet, for C: by their index and by name.
 
 ghost use Rattle.std.specs.Prelude.{◌≡◌, option_map, length, take, IfSome};
 ghost use Rattle.tftp_wire.specs.Borrowed.{owned, owned_option};
@@ -24,11 +24,11 @@ fn options_of<'a>(packet: &PacketRef<'a>) -> Option<OptionsIter<'a>>
     }
 }
 
-/// The option at this place.
-fn option_at<'a>(mut options: OptionsIter<'a>, place: usize) -> Option<OptionRef<'a>>
-    ensures { option_map owned_option result ≡ option_at place options.entry }
+/// The option at this index.
+fn option_at<'a>(mut options: OptionsIter<'a>, index: usize) -> Option<OptionRef<'a>>
+    ensures { option_map owned_option result ≡ option_at index options.entry }
 {
-    let mut left = place;
+    let mut left = index;
     while let Some(option) = options.next() {
         if left == 0 {
             return Some(option);
@@ -71,13 +71,13 @@ fn write(alloc: Global, option: OptionRef<'_>, text: &mut [u8]) -> usize
     }
 }
 
-/// Writes the option at this place of the packet that the datagram spells.
-pub(crate) fn write_at(alloc: Global, datagram: &[u8], place: usize, text: &mut [u8]) -> usize
-    ensures { (result ≡ 0 → ⊥) → WritesOption (option_at place) datagram.now text.new result }
+/// Writes the option at this index of the packet that the datagram spells.
+pub(crate) fn write_at(alloc: Global, datagram: &[u8], index: usize, text: &mut [u8]) -> usize
+    ensures { (result ≡ 0 → ⊥) → WritesOption (option_at index) datagram.now text.new result }
 {
     match decode_ref(datagram) {
         Ok(packet) => match options_of(&packet) {
-            Some(options) => match option_at(options, place) {
+            Some(options) => match option_at(options, index) {
                 Some(option) => write(alloc, option, text),
                 None => 0,
             },

@@ -6,7 +6,7 @@ ghost use Rattle.tftp_server.specs.CallersFiles.{is_open_receiver, is_open_sende
 ghost use Rattle.tftp_server.specs.State.{at, is_open};
 ghost use Rattle.tftp_c.specs.Handled.{Stored, Taken};
 ghost use Rattle.tftp_c.specs.Reports.{Reports, Sends};
-ghost use Rattle.tftp_c.specs.Served.{ReceivedAt, SentAt, StepsAt, TimedOutAt, Transfer};
+ghost use Rattle.tftp_c.specs.Served.{CallersTransfer, ReceivedAt, SentAt, StepsAt, TimedOutAt};
 
 use crate::elsewhere::Elsewhere;
 use crate::event::{TftpEndpoint, TftpEvent};
@@ -28,9 +28,9 @@ fn report_at(
     event: &mut TftpEvent,
 )
     requires { IsSome (at tid server.now.held) }
-    ensures sends { (it : Transfer) → at tid server.now.held ≡ Some it
+    ensures sends { (it : CallersTransfer) → at tid server.now.held ≡ Some it
         → Sends step.to (lent outgoing it.end) reply.new event.new }
-    ensures reports { (it : Transfer) → at tid server.now.held ≡ Some it
+    ensures reports { (it : CallersTransfer) → at tid server.now.held ≡ Some it
         → Reports it.end event.new }
     ensures file { event.new.file_len ≡ file_len }
     ensures progress { event.new.progress ≡ step.progress }

@@ -6,7 +6,7 @@ use Rattle.tftp_c.proofs.options.write_at.Goals as goal
 
 pub returns-in-Some-option_at : goal.returns-in-Some-option_at
 returns-in-Some-option_at c = λ some.
-    writes_option (option_at c.args.place) c.args.datagram.now c.write.new.text c.write.result
+    writes_option (option_at c.args.index) c.args.datagram.now c.write.new.text c.write.result
     (owned c.in-Ok.packet)
     c.in-Some.options
     (owned_option c.in-Some-option_at.option)
