@@ -3,9 +3,10 @@ use Rattle.std.specs.Prelude.{ℕ, ◌-◌, ◌/◌, nat_lt, Bool, true, false, 
 use Rattle.tftp_flow.specs.declared.flow.Flow.{Flow}
 use Rattle.tftp_flow.specs.declared.flow.moment.Moment.{Moment}
 use Rattle.tftp_flow.specs.declared.flow.moment.Span.{Span}
-use Rattle.tftp_flow.specs.declared.flow.transfer.Ending.{Ending}
-use Rattle.tftp_flow.specs.declared.flow.transfer.Ending.TheVariants.{Open, Complete, Error}
-use Rattle.tftp_flow.specs.declared.flow.transfer.Transfer.{Transfer}
+use Rattle.tftp_flow.specs.declared.flow.captured_transfer.Ending.{Ending}
+use Rattle.tftp_flow.specs.declared.flow.captured_transfer.Ending.TheVariants.{Open, Complete}
+use Rattle.tftp_flow.specs.declared.flow.captured_transfer.Ending.TheVariants.{Error}
+use Rattle.tftp_flow.specs.declared.flow.captured_transfer.CapturedTransfer.{CapturedTransfer}
 
 -- the microseconds of a moment
 abbrev pub micros_of : Moment → ℕ
@@ -31,8 +32,9 @@ reported (Some count) = count
 reported None = 0
 
 -- whether a transfer was silent for longer than its timeouts, at a moment
-abbrev pub is_silent : Moment → Transfer → Bool
-is_silent now transfer = nat_lt (micros_in transfer.silence) (micros_of now - micros_of transfer.newest)
+abbrev pub is_silent : Moment → CapturedTransfer → Bool
+is_silent now transfer =
+    nat_lt (micros_in transfer.silence) (micros_of now - micros_of transfer.newest)
 
 -- whether a second has begun since transfers that are over were dropped
 abbrev pub is_due : Flow → Bool

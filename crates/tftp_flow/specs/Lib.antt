@@ -1,2 +1,2 @@
 pub mod Flow
-pub mod Transfer
+pub mod CapturedTransfer

@@ -2,28 +2,28 @@
 
 ghost use Rattle.std.specs.Prelude.{◌≡◌, ◌<◌, ◌≤◌, ◌↔◌, true, false, max, IfOk, IsSome, OnErr, vec_len};
 ghost use Rattle.tftp_flow.specs.Flow.{Adds, IsSameLines, is_whole, lines_in};
-ghost use Rattle.tftp_flow.specs.Transfer.{is_due, is_silent, micros_of};
+ghost use Rattle.tftp_flow.specs.CapturedTransfer.{is_due, is_silent, micros_of};
 
+mod candidate;
+mod captured_transfer;
 mod choice;
-mod event;
 mod index;
 mod json;
 mod line;
 mod moment;
 mod picture;
-mod place;
 mod recent;
 mod report;
 mod seen;
-mod transfer;
+mod transfer_datagram;
 
+use crate::flow::candidate::{Candidate, Candidates};
+use crate::flow::captured_transfer::Part;
 use crate::flow::index::Index;
 use crate::flow::line::read_fields;
-use crate::flow::place::{Place, Places};
 use crate::flow::recent::{Owner, Recent, index_of};
 use crate::flow::seen::line_of;
-use crate::flow::transfer::Part;
-pub use event::{Event, Party, What};
+pub use captured_transfer::{Aside, CapturedTransfer, Ending, Why};
 pub use json::Json;
 pub use line::LineFault;
 pub use moment::{Moment, Span};
@@ -32,7 +32,7 @@ pub use seen::{Seen, Spot, show_seen};
 use std::alloc::{AllocError, Global};
 use std::net::SocketAddrV4;
 use tftp_diagram::Diagram;
-pub use transfer::{Aside, Ending, Transfer, Why};
+pub use transfer_datagram::{Party, TransferDatagram, What};
 
 /// The most transfers of one client's endpoint that a datagram is looked for in.
 const MOST_OF_PORT: usize = 16;
@@ -42,7 +42,7 @@ const MOST_OF_PORT: usize = 16;
 pub struct Flow {
     alloc: Global,
     /// The transfers, in the order of their requests.
-    pub transfers: Vec<Transfer>,
+    pub transfers: Vec<CapturedTransfer>,
     /// The datagrams that are of no transfer.
     pub strays: Vec<Stray>,
     /// The lines that are no datagrams.
@@ -85,7 +85,7 @@ pub struct Unread {
 
 /// Where a datagram was put.
 #[derive(Clone, Copy)]
-pub enum Placed {
+pub enum Assigned {
     /// It begins a transfer, the last of all.
     Begun,
     /// It was given to the transfer of this index.
@@ -124,8 +124,8 @@ impl Flow {
     /// not read.
     ///
     /// It fails only when out of memory, and the line is then in none of these.
-    pub fn add_line(&mut self, number: u64, text: &[u8]) -> Result<Placed, AllocError>
-        ensures ok { IfOk result (λ placed. Adds self.old self.new placed) }
+    pub fn add_line(&mut self, number: u64, text: &[u8]) -> Result<Assigned, AllocError>
+        ensures ok { IfOk result (λ assigned. Adds self.old self.new assigned) }
         ensures err { OnErr result (IsSameLines self.old self.new) }
     {
         match read_fields(self.alloc, text)? {
@@ -144,29 +144,29 @@ impl Flow {
     /// Adds a datagram: it begins a transfer, or is given to one, or is of none, or is ignored.
     ///
     /// It fails only when out of memory, and the datagram is then in none of these.
-    pub fn add_seen(&mut self, seen: &Seen<'_>) -> Result<Placed, AllocError>
-        ensures ok { IfOk result (λ placed. Adds self.old self.new placed) }
+    pub fn add_seen(&mut self, seen: &Seen<'_>) -> Result<Assigned, AllocError>
+        ensures ok { IfOk result (λ assigned. Adds self.old self.new assigned) }
         ensures err { OnErr result (IsSameLines self.old self.new) }
         ensures newest { micros_of self.new.newest
             ≡ max (micros_of self.old.newest) (micros_of seen.now.at) }
     {
         let newest = self.newest.later(seen.at);
-        let placed = self.put(seen);
+        let assigned = self.put(seen);
         self.newest = newest;
-        placed
+        assigned
     }
 
     /// Puts a datagram where it belongs.
-    fn put(&mut self, seen: &Seen<'_>) -> Result<Placed, AllocError>
-        ensures ok { IfOk result (λ placed. Adds self.old self.new placed) }
+    fn put(&mut self, seen: &Seen<'_>) -> Result<Assigned, AllocError>
+        ensures ok { IfOk result (λ assigned. Adds self.old self.new assigned) }
         ensures err { OnErr result (IsSameLines self.old self.new) }
     {
         let what = What::of(seen.bytes, seen.length);
-        match self.place_of(seen, what) {
-            Some(place) => self.give(place, seen, what),
+        match self.candidate_of(seen, what) {
+            Some(candidate) => self.give(candidate, seen, what),
             None if what.is_request() && self.is_at_port(seen.to) => self.begin(seen, what),
             None if self.is_at_port(seen.to) || self.is_at_port(seen.from) => self.add_stray(seen),
-            None => Ok(Placed::Ignored),
+            None => Ok(Assigned::Ignored),
         }
     }
 
@@ -197,7 +197,7 @@ impl Flow {
     }
 
     /// Whether a transfer is over: it has been silent for its timeouts.
-    pub fn is_over(&self, transfer: &Transfer) -> bool
+    pub fn is_over(&self, transfer: &CapturedTransfer) -> bool
         ensures { result ≡ is_silent self.now.newest transfer.now }
     {
         transfer.is_silent(self.newest)
@@ -227,25 +227,25 @@ impl Flow {
     }
 
     /// The transfer that a datagram belongs to.
-    fn place_of(&mut self, seen: &Seen<'_>, what: What) -> Option<Place>
+    fn candidate_of(&mut self, seen: &Seen<'_>, what: What) -> Option<Candidate>
         ensures { IsSameLines self.old self.new }
     {
-        let at_hand = self.place_at_hand(seen, what);
+        let at_hand = self.candidate_at_hand(seen, what);
         if at_hand.is_some() {
             return at_hand;
         }
-        let mut places = Places::new();
-        self.look(self.index.of_client(seen.from), seen, what, &mut places);
-        self.look(self.index.of_client(seen.to), seen, what, &mut places);
-        self.look_at(self.index.of_server(seen.from), seen, what, &mut places);
-        self.look_at(self.index.of_server(seen.to), seen, what, &mut places);
-        places.chosen()
+        let mut candidates = Candidates::new();
+        self.look(self.index.of_client(seen.from), seen, what, &mut candidates);
+        self.look(self.index.of_client(seen.to), seen, what, &mut candidates);
+        self.look_at(self.index.of_server(seen.from), seen, what, &mut candidates);
+        self.look_at(self.index.of_server(seen.to), seen, what, &mut candidates);
+        candidates.chosen()
     }
 
     /// The transfer that a datagram belongs to, where one end alone is a client's, and it is between
     /// the two ends of that one's newest transfer. No other transfer is chosen before this one: what
     /// has the same two ends is older, and so is what waits for an answer there.
-    fn place_at_hand(&mut self, seen: &Seen<'_>, what: What) -> Option<Place>
+    fn candidate_at_hand(&mut self, seen: &Seen<'_>, what: What) -> Option<Candidate>
         ensures { IsSameLines self.old self.new }
     {
         let transfers = self.transfers.as_slice();
@@ -258,7 +258,7 @@ impl Flow {
             (Owner::Nobody, Owner::Nobody) => return None,
         };
         match transfers.get(index)?.part_of(seen, what)? {
-            Part::Own(by) if !what.is_request() => Some(Place {
+            Part::Own(by) if !what.is_request() => Some(Candidate {
                 index,
                 part: Part::Own(by),
             }),
@@ -267,13 +267,13 @@ impl Flow {
     }
 
     /// Looks at the newest transfer of a client's endpoint, and at those before it.
-    fn look(&self, newest: Option<u64>, seen: &Seen<'_>, what: What, places: &mut Places) {
+    fn look(&self, newest: Option<u64>, seen: &Seen<'_>, what: What, candidates: &mut Candidates) {
         let mut next = newest;
         for _ in 0..MOST_OF_PORT {
             if next.is_none() {
                 return;
             }
-            next = self.look_at(next, seen, what, places);
+            next = self.look_at(next, seen, what, candidates);
         }
     }
 
@@ -283,25 +283,30 @@ impl Flow {
         number: Option<u64>,
         seen: &Seen<'_>,
         what: What,
-        places: &mut Places,
+        candidates: &mut Candidates,
     ) -> Option<u64> {
         let index = index_of(self.transfers.as_slice(), number?)?;
         let transfer = self.transfers.get(index)?;
         if let Some(part) = transfer.part_of(seen, what) {
-            places.add(Place { index, part }, transfer.is_open());
+            candidates.add(Candidate { index, part }, transfer.is_open());
         }
         transfer.before
     }
 
     /// Gives a datagram to a transfer.
-    fn give(&mut self, place: Place, seen: &Seen<'_>, what: What) -> Result<Placed, AllocError>
-        ensures ok { IfOk result (λ placed. Adds self.old self.new placed) }
+    fn give(
+        &mut self,
+        candidate: Candidate,
+        seen: &Seen<'_>,
+        what: What,
+    ) -> Result<Assigned, AllocError>
+        ensures ok { IfOk result (λ assigned. Adds self.old self.new assigned) }
         ensures err { OnErr result (IsSameLines self.old self.new) }
     {
-        match place.part {
-            Part::Own(by) => self.give_own(place.index, seen, what, by),
-            Part::Answer => self.give_answer(place.index, seen, what),
-            Part::Beside(why) => self.give_aside(place.index, seen, why),
+        match candidate.part {
+            Part::Own(by) => self.give_own(candidate.index, seen, what, by),
+            Part::Answer => self.give_answer(candidate.index, seen, what),
+            Part::Beside(why) => self.give_aside(candidate.index, seen, why),
         }
     }
 
@@ -311,15 +316,15 @@ impl Flow {
         seen: &Seen<'_>,
         what: What,
         by: Party,
-    ) -> Result<Placed, AllocError>
-        ensures ok { IfOk result (λ placed. Adds self.old self.new placed) }
+    ) -> Result<Assigned, AllocError>
+        ensures ok { IfOk result (λ assigned. Adds self.old self.new assigned) }
         ensures err { OnErr result (IsSameLines self.old self.new) }
     {
         let Some(transfer) = self.transfers.get_mut(index) else {
             return self.add_stray(seen);
         };
         transfer.add(seen, what, by)?;
-        Ok(Placed::Given(index))
+        Ok(Assigned::Given(index))
     }
 
     /// Gives the first answer, whose source is the server's end.
@@ -328,8 +333,8 @@ impl Flow {
         index: usize,
         seen: &Seen<'_>,
         what: What,
-    ) -> Result<Placed, AllocError>
-        ensures ok { IfOk result (λ placed. Adds self.old self.new placed) }
+    ) -> Result<Assigned, AllocError>
+        ensures ok { IfOk result (λ assigned. Adds self.old self.new assigned) }
         ensures err { OnErr result (IsSameLines self.old self.new) }
     {
         let Some(transfer) = self.transfers.get(index) else {
@@ -340,23 +345,28 @@ impl Flow {
         self.give_own(index, seen, what, Party::Server)
     }
 
-    fn give_aside(&mut self, index: usize, seen: &Seen<'_>, why: Why) -> Result<Placed, AllocError>
-        ensures ok { IfOk result (λ placed. Adds self.old self.new placed) }
+    fn give_aside(
+        &mut self,
+        index: usize,
+        seen: &Seen<'_>,
+        why: Why,
+    ) -> Result<Assigned, AllocError>
+        ensures ok { IfOk result (λ assigned. Adds self.old self.new assigned) }
         ensures err { OnErr result (IsSameLines self.old self.new) }
     {
         let Some(transfer) = self.transfers.get_mut(index) else {
             return self.add_stray(seen);
         };
         transfer.add_aside(seen, why)?;
-        Ok(Placed::Given(index))
+        Ok(Assigned::Given(index))
     }
 
-    fn begin(&mut self, seen: &Seen<'_>, what: What) -> Result<Placed, AllocError>
-        ensures ok { IfOk result (λ placed. Adds self.old self.new placed) }
+    fn begin(&mut self, seen: &Seen<'_>, what: What) -> Result<Assigned, AllocError>
+        ensures ok { IfOk result (λ assigned. Adds self.old self.new assigned) }
         ensures err { OnErr result (IsSameLines self.old self.new) }
     {
         let number = self.begun.saturating_add(1);
-        let mut transfer = Transfer::new(self.alloc, number, seen, what)?;
+        let mut transfer = CapturedTransfer::new(self.alloc, number, seen, what)?;
         self.recent.open()?;
         self.recent.forget(seen.from);
         let before = self.index.of_client(seen.from);
@@ -365,7 +375,7 @@ impl Flow {
         self.transfers.push(transfer)?;
         self.link(before, number);
         self.begun = number;
-        Ok(Placed::Begun)
+        Ok(Assigned::Begun)
     }
 
     /// Notes which transfer comes after one from its client's endpoint.
@@ -383,8 +393,8 @@ impl Flow {
         }
     }
 
-    fn add_stray(&mut self, seen: &Seen<'_>) -> Result<Placed, AllocError>
-        ensures ok { IfOk result (λ placed. Adds self.old self.new placed) }
+    fn add_stray(&mut self, seen: &Seen<'_>) -> Result<Assigned, AllocError>
+        ensures ok { IfOk result (λ assigned. Adds self.old self.new assigned) }
         ensures err { OnErr result (IsSameLines self.old self.new) }
     {
         let text = line_of(self.alloc, seen)?;
@@ -395,15 +405,15 @@ impl Flow {
             text,
         })?;
         self.whole = false;
-        Ok(Placed::Stray)
+        Ok(Assigned::Stray)
     }
 
-    fn add_unread(&mut self, line: u64, fault: LineFault) -> Result<Placed, AllocError>
-        ensures ok { IfOk result (λ placed. Adds self.old self.new placed) }
+    fn add_unread(&mut self, line: u64, fault: LineFault) -> Result<Assigned, AllocError>
+        ensures ok { IfOk result (λ assigned. Adds self.old self.new assigned) }
         ensures err { OnErr result (IsSameLines self.old self.new) }
     {
         self.unread.push(Unread { line, fault })?;
         self.whole = false;
-        Ok(Placed::Unread)
+        Ok(Assigned::Unread)
     }
 }

@@ -8,6 +8,6 @@
 mod flow;
 
 pub use flow::{
-    Aside, Ended, Ending, Event, Flow, Json, LineFault, Moment, Opened, Party, Placed, Seen, Span,
-    Spot, Stray, Transfer, Unread, What, Why, show_seen,
+    Aside, Assigned, CapturedTransfer, Ended, Ending, Flow, Json, LineFault, Moment, Opened, Party,
+    Seen, Span, Spot, Stray, TransferDatagram, Unread, What, Why, show_seen,
 };

@@ -34,7 +34,8 @@ spells_packet (Err e) = false
 
 -- whether all lines are packets; a carriage return at the end of a line is part of its line end
 abbrev pub are_packets : List ℕ → Bool
-are_packets input = list_all (λ line. spells_packet (decode_of (strip_last 13 line))) (lines_of input)
+are_packets input =
+    list_all (λ line. spells_packet (decode_of (strip_last 13 line))) (lines_of input)
 
 -- the output for an input: a line for each line
 abbrev pub input_shown : List ℕ → List ℕ

@@ -10,7 +10,9 @@ use std::alloc::Global;
 use std::io::Write;
 use tftp_capture::{CaptureFault, FrameFault, Record, read_datagram};
 use tftp_diagram::Diagram;
-use tftp_flow::{Ended, Flow, Json, Moment, Opened, Placed, Seen, Spot, Transfer, show_seen};
+use tftp_flow::{
+    Assigned, CapturedTransfer, Ended, Flow, Json, Moment, Opened, Seen, Spot, show_seen,
+};
 
 /// The frames that have no datagram.
 #[derive(Clone, Copy)]
@@ -76,8 +78,8 @@ impl<W: Write> Printer<W> {
 
     /// Adds a line of a capture.
     pub(crate) fn add_line(&mut self, number: u64, line: &[u8]) -> Result<(), ShowFault> {
-        let placed = self.flow.add_line(number, line)?;
-        self.print_placed(placed)
+        let assigned = self.flow.add_line(number, line)?;
+        self.print_assigned(assigned)
     }
 
     /// Adds a frame of a capture.
@@ -97,11 +99,11 @@ impl<W: Write> Printer<W> {
             bytes: datagram.payload,
             length: datagram.length,
         };
-        let placed = self.flow.add_seen(&seen)?;
-        if self.task.style == Style::Packets && !matches!(placed, Placed::Ignored) {
+        let assigned = self.flow.add_seen(&seen)?;
+        if self.task.style == Style::Packets && !matches!(assigned, Assigned::Ignored) {
             self.print_packet(&seen)?;
         }
-        self.print_placed(placed)
+        self.print_assigned(assigned)
     }
 
     /// Prints what ended, if no more input is at hand and that is wanted.
@@ -203,12 +205,12 @@ impl<W: Write> Printer<W> {
     }
 
     /// Prints what a datagram changed.
-    fn print_placed(&mut self, placed: Placed) -> Result<(), ShowFault> {
-        match placed {
-            Placed::Begun => self.print_begun()?,
-            Placed::Given(index) => self.print_given(index)?,
-            Placed::Stray | Placed::Unread => self.print_others()?,
-            Placed::Ignored => {}
+    fn print_assigned(&mut self, assigned: Assigned) -> Result<(), ShowFault> {
+        match assigned {
+            Assigned::Begun => self.print_begun()?,
+            Assigned::Given(index) => self.print_given(index)?,
+            Assigned::Stray | Assigned::Unread => self.print_others()?,
+            Assigned::Ignored => {}
         }
         if self.flow.is_due() {
             self.print_over()?;
@@ -331,7 +333,7 @@ impl<W: Write> Printer<W> {
 fn write_transfer<W: Write>(
     output: &mut W,
     style: Style,
-    transfer: &Transfer,
+    transfer: &CapturedTransfer,
 ) -> Result<(), ShowFault> {
     match style {
         Style::Packets => {}

@@ -1,31 +1,31 @@
 //! Where a datagram belongs, among the transfers that have one of its endpoints.
 
-use crate::flow::transfer::Part;
+use crate::flow::captured_transfer::Part;
 
 /// A transfer, by its index, and how a datagram belongs to it.
 #[derive(Clone, Copy)]
-pub(crate) struct Place {
+pub(crate) struct Candidate {
     pub(crate) index: usize,
     pub(crate) part: Part,
 }
 
 /// The newest transfers that a datagram may belong to, of each kind.
 #[derive(Clone, Copy)]
-pub(crate) struct Places {
+pub(crate) struct Candidates {
     /// It is between the endpoints of this one.
-    own: Option<Place>,
+    own: Option<Candidate>,
     /// The same, and this one is open.
-    open: Option<Place>,
+    open: Option<Candidate>,
     /// It is the first answer to this one.
-    answer: Option<Place>,
+    answer: Option<Candidate>,
     /// It has a port of this one.
-    beside: Option<Place>,
+    beside: Option<Candidate>,
 }
 
-impl Places {
+impl Candidates {
     /// None so far.
-    pub(crate) fn new() -> Places {
-        Places {
+    pub(crate) fn new() -> Candidates {
+        Candidates {
             own: None,
             open: None,
             answer: None,
@@ -34,23 +34,23 @@ impl Places {
     }
 
     /// Adds a transfer.
-    pub(crate) fn add(&mut self, place: Place, is_open: bool) {
-        match place.part {
+    pub(crate) fn add(&mut self, candidate: Candidate, is_open: bool) {
+        match candidate.part {
             Part::Own(_) => {
-                self.own = newer(self.own, place);
+                self.own = newer(self.own, candidate);
                 if is_open {
-                    self.open = newer(self.open, place);
+                    self.open = newer(self.open, candidate);
                 }
             }
-            Part::Answer => self.answer = newer(self.answer, place),
-            Part::Beside(_) => self.beside = newer(self.beside, place),
+            Part::Answer => self.answer = newer(self.answer, candidate),
+            Part::Beside(_) => self.beside = newer(self.beside, candidate),
         }
     }
 
     /// The transfer that the datagram belongs to: the newest between its two endpoints, or else the
     /// newest whose port it has. One that is still without an answer comes before an older one that
     /// ended, since ports are used again.
-    pub(crate) fn chosen(self) -> Option<Place> {
+    pub(crate) fn chosen(self) -> Option<Candidate> {
         if is_after(self.own, self.answer) {
             return self.own;
         }
@@ -58,15 +58,15 @@ impl Places {
     }
 }
 
-fn newer(so_far: Option<Place>, place: Place) -> Option<Place> {
+fn newer(so_far: Option<Candidate>, candidate: Candidate) -> Option<Candidate> {
     match so_far {
-        Some(other) if other.index >= place.index => so_far,
-        _ => Some(place),
+        Some(other) if other.index >= candidate.index => so_far,
+        _ => Some(candidate),
     }
 }
 
 /// Whether the first is there, and newer than the second.
-fn is_after(first: Option<Place>, second: Option<Place>) -> bool {
+fn is_after(first: Option<Candidate>, second: Option<Candidate>) -> bool {
     let Some(first) = first else {
         return false;
     };

@@ -2,11 +2,11 @@
 
 ghost use Rattle.std.specs.Prelude.{◌≡◌, ◌+◌, ◌-◌, IfOk, OnErr, OnOk, Some, is_some};
 ghost use Rattle.tftp_flow.specs.Flow.{given_to};
-ghost use Rattle.tftp_flow.specs.Transfer.{is_open, is_silent, reported};
+ghost use Rattle.tftp_flow.specs.CapturedTransfer.{is_open, is_silent, reported};
 
-use crate::flow::event::{Event, Party, What};
 use crate::flow::moment::{Moment, Span};
 use crate::flow::seen::{Seen, Spot, is_same, line_of};
+use crate::flow::transfer_datagram::{Party, TransferDatagram, What};
 use std::alloc::{AllocError, Global};
 use std::fmt;
 use std::net::SocketAddrV4;
@@ -87,7 +87,7 @@ pub enum Ending {
 
 /// A transfer of a capture.
 #[derive(Drop)]
-pub struct Transfer {
+pub struct CapturedTransfer {
     alloc: Global,
     /// Its number, by the order of the requests, counted from 1.
     pub number: u64,
@@ -112,7 +112,7 @@ pub struct Transfer {
     pub agreed: Option<String>,
     block_size: usize,
     /// The datagrams that were sent by one end to the other, in order.
-    pub events: Vec<Event>,
+    pub datagrams: Vec<TransferDatagram>,
     /// The datagrams that have a port of the transfer and are not of it.
     pub asides: Vec<Aside>,
     newest_data: Option<u16>,
@@ -129,20 +129,20 @@ pub struct Transfer {
     told: Option<usize>,
 }
 
-impl Transfer {
+impl CapturedTransfer {
     /// The transfer that a request begins.
     pub(crate) fn new(
         alloc: Global,
         number: u64,
         seen: &Seen<'_>,
         what: What,
-    ) -> Result<Transfer, AllocError>
+    ) -> Result<CapturedTransfer, AllocError>
         ensures { IfOk result (λ transfer. given_to transfer ≡ 1) }
     {
         let request = line_of(alloc, seen)?;
         let request_bytes = Vec::from_slice(alloc, seen.bytes)?;
-        let mut events = Vec::new(alloc);
-        events.push(Event {
+        let mut datagrams = Vec::new(alloc);
+        datagrams.push(TransferDatagram {
             spot: seen.spot,
             at: seen.at,
             by: Party::Client,
@@ -150,7 +150,7 @@ impl Transfer {
             gap: None,
             is_cut: seen.is_cut(),
         })?;
-        Ok(Transfer {
+        Ok(CapturedTransfer {
             alloc,
             number,
             before: None,
@@ -166,7 +166,7 @@ impl Transfer {
             silence: Span::of_seconds(SILENCE),
             agreed: None,
             block_size: DEFAULT_BLOCK,
-            events,
+            datagrams,
             asides: Vec::new(alloc),
             newest_data: None,
             newest_ack: None,
@@ -242,7 +242,7 @@ impl Transfer {
     {
         let gap = self.gap_of(seen.at, what, by);
         self.learn_text(seen, what, by)?;
-        self.events.push(Event {
+        self.datagrams.push(TransferDatagram {
             spot: seen.spot,
             at: seen.at,
             by,
@@ -287,11 +287,11 @@ impl Transfer {
             return None;
         }
         let before = self
-            .events
+            .datagrams
             .iter()
             .rev()
             .take(LOOK_BACK)
-            .find(|event| event.by == by && event.what == what)?;
+            .find(|datagram| datagram.by == by && datagram.what == what)?;
         Some(at.since(before.at))
     }
 
@@ -408,7 +408,7 @@ impl Transfer {
     fn len(&self) -> usize
         ensures { result ≡ given_to self.now }
     {
-        self.events.len().saturating_add(self.asides.len())
+        self.datagrams.len().saturating_add(self.asides.len())
     }
 
     /// Whether it is over at a moment: it was silent for its timeouts.
@@ -420,17 +420,17 @@ impl Transfer {
 
     /// The number of its datagrams that were sent again.
     pub(crate) fn again(&self) -> usize {
-        self.events.iter().filter(|it| it.gap.is_some()).count()
+        self.datagrams.iter().filter(|it| it.gap.is_some()).count()
     }
 
     /// The number of its datagrams of which the beginning alone was seen.
     pub(crate) fn cut(&self) -> usize {
-        self.events.iter().filter(|it| it.is_cut).count()
+        self.datagrams.iter().filter(|it| it.is_cut).count()
     }
 
     /// How long after its request its last datagram was seen.
     pub(crate) fn lasted(&self) -> Span {
-        match self.events.last() {
+        match self.datagrams.last() {
             Some(last) => self.time_of(last.at),
             None => self.time_of(self.began),
         }

@@ -1,7 +1,7 @@
 //! Which datagrams of a transfer are drawn: all if each has a row, or else the first, the last and
 //! those around a repeat.
 
-use crate::flow::event::Event;
+use crate::flow::transfer_datagram::TransferDatagram;
 use std::alloc::{AllocError, Global};
 
 /// The datagrams at the start of a long transfer that are drawn.
@@ -26,20 +26,24 @@ pub(crate) struct Choice {
 impl Choice {
     /// The choice for so many rows. Of a long transfer each repeat is drawn with what it repeats
     /// and the first answer to that, from the first repeat on, while there are rows for them.
-    pub(crate) fn new(alloc: Global, events: &[Event], rows: usize) -> Result<Choice, AllocError> {
+    pub(crate) fn new(
+        alloc: Global,
+        datagrams: &[TransferDatagram],
+        rows: usize,
+    ) -> Result<Choice, AllocError> {
         let mut choice = Choice {
             drawn: Vec::new(alloc),
             rows: FIRST + LAST + 1,
         };
-        let is_long = events.len() > rows;
-        let last = events.len().saturating_sub(LAST);
-        for index in 0..events.len() {
+        let is_long = datagrams.len() > rows;
+        let last = datagrams.len().saturating_sub(LAST);
+        for index in 0..datagrams.len() {
             choice
                 .drawn
                 .push(!is_long || index < FIRST || index >= last)?;
         }
         if is_long {
-            choice.add_repeats(events, rows);
+            choice.add_repeats(datagrams, rows);
         }
         Ok(choice)
     }
@@ -49,22 +53,27 @@ impl Choice {
         self.drawn.get(index).copied().unwrap_or(false)
     }
 
-    fn add_repeats(&mut self, events: &[Event], rows: usize) {
-        for (index, event) in events.iter().enumerate() {
-            if event.gap.is_some() && self.rows.saturating_add(REPEAT_ROWS) <= rows {
-                self.add_repeat(events, index, event);
+    fn add_repeats(&mut self, datagrams: &[TransferDatagram], rows: usize) {
+        for (index, datagram) in datagrams.iter().enumerate() {
+            if datagram.gap.is_some() && self.rows.saturating_add(REPEAT_ROWS) <= rows {
+                self.add_repeat(datagrams, index, datagram);
             }
         }
     }
 
-    fn add_repeat(&mut self, events: &[Event], index: usize, event: &Event) {
+    fn add_repeat(
+        &mut self,
+        datagrams: &[TransferDatagram],
+        index: usize,
+        datagram: &TransferDatagram,
+    ) {
         self.add(index);
-        let Some((before, repeated)) = repeated_by(events, index, event) else {
+        let Some((before, repeated)) = repeated_by(datagrams, index, datagram) else {
             return;
         };
         self.add(before);
         if repeated.gap.is_none() {
-            if let Some(answer) = answer_to(events, before, repeated) {
+            if let Some(answer) = answer_to(datagrams, before, repeated) {
                 self.add(answer);
             }
         }
@@ -91,17 +100,25 @@ impl Choice {
 }
 
 /// The newest datagram before this one that it repeats.
-fn repeated_by<'e>(events: &'e [Event], index: usize, event: &Event) -> Option<(usize, &'e Event)> {
-    let mut earlier = events.iter().enumerate().take(index).rev();
-    earlier.find(|(_, it)| it.by == event.by && it.what == event.what)
+fn repeated_by<'e>(
+    datagrams: &'e [TransferDatagram],
+    index: usize,
+    datagram: &TransferDatagram,
+) -> Option<(usize, &'e TransferDatagram)> {
+    let mut earlier = datagrams.iter().enumerate().take(index).rev();
+    earlier.find(|(_, it)| it.by == datagram.by && it.what == datagram.what)
 }
 
 /// The first datagram of the other end after this one that repeats nothing.
-fn answer_to(events: &[Event], index: usize, event: &Event) -> Option<usize> {
-    events
+fn answer_to(
+    datagrams: &[TransferDatagram],
+    index: usize,
+    datagram: &TransferDatagram,
+) -> Option<usize> {
+    datagrams
         .iter()
         .enumerate()
         .skip(index)
-        .find(|(_, after)| after.by != event.by && after.gap.is_none())
+        .find(|(_, after)| after.by != datagram.by && after.gap.is_none())
         .map(|(answer, _)| answer)
 }

@@ -1,8 +1,8 @@
 //! Which transfers an endpoint has, by their numbers.
 
+use crate::flow::captured_transfer::CapturedTransfer;
 use crate::flow::moment::Moment;
 use crate::flow::recent::index_of;
-use crate::flow::transfer::Transfer;
 use std::alloc::{AllocError, Global};
 use std::collections::BTreeMap;
 use std::net::SocketAddrV4;
@@ -45,7 +45,7 @@ impl Index {
     }
 
     /// Forgets the transfers that are over.
-    pub(crate) fn remove_silent(&mut self, transfers: &mut [Transfer], now: Moment) {
+    pub(crate) fn remove_silent(&mut self, transfers: &mut [CapturedTransfer], now: Moment) {
         for index in 0..transfers.len() {
             if let Some(entry) = Entry::of_silent(transfers, index, now) {
                 self.remove(entry);
@@ -90,7 +90,7 @@ struct Entry {
 
 impl Entry {
     /// The entry of the transfer at an index, if it is over.
-    fn of_silent(transfers: &[Transfer], index: usize, now: Moment) -> Option<Entry> {
+    fn of_silent(transfers: &[CapturedTransfer], index: usize, now: Moment) -> Option<Entry> {
         let transfer = transfers.get(index)?;
         if !transfer.is_silent(now) {
             return None;
@@ -105,7 +105,7 @@ impl Entry {
     }
 
     /// Links the transfers before and after it with each other.
-    fn unlink(self, transfers: &mut [Transfer]) {
+    fn unlink(self, transfers: &mut [CapturedTransfer]) {
         if let Some(before) = found(transfers, self.before) {
             before.after = self.after;
         }
@@ -116,7 +116,7 @@ impl Entry {
 }
 
 /// The transfer of a number.
-fn found(transfers: &mut [Transfer], number: Option<u64>) -> Option<&mut Transfer> {
+fn found(transfers: &mut [CapturedTransfer], number: Option<u64>) -> Option<&mut CapturedTransfer> {
     let index = index_of(transfers, number?)?;
     transfers.get_mut(index)
 }

@@ -1,13 +1,13 @@
 //! A transfer as an object of JSON (RFC 8259), on one line.
 
-use crate::flow::event::Party;
-use crate::flow::transfer::{Ending, Transfer};
+use crate::flow::captured_transfer::{CapturedTransfer, Ending};
+use crate::flow::transfer_datagram::Party;
 use std::fmt;
 use std::net::SocketAddrV4;
 
 /// A transfer as an object of JSON.
 #[derive(Clone, Copy)]
-pub struct Json<'t>(pub &'t Transfer);
+pub struct Json<'t>(pub &'t CapturedTransfer);
 
 impl fmt::Display for Json<'_> {
     fn fmt<W: fmt::Write>(&self, f: &mut fmt::Formatter<W>) -> fmt::Result {
@@ -47,7 +47,7 @@ impl Json<'_> {
             f,
             ",\"block_size\":{size},\"blocks\":{blocks},\"bytes\":{bytes}"
         )?;
-        let (datagrams, again) = (self.0.events.len(), self.0.again());
+        let (datagrams, again) = (self.0.datagrams.len(), self.0.again());
         write!(f, ",\"datagrams\":{datagrams},\"again\":{again}")?;
         let (beside, cut) = (self.0.asides.len(), self.0.cut());
         write!(f, ",\"beside\":{beside},\"cut\":{cut}")

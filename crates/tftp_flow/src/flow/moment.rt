@@ -1,7 +1,7 @@
 //! When a datagram was seen, and how long after another.
 
 ghost use Rattle.std.specs.Prelude.{◌≡◌, ◌-◌, max, nat_lt};
-ghost use Rattle.tftp_flow.specs.Transfer.{micros_of, micros_in, second_of};
+ghost use Rattle.tftp_flow.specs.CapturedTransfer.{micros_of, micros_in, second_of};
 
 use std::fmt;
 
@@ -78,8 +78,8 @@ fn micros_of(digits: &[u8]) -> Option<u64> {
         return None;
     }
     let mut micros = 0u64;
-    for place in 0..DIGITS {
-        let digit = digits.get(place).copied().unwrap_or(b'0');
+    for index in 0..DIGITS {
+        let digit = digits.get(index).copied().unwrap_or(b'0');
         micros = micros
             .saturating_mul(10)
             .saturating_add(u64::from(digit.saturating_sub(b'0')));

@@ -1,8 +1,8 @@
 //! A transfer of a capture as a sequence diagram, with times at the left.
 
+use crate::flow::captured_transfer::{Aside, CapturedTransfer, Ending};
 use crate::flow::choice::Choice;
-use crate::flow::event::{Event, Party, What};
-use crate::flow::transfer::{Aside, Ending, Transfer};
+use crate::flow::transfer_datagram::{Party, TransferDatagram, What};
 use std::alloc::{AllocError, Global};
 use std::net::SocketAddrV4;
 use tftp_diagram::{
@@ -22,7 +22,7 @@ struct Picture {
 
 /// What the endpoint of a lane is.
 #[derive(Clone, Copy)]
-enum Place {
+enum LaneRole {
     ReadingClient,
     WritingClient,
     /// The server's port of a read, and of a write.
@@ -32,49 +32,50 @@ enum Place {
     Stranger,
 }
 
-impl Place {
+impl LaneRole {
     fn host(self) -> Host {
         match self {
-            Place::ReadingClient | Place::WritingClient => Host::Client,
-            Place::ServedRead | Place::ServedWrite | Place::RequestPort => Host::Server,
-            Place::Stranger => Host::Stranger,
+            LaneRole::ReadingClient | LaneRole::WritingClient => Host::Client,
+            LaneRole::ServedRead | LaneRole::ServedWrite | LaneRole::RequestPort => Host::Server,
+            LaneRole::Stranger => Host::Stranger,
         }
     }
 
-    fn role(self) -> &'static str {
+    /// How the lane is named.
+    fn text(self) -> &'static str {
         match self {
-            Place::ReadingClient => "client, reads",
-            Place::WritingClient => "client, writes",
-            Place::ServedRead => "server, a read",
-            Place::ServedWrite => "server, a write",
-            Place::RequestPort => "request port",
-            Place::Stranger => "stranger",
+            LaneRole::ReadingClient => "client, reads",
+            LaneRole::WritingClient => "client, writes",
+            LaneRole::ServedRead => "server, a read",
+            LaneRole::ServedWrite => "server, a write",
+            LaneRole::RequestPort => "request port",
+            LaneRole::Stranger => "stranger",
         }
     }
 
     /// Whether an end of the transfer is there.
     fn is_end(self) -> bool {
-        !matches!(self, Place::RequestPort | Place::Stranger)
+        !matches!(self, LaneRole::RequestPort | LaneRole::Stranger)
     }
 }
 
-impl Transfer {
+impl CapturedTransfer {
     /// Its picture. Of a long transfer the first and the last datagrams are drawn, and those around
     /// one that was sent again.
     pub(crate) fn diagram(&self) -> Result<Diagram, AllocError> {
         let mut picture = Picture::new(self.alloc(), self.title()?, self.summary()?);
         picture.add_ends(self)?;
         let rows = usize::from(MAX_ROWS).saturating_sub(self.asides.len());
-        let choice = Choice::new(self.alloc(), self.events.as_slice(), rows)?;
+        let choice = Choice::new(self.alloc(), self.datagrams.as_slice(), rows)?;
         let mut before = 0;
-        for (index, event) in self.events.iter().enumerate() {
-            picture.add_asides(self, before, event.spot.number())?;
+        for (index, datagram) in self.datagrams.iter().enumerate() {
+            picture.add_asides(self, before, datagram.spot.number())?;
             if choice.has(index) {
-                picture.add_event(self, event)?;
+                picture.add_datagram(self, datagram)?;
             } else {
                 picture.skipped = picture.skipped.saturating_add(1);
             }
-            before = event.spot.number();
+            before = datagram.spot.number();
         }
         picture.add_asides(self, before, u64::MAX)?;
         picture.close(self)?;
@@ -90,7 +91,7 @@ impl Transfer {
     /// What the picture shows, and how much was sent.
     fn summary(&self) -> Result<String, AllocError> {
         let seen = Count {
-            number: (self.events.len() as u64).saturating_add(self.asides.len() as u64),
+            number: (self.datagrams.len() as u64).saturating_add(self.asides.len() as u64),
             name: "datagram",
         };
         let mut text = seen.to_string(self.alloc())?;
@@ -108,20 +109,20 @@ impl Transfer {
     }
 
     /// The line of a datagram.
-    fn label_of(&self, event: &Event) -> Result<String, AllocError> {
-        let line = match event.what {
+    fn label_of(&self, datagram: &TransferDatagram) -> Result<String, AllocError> {
+        let line = match datagram.what {
             What::Read | What::Write => self.request.clone()?,
             What::Options => match &self.agreed {
                 Some(agreed) => agreed.clone()?,
-                None => event.what.to_string(self.alloc())?,
+                None => datagram.what.to_string(self.alloc())?,
             },
             What::Error { .. } => match &self.ending {
-                Ending::Error { by, text } if *by == event.by => text.clone()?,
-                _ => event.what.to_string(self.alloc())?,
+                Ending::Error { by, text } if *by == datagram.by => text.clone()?,
+                _ => datagram.what.to_string(self.alloc())?,
             },
             what => what.to_string(self.alloc())?,
         };
-        if event.is_cut {
+        if datagram.is_cut {
             let line = format!(in self.alloc(); "{line} (its beginning)")?;
             return shortened(self.alloc(), line);
         }
@@ -150,28 +151,28 @@ impl Picture {
     }
 
     /// The lanes of the client, of the request port and of the server.
-    fn add_ends(&mut self, transfer: &Transfer) -> Result<(), AllocError> {
+    fn add_ends(&mut self, transfer: &CapturedTransfer) -> Result<(), AllocError> {
         let (client, server) = match transfer.sender() {
-            Party::Server => (Place::ReadingClient, Place::ServedRead),
-            Party::Client => (Place::WritingClient, Place::ServedWrite),
+            Party::Server => (LaneRole::ReadingClient, LaneRole::ServedRead),
+            Party::Client => (LaneRole::WritingClient, LaneRole::ServedWrite),
         };
         self.add_lane(transfer.client, client)?;
         if transfer.server == Some(transfer.asked_at) {
             return self.add_lane(transfer.asked_at, server);
         }
-        self.add_lane(transfer.asked_at, Place::RequestPort)?;
+        self.add_lane(transfer.asked_at, LaneRole::RequestPort)?;
         match transfer.server {
             Some(at) => self.add_lane(at, server),
             None => Ok(()),
         }
     }
 
-    fn add_lane(&mut self, at: SocketAddrV4, place: Place) -> Result<(), AllocError> {
+    fn add_lane(&mut self, at: SocketAddrV4, role: LaneRole) -> Result<(), AllocError> {
         self.diagram.lanes.push(Lane {
-            host: place.host(),
+            host: role.host(),
             name: format!(in self.alloc; "{at}")?,
-            role: place.role(),
-            is_end: place.is_end(),
+            role: role.text(),
+            is_end: role.is_end(),
         })?;
         self.ports.push(at)?;
         Ok(())
@@ -183,7 +184,7 @@ impl Picture {
             return Ok(lane);
         }
         let lane = self.ports.len();
-        self.add_lane(at, Place::Stranger)?;
+        self.add_lane(at, LaneRole::Stranger)?;
         Ok(lane)
     }
 
@@ -207,19 +208,23 @@ impl Picture {
     }
 
     /// Adds a datagram of the transfer.
-    fn add_event(&mut self, transfer: &Transfer, event: &Event) -> Result<(), AllocError> {
+    fn add_datagram(
+        &mut self,
+        transfer: &CapturedTransfer,
+        datagram: &TransferDatagram,
+    ) -> Result<(), AllocError> {
         let server = transfer.server.unwrap_or(transfer.asked_at);
-        let (from, to) = match event.by {
+        let (from, to) = match datagram.by {
             Party::Server => (server, transfer.client),
-            Party::Client if event.what.is_request() => (transfer.client, transfer.asked_at),
+            Party::Client if datagram.what.is_request() => (transfer.client, transfer.asked_at),
             Party::Client => (transfer.client, server),
         };
-        let opens = event.by == Party::Server && !self.has_answer();
-        let time = transfer.time_of(event.at).to_string(self.alloc)?;
+        let opens = datagram.by == Party::Server && !self.has_answer();
+        let time = transfer.time_of(datagram.at).to_string(self.alloc)?;
         let Some(sent) = self.next_row(time)? else {
             return Ok(());
         };
-        let (course, again) = match event.gap {
+        let (course, again) = match datagram.gap {
             Some(gap) => {
                 let note = format!(in self.alloc; "again after {gap} s")?;
                 (Course::SeenAgain, note)
@@ -234,7 +239,7 @@ impl Picture {
         let flight = Flight {
             from: self.lane_of(from)?,
             to: self.lane_of(to)?,
-            label: transfer.label_of(event)?,
+            label: transfer.label_of(datagram)?,
             again,
             opened_at,
             sent,
@@ -255,7 +260,12 @@ impl Picture {
     }
 
     /// Adds the datagrams that are not of the transfer, of the lines between two.
-    fn add_asides(&mut self, transfer: &Transfer, from: u64, to: u64) -> Result<(), AllocError> {
+    fn add_asides(
+        &mut self,
+        transfer: &CapturedTransfer,
+        from: u64,
+        to: u64,
+    ) -> Result<(), AllocError> {
         for aside in &transfer.asides {
             let at = aside.spot.number();
             if from < at && at < to {
@@ -265,7 +275,7 @@ impl Picture {
         Ok(())
     }
 
-    fn add_aside(&mut self, transfer: &Transfer, aside: &Aside) -> Result<(), AllocError> {
+    fn add_aside(&mut self, transfer: &CapturedTransfer, aside: &Aside) -> Result<(), AllocError> {
         let time = transfer.time_of(aside.at).to_string(self.alloc)?;
         let Some(sent) = self.next_row(time)? else {
             return Ok(());
@@ -286,7 +296,7 @@ impl Picture {
     }
 
     /// Marks both ends as closed, if the transfer ended.
-    fn close(&mut self, transfer: &Transfer) -> Result<(), AllocError> {
+    fn close(&mut self, transfer: &CapturedTransfer) -> Result<(), AllocError> {
         let (kind, text) = match &transfer.ending {
             Ending::Complete => (MarkKind::Completed, "complete"),
             Ending::Error { .. } => (MarkKind::Failed, "ended by ERROR"),

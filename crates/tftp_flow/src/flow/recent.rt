@@ -1,9 +1,9 @@
-//! Who has the endpoints of the last datagrams, so that the next ones between them are placed at
+//! Who has the endpoints of the last datagrams, so that the next ones between them are assigned at
 //! once.
 
+use crate::flow::captured_transfer::CapturedTransfer;
 use crate::flow::index::Index;
 use crate::flow::seen::is_same;
-use crate::flow::transfer::Transfer;
 use std::alloc::{AllocError, Global};
 use std::net::SocketAddrV4;
 
@@ -26,7 +26,7 @@ struct Known {
     owner: Owner,
 }
 
-/// The owners of endpoints, each at the place of its endpoint, where a later one replaces it.
+/// The owners of endpoints, each at the slot of its endpoint, where a later one replaces it.
 #[derive(Drop)]
 pub(crate) struct Recent {
     known: Vec<Option<Known>>,
@@ -49,10 +49,10 @@ impl Recent {
         &mut self,
         at: SocketAddrV4,
         index: &Index,
-        transfers: &[Transfer],
+        transfers: &[CapturedTransfer],
     ) -> Option<Owner> {
-        let place = place_of(at);
-        if let Some(Some(known)) = self.known.get(place) {
+        let slot = slot_of(at);
+        if let Some(Some(known)) = self.known.get(slot) {
             if is_same(known.at, at) {
                 return Some(known.owner);
             }
@@ -61,7 +61,7 @@ impl Recent {
             Some(number) => Owner::Client(index_of(transfers, number)?),
             None => Owner::Nobody,
         };
-        if let Some(known) = self.known.get_mut(place) {
+        if let Some(known) = self.known.get_mut(slot) {
             *known = Some(Known { at, owner });
         }
         Some(owner)
@@ -69,7 +69,7 @@ impl Recent {
 
     /// Forgets an endpoint, which has another owner now.
     pub(crate) fn forget(&mut self, at: SocketAddrV4) {
-        if let Some(known) = self.known.get_mut(place_of(at)) {
+        if let Some(known) = self.known.get_mut(slot_of(at)) {
             *known = None;
         }
     }
@@ -81,15 +81,15 @@ impl Recent {
 }
 
 /// The index of the transfer of a number, if it is there. They are in the order of their numbers.
-pub(crate) fn index_of(transfers: &[Transfer], number: u64) -> Option<usize> {
+pub(crate) fn index_of(transfers: &[CapturedTransfer], number: u64) -> Option<usize> {
     transfers
         .binary_search_by_key(&number, |transfer| transfer.number)
         .ok()
 }
 
-/// The place of an endpoint: the highest bits of its product with 2^64 over the golden ratio, since
+/// The slot of an endpoint: the highest bits of its product with 2^64 over the golden ratio, since
 /// the endpoints of a capture have the same port, or addresses and ports in sequence.
-fn place_of(at: SocketAddrV4) -> usize {
+fn slot_of(at: SocketAddrV4) -> usize {
     let number = u64::from(at.ip().to_bits()) * 0x1_0000 + u64::from(at.port());
     (number.wrapping_mul(0x9e37_79b9_7f4a_7c15) >> (u64::BITS - BITS)) as usize
 }

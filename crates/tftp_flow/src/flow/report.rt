@@ -1,7 +1,7 @@
 //! What is printed of a capture: a line for what belongs to no transfer, and some for a transfer.
 
-use crate::flow::event::{Event, Party};
-use crate::flow::transfer::{Aside, Ending, Transfer};
+use crate::flow::captured_transfer::{Aside, CapturedTransfer, Ending};
+use crate::flow::transfer_datagram::{Party, TransferDatagram};
 use crate::flow::{Stray, Unread};
 use std::fmt;
 
@@ -32,7 +32,7 @@ impl fmt::Display for Aside {
 }
 
 /// The report of a transfer, some lines.
-impl fmt::Display for Transfer {
+impl fmt::Display for CapturedTransfer {
     fn fmt<W: fmt::Write>(&self, f: &mut fmt::Formatter<W>) -> fmt::Result {
         self.write_ends(f)?;
         let request = self.request.as_str();
@@ -52,7 +52,7 @@ impl fmt::Display for Transfer {
 
 /// The line of a transfer that begins.
 #[derive(Clone, Copy)]
-pub struct Opened<'t>(pub &'t Transfer);
+pub struct Opened<'t>(pub &'t CapturedTransfer);
 
 impl fmt::Display for Opened<'_> {
     fn fmt<W: fmt::Write>(&self, f: &mut fmt::Formatter<W>) -> fmt::Result {
@@ -64,7 +64,7 @@ impl fmt::Display for Opened<'_> {
 
 /// The line of a transfer that ended, or that is over.
 #[derive(Clone, Copy)]
-pub struct Ended<'t>(pub &'t Transfer);
+pub struct Ended<'t>(pub &'t CapturedTransfer);
 
 impl fmt::Display for Ended<'_> {
     fn fmt<W: fmt::Write>(&self, f: &mut fmt::Formatter<W>) -> fmt::Result {
@@ -77,7 +77,7 @@ impl fmt::Display for Ended<'_> {
     }
 }
 
-impl Transfer {
+impl CapturedTransfer {
     /// Its number, and which end does what.
     fn write_ends<W: fmt::Write>(&self, f: &mut fmt::Formatter<W>) -> fmt::Result {
         let (number, client, asked_at) = (self.number, self.client, self.asked_at);
@@ -123,9 +123,12 @@ impl Transfer {
 
     /// The datagrams that were sent again.
     fn write_repeats<W: fmt::Write>(&self, f: &mut fmt::Formatter<W>) -> fmt::Result {
-        let repeats = self.events.iter().filter(|event| event.gap.is_some());
-        for event in repeats.take(MAX_REPEATS) {
-            writeln!(f, "  again    {event}")?;
+        let repeats = self
+            .datagrams
+            .iter()
+            .filter(|datagram| datagram.gap.is_some());
+        for datagram in repeats.take(MAX_REPEATS) {
+            writeln!(f, "  again    {datagram}")?;
         }
         let more = self.again().saturating_sub(MAX_REPEATS);
         if more > 0 {
@@ -148,7 +151,7 @@ impl Transfer {
 
     /// The last datagram of a transfer that did not end, and who did not answer it.
     fn write_open<W: fmt::Write>(&self, f: &mut fmt::Formatter<W>) -> fmt::Result {
-        let Some(Event { by, what, .. }) = self.events.last() else {
+        let Some(TransferDatagram { by, what, .. }) = self.datagrams.last() else {
             return write!(f, "nothing was sent");
         };
         let silent = by.other();

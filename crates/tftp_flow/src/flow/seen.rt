@@ -5,8 +5,8 @@ ghost use Rattle.std.specs.String.{string_bytes};
 ghost use Rattle.tftp_wire.specs.Datagram.{datagram_shown};
 ghost use Rattle.tftp_wire.specs.Reading.{first_fault};
 
-use crate::flow::event::What;
 use crate::flow::moment::Moment;
+use crate::flow::transfer_datagram::What;
 use std::alloc::{AllocError, Global};
 use std::fmt;
 use std::net::SocketAddrV4;

@@ -120,7 +120,7 @@ impl fmt::Display for What {
 
 /// A datagram of a transfer.
 #[derive(Clone, Copy)]
-pub struct Event {
+pub struct TransferDatagram {
     /// Where it stands.
     pub spot: Spot,
     /// When it was seen.
@@ -136,7 +136,7 @@ pub struct Event {
 }
 
 /// A datagram that was sent again: what, by whom, and how long after the one before.
-impl fmt::Display for Event {
+impl fmt::Display for TransferDatagram {
     fn fmt<W: fmt::Write>(&self, f: &mut fmt::Formatter<W>) -> fmt::Result {
         let (spot, by, what) = (self.spot, self.by, self.what);
         write!(f, "{spot}: {what} of the {by}")?;

@@ -49,8 +49,8 @@ impl ShowFault {
         }
     }
 
-    /// Writes the message of the fault, and returns the status of the program. There is none for a
-    /// closed pipe: whoever closed it wants no more, as `head` does after its last line.
+    /// Writes the message of the fault, and returns the status of the program. A closed pipe has no
+    /// message: whoever closed it wants no more, as `head` does after its last line.
     pub(crate) fn report<E: Write>(self, errors: &mut E) -> u8
         ensures { result ≡ 2 }
     {
