@@ -1,6 +1,7 @@
 -- What the program did for the words of a command line (own).
 use Rattle.std.specs.Prelude.{ℕ, ◌≡◌, ◌≢◌, ◌≤◌, ◌⊎◌, List, [], Option, Some, None, Result, Ok, Err}
 use Rattle.std.specs.Prelude.{option_map, is_some}
+use Rattle.std.specs.String.{string_bytes}
 use Rattle.tftp_ends.specs.declared.endpoint.Endpoint.{Endpoint}
 use Rattle.tftp_file.specs.Path.{path_of_name}
 use Rattle.tftp_file.specs.Source.{SourceMeaning}
@@ -16,6 +17,7 @@ use Rattle.tftp_daemon.specs.Words.{WordsConfigure, tftpd_app}
 use Rattle.tftp_daemon.specs.declared.daemon.DaemonConfig.{DaemonConfig}
 use Rattle.tftp_daemon.specs.declared.listen.Listen.{Listen}
 use Rattle.tftp_daemon.specs.declared.listen.Listen.TheVariants.{At, Handed}
+use Rattle.tftp_folder.specs.Opened.{IsRootOf}
 use Rattle.tftp_folder.specs.declared.folder_store.FolderStore.{FolderStore}
 
 -- the status of the program: 0, or 2 for a fault
@@ -55,14 +57,19 @@ IsUploads None uploads = uploads ≡ None
 IsUploads (Some folder) uploads =
     (path : List ℕ) × (path_of_name folder ≡ Ok path) × (uploads ≡ Some path)
 
+-- the root is the folder that this path leads to, as the system said when the store was opened
+abbrev pub IsRootAt : List ℕ → List ℕ → Type 0
+IsRootAt path root = (events : _) × IsRootOf path root events
+
 module _ {R G H F D : Type 0} where
-  -- the server of a configuration, which is valid, without transfers: its limits, and a store that
-  -- refuses writes, or takes them below one folder alone, as it says
+  -- the server of a configuration, which is valid, without transfers: its limits, and a store over
+  -- its folder that refuses writes, or takes them below one folder alone, as it says
   pub record IsServerOf (config : DaemonConfig) (server : ServerState (FolderStore R G H) F D)
       : Type 0 where
     pub valid : IsConfig config.config
     pub limits : server.config ≡ config.config
     pub empty : server.held ≡ []
+    pub root : IsRootAt config.root.now (string_bytes server.store.folder.root)
     pub read_only : server.store.is_read_only ≡ config.read_only
     pub uploads : IsUploads (option_map (λ folder. folder.now) config.uploads) server.store.uploads
 

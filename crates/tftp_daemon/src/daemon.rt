@@ -1,9 +1,10 @@
 //! `tftpd`: a server over UDP that serves the files of a folder.
 
 ghost use Rattle.std.specs.Prelude.{◌≡◌, ◌≤◌, IfOk, option_map};
+ghost use Rattle.std.specs.String.{string_bytes};
 ghost use Rattle.tftp_server.specs.Config.{IsConfig};
-ghost use Rattle.tftp_daemon.specs.Configured.{IsServerOf, IsUploads, ListensAt, MayServe};
-ghost use Rattle.tftp_daemon.specs.Configured.{RunsService, service_at, status_of};
+ghost use Rattle.tftp_daemon.specs.Configured.{IsRootAt, IsServerOf, IsUploads, ListensAt};
+ghost use Rattle.tftp_daemon.specs.Configured.{MayServe, RunsService, service_at, status_of};
 
 use crate::drain_file::DrainFile;
 use crate::listen::Listen;
@@ -264,6 +265,8 @@ fn open_store<R: Files + Drop>(
     alloc: Global,
     config: &DaemonConfig<'_>,
 ) -> Result<FolderStore<R>, DaemonFault>
+    ensures root { IfOk result (λ store.
+        IsRootAt config.now.root.now (string_bytes store.folder.root)) }
     ensures read_only { IfOk result (λ store. store.is_read_only ≡ config.now.read_only) }
     ensures uploads { IfOk result (λ store.
         IsUploads (option_map (λ folder. folder.now) config.now.uploads) store.uploads) }
