@@ -17,10 +17,11 @@ import subprocess
 import sys
 import tempfile
 import time
+from collections import Counter
 from concurrent.futures import ThreadPoolExecutor
 from functools import partial
 from pathlib import Path
-from typing import Any, Callable, Iterator, Sequence
+from typing import Any, Callable, Iterator, Optional, Sequence
 
 from lib.addresses import own_network
 from lib.examples import Built, run, to_build
@@ -38,6 +39,8 @@ AT_ONCE = 10
 # answered six times in a row, or has ended before its last ACK arrived
 TRIES = 8
 TIMED_OUT = re.compile(r"timed out|outcome 2 ")
+# What timed out, and was tried again
+AGAIN: list[str] = []
 # Lengths of files: none, and around blocks of 512 and of 1428 bytes; and those of a bad network or a slow checker
 LENGTHS = [0, 1, 511, 512, 513, 1428, 20_000]
 FEW = [513, 6_000]
@@ -78,8 +81,8 @@ WORDS: dict[str, Callable[..., Words]] = {
 class Site:
     """A server, and the network to it: each transfer through a bad one has a proxy of its own."""
 
-    def __init__(self, scene, server, lossy) -> None:
-        self.scene, self.server, self.lossy = scene, server, lossy
+    def __init__(self, name, scene, server, lossy) -> None:
+        self.name, self.scene, self.server, self.lossy = name, scene, server, lossy
 
     def way(self, seed) -> list[str]:
         """Its address as two words."""
@@ -100,6 +103,7 @@ def transfers(site, built, example, seed, length, blksize, compare=None) -> None
             return
         how = f"{example} of {length} bytes: status {done.returncode}: {done.stdout[-2000:]}{done.stderr[-2000:]}"
         expect((done.returncode, bool(TIMED_OUT.search(done.stdout)), site.lossy), (1, True, True), how)
+        AGAIN.append(f"{example.split()[0]} at {site.name}")
     raise AssertionError(f"{example} of {length} bytes was complete in none of {TRIES} tries")
 
 
@@ -128,7 +132,7 @@ def by_tftpd(scene, built, lossy) -> None:
     each = len([it for it in WORDS if built.has(it)])
     count = each * len(lengths(built, lossy)) + 3 * built.has("put")
     server = scene.serve(*(["--forever"] if lossy else ["--transfers", str(count)]))
-    at_server(Site(scene, server, lossy), built)
+    at_server(Site("tftpd", scene, server, lossy), built)
     if built.has("put"):
         in_netascii(scene, built, server)
     if not lossy:
@@ -178,7 +182,7 @@ def ended(process) -> None:
 def by_library(scene, built, lossy) -> None:
     """The server of files in memory against the other examples in C, which put new files, and against tftp."""
     server, process = serves(scene, built)
-    site, way = Site(scene, server, lossy), server.word.split(":")
+    site, way = Site("serve", scene, server, lossy), server.word.split(":")
 
     def is_read_by_tftp(_, name, length, what, seed=None) -> None:
         """What the server has under this name, through a good network or the bad one."""
@@ -205,9 +209,7 @@ class At:
 
 
 def in_tftpd(folder, at) -> list[Any]:
-    # (it answers a repeated last DATA for as long as it waits at first, by itself a second, and the clients repeat it then)
-    return ["--foreground", "--address", at.word, "--user", "nobody", "--create", "--secure", "--retransmit", "2500000",
-            folder]
+    return ["--foreground", "--address", at.word, "--user", "nobody", "--create", "--secure", folder]
 
 
 def atftpd(folder, at) -> list[Any]:
@@ -220,38 +222,41 @@ def dnsmasq(folder, at) -> list[Any]:
             "--bind-interfaces", "--enable-tftp", f"--tftp-root={folder}", "--quiet-tftp"]
 
 
-# Each by its program: its words; whether it takes puts; whether it acknowledges a last DATA that comes again. An in.tftpd
-# (5.2) does, once; an atftpd (0.8) has forgotten the transfer. A dnsmasq (2.90) takes no put.
-PEERS: dict[str, tuple[Callable[..., list[Any]], bool, bool]] = {
-    "in.tftpd": (in_tftpd, True, True), os.environ.get("ATFTPD", "atftpd"): (atftpd, True, False),
-    "dnsmasq": (dnsmasq, False, False)}
+# Each by its program: its words; whether it takes puts; and with which more words it acknowledges a last DATA that comes
+# again a second later: an in.tftpd (5.2) does once, for as long as it waits at first, which is a second by itself; an
+# atftpd (0.8) has forgotten the transfer. A dnsmasq (2.90) takes no put.
+PEERS: dict[str, tuple[Callable[..., list[Any]], bool, Optional[list[str]]]] = {
+    "in.tftpd": (in_tftpd, True, ["--retransmit", "2500000"]), os.environ.get("ATFTPD", "atftpd"): (atftpd, True, None),
+    "dnsmasq": (dnsmasq, False, None)}
 PATH = os.environ["PATH"] + ":/usr/sbin:/sbin"
 
 
 def peers(skipped) -> list[str]:
-    """The servers of other projects that are installed and may be started: only root may."""
+    """The servers of other projects that are here and may be started: only root may. One that takes puts is enough: the
+    packages of two exclude each other."""
     if os.geteuid() != 0:
         skipped.append("other projects' servers, which root starts")
         return []
     found = [name for name in PEERS if shutil.which(name, path=PATH)]
-    skipped += [Path(name).name for name in PEERS if name not in found]
+    if not any(PEERS[name][1] for name in found):
+        skipped.append("another project's server that takes puts")
     return found
 
 
-def started(scene, peer) -> At:
-    """Starts it over the folder, and returns where it is."""
+def started(scene, peer, *more) -> At:
+    """Starts it over the folder, with these words, too, and returns where it is."""
     words = PEERS[peer][0]
     os.chmod(scene.folder, 0o777)
     at = At(scene.address, 69) if words is dnsmasq else serving_port(scene)
     program = str(shutil.which(peer, path=PATH))
-    scene.start(program, words(scene.folder, at), stdout=subprocess.DEVNULL, stderr=subprocess.DEVNULL)
+    scene.start(program, [*words(scene.folder, at), *more], stdout=subprocess.DEVNULL, stderr=subprocess.DEVNULL)
     is_bound(at.word)
     return at
 
 
 def by_peer(scene, built, lossy, peer) -> None:
     """The clients against another project's server over the folder."""
-    at_server(Site(scene, started(scene, peer), lossy), built, PEERS[peer][1])
+    at_server(Site(Path(peer).name, scene, started(scene, peer), lossy), built, PEERS[peer][1])
 
 
 class Loses:
@@ -269,12 +274,12 @@ class Loses:
 
 
 def last_ack(scene, built, peer) -> None:
-    """A put whose last ACK is lost. It is complete where the server acknowledges a DATA once more that comes a second
-    later; where it does not, the put is not complete, and says so, although the file is stored."""
-    proxy = scene.proxy(started(scene, peer), 0)
+    """A put whose last ACK is lost. It is complete where the server acknowledges a DATA that comes again; where it does
+    not, the put is not complete, and says so, although the file is stored."""
+    again = PEERS[peer][2]
+    proxy = scene.proxy(started(scene, peer, *(again or [])), 0)
     proxy.to_server, proxy.to_client = Loses(), Loses(ack(2))
     scene.make("f513", content(513))
-    again = PEERS[peer][2]
     printed = run(*built.command("put", *proxy.word.split(":"), "f513", "put"), cwd=scene.folder, env=built.env,
                   status=0 if again else 1)
     expect(printed.split(",")[0], "complete" if again else "timed out", "how a put ended whose last ACK was lost")
@@ -410,7 +415,10 @@ def main() -> None:
         trials = list(tests(built, skipped))
         faults = Trials(found, room).all(trials)
     print(*unbuilt, *faults, sep="\n", end="\n" if unbuilt or faults else "")
-    told = f"; skipped: {', '.join(skipped)}" if skipped else ""
+    lacking = [Path(name).name for name in PEERS if not shutil.which(name, path=PATH)]
+    told = (f"; without {', '.join(lacking)}" if lacking else "") + (f"; skipped: {', '.join(skipped)}" if skipped else "")
+    counts = ", ".join(f"{count} {what}" for what, count in sorted(Counter(AGAIN).items()))
+    print(f"timed out through a bad network, said so, and were tried again: {counts or 'none'}")
     print(f"library for C: {len(trials) - len(faults)} of {len(trials) + len(unbuilt)} passed{told}")
     sys.exit(1 if unbuilt or faults else 0)
 
