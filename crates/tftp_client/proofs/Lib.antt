@@ -3,11 +3,14 @@ pub mod Commands
 pub mod Committing
 pub mod Conversing
 pub mod Counting
+pub mod GivenBytes
 pub mod HeldBytes
 pub mod NamedFile
 pub mod NamedOnDisk
+pub mod PutLaws
 pub mod Running
 pub mod SameKind
 pub mod SameSink
+pub mod SentLength
 pub mod Silent
 pub mod StaysComplete

@@ -64,7 +64,7 @@ module _ {S K : Type 0} (sources : SourceMeaning S) (sinks : SinkMeaning K) wher
         acts (datagram_action s.end from bytes step.decoded) from bytes s.end files turn files' step.acts h
     handles {files = files} (Loses {files'} lost keeps) h = loses files files' keeps h
 
-    converses : {port : ℕ} {first : State} {file : Files S K} {s : State} {files : Files S K}
+    pub converses : {port : ℕ} {first : State} {file : Files S K} {s : State} {files : Files S K}
         → Converses sources sinks port first file s files → IsOf kind file → IsOf kind files
     converses Begins h = h
     converses (Receives run may time answers) h = handles answers.handles (converses run h)

@@ -5,6 +5,7 @@ pub mod Conversation
 pub mod Converses
 pub mod Fallback
 pub mod Fetched
+pub mod Given
 pub mod LocalError
 pub mod Moved
 pub mod OnDisk

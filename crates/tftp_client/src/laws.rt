@@ -1,5 +1,6 @@
 //! Laws of every run of a client, over the definitions alone.
 
+ghost use Rattle.tftp_client.specs.Given.{CountsWhatItSent, SendsWhatItsFileGave};
 ghost use Rattle.tftp_client.specs.Silence.{TimesOut, WaitsForEachSending};
 
 use tftp_file::{Sink, Source};
@@ -12,4 +13,12 @@ use tftp_file::{Sink, Source};
 pub fn a_client_alone_times_out<S: Source, K: Sink>()
     ensures waits { WaitsForEachSending S.meaning K.meaning }
     ensures outcome { TimesOut S.meaning K.meaning }
+{}
+
+/// What moved in the run of a complete put is what its source gave, in order and each byte once, from
+/// the state in which the run began with it to that in which it ended. In octet N, which its line
+/// has, is the number of these bytes (RFC 1350, section 6).
+pub fn a_put_sends_what_its_file_gave<S: Source, K: Sink>()
+    ensures given { SendsWhatItsFileGave S.meaning K.meaning }
+    ensures counted { CountsWhatItSent S.meaning K.meaning }
 {}

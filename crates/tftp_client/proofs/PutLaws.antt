@@ -1,0 +1,73 @@
+-- The laws of a complete put.
+use Rattle.std.proofs.Common.{◌≡◌, ℕ, true, List, length, inl, inr, refl, sym, ◌∙◌, subst}
+use Rattle.tftp_wire.specs.declared.mode.Mode.{Mode}
+use Rattle.tftp_wire.specs.declared.mode.Mode.TheVariants.{Octet, Netascii}
+use Rattle.tftp_negotiate.specs.declared.known.Kind.{Kind}
+use Rattle.tftp_negotiate.specs.declared.known.Kind.TheVariants as kinds
+use Rattle.tftp_file.specs.Sink.{SinkMeaning}
+use Rattle.tftp_file.specs.Source.{SourceMeaning}
+use Rattle.tftp_file.specs.declared.files.Files.{Files}
+use Rattle.tftp_file.specs.declared.files.Files.TheVariants.{Source, Sink}
+use Rattle.tftp_ends.specs.End.{is_complete}
+use Rattle.tftp_sockets.specs.Journal.{SocketEvent}
+use Rattle.tftp_client.specs.declared.transfer.Job.{Job}
+use Rattle.tftp_client.specs.Converses.{Converses, State}
+use Rattle.tftp_client.specs.Moved.{nothing_moved, run_moves}
+use Rattle.tftp_client.specs.Given.{CountsWhatItSent, GaveWhatMoved, IsGiven, SendsWhatItsFileGave}
+use Rattle.tftp_client.specs.Runs.{IsCountOf, IsFileOf, RunsAs, Transfers, begun, opens, plain}
+use Rattle.tftp_client.proofs.GivenBytes.{gave_all}
+use Rattle.tftp_client.proofs.SameKind.{converses}
+use Rattle.tftp_client.proofs.SentLength.{sent_all}
+
+module _ {S K : Type 0} (sources : SourceMeaning S) (sinks : SinkMeaning K) where
+  -- ---- what its file gave
+  run_gave : {port : ℕ} {begin s : State} (file files : Files S K)
+      (run : Converses sources sinks port begin file s files) → is_complete s.end.position.phase ≡ true
+      → IsGiven sources sinks file files (run_moves run nothing_moved).bytes
+  run_gave (Source first) (Source last) run done = gave_all sources sinks first run done
+  run_gave (Source first) (Sink last) run done = tt
+  run_gave (Sink first) files run done = tt
+
+  pub sends_what_its_file_gave : SendsWhatItsFileGave sources sinks
+  sends_what_its_file_gave most port job before s files count (inl run) done =
+      run_gave run.runs.file files run.runs.converses done
+  sends_what_its_file_gave most port job before s files count (inr again) done =
+      run_gave again.2.runs.file files again.2.runs.converses done
+
+  -- ---- how much it sent
+  octet_count : (source : S) (mode : Mode) (size count : ℕ) → IsCountOf sources sinks (Source source) mode size count
+      → mode ≡ Octet → count ≡ size
+  octet_count source Octet size count counts octet = counts
+  octet_count source Netascii size count counts octet =
+      absurd (let e : ◌≡◌ {A = Mode} Netascii Octet = octet in cc)
+
+  -- of the run of a put
+  put_counted : {port : ℕ} (job : Job) (size count : ℕ) (mode : Mode) {before : List SocketEvent} {s : State}
+      (file files : Files S K)
+      (run : Converses sources sinks port (begun port (opens kinds.Write job size) before) file s files)
+      → IsFileOf sources sinks kinds.Write file → is_complete s.end.position.phase ≡ true → mode ≡ Octet
+      → IsCountOf sources sinks files mode size count → count ≡ length (run_moves run nothing_moved).bytes
+  put_counted job size count mode file (Sink sink) run side done octet counts =
+      absurd (converses sources sinks kinds.Write run side)
+  put_counted job size count mode file (Source source) run side done octet counts =
+      octet_count source mode size count counts octet
+      ∙ sym (sent_all sources sinks size run refl refl refl done)
+
+  run_counted : {port : ℕ} (kind : Kind) (job : Job) (size count : ℕ) (mode : Mode) {before : List SocketEvent} {s : State}
+      (file files : Files S K)
+      (run : Converses sources sinks port (begun port (opens kind job size) before) file s files)
+      → IsFileOf sources sinks kind file → is_complete s.end.position.phase ≡ true → kind ≡ kinds.Write → mode ≡ Octet
+      → IsCountOf sources sinks files mode size count → count ≡ length (run_moves run nothing_moved).bytes
+  run_counted kinds.Read job size count mode file files run side done writes octet counts =
+      absurd (let e : ◌≡◌ {A = Kind} kinds.Read kinds.Write = writes in cc)
+  run_counted kinds.Write job size count mode file files run side done writes octet counts =
+      put_counted job size count mode file files run side done octet counts
+
+  pub counts_what_it_sent : CountsWhatItSent sources sinks
+  counts_what_it_sent most port job before s files count (inl run) done writes octet =
+      run_counted job.kind job run.length count job.mode run.runs.file files run.runs.converses run.side done writes octet
+      run.counts
+  counts_what_it_sent most port job before s files count (inr again) done writes octet =
+      let run = again.2 in
+      run_counted job.kind (plain job) run.length count job.mode run.runs.file files run.runs.converses run.side done
+      writes octet run.counts
