@@ -8,6 +8,7 @@ pub mod HeldBytes
 pub mod NamedFile
 pub mod NamedOnDisk
 pub mod PutLaws
+pub mod ReadFile
 pub mod Running
 pub mod SameKind
 pub mod SameSink

@@ -13,6 +13,7 @@ pub mod Ordered
 pub mod Outbound
 pub mod PartFile
 pub mod Runs
+pub mod Sent
 pub mod Silence
 pub mod Stored
 pub mod Taken

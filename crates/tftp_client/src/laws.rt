@@ -1,8 +1,12 @@
 //! Laws of every run of a client, over the definitions alone.
 
 ghost use Rattle.tftp_client.specs.Given.{CountsWhatItSent, SendsWhatItsFileGave};
+ghost use Rattle.tftp_client.specs.Sent.{SendsWhatReadsReturned};
 ghost use Rattle.tftp_client.specs.Silence.{TimesOut, WaitsForEachSending};
 
+use std::io::Read;
+use tftp_disk::DiskSource;
+use tftp_disk::laws::gives_in_order;
 use tftp_file::{Sink, Source};
 
 /// A client to whom nothing comes ends by itself. In each run of a client in which nothing is
@@ -22,3 +26,14 @@ pub fn a_put_sends_what_its_file_gave<S: Source, K: Sink>()
     ensures given { SendsWhatItsFileGave S.meaning K.meaning }
     ensures counted { CountsWhatItSent S.meaning K.meaning }
 {}
+
+/// What moved in the run of a complete put from a [`DiskSource`] that was opened at LOCAL, and of which
+/// nothing was read before, is a beginning of the wire text of what reads of that file returned, in
+/// order and each byte once: all of it but what was read and not sent yet. In octet N is the number
+/// of these bytes.
+pub fn a_put_sends_what_reads_returned<F: Read, K: Sink>()
+    ensures given { SendsWhatItsFileGave ⟦<DiskSource<F> as Source>⟧.meaning K.meaning }
+    ensures reads { SendsWhatReadsReturned ⟦<DiskSource<F> as Source>⟧.meaning K.meaning }
+{
+    gives_in_order::<F>();
+}

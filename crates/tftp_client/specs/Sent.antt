@@ -1,0 +1,63 @@
+-- What was sent of a file on the disk, by the calls of the system on it.
+use Rattle.std.specs.Prelude.{ℕ, ◌≡◌, true, List, length, Some}
+use Rattle.std.proofs.Common.{inl, inr}
+use Rattle.tftp_wire.specs.declared.mode.Mode.{Mode}
+use Rattle.tftp_wire.specs.declared.mode.Mode.TheVariants.{Octet}
+use Rattle.tftp_file.specs.Sink.{SinkMeaning}
+use Rattle.tftp_file.specs.Source.{SourceMeaning}
+use Rattle.tftp_file.specs.declared.files.Files.{Files}
+use Rattle.tftp_file.specs.declared.files.Files.TheVariants.{Source, Sink}
+use Rattle.tftp_ends.specs.End.{is_complete}
+use Rattle.tftp_disk.specs.DiskSource.{HasGiven, IsUnread, source_calls, source_mode}
+use Rattle.tftp_disk.specs.Given.{opened_at}
+use Rattle.tftp_disk.specs.declared.disk_source.DiskSource.{DiskSource}
+use Rattle.tftp_sockets.specs.Journal.{SocketEvent}
+use Rattle.tftp_client.specs.declared.transfer.Job.{Job}
+use Rattle.tftp_client.specs.Converses.{State}
+use Rattle.tftp_client.specs.Outbound.{is_at_start}
+use Rattle.tftp_client.specs.Runs.{Transfers, moved_by}
+
+module _ {F : Type 0} where
+  -- a file to send in this mode, as it was opened at the path: nothing was read of it since, or
+  -- since it was set to its start
+  pub record IsOpenedAt (path : List ℕ) (mode : Mode) (source : DiskSource F) : Type 0 where
+    pub opened : opened_at (source_calls source) ≡ Some path
+    pub start : is_at_start (source_calls source) ≡ true
+    pub unread : IsUnread mode source
+
+  -- the bytes that were sent of the file of a job are a beginning of the wire text of what reads of
+  -- LOCAL returned, from its start, in order and each byte once: all of it but what is left of what
+  -- was read. In octet N counts them
+  pub record IsSent (job : Job) (source : DiskSource F) (count : ℕ) (bytes : List ℕ) : Type 0 where
+    pub opened : opened_at (source_calls source) ≡ Some job.local.now
+    pub mode : source_mode source ≡ job.mode
+    pub gave : HasGiven source bytes
+    pub counted : job.mode ≡ Octet → count ≡ length bytes
+
+module _ {F K : Type 0} where
+  -- a file to send is opened at the path of the job when its transfer begins
+  abbrev pub BeginsAt : Job → Files (DiskSource F) K → Type 0
+  BeginsAt job (Source source) = IsOpenedAt job.local.now job.mode source
+  BeginsAt job (Sink sink) = Unit {0}
+
+  -- these bytes were sent of it
+  abbrev pub IsSentFrom : Job → Files (DiskSource F) K → ℕ → List ℕ → Type 0
+  IsSentFrom job (Source source) count bytes = IsSent job source count bytes
+  IsSentFrom job (Sink sink) count bytes = Unit {0}
+
+module _ {F K : Type 0} (sources : SourceMeaning (DiskSource F)) (sinks : SinkMeaning K) where
+  -- the run of a job began with its file
+  abbrev pub BeginsFor : {most port : ℕ} {job : Job} {before : List SocketEvent} {s : State}
+      {files : Files (DiskSource F) K} {count : ℕ}
+      → Transfers sources sinks most port job before s files count → Type 0
+  BeginsFor {job = job} (inl run) = BeginsAt job run.runs.file
+  BeginsFor {job = job} (inr again) = BeginsAt job again.2.runs.file
+
+  -- what moved in each run of a put that is complete was read of its file, if that was opened so
+  abbrev pub SendsWhatReadsReturned : Type 0
+  SendsWhatReadsReturned =
+      (most port : ℕ) (job : Job) (before : List SocketEvent) (s : State)
+      (files : Files (DiskSource F) K) (count : ℕ)
+      (transfers : Transfers sources sinks most port job before s files count)
+      → BeginsFor transfers → is_complete s.end.position.phase ≡ true
+      → IsSentFrom job files count (moved_by sources sinks transfers).bytes
