@@ -20,7 +20,7 @@ use Rattle.tftp_client.specs.Stored.{count_of}
 module _ {S R F D : Type 0} {reads : read.Ghosts F} {writes : write.Ghosts F} {seeks : seek.Ghosts F}
     {lists : read.Ghosts D} where
   -- a received file holds as many bytes as it counted; a file that is sent in octet has its own length on the wire
-  counts : (sources : SourceMeaning S) (sinks : SinkMeaning (LocalFile R F D reads writes seeks lists))
+  pub counts : (sources : SourceMeaning S) (sinks : SinkMeaning (LocalFile R F D reads writes seeks lists))
       → ((local : LocalFile R F D reads writes seeks lists) → sinks.held local ≡ Some local.taken.holding)
       → (mode : Mode) (sent length : ℕ) (files : Files S (LocalFile R F D reads writes seeks lists)) (count : ℕ)
       → (mode ≡ Octet → sent ≡ length) → count ≡ count_of sent files
@@ -31,7 +31,7 @@ module _ {S R F D : Type 0} {reads : read.Ghosts F} {writes : write.Ghosts F} {s
   counts sources sinks known Netascii sent length (Source source) count same is = tt
 
   -- the run of an end that a job opens, with N of its file
-  pub runs_as : (sources : SourceMeaning S) (sinks : SinkMeaning (LocalFile R F D reads writes seeks lists))
+  abbrev pub runs_as : (sources : SourceMeaning S) (sinks : SinkMeaning (LocalFile R F D reads writes seeks lists))
       → ((local : LocalFile R F D reads writes seeks lists) → sinks.held local ≡ Some local.taken.holding)
       → (job : Job) (kind : Kind) (sent length : ℕ) {port : ℕ} {before : List SocketEvent} {last : State}
       {files : Files S (LocalFile R F D reads writes seeks lists)} {count : ℕ}

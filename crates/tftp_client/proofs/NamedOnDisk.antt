@@ -11,15 +11,17 @@ use Rattle.tftp_file.specs.declared.files.Files.{Files}
 use Rattle.tftp_file.specs.declared.files.Files.TheVariants.{Source, Sink}
 use Rattle.tftp_arguments.specs.Fault.{AskForText}
 use Rattle.tftp_disk.specs.Changes.{changes}
+use Rattle.tftp_disk.specs.declared.disk_source.DiskSource.{DiskSource}
 use Rattle.tftp_sockets.specs.Journal.{SocketEvent}
 use Rattle.tftp_client.specs.declared.command_line.Order.{Order}
 use Rattle.tftp_client.specs.declared.local.LocalFile.{LocalFile}
 use Rattle.tftp_client.specs.declared.transfer.Job.{Job}
 use Rattle.tftp_client.specs.Converses.{Converses, State}
 use Rattle.tftp_client.specs.Fetched.{AreOwn, IsNamed, Paths}
-use Rattle.tftp_client.specs.OnDisk.{IsFor, IsOnDisk, StoresOrder, StoresWords, job_paths}
+use Rattle.tftp_client.specs.OnDisk.{IsFor, IsOnDisk, job_paths}
 use Rattle.tftp_client.specs.PartFile.{SameNames}
 use Rattle.tftp_client.specs.Runs.{IsWhole, Transfers, moved_by, plain}
+use Rattle.tftp_client.specs.Sent.{DoesOrder, DoesWords}
 use Rattle.tftp_client.specs.Words.{WordsName, tftp_app}
 use Rattle.tftp_client.specs.Written.{paths_of}
 use Rattle.tftp_client.proofs.SameSink.{OfSink, run_stays}
@@ -95,12 +97,15 @@ module _ {S R F D : Type 0} {reads : read.Ghosts F} {writes : write.Ghosts F} {s
   is_on_disk known {job = job} {files = files} {count = count} transfers is whole =
       of_file known job files count (moved_by sources sinks transfers).bytes is whole
 
+module _ {R F D : Type 0} {reads : read.Ghosts F} {writes : write.Ghosts F} {seeks : seek.Ghosts F}
+    {lists : read.Ghosts D} (sources : SourceMeaning (DiskSource F))
+    (sinks : SinkMeaning (LocalFile R F D reads writes seeks lists)) where
   -- an order was run, or there is none and nothing was done
-  pub stores_words : {before after : List SocketEvent} (words : List (List ℕ)) {status : ℕ} (ordered : Result Order ℕ)
+  pub does_words : {before after : List SocketEvent} (words : List (List ℕ)) {status : ℕ} (ordered : Result Order ℕ)
       → IfOk ordered (λ order. WordsName words order.job)
       → IfErr ordered (λ n. n ≡ 0 → AskForText tftp_app words)
-      → IfOk ordered (λ order. StoresOrder sources sinks order.job status before after)
+      → IfOk ordered (λ order. DoesOrder sources sinks order.job status before after)
       → IfErr ordered (λ _. after ≡ before) → IfErr ordered (λ n. status ≡ n)
-      → StoresWords sources sinks words status before after
-  stores_words words (Ok order) names text runs none same = (inr (order.job, names, runs.0), runs.1)
-  stores_words words (Err n) names text runs none same = (inl (none, λ zero. text (sym same ∙ zero)), tt)
+      → DoesWords sources sinks words status before after
+  does_words words (Ok order) names text runs none same = (inr (order.job, names, runs.0), runs.1, runs.2)
+  does_words words (Err n) names text runs none same = (inl (none, λ zero. text (sym same ∙ zero)), tt, tt)

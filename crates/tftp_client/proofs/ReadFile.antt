@@ -23,7 +23,7 @@ use Rattle.tftp_client.specs.declared.transfer.Job.{Job}
 use Rattle.tftp_client.specs.Converses.{Converses, State}
 use Rattle.tftp_client.specs.Moved.{nothing_moved, run_moves}
 use Rattle.tftp_client.specs.Outbound.{is_at_start}
-use Rattle.tftp_client.specs.Runs.{IsCountOf, IsFileOf, Transfers, begun, moved_by, opens, plain}
+use Rattle.tftp_client.specs.Runs.{IsCountOf, IsFileOf, Refused, RunsAs, RunsJob, Transfers, begun, moved_by, opens, plain}
 use Rattle.tftp_client.specs.Sent.{BeginsAt, BeginsFor, IsOpenedAt, IsSent, IsSentFrom, SendsWhatReadsReturned}
 use Rattle.tftp_client.proofs.GivenBytes.{gave_all}
 use Rattle.tftp_client.proofs.SameKind.{converses}
@@ -53,6 +53,10 @@ none_given (event ∷ events) start = none_given events start
 
 module _ {F K : Type 0} where
   -- a job without options has the same file
+  for_plain : (job : Job) (file : Files (DiskSource F) K) → BeginsAt (plain job) file → BeginsAt job file
+  for_plain job (Source source) is = is
+  for_plain job (Sink sink) is = is
+
   to_plain : (job : Job) (file : Files (DiskSource F) K) → BeginsAt job file → BeginsAt (plain job) file
   to_plain job (Source source) is = is
   to_plain job (Sink sink) is = is
@@ -64,6 +68,25 @@ module _ {F K : Type 0} where
   of_plain job (Sink sink) count bytes h = tt
 
   module _ (sources : SourceMeaning (DiskSource F)) (sinks : SinkMeaning K) where
+    -- the run of a job of this kind, or of one without options, with its file
+    pub begins_job : (job : Job) {kind : Kind} {port : ℕ} {before : List SocketEvent} {last : State} {files : Files (DiskSource F) K}
+        {count : ℕ} → job.kind ≡ kind
+        → (run : RunsAs sources sinks port kind job before last files count) × BeginsAt job run.runs.file
+        → (run : RunsAs sources sinks port job.kind job before last files count) × BeginsAt job run.runs.file
+    begins_job job {kind} {port} {before} {last} {files} {count} is run =
+        let Of : Kind → Type 0 = λ k. (run : RunsAs sources sinks port k job before last files count)
+        × BeginsAt job run.runs.file in
+        subst Of (sym is) run
+
+    pub begins_again : {most : ℕ} (port : ℕ) (job other : Job) (before middle : List SocketEvent) (last : State)
+        (files : Files (DiskSource F) K) (count : ℕ) → Refused sources sinks most job before middle → other ≡ plain job
+        → (run : RunsJob sources sinks port other middle last files count) × BeginsAt other run.runs.file
+        → (transfers : Transfers sources sinks most port job before last files count) × BeginsFor sources sinks transfers
+    begins_again port job other before middle last files count refused is run =
+        let Of : Job → Type 0 = λ j. (run : RunsJob sources sinks port j middle last files count)
+        × BeginsAt j run.runs.file in
+        let again = subst Of is run in (inr (middle, refused, again.0), for_plain job again.0.runs.file again.1)
+
     -- a file that was sent
     sent : GivesInOrder sources → {port : ℕ} (job : Job) (kind : Kind) (size count : ℕ) {before : List SocketEvent} {s : State}
         (first source : DiskSource F)
@@ -99,7 +122,7 @@ module _ {F K : Type 0} where
     run_sent in_order job kinds.Write size count (Sink sink) (Source source) run side done begins counts = absurd side
 
     -- what moved in the run of a complete job
-    was_read : GivesInOrder sources → {most port : ℕ} {job : Job} {before : List SocketEvent} {s : State}
+    pub was_read : GivesInOrder sources → {most port : ℕ} {job : Job} {before : List SocketEvent} {s : State}
         {files : Files (DiskSource F) K} {count : ℕ} (transfers : Transfers sources sinks most port job before s files count)
         → BeginsFor sources sinks transfers → is_complete s.end.position.phase ≡ true
         → IsSentFrom job files count (moved_by sources sinks transfers).bytes

@@ -15,7 +15,7 @@ use Rattle.tftp_sockets.specs.Quiet.{waits}
 use Rattle.tftp_client.specs.declared.transfer.Job.{Job}
 use Rattle.tftp_client.specs.Converses.{Converses, EndsBy, State}
 use Rattle.tftp_client.specs.Runs.{FailsBy, FailsEnd, FailsTransfer, Dallies, IsNew, Refused, Runs}
-use Rattle.tftp_client.specs.Runs.{IsFileOf, MayOpen, RunsAs, RunsJob, Stops, Transfers, begun, opens, plain}
+use Rattle.tftp_client.specs.Runs.{IsFileOf, MayOpen, Stops, begun, opens, plain}
 
 -- for a last call whose result is returned as it is
 pub if_err : {T E : Type 0} (r : Result T E) (P Q : E → Type 0) → ((e : E) → P e → Q e) → IfErr r P → IfErr r Q
@@ -83,14 +83,6 @@ module _ {S K : Type 0} (sources : SourceMeaning S) (sinks : SinkMeaning K) wher
       let At : ℕ → Type 0 = λ p. Converses sources sinks p (begun p e before) file last files in
       record { file = file; new = new; converses = subst At (sym run.0) (subst From is run.1) }
 
-  -- the run of a job of this kind
-  pub runs_job : (job : Job) {kind : Kind} {port : ℕ} {before : List SocketEvent} {last : State} {files : Files S K}
-      {count : ℕ} → job.kind ≡ kind
-      → RunsAs sources sinks port kind job before last files count
-      → RunsJob sources sinks port job before last files count
-  runs_job job {kind} {port} {before} {last} {files} {count} is run =
-      let Of : Kind → Type 0 = λ k. RunsAs sources sinks port k job before last files count in subst Of (sym is) run
-
   -- a job of this kind failed
   pub fails_job : (most : ℕ) (job : Job) {kind : Kind} (length : ℕ) (before after : List SocketEvent) (end : ClientOutcome)
       → job.kind ≡ kind
@@ -99,15 +91,7 @@ module _ {S K : Type 0} (sources : SourceMeaning S) (sinks : SinkMeaning K) wher
       let Of : Kind → Type 0 = λ k. FailsEnd sources sinks most k job length before after end in
       (length, subst Of (sym is) failed)
 
-  -- a job ran, or failed, without the options that were refused
-  pub runs_again : {most : ℕ} (port : ℕ) (job other : Job) (before middle : List SocketEvent) (last : State)
-      (files : Files S K) (count : ℕ) → Refused sources sinks most job before middle
-      → other ≡ plain job → RunsJob sources sinks port other middle last files count
-      → Transfers sources sinks most port job before last files count
-  runs_again port job other before middle last files count refused is run =
-      let Of : Job → Type 0 = λ j. RunsJob sources sinks port j middle last files count in
-      inr (middle, refused, subst Of is run)
-
+  -- a job failed without the options that were refused
   pub fails_again : {most most' : ℕ} (job other : Job) (before middle after : List SocketEvent) (end : ClientOutcome)
       → Refused sources sinks most job before middle
       → other ≡ plain job → most' ≡ most → FailsBy sources sinks most' other middle after end

@@ -1,8 +1,12 @@
 -- What was sent of a file on the disk, by the calls of the system on it.
-use Rattle.std.specs.Prelude.{ℕ, ◌≡◌, true, List, length, Some}
+use Rattle.std.specs.Prelude.{ℕ, ◌≡◌, ◌⊎◌, true, List, length, Some}
 use Rattle.std.proofs.Common.{inl, inr}
+use Rattle.std.specs.declared.io.traits.Read as read
+use Rattle.std.specs.declared.io.traits.Write as write
+use Rattle.std.specs.declared.io.traits.Seek as seek
 use Rattle.tftp_wire.specs.declared.mode.Mode.{Mode}
 use Rattle.tftp_wire.specs.declared.mode.Mode.TheVariants.{Octet}
+use Rattle.tftp_negotiate.specs.declared.known.Kind.{Kind}
 use Rattle.tftp_file.specs.Sink.{SinkMeaning}
 use Rattle.tftp_file.specs.Source.{SourceMeaning}
 use Rattle.tftp_file.specs.declared.files.Files.{Files}
@@ -12,10 +16,13 @@ use Rattle.tftp_disk.specs.DiskSource.{HasGiven, IsUnread, source_calls, source_
 use Rattle.tftp_disk.specs.Given.{opened_at}
 use Rattle.tftp_disk.specs.declared.disk_source.DiskSource.{DiskSource}
 use Rattle.tftp_sockets.specs.Journal.{SocketEvent}
+use Rattle.tftp_client.specs.declared.local.LocalFile.{LocalFile}
 use Rattle.tftp_client.specs.declared.transfer.Job.{Job}
 use Rattle.tftp_client.specs.Converses.{State}
+use Rattle.tftp_client.specs.OnDisk.{OrderOnDisk, WordsOnDisk}
+use Rattle.tftp_client.specs.Ordered.{RunsOrder, RunsWords}
 use Rattle.tftp_client.specs.Outbound.{is_at_start}
-use Rattle.tftp_client.specs.Runs.{Transfers, moved_by}
+use Rattle.tftp_client.specs.Runs.{RunsAs, Transfers, moved_by}
 
 module _ {F : Type 0} where
   -- a file to send in this mode, as it was opened at the path: nothing was read of it since, or
@@ -46,12 +53,44 @@ module _ {F K : Type 0} where
   IsSentFrom job (Sink sink) count bytes = Unit {0}
 
 module _ {F K : Type 0} (sources : SourceMeaning (DiskSource F)) (sinks : SinkMeaning K) where
+  -- the run of an end of this kind, as a job opens it, from the file of the job on
+  abbrev pub RunsFor : ℕ → Kind → Job → List SocketEvent → State → Files (DiskSource F) K → ℕ
+      → Type 0
+  RunsFor port kind job before s files count =
+      (run : RunsAs sources sinks port kind job before s files count) × BeginsAt job run.runs.file
+
   -- the run of a job began with its file
   abbrev pub BeginsFor : {most port : ℕ} {job : Job} {before : List SocketEvent} {s : State}
       {files : Files (DiskSource F) K} {count : ℕ}
       → Transfers sources sinks most port job before s files count → Type 0
   BeginsFor {job = job} (inl run) = BeginsAt job run.runs.file
   BeginsFor {job = job} (inr again) = BeginsAt job again.2.runs.file
+
+  -- a job ran from its file on
+  abbrev pub TransfersFor : ℕ → ℕ → Job → List SocketEvent → State → Files (DiskSource F) K → ℕ
+      → Type 0
+  TransfersFor most port job before s files count =
+      (transfers : Transfers sources sinks most port job before s files count)
+      × BeginsFor transfers
+
+  -- what moved in the run of a complete put was read of its file
+  abbrev pub OrderSent : (job : Job) (status : ℕ) (before after : List SocketEvent)
+      → RunsOrder sources sinks job status before after → Type 0
+  OrderSent job status before after (inl done) =
+      IsSentFrom job done.1.files done.1.count (moved_by sources sinks done.1.transfers).bytes
+  OrderSent job status before after (inr failed) = Unit {0}
+
+  -- the same of the job that words name
+  abbrev pub WordsSent : (words : List (List ℕ)) (status : ℕ) (before after : List SocketEvent)
+      → RunsWords sources sinks words status before after → Type 0
+  WordsSent words status before after (inl none) = Unit {0}
+  WordsSent words status before after (inr did) = OrderSent did.0 status before after did.2
+
+  -- the job of words was run, and what moved was read of its file if it is a complete put
+  abbrev pub SendsWords : List (List ℕ) → ℕ → List SocketEvent → List SocketEvent → Type 0
+  SendsWords words status before after =
+      (runs : RunsWords sources sinks words status before after)
+      × WordsSent words status before after runs
 
   -- what moved in each run of a put that is complete was read of its file, if that was opened so
   abbrev pub SendsWhatReadsReturned : Type 0
@@ -61,3 +100,21 @@ module _ {F K : Type 0} (sources : SourceMeaning (DiskSource F)) (sinks : SinkMe
       (transfers : Transfers sources sinks most port job before s files count)
       → BeginsFor transfers → is_complete s.end.position.phase ≡ true
       → IsSentFrom job files count (moved_by sources sinks transfers).bytes
+
+module _ {R F D : Type 0} {reads : read.Ghosts F} {writes : write.Ghosts F}
+    {seeks : seek.Ghosts F} {lists : read.Ghosts D}
+    (sources : SourceMeaning (DiskSource F))
+    (sinks : SinkMeaning (LocalFile R F D reads writes seeks lists)) where
+  -- a job was run: what moved in a complete run is on the disk, or came from it
+  abbrev pub DoesOrder : Job → ℕ → List SocketEvent → List SocketEvent → Type 0
+  DoesOrder job status before after =
+      (runs : RunsOrder sources sinks job status before after)
+      × OrderOnDisk sources sinks job status before after runs
+      × OrderSent sources sinks job status before after runs
+
+  -- the same of words
+  abbrev pub DoesWords : List (List ℕ) → ℕ → List SocketEvent → List SocketEvent → Type 0
+  DoesWords words status before after =
+      (runs : RunsWords sources sinks words status before after)
+      × WordsOnDisk sources sinks words status before after runs
+      × WordsSent sources sinks words status before after runs

@@ -10,6 +10,7 @@ pub mod laws;
 mod local;
 mod local_error;
 mod local_names;
+mod measuring;
 mod naming;
 mod outbound;
 mod part_file;

@@ -14,18 +14,16 @@ use crate::local_error::LocalError;
 use crate::part_file::PartFile;
 use crate::taken::Taken;
 use std::alloc::Global;
-use std::io::{BufReader, Read};
 use std::rt::Files;
-use tftp_disk::{DiskFile, ErrorKeeper, Existing};
-use tftp_file::{Ahead, ReadSource, Sink, StoreFault};
+use tftp_disk::{DiskSource, Existing};
+use tftp_file::{Sink, StoreFault};
 
 /// The source of a file to send.
-pub(crate) type LocalSource<F> = Ahead<ReadSource<BufReader<ErrorKeeper<DiskFile<F>>>>>;
+pub(crate) type LocalSource<F> = DiskSource<F>;
 
 /// The error of the last failed read, if a read failed.
-pub(crate) fn read_error<F: Read + Drop>(source: LocalSource<F>) -> Option<LocalError> {
-    let error = source.into_inner().into_inner().into_inner().error()?;
-    Some(LocalError::System(error))
+pub(crate) fn read_error<F: Drop>(source: &LocalSource<F>) -> Option<LocalError> {
+    Some(LocalError::System(source.error()?))
 }
 
 /// A file that is fetched. It is written as `LOCAL.part`, and gets the name `LOCAL` at the commit.

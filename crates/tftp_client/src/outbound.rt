@@ -2,17 +2,20 @@
 
 ghost use Rattle.std.specs.Prelude.{◌≡◌, ◌≤◌, true, IfOk, OnOk};
 ghost use Rattle.tftp_wire.specs.declared.mode.Mode.TheVariants.{Octet};
-ghost use Rattle.tftp_client.specs.Outbound.{IsUnread, is_at_start, length_told, opened_at};
-ghost use Rattle.tftp_client.specs.Outbound.{source_calls};
+ghost use Rattle.tftp_disk.specs.DiskSource.{source_calls};
+ghost use Rattle.tftp_client.specs.Measuring.{StaysOpen};
+ghost use Rattle.tftp_client.specs.Outbound.{IsLongAs, is_at_start};
+ghost use Rattle.tftp_client.specs.Sent.{IsOpenedAt};
 
 use crate::local::LocalSource;
 use crate::local_error::LocalError;
+use crate::measuring::count_netascii;
 use std::alloc::Global;
 use std::fs::OpenFile;
-use std::io::{BufReader, Read, Seek, SeekFrom};
+use std::io::{Read, Seek, SeekFrom};
 use std::rt::Files;
-use tftp_disk::{DiskFile, DiskJournal, ErrorKeeper, Kind};
-use tftp_file::{Ahead, MAX_WIRE, ReadSource, wire_length_up_to};
+use tftp_disk::{DiskFile, DiskJournal, DiskSource, Kind};
+use tftp_file::MAX_WIRE;
 use tftp_wire::Mode;
 
 /// The capacity of the read buffer, in bytes. Blocks of this size and more bypass it.
@@ -40,10 +43,9 @@ impl<F: Read + Seek + OpenFile + Drop> Outbound<F> {
     ) -> Result<Outbound<F>, LocalError>
         ensures octet { IfOk result (λ outbound. mode ≡ Octet → outbound.wire_bytes ≤ MAX_WIRE
             → outbound.host_bytes ≡ outbound.wire_bytes) }
-        ensures start { IfOk result (λ outbound.
-            is_at_start (source_calls outbound.source) ≡ true) }
-        ensures unread { IfOk result (λ outbound. mode ≡ Octet → IsUnread local.now
-            outbound.host_bytes (source_calls outbound.source)) }
+        ensures opened { IfOk result (λ outbound. IsOpenedAt local.now mode outbound.source) }
+        ensures told { IfOk result (λ outbound. IsLongAs outbound.host_bytes
+            (source_calls outbound.source)) }
     {
         let mut journal = DiskJournal::new();
         if tftp_disk::follow(files, &mut journal, local)?.kind != Kind::Regular {
@@ -53,9 +55,8 @@ impl<F: Read + Seek + OpenFile + Drop> Outbound<F> {
         let host_bytes = file.examine()?.bytes;
         check_known(&mut file, host_bytes)?;
         let wire_bytes = wire_bytes(&mut file, mode, host_bytes)?;
-        let reader = BufReader::with_capacity(alloc, READ_BUFFER, ErrorKeeper::new(file))?;
         Ok(Outbound {
-            source: Ahead::new(alloc, ReadSource::new(reader, mode)),
+            source: DiskSource::new(alloc, file, mode, READ_BUFFER)?,
             host_bytes,
             wire_bytes,
         })
@@ -64,8 +65,7 @@ impl<F: Read + Seek + OpenFile + Drop> Outbound<F> {
 
 /// Fails if a file that states a length of 0 has a byte.
 fn check_known<F: Read>(file: &mut DiskFile<F>, host_bytes: u64) -> Result<(), LocalError>
-    ensures opened { opened_at file.new.journal.events ≡ opened_at file.old.journal.events }
-    ensures told { length_told file.new.journal.events ≡ length_told file.old.journal.events }
+    ensures stays { StaysOpen file.old file.new }
     ensures start { OnOk result (is_at_start file.new.journal.events
         ≡ is_at_start file.old.journal.events) }
 {
@@ -81,7 +81,7 @@ fn check_known<F: Read>(file: &mut DiskFile<F>, host_bytes: u64) -> Result<(), L
 
 /// The length of a file's text on the wire, in bytes; `MAX_WIRE + 1` if it exceeds `MAX_WIRE`. In
 /// octet it is the file's length, and nothing is read.
-fn wire_bytes<F: Read + Seek>(
+fn wire_bytes<F: Read + Seek + Drop>(
     file: &mut DiskFile<F>,
     mode: Mode,
     host_bytes: u64,
@@ -90,7 +90,7 @@ fn wire_bytes<F: Read + Seek>(
         → host_bytes ≡ count) }
     ensures start { is_at_start file.old.journal.events ≡ true
         → OnOk result (is_at_start file.new.journal.events ≡ true) }
-    ensures unread { mode ≡ Octet → file.new ≡ file.old }
+    ensures stays { StaysOpen file.old file.new }
 {
     match mode {
         Mode::Octet => Ok(host_bytes.min(MAX_WIRE + 1)),
@@ -100,14 +100,18 @@ fn wire_bytes<F: Read + Seek>(
 
 /// The same in netascii. The file is read once, unless it is longer itself, and is then at its start
 /// again.
-fn measure<F: Read + Seek>(file: &mut DiskFile<F>, host_bytes: u64) -> Result<u64, LocalError>
-    ensures { is_at_start file.old.journal.events ≡ true
+fn measure<F: Read + Seek + Drop>(
+    file: &mut DiskFile<F>,
+    host_bytes: u64,
+) -> Result<u64, LocalError>
+    ensures start { is_at_start file.old.journal.events ≡ true
         → OnOk result (is_at_start file.new.journal.events ≡ true) }
+    ensures stays { StaysOpen file.old file.new }
 {
     if host_bytes > MAX_WIRE {
         return Ok(MAX_WIRE + 1);
     }
-    let Ok(measured) = wire_length_up_to(&mut *file, Mode::Netascii, MAX_WIRE) else {
+    let Ok(measured) = count_netascii(file) else {
         return Err(LocalError::Unreadable);
     };
     match file.seek(SeekFrom::Start(0)) {

@@ -7,8 +7,9 @@ ghost use Rattle.tftp_sockets.specs.Journal.SocketEvent.{Printed as Line};
 ghost use Rattle.tftp_sockets.specs.Quiet.{waits as waits_in};
 ghost use Rattle.tftp_client.specs.Conversation.{state_of};
 ghost use Rattle.tftp_client.specs.Converses.{most_waits};
-ghost use Rattle.tftp_client.specs.OnDisk.{StoresOrder, StoresWords};
+ghost use Rattle.tftp_client.specs.OnDisk.{StoresWords};
 ghost use Rattle.tftp_client.specs.Runs.{Dallies, printed};
+ghost use Rattle.tftp_client.specs.Sent.{DoesOrder, DoesWords, SendsWords};
 
 use crate::cause::CauseLine;
 use crate::client_udp::ClientUdp;
@@ -22,6 +23,7 @@ use std::net::Net;
 use std::rt::{Files, Runtime};
 use std::time::Clock;
 use tftp_arguments::{own_words, print_no_memory, print_words_fault};
+use tftp_disk::laws::gives_in_order;
 use tftp_file::{Sink, Source};
 use tftp_lines::reason_of;
 use tftp_sockets::{Journal, print_end};
@@ -68,6 +70,9 @@ pub fn tftp_with_journal<R: Runtime + AllocGlobal + Net, S: AsStr, E: IsTerminal
     ensures runs { StoresWords ⟦<LocalSource<R::File> as Source>⟧.meaning
         ⟦<LocalFile<R> as Sink>⟧.meaning (map S.text words.now) result
         journal.old.events journal.new.events }
+    ensures sends { SendsWords ⟦<LocalSource<R::File> as Source>⟧.meaning
+        ⟦<LocalFile<R> as Sink>⟧.meaning (map S.text words.now) result
+        journal.old.events journal.new.events }
     ensures waits { waits_in journal.new.events ≤ most_waits journal.old.events }
 {
     match transfer_words(rt, words, ErrorOutput::of(errors), journal) {
@@ -84,7 +89,7 @@ fn transfer_words<'a, R: Runtime + AllocGlobal + Net, S: AsStr>(
     journal: &mut Journal,
 ) -> anyhow::Result<u8>
     ensures status { IfOk result (λ status. status ≤ 2) }
-    ensures runs { IfOk result (λ status. StoresWords ⟦<LocalSource<R::File> as Source>⟧.meaning
+    ensures runs { IfOk result (λ status. DoesWords ⟦<LocalSource<R::File> as Source>⟧.meaning
         ⟦<LocalFile<R> as Sink>⟧.meaning (map S.text words.now) status
         journal.old.events journal.new.events) }
     ensures memory { IfErr result (λ _. journal.new.events ≡ journal.old.events) }
@@ -104,7 +109,7 @@ fn transfer_texts<'a, R: Files + Clone + Drop + ClientUdp + Clock + Print + Epri
     journal: &mut Journal,
 ) -> anyhow::Result<u8>
     ensures status { IfOk result (λ status. status ≤ 2) }
-    ensures runs { IfOk result (λ status. StoresWords ⟦<LocalSource<R::File> as Source>⟧.meaning
+    ensures runs { IfOk result (λ status. DoesWords ⟦<LocalSource<R::File> as Source>⟧.meaning
         ⟦<LocalFile<R> as Sink>⟧.meaning (map S.text words.now) status
         journal.old.events journal.new.events) }
     ensures memory { IfErr result (λ _. journal.new.events ≡ journal.old.events) }
@@ -125,7 +130,7 @@ fn run_ordered<R: Files + Clone + Drop + ClientUdp + Clock + Print + Eprint>(
 ) -> u8
     requires { IfErr ordered.now (λ status. status ≤ 2) }
     ensures status { result ≤ 2 }
-    ensures runs { IfOk ordered.now (λ order. StoresOrder
+    ensures runs { IfOk ordered.now (λ order. DoesOrder
         ⟦<LocalSource<R::File> as Source>⟧.meaning ⟦<LocalFile<R> as Sink>⟧.meaning
         order.job result journal.old.events journal.new.events) }
     ensures none { IfErr ordered.now (λ _. journal.new.events ≡ journal.old.events) }
@@ -146,11 +151,12 @@ fn run_order<R: Files + Clone + Drop + ClientUdp + Clock + Print + Eprint>(
     journal: &mut Journal,
 ) -> u8
     ensures status { result ≤ 2 }
-    ensures runs { StoresOrder ⟦<LocalSource<R::File> as Source>⟧.meaning
+    ensures runs { DoesOrder ⟦<LocalSource<R::File> as Source>⟧.meaning
         ⟦<LocalFile<R> as Sink>⟧.meaning order.now.job result
         journal.old.events journal.new.events }
     ensures waits { waits_in journal.new.events ≤ most_waits journal.old.events }
 {
+    gives_in_order::<R::File>();
     let mut waits = MAX_WAITS;
     match transfer(rt, alloc, &order.job, &mut waits, journal) {
         Ok(completed) => conclude(rt, completed, order, waits, journal),

@@ -13,11 +13,12 @@ ghost use Rattle.tftp_sockets.specs.Quiet.{waits as waits_in};
 ghost use Rattle.tftp_client.specs.Conversation.{IsReady, any_address, state_of};
 ghost use Rattle.tftp_client.specs.Converses.{Converses, IsOpen, deadline_at};
 ghost use Rattle.tftp_client.specs.OnDisk.{IsFor, job_paths};
+ghost use Rattle.tftp_client.specs.Sent.{BeginsAt, IsOpenedAt, RunsFor, TransfersFor};
 ghost use Rattle.tftp_client.specs.Stored.{count_of, stored};
 ghost use Rattle.tftp_client.specs.Taken.{nothing};
 ghost use Rattle.tftp_client.specs.Written.{paths_for, paths_of};
 ghost use Rattle.tftp_client.specs.Runs.{FailsBy, FailsEnd, FailsTransfer, MayFallBack, Runs};
-ghost use Rattle.tftp_client.specs.Runs.{RunsAs, RunsJob, Stops, Transfers};
+ghost use Rattle.tftp_client.specs.Runs.{Stops};
 ghost use Rattle.tftp_client.specs.Runs.{IsFileOf, MayOpen, begun, measured, opens, plain, sent_from};
 
 use crate::cause::Cause;
@@ -90,7 +91,7 @@ pub(crate) fn transfer<R: FileSystem + Clone + Drop + ClientUdp + Clock + Eprint
     waits: &mut u32,
     journal: &mut Journal,
 ) -> Result<Completed<R>, Failure>
-    ensures ok { IfOk result (λ completed. Transfers
+    ensures ok { IfOk result (λ completed. TransfersFor
         ⟦<LocalSource<R::File> as Source>⟧.meaning ⟦<LocalFile<R> as Sink>⟧.meaning
         (waits.old + waits_in journal.old.events) completed.conversation.socket.port job.now
         journal.old.events (state_of completed.conversation journal.new.events) completed.files
@@ -145,9 +146,9 @@ fn transfer_once<R: FileSystem + Clone + Drop + ClientUdp + Clock + Eprint>(
     waits: &mut u32,
     journal: &mut Journal,
 ) -> Result<Completed<R>, Failure>
-    ensures ok { IfOk result (λ completed. RunsJob
+    ensures ok { IfOk result (λ completed. RunsFor
         ⟦<LocalSource<R::File> as Source>⟧.meaning ⟦<LocalFile<R> as Sink>⟧.meaning
-        completed.conversation.socket.port job.now
+        completed.conversation.socket.port job.now.kind job.now
         journal.old.events (state_of completed.conversation journal.new.events) completed.files
         completed.count) }
     ensures local { IfOk result (λ completed. IsFor job.now completed.files) }
@@ -172,7 +173,7 @@ fn get<R: FileSystem + Clone + Drop + ClientUdp + Clock + Eprint>(
     waits: &mut u32,
     journal: &mut Journal,
 ) -> Result<Completed<R>, Failure>
-    ensures ok { IfOk result (λ completed. RunsAs
+    ensures ok { IfOk result (λ completed. RunsFor
         ⟦<LocalSource<R::File> as Source>⟧.meaning ⟦<LocalFile<R> as Sink>⟧.meaning
         completed.conversation.socket.port Read job.now journal.old.events
         (state_of completed.conversation journal.new.events) completed.files completed.count) }
@@ -222,7 +223,7 @@ fn get_into<N: ClientUdp + Clock + Eprint, R: FileSystem + Drop>(
 ) -> Result<Completed<R>, Failure>
     requires empty { local.taken.holding ≡ nothing }
     requires paths { paths_of local.part.names local.part.existing ≡ job_paths job.now }
-    ensures ok { IfOk result (λ completed. RunsAs
+    ensures ok { IfOk result (λ completed. RunsFor
         ⟦<LocalSource<R::File> as Source>⟧.meaning ⟦<LocalFile<R> as Sink>⟧.meaning
         completed.conversation.socket.port Read job.now journal.old.events
         (state_of completed.conversation journal.new.events) completed.files completed.count) }
@@ -338,7 +339,7 @@ fn put<R: FileSystem + Clone + Drop + ClientUdp + Clock + Eprint>(
     waits: &mut u32,
     journal: &mut Journal,
 ) -> Result<Completed<R>, Failure>
-    ensures ok { IfOk result (λ completed. RunsAs
+    ensures ok { IfOk result (λ completed. RunsFor
         ⟦<LocalSource<R::File> as Source>⟧.meaning ⟦<LocalFile<R> as Sink>⟧.meaning
         completed.conversation.socket.port Write job.now journal.old.events
         (state_of completed.conversation journal.new.events) completed.files completed.count) }
@@ -365,6 +366,7 @@ fn put_from<R: FileSystem + Drop + ClientUdp + Clock + Eprint>(
     waits: &mut u32,
     journal: &mut Journal,
 ) -> Result<Completed<R>, Failure>
+    requires { IsOpenedAt job.now.local.now job.now.mode outbound.source }
     ensures ok { IfOk result (λ completed. (runs : Runs
         ⟦<LocalSource<R::File> as Source>⟧.meaning ⟦<LocalFile<R> as Sink>⟧.meaning
         completed.conversation.socket.port (opens Write job.now outbound.wire_bytes)
@@ -372,7 +374,8 @@ fn put_from<R: FileSystem + Drop + ClientUdp + Clock + Eprint>(
         × (completed.count ≡ count_of outbound.host_bytes completed.files)
         × (outbound.wire_bytes ≤ MAX_WIRE) × MayOpen Write job.now outbound.wire_bytes
         × IsFileOf ⟦<LocalSource<R::File> as Source>⟧.meaning
-        ⟦<LocalFile<R> as Sink>⟧.meaning Write runs.file) }
+        ⟦<LocalFile<R> as Sink>⟧.meaning Write runs.file
+        × BeginsAt job.now runs.file) }
     ensures local { IfOk result (λ completed. IsFor job.now completed.files) }
     ensures err { IfErr result (λ failure. FailsEnd
         ⟦<LocalSource<R::File> as Source>⟧.meaning ⟦<LocalFile<R> as Sink>⟧.meaning
@@ -515,7 +518,7 @@ fn failed<R: FileSystem + Drop>(
 {
     let error = match files {
         Files::Sink(local) => local.into_error(),
-        Files::Source(source) => read_error(source),
+        Files::Source(source) => read_error(&source),
     };
     Failure {
         end: ClientOutcome::Failed(outcome),

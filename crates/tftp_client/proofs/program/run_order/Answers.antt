@@ -3,13 +3,14 @@ use Rattle.std.proofs.Common.{arith, inl, inr, refl}
 use Rattle.tftp_client.specs.Conversation.{state_of}
 use Rattle.tftp_client.proofs.HeldBytes.{is_whole}
 use Rattle.tftp_client.proofs.NamedOnDisk.{is_on_disk}
+use Rattle.tftp_client.proofs.ReadFile.{was_read}
 use Rattle.tftp_client.proofs.SameKind.{is_file_of}
 use Rattle.tftp_client.proofs.StaysComplete.{moves_nothing, stays_complete}
 use Rattle.tftp_client.proofs.program.run_order.Goals as goal
 
 pub returns-in-Ok-clause-runs : goal.returns-in-Ok-clause-runs
 returns-in-Ok-clause-runs g c =
-    let whole = is_whole _ _ (λ local. (local.taken.holding, refl)) c.in-Ok.ensures.ok c.in-Ok.completed.complete in (
+    let whole = is_whole _ _ (λ local. (local.taken.holding, refl)) c.in-Ok.ensures.ok.0 c.in-Ok.completed.complete in (
       inl (
         c.conclude.ensures.ends,
         record {
@@ -17,9 +18,9 @@ returns-in-Ok-clause-runs g c =
           last = state_of c.in-Ok.completed.conversation c.transfer.new.journal.events;
           files = c.in-Ok.completed.files;
           count = c.in-Ok.completed.count;
-          transfers = c.in-Ok.ensures.ok;
+          transfers = c.in-Ok.ensures.ok.0;
           complete = c.in-Ok.completed.complete;
-          side = is_file_of _ _ c.in-Ok.ensures.ok;
+          side = is_file_of _ _ c.in-Ok.ensures.ok.0;
           whole = whole;
           stays = c.conclude.ensures.goes;
           stayed = stays_complete _ _ c.conclude.ensures.goes c.in-Ok.completed.complete;
@@ -27,7 +28,8 @@ returns-in-Ok-clause-runs g c =
           within = omega (arith, c.conclude.ensures.waits, c.in-Ok.ensures.counted);
         },
       ),
-      is_on_disk _ _ (λ local. refl) c.in-Ok.ensures.ok c.in-Ok.ensures.local whole,
+      is_on_disk _ _ (λ local. refl) c.in-Ok.ensures.ok.0 c.in-Ok.ensures.local whole,
+      was_read _ _ c.gives_in_order.ensures c.in-Ok.ensures.ok.0 c.in-Ok.ensures.ok.1 c.in-Ok.completed.complete,
     )
 
 pub returns-in-Err-clause-runs : goal.returns-in-Err-clause-runs
@@ -38,5 +40,6 @@ returns-in-Err-clause-runs g c = (
     c.report.ensures.status,
     c.in-Err.ensures.err,
   ),
+  tt,
   tt,
 )

@@ -11,7 +11,7 @@ use Rattle.tftp_client.proofs.transfer.put_from.Goals as goal
 pub returns-in-Ok-clause-ok : goal.returns-in-Ok-clause-ok
 returns-in-Ok-clause-ok g c =
     IfOk-weaker c.converse.result _ _ (λ completed ran.
-    (runs _ _ c.in-Ok.ensures.begins tt (ran.0, ran.1), ran.2, c.in-Ok.ensures.fits, c.in-Ok.ensures.may, tt)) c.converse.ensures.ok
+    (runs _ _ c.in-Ok.ensures.begins tt (ran.0, ran.1), ran.2, c.in-Ok.ensures.fits, c.in-Ok.ensures.may, tt, c.requires)) c.converse.ensures.ok
 
 pub returns-in-Ok-clause-local : goal.returns-in-Ok-clause-local
 returns-in-Ok-clause-local g c =

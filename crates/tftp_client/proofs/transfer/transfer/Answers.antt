@@ -1,13 +1,15 @@
 -- Without options, once these were refused.
+use Rattle.std.proofs.Common.{inl}
 use Rattle.std.proofs.lemmas.Result.{IfOk-weaker}
 use Rattle.tftp_client.proofs.NamedOnDisk.{for_plain}
-use Rattle.tftp_client.proofs.Running.{fails_again, if_err, runs_again}
+use Rattle.tftp_client.proofs.ReadFile.{begins_again}
+use Rattle.tftp_client.proofs.Running.{fails_again, if_err}
 use Rattle.tftp_client.proofs.transfer.transfer.Goals as goal
 
 pub returns-clause-ok : goal.returns-clause-ok
 returns-clause-ok g c =
     IfOk-weaker c.transfer_once-2.result _ _
-    (λ completed run. runs_again _ _ completed.conversation.socket.port c.args.job.now c.plain.result _ _ _ _
+    (λ completed run. begins_again _ _ completed.conversation.socket.port c.args.job.now c.plain.result _ _ _ _
     completed.count
     (record {
       end = c.in-Err.failure.end;
@@ -34,3 +36,6 @@ returns-clause-local g c =
     IfOk-weaker c.transfer_once-2.result _ _
     (λ completed is. for_plain c.args.job.now c.plain.result completed.files c.plain.ensures is)
     c.transfer_once-2.ensures.local
+
+pub returns-in-Ok-clause-ok : goal.returns-in-Ok-clause-ok
+returns-in-Ok-clause-ok g c = (inl c.in-Ok.ensures.ok.0, c.in-Ok.ensures.ok.1)

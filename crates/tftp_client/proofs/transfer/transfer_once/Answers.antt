@@ -1,11 +1,12 @@
 -- A job of either kind.
 use Rattle.std.proofs.lemmas.Result.{IfOk-weaker}
-use Rattle.tftp_client.proofs.Running.{fails_job, if_err, runs_job}
+use Rattle.tftp_client.proofs.ReadFile.{begins_job}
+use Rattle.tftp_client.proofs.Running.{fails_job, if_err}
 use Rattle.tftp_client.proofs.transfer.transfer_once.Goals as goal
 
 pub returns-in-Read-clause-ok : goal.returns-in-Read-clause-ok
 returns-in-Read-clause-ok g c = IfOk-weaker c.get.result _ _ (λ completed run.
-    runs_job _ _ c.args.job.now c.in-Read.is run) c.get.ensures.ok
+    begins_job _ _ c.args.job.now c.in-Read.is run) c.get.ensures.ok
 
 pub returns-in-Read-clause-err : goal.returns-in-Read-clause-err
 returns-in-Read-clause-err g c =
@@ -14,7 +15,7 @@ returns-in-Read-clause-err g c =
 
 pub returns-in-Write-clause-ok : goal.returns-in-Write-clause-ok
 returns-in-Write-clause-ok g c =
-    IfOk-weaker c.put.result _ _ (λ completed run. runs_job _ _ c.args.job.now c.in-Write.is run) c.put.ensures.ok
+    IfOk-weaker c.put.result _ _ (λ completed run. begins_job _ _ c.args.job.now c.in-Write.is run) c.put.ensures.ok
 
 pub returns-in-Write-clause-err : goal.returns-in-Write-clause-err
 returns-in-Write-clause-err g c =
