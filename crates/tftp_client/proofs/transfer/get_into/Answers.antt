@@ -13,8 +13,11 @@ use Rattle.tftp_client.proofs.transfer.get_into.Goals as goal
 pub returns-in-Ok-clause-ok : goal.returns-in-Ok-clause-ok
 returns-in-Ok-clause-ok g c =
     IfOk-weaker c.converse.result _ _
-    (λ completed ran. (runs_as _ _ (λ local. refl) c.args.job.now Read 0 0 c.in-Ok.ensures.may
-    (runs _ _ c.in-Ok.ensures.begins (ap Some c.requires.empty) (ran.0, ran.1)) tt (λ octet. refl) ran.2, tt))
+    (λ completed ran. (
+      runs_as _ _ (λ local. refl) c.args.job.now Read 0 0 c.in-Ok.ensures.may
+          (runs _ _ c.in-Ok.ensures.begins (ap Some c.requires.empty) (ran.0, ran.1)) tt (λ octet. refl) ran.2,
+      tt,
+    ))
     c.converse.ensures.ok
 
 pub returns-in-Ok-clause-local : goal.returns-in-Ok-clause-local

@@ -10,8 +10,11 @@ pub returns-in-Ok-clause-ok : goal.returns-in-Ok-clause-ok
 returns-in-Ok-clause-ok g c =
     let outbound = c.in-Ok.outbound in
     IfOk-weaker c.put_from.result _ _
-    (λ completed ran. (runs_as _ _ (λ local. refl) c.args.job.now Write outbound.host_bytes outbound.wire_bytes ran.3
-    ran.0 ran.4 (λ octet. c.in-Ok.ensures.octet octet ran.2) ran.1, ran.5))
+    (λ completed ran. (
+      runs_as _ _ (λ local. refl) c.args.job.now Write outbound.host_bytes outbound.wire_bytes ran.3
+          ran.0 ran.4 (λ octet. c.in-Ok.ensures.octet octet ran.2) ran.1,
+      ran.5,
+    ))
     c.put_from.ensures.ok
 
 pub returns-in-Ok-clause-err : goal.returns-in-Ok-clause-err

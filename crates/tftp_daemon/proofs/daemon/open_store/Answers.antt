@@ -14,15 +14,15 @@ same_root {R} {G} {H} same = ap (λ (s : FolderStore R G H). string_bytes s.fold
 pub returns-clause-root : goal.returns-clause-root
 returns-clause-root g c =
     let first : IsRootAt c.args.config.now.root.now (string_bytes c.in-Ok.store.folder.root) =
-        (c.in-Ok.store.journal.events, c.in-Ok.ensures.root) in
+    (c.in-Ok.store.journal.events, c.in-Ok.ensures.root) in
     let second : string_bytes c.if-config.store.folder.root ≡ string_bytes c.in-Ok.store.folder.root =
-        elim c.if-config.branch [
-          then-config w ↦ same_root w.store-is ∙ same_root w.refuse_writes.ensures
-        | else-config w ↦ same_root w.store-is
-        ] in
+    elim c.if-config.branch [
+      | then-config w ↦ same_root w.store-is ∙ same_root w.refuse_writes.ensures
+      | else-config w ↦ same_root w.store-is
+    ] in
     let third : string_bytes c.match-config.store.folder.root ≡ string_bytes c.if-config.store.folder.root =
-        elim c.match-config.branch [
-          in-Some+in_default-admit_uploads w ↦ same_root w.store-is ∙ same_root w.admit_uploads.ensures.rest
-        | in_default w ↦ same_root w.store-is
-        ] in
+    elim c.match-config.branch [
+      | in-Some+in_default-admit_uploads w ↦ same_root w.store-is ∙ same_root w.admit_uploads.ensures.rest
+      | in_default w ↦ same_root w.store-is
+    ] in
     subst (IsRootAt c.args.config.now.root.now) (sym (third ∙ second)) first
