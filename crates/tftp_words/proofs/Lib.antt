@@ -3,3 +3,4 @@ pub mod WordsMade
 pub mod EndToEndMade
 pub mod OpenedAt
 pub mod FromDiskMade
+pub mod PutFromDiskMade

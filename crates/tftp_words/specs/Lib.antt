@@ -2,3 +2,4 @@ pub mod Ran
 pub mod WordsKept
 pub mod EndToEnd
 pub mod FromDisk
+pub mod PutFromDisk

@@ -2,11 +2,14 @@
 
 ghost use Rattle.tftp_words.specs.EndToEnd.{WordsMoveFiles};
 ghost use Rattle.tftp_words.specs.FromDisk.{FromDiskToDisk};
+ghost use Rattle.tftp_words.specs.PutFromDisk.{PutsFromDisk};
 ghost use Rattle.tftp_words.specs.WordsKept.{SeveralKeepAnyFiles, WordsKeepAnyFiles};
 
+use std::io::Read;
 use std::rt::Files;
 use tftp_client::LocalFile;
 use tftp_daemon::laws::a_run_keeps_the_settings;
+use tftp_disk::DiskSource;
 use tftp_file::{Sink, Source};
 use tftp_folder::laws::gives_its_file;
 use tftp_folder::{FolderSource, FolderStore};
@@ -50,4 +53,17 @@ pub fn complete_gets_go_from_disk_to_disk<R: Files + Drop, L: Files + Drop, G: S
     words_keep_promises::<R, G, LocalFile<L>>();
     a_run_keeps_the_settings::<R>();
     gives_its_file::<R::File>();
+}
+
+/// From the disk of a client to the draft of its server: if `tftpd` ran these words, and each `tftp`
+/// those, which name that server, and an honest network joined them with fresh ports, then what each
+/// `tftp put` that printed `complete N` sent, N bytes in octet, is what reads of LOCAL returned, in
+/// order from its start, or a beginning of that; and it is just what the draft was handed that the
+/// server's store began under the path of the name, and committed. A `tftp put` is one whose clause
+/// `sends` is this (RFC 1350, sections 2, 4 and 6).
+pub fn complete_puts_go_from_disk<R: Files + Drop, F: Read, K: Sink>()
+    ensures { PutsFromDisk ⟦<DiskSource<F> as Source>⟧.meaning K.meaning
+        ⟦<FolderStore<R> as Store>⟧.meaning ⟦<FolderSource<R::File> as Source>⟧.meaning }
+{
+    words_keep_promises::<R, DiskSource<F>, K>();
 }
