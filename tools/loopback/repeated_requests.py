@@ -110,8 +110,9 @@ def closings(server, transfers) -> dict[int, str]:
     return outcomes
 
 
-# Whether what the first transfer sends is lost, and how that one closes: it times out, or has the ERROR for a stranger
-OTHERS = [(True, "TimedOut"), (False, "PeerError(5)")]
+# Whether what the first transfer sends is lost, how that one closes (it times out, or has the ERROR for a stranger), and how
+# often it sends again: it must still do so when the client has an answer of the second
+OTHERS = [(True, "TimedOut", "2"), (False, "PeerError(5)", "20")]
 
 
 def completes_with_the_second(scene, server, relay, length, words, other) -> list[int]:
@@ -132,8 +133,8 @@ def test_a_get_whose_first_answer_is_lost(scene) -> None:
     """Its file is whole, and the other transfer closes."""
     content = bytes(at % 251 for at in range(5_000))
     scene.make("served/a", content)
-    for number, (loses_first, other) in enumerate(OTHERS):
-        server = serve(scene, 4, "--retries", "2", root="served")
+    for number, (loses_first, other, retries) in enumerate(OTHERS):
+        server = serve(scene, 4, "--retries", retries, root="served")
         words = ["get", (relay := Relay(server, loses_first)).word, "a", f"got{number}", "--no-dally"]
         completes_with_the_second(scene, server, relay, len(content), words, other)
         expect(scene.files()[f"got{number}"], content, "the file")
@@ -144,8 +145,8 @@ def test_a_put_whose_first_answer_is_lost(scene) -> None:
     content = bytes(at % 251 for at in range(5_000))
     scene.make("local", content)
     scene.make_folder("served")
-    for number, (loses_first, other) in enumerate(OTHERS):
-        server = serve(scene, 4, "--retries", "2", root="served")
+    for number, (loses_first, other, retries) in enumerate(OTHERS):
+        server = serve(scene, 4, "--retries", retries, root="served")
         words = ["put", (relay := Relay(server, loses_first)).word, "local", f"new{number}"]
         first, _ = completes_with_the_second(scene, server, relay, len(content), words, other)
         expect(scene.files()[f"served/new{number}"], content, "the file")
