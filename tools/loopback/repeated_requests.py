@@ -112,7 +112,7 @@ def closings(server, transfers) -> dict[int, str]:
 
 # Whether what the first transfer sends is lost, how that one closes (it times out, or has the ERROR for a stranger), and how
 # often it sends again: it must still do so when the client has an answer of the second
-OTHERS = [(True, "TimedOut", "2"), (False, "PeerError(5)", "20")]
+OTHERS = [(True, "TimedOut", "2"), (False, "PeerError(5)", "10")]
 
 
 def completes_with_the_second(scene, server, relay, length, words, other) -> list[int]:
