@@ -72,14 +72,20 @@ CalledBelow false own before after fault inner = inner
 
 -- the effect of a call on the store, by that on the inner one: the call is counted, and the inner
 -- store changes as its own model states
-pub record Called {S : Type 0} (inner : S → S → Option StoreFault → Type 0)
-    (before after : FaultStoreState S) (fault : Option StoreFault) : Type 0 where
+pub record Called {S : Type 0} (inner : S → S → Type 0) (before after : FaultStoreState S)
+    (fault : Option StoreFault) : Type 0 where
   pub counted : after ≡ record before {
     inner = after.inner;
     calls_left = after_fault before.calls_left fault;
   }
   pub below : CalledBelow (is_due before.calls_left) before.fault before.inner after.inner fault
-      (inner before.inner after.inner fault)
+      (inner before.inner after.inner)
+
+-- the same of a call on a draft, which a refused call does not change
+pub record CalledOnDraft {S D : Type 0} (inner : S → S → Type 0)
+    (before after : FaultStoreState S) (draft draft' : D) (fault : Option StoreFault) : Type 0 where
+  pub called : Called inner before after fault
+  pub refused : is_due before.calls_left ≡ true → draft' ≡ draft
 
 -- a call of the inner store that is not counted changes nothing else
 pub record Passed {S : Type 0} (inner : S → S → Type 0)
@@ -107,10 +113,16 @@ fault_meaning inner =
       must_refuse_open = λ s path fault.
           MayAnswer s.refuses_open s.fault fault (inner.must_refuse_open s.inner path fault);
       must_fail = λ s path want. (s.fails_fill ≡ true) ⊎ inner.must_fail s.inner path want;
-      begun = λ path. Called (inner.begun path);
-      after_append = Called inner.after_append;
-      after_commit = Called inner.after_commit;
+      begun = λ path replace before after result.
+          Called (λ s t. inner.begun path replace s t result) before after (result_err result);
+      after_append = λ before draft bytes after draft' fault.
+          CalledOnDraft (λ s t. inner.after_append s draft bytes t draft' fault) before after draft
+          draft' fault;
+      after_commit = λ before path draft replace after draft' fault.
+          CalledOnDraft (λ s t. inner.after_commit s path draft replace t draft' fault) before after
+          draft draft' fault;
       after_write_behind = Passed inner.after_write_behind;
+      writes_behind = inner.writes_behind;
       may_refuse_append = λ s draft bytes fault.
           MayAnswer (is_due s.calls_left) s.fault fault
           (inner.may_refuse_append s.inner draft bytes fault);

@@ -1,3 +1,4 @@
 pub mod Store
+pub mod Drafts
 pub mod Memory
 pub mod FaultStore

@@ -76,10 +76,11 @@ memory_meaning =
       may_refuse_begin = MayRefuseBegin;
       must_refuse_open = MustRefuseOpen;
       must_fail = λ stored path want. ⊥;
-      begun = λ path before after fault. after ≡ before;
-      after_append = UsesArmed;
-      after_commit = UsesArmed;
+      begun = λ path replace before after result. after ≡ before;
+      after_append = λ before draft bytes after draft' fault. UsesArmed before after fault;
+      after_commit = λ before path draft replace after draft' fault. UsesArmed before after fault;
       after_write_behind = λ before after. after ≡ before;
+      writes_behind = λ draft draft'. draft' ≡ draft;
       may_refuse_append = MayRefuseAppend;
       may_refuse_commit = MayRefuseCommit;
     }

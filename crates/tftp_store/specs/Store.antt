@@ -46,14 +46,16 @@ pub record StoreMeaning (S D : Type 0) : Type 1 where
   pub must_refuse_open : S → List ℕ → StoreFault → Type 0
   -- a fill of this many bytes of a source that is opened at the path returns Read
   pub must_fail : S → List ℕ → ℕ → Type 0
-  -- the effect of beginning a draft of the path on the store, if refused with this fault or not
-  -- refused: it states which calls must be refused
-  pub begun : List ℕ → S → S → Option StoreFault → Type 0
-  -- the same, of an append and of a commit
-  pub after_append : S → S → Option StoreFault → Type 0
-  pub after_commit : S → S → Option StoreFault → Type 0
-  -- the effect of writing a draft back on the store
+  -- the effect of beginning a draft of the path, to replace a file or not: refused with this
+  -- fault, or this draft. It states which calls must be refused
+  pub begun : List ℕ → Bool → S → S → Result D StoreFault → Type 0
+  -- the effect of an append of these bytes to the draft, if refused with this fault or not refused
+  pub after_append : S → D → List ℕ → S → D → Option StoreFault → Type 0
+  -- the same, of a commit of the draft under the path, to replace a file or not
+  pub after_commit : S → List ℕ → D → Bool → S → D → Option StoreFault → Type 0
+  -- the effect of writing a draft back, on the store and on the draft
   pub after_write_behind : S → S → Type 0
+  pub writes_behind : D → D → Type 0
   -- an append of these bytes may return this fault
   pub may_refuse_append : S → D → List ℕ → StoreFault → Type 0
   -- a commit under the path, to replace a file or not, may return this fault
@@ -71,10 +73,11 @@ unknown_store =
       may_refuse_begin = λ s path replace fault. ⊤;
       must_refuse_open = λ s path fault. ⊥;
       must_fail = λ s path want. ⊥;
-      begun = λ path before after fault. ⊤;
-      after_append = λ before after fault. ⊤;
-      after_commit = λ before after fault. ⊤;
+      begun = λ path replace before after result. ⊤;
+      after_append = λ before draft bytes after draft' fault. ⊤;
+      after_commit = λ before path draft replace after draft' fault. ⊤;
       after_write_behind = λ before after. ⊤;
+      writes_behind = λ draft draft'. ⊤;
       may_refuse_append = λ s d bytes fault. ⊤;
       may_refuse_commit = λ s path d replace fault. ⊤;
     }
@@ -176,6 +179,7 @@ pub record WritesBehind {S D : Type 0} (stores : StoreMeaning S D) (before after
   pub stored : stores.stored after ≡ stores.stored before
   pub drafted : stores.drafted draft' ≡ stores.drafted draft
   pub behind : stores.after_write_behind before after
+  pub drafts_behind : stores.writes_behind draft draft'
   pub must_refuse_open : (path : List ℕ) (fault : StoreFault)
       → stores.must_refuse_open before path fault → stores.must_refuse_open after path fault
   pub must_fail : (path : List ℕ) (want : ℕ)

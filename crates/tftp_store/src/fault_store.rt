@@ -120,8 +120,8 @@ impl<S: Store> Store for FaultStore<S> {
     ghost use Rattle.std.specs.Result.{result_err};
     ghost use Rattle.tftp_store.specs.Store.{Opens, OpensAt, Begins, FailsIf, RefusedIf, holding_of};
     ghost use Rattle.tftp_store.specs.Store.{files_of, Puts};
-    ghost use Rattle.tftp_store.specs.FaultStore.{Called, Counts, MayAnswer, fault_meaning, is_due};
-    ghost use Rattle.tftp_store.specs.FaultStore.{never_armed, opened_meaning};
+    ghost use Rattle.tftp_store.specs.FaultStore.{Called, CalledOnDraft, Counts, MayAnswer, is_due};
+    ghost use Rattle.tftp_store.specs.FaultStore.{fault_meaning, never_armed, opened_meaning};
 
     type Source = OpenedSource<S::Source>;
 
@@ -130,6 +130,8 @@ impl<S: Store> Store for FaultStore<S> {
     ghost meaning = { fault_meaning S.meaning };
 
     ghost unmoved = { λ a. record { rest = refl; below = S.unmoved a.inner } };
+
+    ghost unwritten = { S.unwritten };
 
     fn open(
         &self,
@@ -170,7 +172,8 @@ impl<S: Store> Store for FaultStore<S> {
         ensures refused { IfErr result (λ fault. MayAnswer (is_due self.old.calls_left)
             self.old.fault fault (S.meaning.may_refuse_begin self.old.inner path.now replace
             fault)) }
-        ensures begun { Called (S.meaning.begun path.now) self.old self.new (result_err result) }
+        ensures begun { Called (λ s t. S.meaning.begun path.now replace s t result) self.old
+            self.new (result_err result) }
         ensures memory { IsErrOf result StoreFault.Memory → self.new ≡ self.old }
         ensures counts { Counts self.old self.new result }
         ensures passed { is_due self.old.calls_left ≡ false → Begins S.meaning.drafted
@@ -197,11 +200,12 @@ impl<S: Store> Store for FaultStore<S> {
         ensures refused { IfErr result (λ fault. MayAnswer (is_due self.old.calls_left)
             self.old.fault fault (S.meaning.may_refuse_append self.old.inner draft.old bytes.now
             fault)) }
-        ensures after { Called S.meaning.after_append self.old self.new (result_err result) }
+        ensures after { CalledOnDraft (λ s t. S.meaning.after_append s draft.old bytes.now t
+            draft.new (result_err result)) self.old self.new draft.old draft.new
+            (result_err result) }
         ensures memory { IsErrOf result StoreFault.Memory → (self.new ≡ self.old)
             × (draft.new ≡ draft.old) }
         ensures counts { Counts self.old self.new result }
-        ensures draft { is_due self.old.calls_left ≡ true → draft.new ≡ draft.old }
         ensures passed { is_due self.old.calls_left ≡ false → Appends
             (holding_of (S.meaning.stored self.old.inner) (S.meaning.drafted draft.old))
             (holding_of (S.meaning.stored self.new.inner) (S.meaning.drafted draft.new))
@@ -228,10 +232,11 @@ impl<S: Store> Store for FaultStore<S> {
         ensures refused { IfErr result (λ fault. MayAnswer (is_due self.old.calls_left)
             self.old.fault fault (S.meaning.may_refuse_commit self.old.inner path.now draft.old
             replace fault)) }
-        ensures after { Called S.meaning.after_commit self.old self.new (result_err result) }
+        ensures after { CalledOnDraft (λ s t. S.meaning.after_commit s path.now draft.old replace t
+            draft.new (result_err result)) self.old self.new draft.old draft.new
+            (result_err result) }
         ensures not_memory { result ≢ Err StoreFault.Memory }
         ensures counts { Counts self.old self.new result }
-        ensures draft { is_due self.old.calls_left ≡ true → draft.new ≡ draft.old }
         ensures passed { is_due self.old.calls_left ≡ false → Commits
             (holding_of (S.meaning.stored self.old.inner) (S.meaning.drafted draft.old))
             (holding_of (S.meaning.stored self.new.inner) (S.meaning.drafted draft.new)) result }

@@ -124,6 +124,8 @@ impl Store for MemStore {
 
     ghost unmoved = { λ _. refl };
 
+    ghost unwritten = { λ _. refl };
+
     fn open(
         &self,
         _alloc: Global,

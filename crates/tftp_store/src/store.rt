@@ -35,7 +35,7 @@ pub trait Store {
     /// (`stored`, `drafted`), the faults that its calls may return (`may_refuse_open`,
     /// `may_refuse_begin`, `may_refuse_append`, `may_refuse_commit`), what an opening must return
     /// (`must_refuse_open`, `must_fail`), and the effect of the other calls, and so which must be
-    /// refused (`begun`, `after_append`, `after_commit`, `after_write_behind`).
+    /// refused (`begun`, `after_append`, `after_commit`, `after_write_behind`, `writes_behind`).
     ghost meaning: { StoreMeaning Self Self.Draft };
 
     /// Opens the file for reading in the mode.
@@ -67,7 +67,7 @@ pub trait Store {
         ensures begins { Begins meaning.drafted (meaning.stored self.old)
             (meaning.stored self.new) path.now replace result }
         ensures refused { IfErr result (meaning.may_refuse_begin self.old path.now replace) }
-        ensures begun { meaning.begun path.now self.old self.new (result_err result) }
+        ensures begun { meaning.begun path.now replace self.old self.new result }
         ensures memory { IsErrOf result StoreFault.Memory → self.new ≡ self.old };
 
     /// Appends the bytes to a draft.
@@ -81,7 +81,8 @@ pub trait Store {
         ensures files { files_of (meaning.stored self.new)
             ≡ files_of (meaning.stored self.old) }
         ensures refused { IfErr result (meaning.may_refuse_append self.old draft.old bytes.now) }
-        ensures after { meaning.after_append self.old self.new (result_err result) }
+        ensures after { meaning.after_append self.old draft.old bytes.now self.new draft.new
+            (result_err result) }
         ensures memory { IsErrOf result StoreFault.Memory → (self.new ≡ self.old)
             × (draft.new ≡ draft.old) };
 
@@ -104,7 +105,8 @@ pub trait Store {
             (meaning.drafted draft.old) path.now replace result }
         ensures refused { IfErr result
             (meaning.may_refuse_commit self.old path.now draft.old replace) }
-        ensures after { meaning.after_commit self.old self.new (result_err result) }
+        ensures after { meaning.after_commit self.old path.now draft.old replace self.new draft.new
+            (result_err result) }
         ensures not_memory { result ≢ Err StoreFault.Memory };
 
     /// Writes the buffered bytes of the draft, while its caller is idle. Most stores do nothing.
@@ -118,4 +120,7 @@ pub trait Store {
 
     /// `after_write_behind` holds for a store that no call has changed.
     ghost unmoved: { (a : Self) → meaning.after_write_behind a a };
+
+    /// `writes_behind` holds for a draft that no call has changed.
+    ghost unwritten: { (d : Self.Draft) → meaning.writes_behind d d };
 }
