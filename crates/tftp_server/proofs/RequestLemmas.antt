@@ -190,7 +190,7 @@ module _ {S F D : Type 0} (meaning : StoreMeaning S D) (sources : SourceMeaning 
   pub asks_to_write : (path : List ℕ) (mode : Mode) (agreed : List Known) (store : S) (draft : D) (end : EndState)
       (request : List ℕ) (held : TransferState F D) →
       Begins meaning.drafted (meaning.stored old.store) (meaning.stored store) path old.config.overwrite (Ok draft) →
-      meaning.begun path old.store store None →
+      meaning.begun path old.config.overwrite old.store store (Ok draft) →
       end ≡ serving_write agreed from mode old.config.retries → request ≡ bytes →
       held ≡ record { end = end; files = Sink draft; path = path; request = request } →
       AsksToWrite meaning sources old from bytes path mode agreed (A_transfer held store)
@@ -217,7 +217,7 @@ module _ {S F D : Type 0} (meaning : StoreMeaning S D) (sources : SourceMeaning 
       Begins {K = D} meaning.drafted (meaning.stored old.store) (meaning.stored store) path old.config.overwrite
       (Err fault) →
       meaning.may_refuse_begin old.store path old.config.overwrite fault →
-      meaning.begun path old.store store (Some fault) →
+      meaning.begun path old.config.overwrite old.store store (Err fault) →
       IfOk r (λ d. (d ≡ Refuse (begin_reply fault)) × (fault ≢ Memory)) →
       IfOk r (λ d. AsksToWrite meaning sources old from bytes path mode agreed (came_to d store))
   refused_to_write path mode agreed store fault (Err e) begins may begun h = tt

@@ -49,14 +49,17 @@ module _ {S D : Type 0} (meaning : StoreMeaning S D) where
     pub files : FilesBy committed (meaning.stored before.store) (meaning.stored after.store)
         (meaning.drafted before.draft) before.path before.replace
 
-  -- what an append, or a commit, leaves of the store; out of memory, an append changes nothing
+  -- what an append of these bytes, or a commit under the path, leaves of the store and the draft;
+  -- out of memory, an append changes nothing
   abbrev pub AfterAppend : Drafting S D → List ℕ → Drafting S D → Option StoreFault → Type 0
   AfterAppend before bytes after fault =
-      meaning.after_append before.store after.store fault
+      meaning.after_append before.store before.draft bytes after.store after.draft fault
       × (fault ≡ Some Memory → after ≡ before)
 
   abbrev pub AfterCommit : Drafting S D → Drafting S D → Option StoreFault → Type 0
-  AfterCommit before after fault = meaning.after_commit before.store after.store fault
+  AfterCommit before after fault =
+      meaning.after_commit before.store before.path before.draft before.replace after.store
+      after.draft fault
 
   -- the model of a store with one of its drafts
   abbrev pub drafting_sink : SinkMeaning (Drafting S D)

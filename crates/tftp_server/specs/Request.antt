@@ -2,7 +2,6 @@
 -- "Negotiation Protocol").
 use Rattle.std.specs.Prelude.{ℕ, Bool, ◌≡◌, ◌≢◌, List, [], ◌⊎◌, length, Option, Some, None, Result}
 use Rattle.std.specs.Prelude.{Ok, Err, IfErr}
-use Rattle.std.specs.Result.{result_err}
 use Rattle.tftp_wire.specs.declared.mode.Mode.{Mode}
 use Rattle.tftp_wire.specs.declared.options.RawOption.{RawOption}
 use Rattle.tftp_wire.specs.Borrowed.{owned_request}
@@ -96,7 +95,7 @@ module _ {S F D : Type 0} (old : ServerState S F D) (from : Endpoint) (bytes : L
 module _ {S F D : Type 0} (meaning : StoreMeaning S D) (sources : SourceMeaning F)
     (old : ServerState S F D) (from : Endpoint) (bytes : List ℕ) where
   -- the end of a read opens with DATA 1 or the OACK
-  pub record Serves (path : List ℕ) (mode : Mode) (length : ℕ) (agreed : List Known) (source : F)
+  pub record StartsSending (path : List ℕ) (mode : Mode) (length : ℕ) (agreed : List Known) (source : F)
       (came : Came S F D) : Type 0 where
     pub rest : F
     pub end : EndState
@@ -107,7 +106,7 @@ module _ {S F D : Type 0} (meaning : StoreMeaning S D) (sources : SourceMeaning 
   -- or the file has changed: no option is agreed, and DATA 1 cannot be read
   abbrev pub Starts : List ℕ → Mode → ℕ → List Known → F → Came S F D → Type 0
   Starts path mode length agreed source came =
-      Serves path mode length agreed source came
+      StartsSending path mode length agreed source came
       ⊎ ((agreed ≡ []) × CannotStart sources length source
       × (came ≡ Error_reply FileChanged old.store))
 
@@ -151,7 +150,7 @@ module _ {S F D : Type 0} (meaning : StoreMeaning S D) (sources : SourceMeaning 
     pub begins : Begins meaning.drafted (meaning.stored old.store) (meaning.stored store) path
         old.config.overwrite draft
     pub refused : IfErr draft (meaning.may_refuse_begin old.store path old.config.overwrite)
-    pub begun : meaning.begun path old.store store (result_err draft)
+    pub begun : meaning.begun path old.config.overwrite old.store store draft
     pub memory : draft ≢ Err Memory
     pub goes_on : Taken (by_draft path mode agreed draft) draft store came
 
