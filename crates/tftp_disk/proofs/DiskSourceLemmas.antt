@@ -14,9 +14,9 @@ use Rattle.tftp_disk.specs.DiskSource.{pending, source_calls, source_mode, Appen
 use Rattle.tftp_disk.specs.declared.calls.DiskFile.{DiskFile}
 use Rattle.tftp_disk.specs.declared.disk_source.DiskSource.{DiskSource}
 use Rattle.std.specs.declared.io.Error.{Error}
-use Rattle.tftp_disk.specs.ReadBuffer.{ReadsSome, Refills}
+use Rattle.tftp_disk.specs.ReadBuffer.{ReadsSome}
 use Rattle.tftp_disk.specs.DiskSourceLaws.{no_text}
-use Rattle.tftp_disk.proofs.ReadLemmas.{no_length, reads_given, reads_more, reads_nothing}
+use Rattle.tftp_disk.proofs.ReadLemmas.{no_length, reads_more, reads_nothing}
 
 -- a read behind what a buffer had, which is then cut after the bytes that were read
 pub appends_read : (before after : List DiskEvent) (old zeros resized lent items full new : List ℕ) (start n : ℕ)
@@ -92,41 +92,6 @@ passes_end mode a b c before between after old mid new m n p q none =
     subst (λ (k : ℕ). Passes mode a c before after old new k) same
     (passes_more mode a b c before between after old mid new m n p q)
 
--- some of what a buffer has is moved, after a read if it had nothing
-pub passes_buffered : (mode : Mode) (left refilled left_after : List ℕ) (before after : List DiskEvent)
-    (old new : List ℕ) (n : ℕ) → Refills mode before after left refilled → n ≤ length refilled
-    → new ≡ old ++ take n refilled → left_after ≡ drop n refilled → Passes mode left left_after before after old new n
-passes_buffered mode left refilled left_after before after old new n more enough appended rest = record {
-  bytes = more.bytes;
-  reads = more.reads;
-  piece = take n refilled;
-  appended = appended;
-  long = length-take-le n refilled enough;
-  text = sym more.added ∙ sym (take-append-drop n refilled) ∙ ap (λ l. take n refilled ++ l) (sym rest);
-}
-
--- a read that bypasses an empty buffer
-pub passes_read : (left left_after : List ℕ) (before after : List DiskEvent) (old new : List ℕ) (n : ℕ) → left ≡ []
-    → left_after ≡ left → AppendsRead before after old new n → Passes mode.Octet left left_after before after old new n
-passes_read left left_after before after old new n empty same read = record {
-  bytes = read.bytes;
-  reads = reads_given before after read.bytes read.noted;
-  piece = read.bytes;
-  appended = read.appended;
-  long = read.long;
-  text = ap (λ l. l ++ read.bytes) empty ∙ sym (ap (λ l. read.bytes ++ l) (same ∙ empty) ∙ append-nil read.bytes);
-}
-
--- with nothing read ahead, what is moved follows it
-pub passes_none_ahead : (mode : Mode) (ahead ahead_after a b : List ℕ) (before after : List DiskEvent)
-    (old new : List ℕ) (n : ℕ) → ahead ≡ [] → ahead_after ≡ ahead → Passes mode a b before after old new n
-    → Passes mode (ahead ++ a) (ahead_after ++ b) before after old new n
-passes_none_ahead mode ahead ahead_after a b before after old new n empty same p =
-    let first : ahead ++ a ≡ a = ap (λ l. l ++ a) empty in
-    let last : ahead_after ++ b ≡ b = ap (λ l. l ++ b) (same ∙ empty) in
-    subst (λ (l : List ℕ). Passes mode l (ahead_after ++ b) before after old new n) (sym first)
-    (subst (λ (l : List ℕ). Passes mode a l before after old new n) (sym last) p)
-
 -- some of what was read ahead is moved
 pub passes_ahead : (mode : Mode) (ahead rest a : List ℕ) (events : List DiskEvent) (old new : List ℕ) (want : ℕ)
     → want ≤ length ahead → new ≡ old ++ take want ahead → rest ≡ drop want ahead
@@ -141,40 +106,6 @@ passes_ahead mode ahead rest a events old new want enough appended left = record
       no_text mode (ahead ++ a) ∙ ap (λ l. l ++ a) (sym (take-append-drop want ahead))
       ∙ append_assoc (take want ahead) (drop want ahead) a
       ∙ ap (λ l. take want ahead ++ (l ++ a)) (sym left);
-}
-
--- all that was read ahead is moved, and then what follows it
-pub passes_after : (mode : Mode) (ahead ahead_after a b : List ℕ) (before after : List DiskEvent)
-    (old mid new : List ℕ) (n : ℕ) → ahead_after ≡ [] → mid ≡ old ++ ahead → Passes mode a b before after mid new n
-    → Passes mode (ahead ++ a) (ahead_after ++ b) before after old new (length ahead + n)
-passes_after mode ahead ahead_after a b before after old mid new n empty begun p = record {
-  bytes = p.bytes;
-  reads = p.reads;
-  piece = ahead ++ p.piece;
-  appended = p.appended ∙ ap (λ l. l ++ p.piece) begun ∙ append_assoc old ahead p.piece;
-  long = let both = length-append ahead p.piece in let rest = p.long in omega arith;
-  text =
-      append_assoc ahead a (wire_text mode p.bytes) ∙ ap (λ l. ahead ++ l) p.text
-      ∙ sym (append_assoc ahead p.piece b)
-      ∙ ap (λ l. (ahead ++ p.piece) ++ (l ++ b)) (sym empty);
-}
-
--- what is moved behind the space for a header is read ahead
-pub holds_passed : (mode : Mode) (a b : List ℕ) (before after : List DiskEvent) (old new : List ℕ) (n at : ℕ)
-    → at ≡ length old → Passes mode a b before after old new n → HoldsAhead mode a (drop at new) b before after
-holds_passed mode a b before after old new n at start p = record {
-  bytes = p.bytes;
-  reads = p.reads;
-  text = p.text ∙ ap (λ l. l ++ b) (sym (ap (drop at) p.appended ∙ drop_at old p.piece at (sym start)));
-}
-
--- nothing is read ahead
-pub holds_nothing : (mode : Mode) (a b ahead : List ℕ) (before after : List DiskEvent) → b ≡ a → after ≡ before
-    → ahead ≡ [] → HoldsAhead mode a ahead b before after
-holds_nothing mode a b ahead before after same unread empty = record {
-  bytes = [];
-  reads = subst (λ (events : List DiskEvent). Reads before events []) (sym unread) (reads_nothing before);
-  text = no_text mode a ∙ sym same ∙ ap (λ l. l ++ b) (sym empty);
 }
 
 no_error : (error : Option Error) → is_some error ≡ false → error ≡ None
@@ -201,6 +132,30 @@ module _ {F : Type 0} where
           no_text (source_mode before) (pending before) ∙ left ∙ ap (λ l. l ++ pending after) (sym none),
         );
         none = λ failed. none;
+      }
+
+  -- a call that moves some of what was read ahead gives it
+  pub gives_moved : (before after : DiskSource F) (old new : List ℕ) (want : ℕ) → after.file ≡ before.file
+      → after.buffer ≡ before.buffer → after.mode ≡ before.mode → after.error ≡ before.error
+      → is_some before.error ≡ false → want ≤ length before.ahead → new ≡ old ++ take want before.ahead
+      → after.ahead ≡ drop want before.ahead → GivesPiece before (drop (length old) new) after
+  gives_moved before after old new want file buffer same_mode error sound enough appended rest =
+      let p =
+      passes_ahead before.mode before.ahead after.ahead before.buffer (source_calls before) old new want enough
+      appended rest in
+      let piece : drop (length old) new ≡ p.piece =
+      ap (drop (length old)) p.appended ∙ drop_at old p.piece (length old) refl in
+      record {
+        mode = same_mode;
+        bytes = p.bytes;
+        reads =
+            subst (λ (events : List DiskEvent). Reads (source_calls before) events p.bytes)
+            (sym (ap (λ (f : DiskFile F). f.journal.events) file)) p.reads;
+        text = λ none. (
+          sym error ∙ none,
+          p.text ∙ ap (λ l. p.piece ++ (after.ahead ++ l)) (sym buffer) ∙ ap (λ l. l ++ pending after) (sym piece),
+        );
+        none = λ failed. absurd (let no : true ≡ false = sym failed ∙ ap is_some error ∙ sound in cc);
       }
 
   ahead_by : (before after : DiskSource F) → before.ahead ≡ [] → after.mode ≡ before.mode → before.error ≡ None

@@ -71,7 +71,7 @@ module _ {F : Type 0} where
       in_turn : (text : List ℕ) (last : DiskSource F) → GivesInTurn sources first text last
           → GivenInOrder first last text
       in_turn text last Gave_nothing =
-          record { mode = refl; place = refl; found = refl; given = none_given mode first unread none }
+          record { mode = refl; place = refl; found = refl; pass = refl; given = none_given mode first unread none }
       in_turn text last (Gave_more {bytes} {piece} {before} {after} turn gives) =
           let had = in_turn bytes before turn in
           let gave = is before after piece gives in
@@ -79,5 +79,6 @@ module _ {F : Type 0} where
             mode = gave.mode ∙ had.mode;
             place = gave.reads.place ∙ had.place;
             found = gave.reads.found ∙ had.found;
+            pass = gave.reads.pass ∙ had.pass;
             given = given_more before after bytes piece had.given gave;
           }

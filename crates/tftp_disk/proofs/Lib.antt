@@ -1,3 +1,4 @@
 pub mod DiskSourceLemmas
 pub mod GivenLemmas
+pub mod MeasuringLemmas
 pub mod ReadLemmas

@@ -2,10 +2,9 @@
 use Rattle.std.proofs.Common.{◌≡◌, ◌≤◌, ◌<◌, ℕ, ◌+◌, ◌-◌, List, [], ◌∷◌, ◌++◌, length, take, drop, sym, ap, ◌∙◌, refl, arith, append-nil, append_assoc}
 use Rattle.std.proofs.lemmas.Grind.{common_steps}
 use Rattle.std.proofs.lemmas.List.{drop-take, drop-drop, length-take, length-drop, take_all}
-use Rattle.std.specs.declared.io.Error.{Error}
 use Rattle.tftp_disk.specs.DiskJournal.{DiskEvent}
-use Rattle.tftp_disk.specs.DiskJournal.DiskEvent.{Given, Not_given}
-use Rattle.tftp_disk.specs.Given.{given, opened_at, examined, Reads}
+use Rattle.tftp_disk.specs.DiskJournal.DiskEvent.{Given}
+use Rattle.tftp_disk.specs.Given.{given, opened_at, examined, passed, Reads}
 use Rattle.tftp_disk.specs.ReadBuffer.{Refills}
 use Rattle.tftp_disk.specs.DiskSourceLaws.{no_text}
 use Rattle.tftp_file.specs.Netascii.{wire_text}
@@ -13,13 +12,13 @@ use Rattle.tftp_wire.specs.declared.mode.Mode.{Mode}
 
 -- no calls read no bytes
 pub reads_nothing : (events : List DiskEvent) → Reads events events []
-reads_nothing events = record { place = refl; found = refl; more = sym (append-nil (given events)) }
+reads_nothing events = record { place = refl; found = refl; pass = refl; more = sym (append-nil (given events)) }
 
 -- a read returned these bytes
 pub reads_given : (before after : List DiskEvent) (bytes : List ℕ) → after ≡ Given bytes ∷ before
     → Reads before after bytes
 reads_given before after bytes noted =
-    record { place = ap opened_at noted; found = ap examined noted; more = ap given noted }
+    record { place = ap opened_at noted; found = ap examined noted; pass = ap passed noted; more = ap given noted }
 
 -- reads after reads
 pub reads_more : (before between after : List DiskEvent) (first second : List ℕ) → Reads before between first
@@ -27,16 +26,8 @@ pub reads_more : (before between after : List DiskEvent) (first second : List �
 reads_more before between after first second p q = record {
   place = q.place ∙ p.place;
   found = q.found ∙ p.found;
+  pass = q.pass ∙ p.pass;
   more = q.more ∙ ap (λ l. l ++ second) p.more ∙ append_assoc (given before) first second;
-}
-
--- a read failed
-pub reads_failed : (before after : List DiskEvent) (error : Error) → after ≡ Not_given error ∷ before
-    → Reads before after []
-reads_failed before after error noted = record {
-  place = ap opened_at noted;
-  found = ap examined noted;
-  more = ap given noted ∙ sym (append-nil (given before));
 }
 
 -- the bytes between two places, without the first n
@@ -63,11 +54,6 @@ some_between xs now at end order within is =
     let rest = length-drop at xs in
     let same = ap length is in
     omega arith
-
--- there are none
-pub none_between : (xs now : List ℕ) (at end : ℕ) → end ≤ at → take (end - at) (drop at xs) ≡ now → now ≡ []
-none_between xs now at end order is =
-    let none : end - at ≡ 0 = omega arith in sym is ∙ ap (λ k. take k (drop at xs)) none
 
 -- the bytes from the first place on
 pub from_start : (items xs : List ℕ) (n : ℕ) → items ≡ xs → take (n - 0) (drop 0 items) ≡ take n xs

@@ -18,6 +18,13 @@ changes (Folder_opened path answer ∷ events) = Folder_opened path answer ∷ c
 changes (Folder_synced path answer ∷ events) = Folder_synced path answer ∷ changes events
 changes (event ∷ events) = changes events
 
+-- the calls up to each rename, whatever its answer: the newest rename first
+abbrev pub renames : List DiskEvent → List (List DiskEvent)
+renames [] = []
+renames (Renamed file from to answer ∷ events) =
+    (Renamed file from to answer ∷ events) ∷ renames events
+renames (event ∷ events) = renames events
+
 -- a folder was synced, or its file system syncs none
 abbrev pub IsSynced : Done → Type 0
 IsSynced (Ok done) = ⊤

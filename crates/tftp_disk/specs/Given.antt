@@ -1,5 +1,5 @@
 -- What an open file is, and what was read of it, by the calls on it (ours).
-use Rattle.std.specs.Prelude.{ℕ, ◌≡◌, Bool, false, ◌==◌, if◌then◌else◌, List, [], ◌∷◌, ◌++◌, Option}
+use Rattle.std.specs.Prelude.{ℕ, ◌≡◌, Bool, true, false, ◌==◌, if◌then◌else◌, List, [], ◌∷◌, ◌++◌, Option}
 use Rattle.std.specs.Prelude.{Some, None, Ok}
 use Rattle.std.specs.declared.io.SeekFrom.{SeekFrom}
 use Rattle.std.specs.declared.io.SeekFrom.TheVariants.{Start}
@@ -33,11 +33,26 @@ given (Sought to (Ok place) ∷ events) = if is_rewind to then [] else given eve
 given (event ∷ events) = given events
 
 -- the newest call is a read that returned no byte
+abbrev pub is_at_end : List DiskEvent → Bool
+is_at_end (Given [] ∷ events) = true
+is_at_end events = false
+
 abbrev pub IsAtEnd : List DiskEvent → Type 0
 IsAtEnd events = (before : List DiskEvent) × (events ≡ Given [] ∷ before)
 
--- calls on an open file that read these bytes: the file is the same, and what was said of it too
+-- the bytes of the newest pass over it: those that were read before its newest rewind, if they were
+-- read to its end
+abbrev pub passed : List DiskEvent → Option (List ℕ)
+passed [] = None
+passed (Opened path (Ok done) ∷ events) = None
+passed (Sought to (Ok place) ∷ events) =
+    if is_rewind to then (if is_at_end events then Some (given events) else None) else passed events
+passed (event ∷ events) = passed events
+
+-- calls on an open file that read these bytes: the file is the same, and what was said of it and the
+-- pass over it too
 pub record Reads (before after : List DiskEvent) (bytes : List ℕ) : Type 0 where
   pub place : opened_at after ≡ opened_at before
   pub found : examined after ≡ examined before
+  pub pass : passed after ≡ passed before
   pub more : given after ≡ given before ++ bytes

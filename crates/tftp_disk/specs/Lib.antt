@@ -9,5 +9,6 @@ pub mod DiskWriter
 pub mod Folder
 pub mod Found
 pub mod Given
+pub mod Measuring
 pub mod NamedFolder
 pub mod ReadBuffer

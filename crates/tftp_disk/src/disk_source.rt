@@ -91,7 +91,13 @@ impl<F: Read> Source for DiskSource<F> {
             return Err(FileFault::Read);
         }
         self.size = want;
-        match fill_ahead(
+        if want <= self.ahead.len() {
+            return match self.ahead.move_to(want, out) {
+                Ok(()) => Ok(want),
+                Err(_) => Err(FileFault::Memory),
+            };
+        }
+        match fill_after(
             &mut self.ahead,
             &mut self.file,
             &mut self.buffer,
@@ -127,39 +133,7 @@ pub(crate) enum Failure {
     Read(io::Error),
 }
 
-/// Moves so many bytes of wire text, or as many as are left: first what was read ahead.
-fn fill_ahead<F: Read>(
-    ahead: &mut AheadBuffer,
-    file: &mut DiskFile<F>,
-    buffer: &mut ReadBuffer,
-    mode: Mode,
-    want: usize,
-    out: &mut Vec<u8>,
-) -> Result<usize, Failure>
-    ensures ok { IfOk result (Passes mode (ahead.old ++ buffer.old) (ahead.new ++ buffer.new)
-        file.old.journal.events file.new.journal.events out.old.items out.new.items) }
-    ensures bound { IfOk result (λ n. n ≤ want) }
-    ensures end { IfOk result (λ n. n < want → IsAtEnd file.new.journal.events) }
-    ensures capacity { vec_capacity out.old ≤ vec_capacity out.new }
-    ensures err { OnErr result (out.new.items ≡ out.old.items) }
-    ensures failed { OnErr result (ReadsSome file.old.journal.events file.new.journal.events) }
-    ensures memory { result ≡ Err Failure.Memory → (file.new ≡ file.old)
-        × (buffer.new ≡ buffer.old) × (ahead.new ≡ ahead.old) }
-{
-    let held = ahead.len();
-    if held == 0 {
-        return fill_from(file, buffer, mode, want, out);
-    }
-    if want <= held {
-        return match ahead.move_to(want, out) {
-            Ok(()) => Ok(want),
-            Err(_) => Err(Failure::Memory),
-        };
-    }
-    fill_after(ahead, file, buffer, mode, want, out)
-}
-
-/// Moves all that was read ahead, and then what follows it.
+/// Moves all that was read ahead, if anything was, and then what follows it.
 fn fill_after<F: Read>(
     ahead: &mut AheadBuffer,
     file: &mut DiskFile<F>,

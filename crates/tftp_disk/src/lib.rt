@@ -1,5 +1,5 @@
 //! What `tftp` and `tftpd` share of files on a disk: the calls of the system, with a journal of them,
-//! the length of a file on the wire, the faults of the system's errors, a writer block by block, and
+//! the length of a file in netascii, the faults of the system's errors, a writer block by block, and
 //! the folder of a file that gets a name.
 //!
 //! It has no rule of the protocol.
@@ -9,16 +9,16 @@
 
 mod ahead_buffer;
 mod calls;
-mod disk;
 mod disk_event_ref;
+mod disk_fault;
 mod disk_journal;
 mod disk_source;
 mod disk_writer;
-mod error_keeper;
 mod existing;
 mod folder;
 mod found;
 pub mod laws;
+mod measuring;
 mod named_folder;
 mod read_buffer;
 
@@ -26,12 +26,12 @@ pub use calls::{
     DiskFile, DiskFolder, follow, link, look, make, open, open_folder, remove, rename, resolve,
     try_to_write,
 };
-pub use disk::{check_length, length_on_wire, name_fault, open_fault, write_fault};
+pub use disk_fault::{name_fault, open_fault, write_fault};
 pub use disk_journal::DiskJournal;
 pub use disk_source::DiskSource;
 pub use disk_writer::{DiskWriter, write_buffer};
-pub use error_keeper::ErrorKeeper;
 pub use existing::Existing;
 pub use folder::{folder_of, folder_or_root};
 pub use found::{FileId, Found, Kind};
+pub use measuring::{TextLength, count_netascii};
 pub use named_folder::NamedFolder;

@@ -1,7 +1,7 @@
 //! The folder in which a file gets its name: it is synced after that.
 
 ghost use Rattle.std.specs.Prelude.{◌∷◌, Err, ◌≡◌, ◌⊎◌, ◌↔◌, IsTrue, IfOk, IfErr, OnOk, OnErr};
-ghost use Rattle.tftp_disk.specs.Changes.{changes};
+ghost use Rattle.tftp_disk.specs.Changes.{changes, renames};
 ghost use Rattle.tftp_disk.specs.NamedFolder.{OpensFolder, OpensNoFolder, IsFolderFor, SyncsFolder};
 ghost use Rattle.tftp_disk.specs.NamedFolder.{SyncsNoFolder, path_in};
 ghost use Rattle.tftp_disk.specs.DiskJournal.DiskEvent.{Folder_synced};
@@ -33,6 +33,7 @@ impl<F> NamedFolder<F> {
         ensures err { OnErr result (OpensNoFolder path.now
             (changes journal.old.events) (changes journal.new.events)) }
         ensures fits { IfOk result (λ folder. IsFolderFor path.now folder.folder) }
+        ensures renames { renames journal.new.events ≡ renames journal.old.events }
     {
         match open_folder(files, journal, folder_of(path)) {
             Ok(folder) => Ok(NamedFolder {
@@ -58,6 +59,7 @@ impl<F: OpenFile> NamedFolder<F> {
             (changes journal.old.events) error (changes journal.new.events)) }
         ensures unsynced { IfErr result (λ error. changes journal.new.events
             ≡ Folder_synced (path_in self.now.folder) (Err error) ∷ changes journal.old.events) }
+        ensures renames { renames journal.new.events ≡ renames journal.old.events }
     {
         let Some(folder) = &self.folder else {
             return Ok(());
