@@ -1,16 +1,25 @@
 -- The calls of a store stay within its limits.
-use Rattle.std.proofs.Common.{◌≡◌, ℕ, Bool, true, false, List, Option, Some, None, refl, sym, subst, inl, inr}
+use Rattle.std.proofs.Common.{◌≡◌, ◌∙◌, ℕ, Bool, true, false, List, [], ◌∷◌, Option, Some, None, Result, Ok, Err, IfOk, refl, sym, ap, subst, inl, inr}
 use Rattle.std.specs.String.{string_bytes}
 use Rattle.std.specs.declared.io.Error.{Error}
+use Rattle.tftp_disk.specs.Changes.{changes}
 use Rattle.tftp_disk.specs.DiskJournal.{DiskEvent, FileState, state_of}
+use Rattle.tftp_disk.specs.DiskJournal.DiskEvent.{Looked, Followed, Resolved, Opened, Tried, Made, Linked, Renamed, Removed}
+use Rattle.tftp_disk.specs.DiskJournal.DiskEvent.{Folder_opened, Folder_synced, Examined, Given, Not_given, Sought}
+use Rattle.tftp_disk.specs.DiskJournal.DiskEvent.{Written, Not_written, Synced, Mode_set}
 use Rattle.tftp_disk.specs.DiskWriter.{calls_of}
 use Rattle.tftp_disk.specs.NamedFolder.{OpensFolder, SyncsFolder, SyncsNoFolder}
 use Rattle.tftp_disk.specs.declared.calls.DiskFolder.{DiskFolder}
 use Rattle.tftp_folder.specs.Begin.{draft_name, BeginsNone}
-use Rattle.tftp_folder.specs.Changing.{AreChanges, BeginStaysWithin, BeginsOwn, CommitStaysWithin, IsGiven, IsOwn, Limits}
+use Rattle.tftp_folder.specs.Changing.{limits_of, Admits, AreChanges, BeginStaysWithin, BeginsOwn, CommitStaysWithin, IsGiven}
+use Rattle.tftp_folder.specs.Changing.{IsOwn, IsWithin, KeepsWithin, Limits, ReadOnlyChangesNothing}
 use Rattle.tftp_folder.specs.Commit.{Names, RefusesName, RemovesNew}
-use Rattle.tftp_folder.specs.Draft.{LosesName, NamesNothingIn}
+use Rattle.tftp_folder.specs.Draft.{LosesName, NamesNothingIn, SameNames}
+use Rattle.tftp_folder.specs.Effects.{changes_of, folder_meaning, HasBegun, HasCommitted}
+use Rattle.tftp_folder.specs.Settings.{AsksNothing, SameSettings}
 use Rattle.tftp_folder.specs.declared.folder_draft.FolderDraft.{FolderDraft}
+use Rattle.tftp_folder.specs.declared.folder_store.FolderStore.{FolderStore}
+use Rattle.tftp_file.specs.declared.fault.StoreFault.{StoreFault}
 
 along : (limits : Limits) (before after : List DiskEvent) → after ≡ before → AreChanges limits before
     → AreChanges limits after
@@ -157,3 +166,121 @@ module _ {F : Type 0} where
   commit_stays_within draft limits replaces before after own (inr (inr (inr (folder, opened, opens, nothing)))) changes =
       nothing_in limits draft folder opened replaces after own nothing
       (opens_within limits (string_bytes draft.target) folder before opened own.admitted opens changes)
+
+no_writes : (read_only : Bool) → (read_only ≡ true → ⊥) → read_only ≡ false
+no_writes true never = absurd (never refl)
+no_writes false never = refl
+
+module _ {R G H : Type 0} where
+  same_limits : (before after : FolderStore R G H) → SameSettings before after → limits_of after ≡ limits_of before
+  same_limits before after same = λ i. record {
+    root = same.root i;
+    drafts = same.drafts i;
+    read_only = same.read_only i;
+    uploads = same.uploads i;
+  }
+
+  asks_within : (limits : Limits) (before after : FolderStore R G H) → IsWithin limits before
+      → AsksNothing before after → IsWithin limits after
+  asks_within limits before after within asks = record {
+    has = same_limits before after asks.settings ∙ within.has;
+    changed = along limits (changes_of before) (changes_of after) (ap changes asks.calls) within.changed;
+  }
+
+module _ {F : Type 0} where
+  own_stays : (limits : Limits) (draft draft' : FolderDraft F) → SameNames draft draft'
+      → IsOwn limits (string_bytes draft.draft) (string_bytes draft.target)
+      → IsOwn limits (string_bytes draft'.draft) (string_bytes draft'.target)
+  own_stays limits draft draft' names own =
+      subst (λ (t : List ℕ). IsOwn limits (string_bytes draft'.draft) t) (sym (ap string_bytes names.target))
+      (subst (λ (d : List ℕ). IsOwn limits d (string_bytes draft.target)) (sym (ap string_bytes names.draft)) own)
+
+  abbrev IsOwnDraft : Limits → FolderDraft F → Type 0
+  IsOwnDraft limits draft = IsOwn limits (string_bytes draft.draft) (string_bytes draft.target)
+
+module _ {R G H F : Type 0} where
+  -- a store that began a draft does not refuse writes
+  pub writes_admitted : (path : List ℕ) (before after : FolderStore R G H) (draft : FolderDraft F)
+      → HasBegun path before after (Ok draft) → before.is_read_only ≡ false
+  writes_admitted path before after draft begun =
+      no_writes before.is_read_only (λ yes. let refused = begun.read_only yes in cc)
+
+  begun_within : (path : List ℕ) (before after : FolderStore R G H) (result : Result (FolderDraft F) StoreFault)
+      → AreChanges (limits_of before) (changes_of before) → HasBegun path before after result
+      → IsWithin (limits_of before) after × IfOk result (IsOwnDraft (limits_of before))
+  begun_within path before after (Ok draft) changed begun = (
+    record {
+      has = same_limits before after begun.settings;
+      changed =
+          begin_stays_within (limits_of before) before.port (changes_of before) (changes_of after) begun.untouched
+          (inr (Ok tt, begun.made.made)) changed;
+    },
+    begins_own draft (limits_of before) before.port path (changes_of before) (changes_of after) begun.is_path
+        (writes_admitted path before after draft begun) begun.uploads begun.made,
+  )
+  begun_within path before after (Err fault) changed begun = (
+    record {
+      has = same_limits before after begun.settings;
+      changed =
+          begin_stays_within (limits_of before) before.port (changes_of before) (changes_of after) begun.untouched
+          begun.not_made changed;
+    },
+    tt,
+  )
+
+  committed_within : (limits : Limits) (before after : FolderStore R G H) (draft draft' : FolderDraft F)
+      (replaces : Bool) (fault : Option StoreFault) → IsOwnDraft limits draft'
+      → HasCommitted before draft replaces after draft' fault → AreChanges limits (changes_of before)
+      → AreChanges limits (changes_of after)
+  committed_within limits before after draft draft' replaces None own does changed =
+      commit_stays_within draft' limits replaces (changes_of before) (changes_of after) own (inl does.named) changed
+  committed_within limits before after draft draft' replaces (Some fault) own does changed =
+      commit_stays_within draft' limits replaces (changes_of before) (changes_of after) own (inr does.not_named) changed
+
+  pub keeps_within : KeepsWithin (folder_meaning {R = R} {G = G} {H = H} {F = F})
+  keeps_within limits = record {
+    begun = λ path replace before after result within does.
+        subst (λ (l : Limits). IsWithin l after × IfOk result (IsOwnDraft l)) within.has
+        (begun_within path before after result
+        (subst (λ (l : Limits). AreChanges l (changes_of before)) (sym within.has) within.changed) does);
+    appended = λ bytes before after draft draft' fault within own does. (
+      asks_within limits before after within does.store,
+      own_stays limits draft draft' does.names own,
+    );
+    committed = λ path replace before after draft draft' fault within own does.
+        let own' = own_stays limits draft draft' does.names own in (
+          record {
+            has = same_limits before after does.settings ∙ within.has;
+            changed = committed_within limits before after draft draft' replace fault own' does within.changed;
+          },
+          own',
+        );
+    behind = λ before after within asks. asks_within limits before after within asks;
+    drafts_behind = λ draft draft' own writes. own_stays limits draft draft' writes.names own;
+  }
+
+refuses : (limits : Limits) (Change : Type 0) (kept : List DiskEvent) → limits.read_only ≡ true
+    → Admits limits Change → kept ≡ []
+refuses limits Change kept only admits = absurd (let differ : true ≡ false = sym only ∙ admits.admitted in cc)
+
+pub read_only_changes_nothing : ReadOnlyChangesNothing
+read_only_changes_nothing limits [] only changed = refl
+read_only_changes_nothing limits (Made path answer ∷ calls) only changed = refuses limits _ _ only changed.0
+read_only_changes_nothing limits (Linked file from to answer ∷ calls) only changed = refuses limits _ _ only changed.0
+read_only_changes_nothing limits (Renamed file from to answer ∷ calls) only changed = refuses limits _ _ only changed.0
+read_only_changes_nothing limits (Removed path answer ∷ calls) only changed = refuses limits _ _ only changed.0
+read_only_changes_nothing limits (Folder_opened path answer ∷ calls) only changed = refuses limits _ _ only changed.0
+read_only_changes_nothing limits (Folder_synced path answer ∷ calls) only changed = refuses limits _ _ only changed.0
+read_only_changes_nothing limits (Looked path answer ∷ calls) only changed = read_only_changes_nothing limits calls only changed
+read_only_changes_nothing limits (Followed path answer ∷ calls) only changed = read_only_changes_nothing limits calls only changed
+read_only_changes_nothing limits (Resolved path answer ∷ calls) only changed = read_only_changes_nothing limits calls only changed
+read_only_changes_nothing limits (Opened path answer ∷ calls) only changed = read_only_changes_nothing limits calls only changed
+read_only_changes_nothing limits (Tried path answer ∷ calls) only changed = read_only_changes_nothing limits calls only changed
+read_only_changes_nothing limits (Examined answer ∷ calls) only changed = read_only_changes_nothing limits calls only changed
+read_only_changes_nothing limits (Given bytes ∷ calls) only changed = read_only_changes_nothing limits calls only changed
+read_only_changes_nothing limits (Not_given error ∷ calls) only changed = read_only_changes_nothing limits calls only changed
+read_only_changes_nothing limits (Sought to answer ∷ calls) only changed = read_only_changes_nothing limits calls only changed
+read_only_changes_nothing limits (Written bytes ∷ calls) only changed = read_only_changes_nothing limits calls only changed
+read_only_changes_nothing limits (Not_written error ∷ calls) only changed = read_only_changes_nothing limits calls only changed
+read_only_changes_nothing limits (Synced answer ∷ calls) only changed = read_only_changes_nothing limits calls only changed
+read_only_changes_nothing limits (Mode_set mode answer ∷ calls) only changed = read_only_changes_nothing limits calls only changed

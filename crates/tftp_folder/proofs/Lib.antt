@@ -1,5 +1,5 @@
 pub mod ChangingLemmas
-pub mod LengthLemmas
 mod NamingLemmas
 pub mod SourceLemmas
+pub mod StoredLemmas
 mod UploadLemmas

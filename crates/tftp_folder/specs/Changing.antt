@@ -2,13 +2,18 @@
 use Rattle.std.specs.Prelude.{ℕ, ◌≡◌, ◌⊎◌, ⊤, Bool, true, false, List, [], ◌∷◌, Option, IfSome}
 use Rattle.std.specs.String.{string_bytes}
 use Rattle.tftp_file.specs.Path.{IsPath}
+use Rattle.tftp_disk.specs.Changes.{changes}
 use Rattle.tftp_disk.specs.DiskJournal.{DiskEvent}
 use Rattle.tftp_disk.specs.DiskJournal.DiskEvent.{Made, Linked, Renamed, Removed}
 use Rattle.tftp_disk.specs.DiskJournal.DiskEvent.{Folder_opened, Folder_synced}
+use Rattle.tftp_store.specs.Drafts.{CallsKeep}
+use Rattle.tftp_store.specs.Store.{StoreMeaning}
 use Rattle.tftp_folder.specs.Begin.{draft_name, BeginsNone}
 use Rattle.tftp_folder.specs.Draft.{BeginsAt, GivesName, NamesNothing}
+use Rattle.tftp_folder.specs.Effects.{changes_of}
 use Rattle.tftp_folder.specs.Uploads.{IsBelow, path_below}
 use Rattle.tftp_folder.specs.declared.folder_draft.FolderDraft.{FolderDraft}
+use Rattle.tftp_folder.specs.declared.folder_store.FolderStore.{FolderStore}
 
 -- where a store may change files: its root, the folder of its drafts, whether it refuses writes, and
 -- the folder below the root that takes all writes, if one does
@@ -17,6 +22,17 @@ pub record Limits : Type 0 where
   pub drafts : List ℕ
   pub read_only : Bool
   pub uploads : Option (List ℕ)
+
+module _ {R G H : Type 0} where
+  -- those of a store
+  abbrev pub limits_of : FolderStore R G H → Limits
+  limits_of store =
+      record {
+        root = string_bytes store.folder.root;
+        drafts = string_bytes store.folder.drafts;
+        read_only = store.is_read_only;
+        uploads = store.uploads;
+      }
 
 -- the path of a draft in this folder
 abbrev pub IsDraftIn : List ℕ → List ℕ → Type 0
@@ -92,3 +108,22 @@ module _ {F : Type 0} where
       → IsOwn limits (string_bytes draft.draft) (string_bytes draft.target)
       → GivesName draft before replaces after ⊎ NamesNothing draft before replaces after
       → AreChanges limits before → AreChanges limits after
+
+module _ {R G H : Type 0} where
+  -- a store has these limits, and has changed nothing beyond them
+  pub record IsWithin (limits : Limits) (store : FolderStore R G H) : Type 0 where
+    pub has : limits_of store ≡ limits
+    pub changed : AreChanges limits (changes_of store)
+
+module _ {R G H F : Type 0} where
+  -- each call of a store that is within its limits keeps it so, and its drafts its own
+  abbrev pub KeepsWithin : StoreMeaning (FolderStore R G H) (FolderDraft F) → Type 0
+  KeepsWithin stores =
+      (limits : Limits) → CallsKeep (IsWithin limits)
+      (λ draft. IsOwn limits (string_bytes draft.draft) (string_bytes draft.target)) stores
+
+-- a store that refuses writes, and is within its limits, has changed nothing on the disk
+abbrev pub ReadOnlyChangesNothing : Type 0
+ReadOnlyChangesNothing =
+    (limits : Limits) (calls : List DiskEvent) → limits.read_only ≡ true
+    → AreChanges limits (changes calls) → changes calls ≡ []

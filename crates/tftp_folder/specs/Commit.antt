@@ -3,6 +3,7 @@ use Rattle.std.specs.Prelude.{ℕ, ◌≡◌, ◌⊎◌, Bool, true, false, List
 use Rattle.std.specs.IoError.{error_kind}
 use Rattle.std.specs.declared.io.Error.{Error}
 use Rattle.std.specs.declared.io.ErrorKind.TheVariants as kinds
+use Rattle.tftp_disk.specs.Changes.{renames}
 use Rattle.tftp_disk.specs.DiskJournal.{DiskEvent, Done, FileState}
 use Rattle.tftp_disk.specs.DiskJournal.DiskEvent.{Linked, Renamed, Removed, Looked, Tried}
 use Rattle.tftp_disk.specs.declared.found.Found.{Found}
@@ -44,16 +45,37 @@ RemovesNew target before true after = after ≡ before
 RemovesNew target before false after =
     (removal : Done) × (after ≡ Removed target removal ∷ before)
 
+-- the newest call is a look at a path: no file was there
+abbrev pub IsFree : List ℕ → List DiskEvent → Type 0
+IsFree path after =
+    (before : List DiskEvent) × (error : Error) × (error_kind error ≡ kinds.NotFound)
+    × (after ≡ Looked path (Err error) ∷ before)
+
 -- the newest calls are looks at a path: no file was there, or a regular one, which may be written
 abbrev pub MayBeReplaced : List ℕ → List DiskEvent → Type 0
 MayBeReplaced path after =
-    ((before : List DiskEvent) × (error : Error) × (error_kind error ≡ kinds.NotFound)
-    × (after ≡ Looked path (Err error) ∷ before))
+    IsFree path after
     ⊎ ((before : List DiskEvent) × (found : Found) × (found.kind ≡ Regular)
     × (after ≡ Tried path (Ok tt) ∷ Looked path (Ok found) ∷ before))
 
--- the newest call is the rename to this path, of which that holds
-abbrev pub RenamesOver : List ℕ → List DiskEvent → Type 0
-RenamesOver path after =
-    (before : List DiskEvent) × (file : FileState) × (from : List ℕ) × MayBeReplaced path before
-    × (after ≡ Renamed file from path (Ok tt) ∷ before)
+-- a rename to the path may follow these calls: what has the name was looked at just before. No file
+-- had it, or, if one may be replaced, a regular one, which may be written
+abbrev pub MayRename : Bool → List ℕ → List DiskEvent → Type 0
+MayRename true path after = MayBeReplaced path after
+MayRename false path after = IsFree path after
+
+-- the newest call is a rename to this path that may follow those before it
+pub record RenamesSeen (replaces : Bool) (path : List ℕ) (after : List DiskEvent) : Type 0 where
+  pub before : List DiskEvent
+  pub may : MayRename replaces path before
+  pub file : FileState
+  pub from : List ℕ
+  pub answer : Done
+  pub newest : after ≡ Renamed file from path answer ∷ before
+
+-- between these calls nothing was renamed, or one file to this path, just after a look at that
+abbrev pub LooksThenRenames : Bool → List ℕ → List DiskEvent → List DiskEvent → Type 0
+LooksThenRenames replaces path before after =
+    (renames after ≡ renames before)
+    ⊎ ((renamed : List DiskEvent) × RenamesSeen replaces path renamed
+    × (renames after ≡ renamed ∷ renames before))

@@ -2,7 +2,9 @@ pub mod Begin
 pub mod Changing
 pub mod Commit
 pub mod Draft
+pub mod Effects
 pub mod Opened
 pub mod Settings
 pub mod Source
+pub mod Stored
 pub mod Uploads

@@ -1,16 +1,13 @@
 -- The file of a source of a folder, and how long its text is (ours).
-use Rattle.std.specs.Prelude.{ℕ, ◌≡◌, ◌+◌, ◌<◌, ◌≤◌, min, List, [], length, Option, Some, IfSome}
+use Rattle.std.specs.Prelude.{ℕ, ◌≡◌, ◌+◌, ◌<◌, ◌≤◌, min, List, [], Some}
 use Rattle.tftp_wire.specs.declared.mode.Mode.{Mode}
-use Rattle.tftp_wire.specs.declared.mode.Mode.TheVariants.{Octet, Netascii}
+use Rattle.tftp_wire.specs.declared.mode.Mode.TheVariants.{Octet}
 use Rattle.tftp_disk.specs.DiskJournal.{DiskEvent}
 use Rattle.tftp_disk.specs.DiskSource.{IsUnread, source_calls}
 use Rattle.tftp_disk.specs.DiskSourceLaws.{GivenInOrder}
-use Rattle.tftp_disk.specs.Given.{examined, given, opened_at, IsAtEnd, Reads}
-use Rattle.tftp_disk.specs.declared.calls.DiskFile.{DiskFile}
+use Rattle.tftp_disk.specs.Given.{examined, given}
 use Rattle.tftp_disk.specs.declared.disk_source.DiskSource.{DiskSource}
 use Rattle.tftp_disk.specs.declared.found.Found.{Found}
-use Rattle.tftp_file.specs.Length.{up_to}
-use Rattle.tftp_file.specs.Netascii.{wire_text}
 use Rattle.tftp_file.specs.Source.{GivesInTurn, SourceMeaning}
 use Rattle.tftp_file.specs.declared.length.TheConstants.{MAX_WIRE}
 use Rattle.tftp_store.specs.declared.store.Opening.{Opening}
@@ -22,33 +19,9 @@ module _ {F : Type 0} where
   abbrev pub text_of : FolderSource F → DiskSource F
   text_of source = source.text
 
-  -- the calls on an open file
-  abbrev pub calls_on : DiskFile F → List DiskEvent
-  calls_on file = file.journal.events
-
   -- the calls on the open file of a source
   abbrev pub calls_of : FolderSource F → List DiskEvent
   calls_of source = source_calls source.text
-
-  -- calls on an open file, after which it is the same, and what was last said of it too
-  pub record StaysOpen (before after : DiskFile F) : Type 0 where
-    pub place : opened_at (calls_on after) ≡ opened_at (calls_on before)
-    pub found : examined (calls_on after) ≡ examined (calls_on before)
-
--- one read counted so much wire text in netascii: none only at the end of the file
-pub record CountsChunk (before after : List DiskEvent) (counted : ℕ) : Type 0 where
-  pub bytes : List ℕ
-  pub reads : Reads before after bytes
-  pub count : counted ≡ length (wire_text Netascii bytes)
-  pub end : counted ≡ 0 → IsAtEnd after
-
--- one pass over a file read these bytes, to its end unless their text is too long: what it counted is
--- the length of their text in netascii
-pub record CountsPass (before after : List DiskEvent) (counted : Option ℕ) : Type 0 where
-  pub bytes : List ℕ
-  pub reads : Reads before after bytes
-  pub count : counted ≡ up_to MAX_WIRE (length (wire_text Netascii bytes))
-  pub end : IfSome counted (λ count. IsAtEnd after)
 
 -- how long a file is said to be that was found so, if the longest that can be sent is so long: in
 -- octet as long as the system says, and in each mode too long if it is so by that

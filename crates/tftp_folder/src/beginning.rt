@@ -2,6 +2,7 @@
 
 ghost use Rattle.std.specs.Prelude.{◌≡◌, ◌⊎◌, [], Ok, IfOk, IfErr, OnErr};
 ghost use Rattle.std.specs.String.{string_bytes};
+ghost use Rattle.tftp_file.specs.Path.{IsPath};
 ghost use Rattle.tftp_disk.specs.Changes.{changes};
 ghost use Rattle.tftp_disk.specs.DiskFault.{MayNotName, is_replaced};
 ghost use Rattle.tftp_folder.specs.Begin.{draft_name, MakesDraft, BeginsNone};
@@ -38,6 +39,7 @@ impl DraftMemory {
             ≡ draft_name (string_bytes served.now.drafts) port) }
         ensures target { IfOk result (λ memory. string_bytes memory.target
             ≡ path_below (string_bytes served.now.root) path.now) }
+        ensures path { IfOk result (λ _. IsPath path.now) }
         ensures fault { IfErr result (λ fault. (fault ≡ StoreFault.Io)
             ⊎ (fault ≡ StoreFault.Memory)) }
     {

@@ -2,6 +2,7 @@
 
 ghost use Rattle.std.specs.Prelude.{◌≡◌, ◌⊎◌, ◌∷◌, [], true, Ok, Err, IfErr, IfOk, OnErr, IfSome};
 ghost use Rattle.std.specs.String.{string_bytes};
+ghost use Rattle.tftp_file.specs.Path.{IsPath};
 ghost use Rattle.tftp_disk.specs.Changes.{changes};
 ghost use Rattle.tftp_disk.specs.DiskJournal.{Done};
 ghost use Rattle.tftp_disk.specs.DiskJournal.DiskEvent.{Made, Looked, Opened, Examined};
@@ -61,7 +62,7 @@ pub(crate) struct OpenedFile<F> {
 
 /// A place for a new file, in a folder without links on its path.
 #[derive(Drop)]
-pub(crate) struct Place {
+pub(crate) struct DraftPlace {
     /// The path on the system.
     pub(crate) path: String,
     /// The folder of the path.
@@ -75,6 +76,7 @@ impl<R: Files + Drop> ServedFolder<R> {
     pub(crate) fn path_of(&self, alloc: Global, path: &Path) -> Result<String, StoreFault>
         ensures below { IfOk result (λ target. string_bytes target
             ≡ path_below (string_bytes self.now.root) path.now) }
+        ensures path { IfOk result (λ _. IsPath path.now) }
         ensures fault { IfErr result (λ fault. (fault ≡ StoreFault.Missing)
             ⊎ (fault ≡ StoreFault.Memory)) }
     {
@@ -321,7 +323,7 @@ impl<R: Files + Drop> ServedFolder<R> {
         path: &Path,
         target: String,
         existing: Existing,
-    ) -> Result<Place, StoreFault>
+    ) -> Result<DraftPlace, StoreFault>
         ensures fault { IfErr result (MayNotName (is_replaced existing)) }
         ensures place { IfOk result (λ place. place.path ≡ target) }
         ensures looks { changes journal.new.events ≡ changes journal.old.events }
@@ -344,7 +346,7 @@ impl<R: Files + Drop> ServedFolder<R> {
             self.may_replace(journal, location.path.as_str(), found)?;
         }
         let folder = self.folder_to_write(journal, location.folder)?;
-        Ok(Place {
+        Ok(DraftPlace {
             path: location.path,
             folder,
             replaced: location.found,

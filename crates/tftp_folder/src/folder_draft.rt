@@ -2,11 +2,11 @@
 
 ghost use Rattle.std.specs.Prelude.{◌≡◌, ◌++◌, [], Some, None, true, false, OnOk, OnErr};
 ghost use Rattle.std.specs.String.{string_bytes};
-ghost use Rattle.tftp_disk.specs.Changes.{changes};
+ghost use Rattle.tftp_disk.specs.Changes.{changes, renames};
 ghost use Rattle.tftp_disk.specs.DiskJournal.{made_at, is_synced, sync_failed, state_of};
 ghost use Rattle.tftp_disk.specs.DiskWriter.{calls_of, handed};
 
-use crate::finding::Place;
+use crate::finding::DraftPlace;
 use crate::replacing::permissions_of;
 use std::fs::OpenFile;
 use std::io::{self, Write};
@@ -53,7 +53,7 @@ impl<F: Write> FolderDraft<F> {
         writer: DiskWriter<F>,
         port: u16,
         draft: String,
-        place: Place,
+        place: DraftPlace,
     ) -> FolderDraft<F>
         requires placed { made_at (calls_of writer) ≡ Some (string_bytes draft) }
         requires sound { sync_failed (calls_of writer) ≡ false }
@@ -208,6 +208,7 @@ impl<F: Write + OpenFile> FolderDraft<F> {
     pub(crate) fn is_at_draft<R: Files>(&mut self, files: &R, journal: &mut DiskJournal) -> bool
         ensures stays { StaysDone self.old self.new }
         ensures looks { changes journal.new.events ≡ changes journal.old.events }
+        ensures renames { renames journal.new.events ≡ renames journal.old.events }
     {
         is_at(&mut self.writer, files, journal, self.draft.as_str())
     }
@@ -216,6 +217,7 @@ impl<F: Write + OpenFile> FolderDraft<F> {
     pub(crate) fn is_at_target<R: Files>(&mut self, files: &R, journal: &mut DiskJournal) -> bool
         ensures stays { StaysDone self.old self.new }
         ensures looks { changes journal.new.events ≡ changes journal.old.events }
+        ensures renames { renames journal.new.events ≡ renames journal.old.events }
     {
         is_at(&mut self.writer, files, journal, self.target.as_str())
     }
@@ -231,6 +233,7 @@ fn is_at<R: Files, F: OpenFile>(
     ensures state { state_of (calls_of writer.new) ≡ state_of (calls_of writer.old) }
     ensures buffer { writer.new.buffer ≡ writer.old.buffer }
     ensures looks { changes journal.new.events ≡ changes journal.old.events }
+    ensures renames { renames journal.new.events ≡ renames journal.old.events }
 {
     let opened = writer.examine();
     let found = tftp_disk::look(files, journal, path);

@@ -1,15 +1,19 @@
 //! A store over the files in a folder and its subfolders.
 
-ghost use Rattle.std.specs.Prelude.{◌≡◌, ◌≢◌, ℕ, List, true, false, None, Some, Ok, IfOk, IfErr};
+ghost use Rattle.std.specs.Prelude.{◌≡◌, ◌≢◌, ℕ, List, true, false, None, Some, Ok, Err, IfOk};
+ghost use Rattle.std.specs.Prelude.{IfErr};
 ghost use Rattle.std.specs.Prelude.{[], ◌++◌, ◌⊎◌, codes, IfSome, OnOk, OnErr};
 ghost use Rattle.std.specs.String.{string_bytes};
 ghost use Rattle.tftp_file.specs.Path.{path_of_name};
 ghost use Rattle.tftp_disk.specs.Changes.{changes};
 ghost use Rattle.tftp_disk.specs.DiskFault.{MayNotOpen, MayNotStore, MayNotName, is_replaced};
 ghost use Rattle.tftp_disk.specs.Given.{given};
+ghost use Rattle.tftp_disk.specs.Measuring.{calls_on, StaysOpen};
 ghost use Rattle.tftp_folder.specs.Opened.{IsRootOf};
-ghost use Rattle.tftp_folder.specs.Settings.{SameSettings};
-ghost use Rattle.tftp_folder.specs.Source.{calls_on, StatesLength, StaysOpen};
+ghost use Rattle.tftp_folder.specs.Commit.{LooksThenRenames};
+ghost use Rattle.tftp_folder.specs.Draft.{bytes_of, GivesName, IsWhole, NamesNothing, SameNames};
+ghost use Rattle.tftp_folder.specs.Settings.{AsksNothing, SameSettings};
+ghost use Rattle.tftp_folder.specs.Source.{StatesLength};
 ghost use Rattle.tftp_folder.specs.Uploads.{IsBelow, path_below};
 
 use crate::beginning::{DraftMemory, begin_draft};
@@ -185,6 +189,41 @@ impl<R: Files + Drop> FolderStore<R> {
             _ => Ok(()),
         }
     }
+
+    /// Writes and syncs a draft, and gives it its name.
+    fn name_draft(
+        &mut self,
+        draft: &mut FolderDraft<R::File>,
+        replace: bool,
+    ) -> Result<(), StoreFault>
+        ensures refused { IfErr result (MayNotName replace) }
+        ensures settings { SameSettings self.old self.new }
+        ensures not_memory { result ≢ Err StoreFault.Memory }
+        ensures named { OnOk result (GivesName draft.new (changes self.old.journal.events) replace
+            (changes self.new.journal.events)) }
+        ensures whole { OnOk result (IsWhole draft.new (bytes_of draft.old)) }
+        ensures names { SameNames draft.old draft.new }
+        ensures not_named { OnErr result (NamesNothing draft.new (changes self.old.journal.events)
+            replace (changes self.new.journal.events)) }
+        ensures over { LooksThenRenames replace (string_bytes draft.old.target)
+            self.old.journal.events self.new.journal.events }
+    {
+        if let Err(error) = draft.finish() {
+            return Err(self.folder.write_refused(&error));
+        }
+        let existing = Existing::of(replace);
+        match give_name(
+            &self.folder.files,
+            &mut self.journal,
+            self.folder.root.as_str(),
+            draft,
+            existing,
+        ) {
+            Ok(()) => Ok(()),
+            Err(NameFault::System(error)) => Err(self.folder.name_refused(&error, existing)),
+            Err(NameFault::Rule(reason)) => Err(self.folder.refused(reason)),
+        }
+    }
 }
 
 /// The canonical path of a folder, without a trailing slash.
@@ -241,13 +280,13 @@ fn folder_below<R: Files + Drop>(
 
 impl<R: Files + Drop> ServedStore<Reason> for FolderStore<R> {
     fn set_port(&mut self, port: u16)
-        ensures { SameSettings self.old self.new }
+        ensures { AsksNothing self.old self.new }
     {
         self.port = port;
     }
 
     fn set_longest(&mut self, bytes: u64)
-        ensures { SameSettings self.old self.new }
+        ensures { AsksNothing self.old self.new }
     {
         self.lengths.set_longest(bytes);
     }
@@ -267,40 +306,29 @@ impl<R: Files + Drop> ServedStore<Reason> for FolderStore<R> {
 }
 
 impl<R: Files + Drop> Store for FolderStore<R> {
-    ghost use Rattle.std.specs.Prelude.{◌≡◌, ◌≢◌, ◌++◌, refl, None, true, Err, IfOk, IfErr, IfSome};
-    ghost use Rattle.std.specs.Prelude.{IsErrOf, OnOk, OnErr};
-    ghost use Rattle.std.specs.String.{string_bytes};
-    ghost use Rattle.tftp_disk.specs.Changes.{changes};
-    ghost use Rattle.tftp_folder.specs.Begin.{draft_name, BeginsNone};
-    ghost use Rattle.tftp_folder.specs.Draft.{bytes_of, BeginsAt, GivesName, IsWhole, SameNames};
-    ghost use Rattle.tftp_folder.specs.Draft.{NamesNothing};
-    ghost use Rattle.tftp_disk.specs.DiskFault.{MayNotOpen, MayNotStore, MayNotBegin, MayNotName};
+    ghost use Rattle.std.specs.Prelude.{◌≡◌, ◌≢◌, refl, None, true, IfOk, IfErr, IsErrOf};
     ghost use Rattle.std.specs.Result.{result_err};
-    ghost use Rattle.tftp_folder.specs.Settings.{HasBegun, SameSettings};
+    ghost use Rattle.std.specs.String.{string_bytes};
+    ghost use Rattle.tftp_disk.specs.DiskFault.{MayNotOpen, MayNotStore, MayNotBegin, MayNotName};
+    ghost use Rattle.tftp_folder.specs.Effects.{folder_meaning, HasBegun, HasAppended};
+    ghost use Rattle.tftp_folder.specs.Effects.{HasCommitted};
     ghost use Rattle.tftp_folder.specs.Source.{OpensSource, StatesOpened};
-    ghost use Rattle.tftp_folder.specs.Uploads.{IsBelow, path_below};
 
     type Source = FolderSource<R::File>;
 
     type Draft = FolderDraft<R::File>;
 
-    ghost meaning = { record {
-      root = λ store. string_bytes store.folder.root;
-      stored = λ _. None;
-      drafted = λ _. None;
-      may_refuse_open = λ _ _ fault. MayNotOpen fault;
-      may_refuse_begin = λ _ _ replace fault. MayNotBegin replace fault;
-      must_refuse_open = λ _ _ _. ⊥;
-      must_fail = λ _ _ _. ⊥;
-      begun = λ path before after fault. HasBegun path before after fault;
-      after_append = λ before after _. SameSettings before after;
-      after_commit = λ before after _. SameSettings before after;
-      after_write_behind = λ before after. SameSettings before after;
-      may_refuse_append = λ _ _ _ fault. MayNotStore fault;
-      may_refuse_commit = λ _ _ _ replace fault. MayNotName replace fault;
+    ghost meaning = { folder_meaning };
+
+    ghost unmoved = { λ _. record {
+      settings = record { read_only = refl; uploads = refl; root = refl; drafts = refl };
+      calls = refl;
     } };
 
-    ghost unmoved = { λ _. record { read_only = refl; uploads = refl; root = refl } };
+    ghost unwritten = { λ _. record {
+      names = record { draft = refl; target = refl; folder = refl; port = refl };
+      handed = refl;
+    } };
 
     fn open(
         &self,
@@ -335,18 +363,8 @@ impl<R: Files + Drop> Store for FolderStore<R> {
         replace: bool,
     ) -> Result<FolderDraft<R::File>, StoreFault>
         ensures refused { IfErr result (MayNotBegin replace) }
-        ensures begun { HasBegun path.now self.old self.new (result_err result) }
+        ensures begun { HasBegun path.now self.old self.new result }
         ensures memory { IsErrOf result StoreFault.Memory → self.new ≡ self.old }
-        ensures read_only { self.old.is_read_only ≡ true → result ≡ Err StoreFault.Io }
-        ensures uploads { IfOk result (λ _. IfSome self.old.uploads (λ folder.
-            IsBelow folder path.now)) }
-        ensures made { IfOk result (λ draft. BeginsAt (draft_name
-            (string_bytes self.old.folder.drafts) self.old.port)
-            (path_below (string_bytes self.old.folder.root) path.now) draft
-            (changes self.old.journal.events) (changes self.new.journal.events)) }
-        ensures not_made { OnErr result (BeginsNone (draft_name
-            (string_bytes self.old.folder.drafts) self.old.port)
-            (changes self.old.journal.events) (changes self.new.journal.events)) }
         ensures untouched { self.old.is_read_only ≡ true → self.new ≡ self.old }
     {
         self.folder.reason.clear();
@@ -366,13 +384,11 @@ impl<R: Files + Drop> Store for FolderStore<R> {
 
     fn append(&mut self, draft: &mut FolderDraft<R::File>, bytes: &[u8]) -> Result<(), StoreFault>
         ensures refused { IfErr result MayNotStore }
-        ensures after { SameSettings self.old self.new }
+        ensures after { HasAppended self.old draft.old bytes.now self.new draft.new
+            (result_err result) }
         ensures memory { IsErrOf result StoreFault.Memory → (self.new ≡ self.old)
             × (draft.new ≡ draft.old) }
         ensures untouched { self.new ≡ self.old }
-        ensures handed { OnOk result (bytes_of draft.new ≡ bytes_of draft.old ++ bytes.now) }
-        ensures kept { OnErr result (bytes_of draft.new ≡ bytes_of draft.old) }
-        ensures names { SameNames draft.old draft.new }
     {
         match draft.append(bytes) {
             Ok(()) => Ok(()),
@@ -394,29 +410,13 @@ impl<R: Files + Drop> Store for FolderStore<R> {
         replace: bool,
     ) -> Result<(), StoreFault>
         ensures refused { IfErr result (MayNotName replace) }
-        ensures after { SameSettings self.old self.new }
+        ensures after { HasCommitted self.old draft.old replace self.new draft.new
+            (result_err result) }
         ensures not_memory { result ≢ Err StoreFault.Memory }
-        ensures named { OnOk result (GivesName draft.new (changes self.old.journal.events) replace
-            (changes self.new.journal.events)) }
-        ensures whole { OnOk result (IsWhole draft.new (bytes_of draft.old)) }
-        ensures names { SameNames draft.old draft.new }
-        ensures not_named { OnErr result (NamesNothing draft.new (changes self.old.journal.events)
-            replace (changes self.new.journal.events)) }
     {
-        if let Err(error) = draft.finish() {
-            return Err(self.folder.write_refused(&error));
-        }
-        let existing = Existing::of(replace);
-        match give_name(
-            &self.folder.files,
-            &mut self.journal,
-            self.folder.root.as_str(),
-            draft,
-            existing,
-        ) {
+        match self.name_draft(draft, replace) {
             Ok(()) => Ok(()),
-            Err(NameFault::System(error)) => Err(self.folder.name_refused(&error, existing)),
-            Err(NameFault::Rule(reason)) => Err(self.folder.refused(reason)),
+            Err(fault) => Err(fault),
         }
     }
 

@@ -1,12 +1,16 @@
 //! Laws of what is served of a folder, and of what changes in it.
 
 ghost use Rattle.tftp_folder.specs.Changing.{BeginStaysWithin, BeginsOwn, CommitStaysWithin};
+ghost use Rattle.tftp_folder.specs.Changing.{KeepsWithin, ReadOnlyChangesNothing};
 ghost use Rattle.tftp_folder.specs.Source.{GivesFile};
+ghost use Rattle.tftp_folder.specs.Stored.{StoresWhatItTook};
 
-use crate::{FolderDraft, FolderSource};
+use crate::{FolderDraft, FolderSource, FolderStore};
 use std::io::Read;
+use std::rt::Files;
 use tftp_disk::laws::gives_in_order;
 use tftp_file::Source;
+use tftp_store::Store;
 
 /// What the calls of a source have given since a store opened it is a beginning of the wire text of
 /// what reads of the file at that path returned, in order and each byte once; and it is all of it
@@ -32,3 +36,22 @@ pub fn draft_stays_within<F>(draft: &FolderDraft<F>)
 {
     let _ = draft;
 }
+
+/// A draft that a store began for a path, and that then took bytes, call by call, is stored there
+/// once its commit succeeds: a file was made at the path of the draft, these bytes alone were
+/// written to it, in order and each once, and synced; then it got its name, by a call that replaces
+/// no file, unless it may, and the folder was synced.
+pub fn stores_what_it_took<R: Files + Drop>()
+    ensures { StoresWhatItTook ⟦<FolderStore<R> as Store>⟧.meaning }
+{}
+
+/// Each call of a store that has changed nothing beyond its limits keeps it so, and its drafts its
+/// own.
+pub fn keeps_within_its_limits<R: Files + Drop>()
+    ensures { KeepsWithin ⟦<FolderStore<R> as Store>⟧.meaning }
+{}
+
+/// A store that refuses writes, and is within its limits, has changed nothing on the disk.
+pub fn read_only_changes_nothing()
+    ensures { ReadOnlyChangesNothing }
+{}

@@ -1,14 +1,14 @@
 //! Gives a draft its name on the disk, in the folder that its request named.
 
 ghost use Rattle.std.specs.Prelude.{◌≡◌, ◌∷◌, true, false, Ok, OnOk, OnErr};
-ghost use Rattle.tftp_disk.specs.Changes.{changes};
+ghost use Rattle.tftp_disk.specs.Changes.{changes, renames};
 ghost use Rattle.tftp_disk.specs.DiskJournal.DiskEvent.{Looked};
 ghost use Rattle.tftp_disk.specs.declared.found.Found.{Found};
 ghost use Rattle.tftp_folder.specs.Opened.{AreFolders};
 ghost use Rattle.tftp_disk.specs.DiskFault.{is_replaced};
 ghost use Rattle.tftp_folder.specs.Draft.{IsDone, StaysDone, KeepsDone, NamesDraft, RenamesDraft};
 ghost use Rattle.std.specs.String.{string_bytes};
-ghost use Rattle.tftp_folder.specs.Commit.{MayRemove, RemovesNew};
+ghost use Rattle.tftp_folder.specs.Commit.{IsFree, MayRemove, RemovesNew, LooksThenRenames};
 ghost use Rattle.tftp_folder.specs.Draft.{NamesIn, GivesName, NamesNothing, NamesNothingIn, SameNames};
 ghost use Rattle.tftp_folder.specs.Draft.{RefusesDraft, RenamesNoDraft};
 
@@ -57,6 +57,8 @@ pub(crate) fn give_name<R: Files>(
         (is_replaced existing) (changes journal.new.events)) }
     ensures err { OnErr result (NamesNothing draft.new (changes journal.old.events)
         (is_replaced existing) (changes journal.new.events)) }
+    ensures over { LooksThenRenames (is_replaced existing) (string_bytes draft.old.target)
+        journal.old.events journal.new.events }
 {
     if !draft.is_at_draft(files, journal) {
         return Err(NameFault::Rule(Reason::DraftReplaced));
@@ -92,6 +94,8 @@ fn name_in<R: Files>(
         (is_replaced existing) (changes journal.new.events)) }
     ensures err { OnErr result (NamesNothingIn draft.new folder.now.folder
         (changes journal.old.events) (is_replaced existing) (changes journal.new.events)) }
+    ensures over { LooksThenRenames (is_replaced existing) (string_bytes draft.old.target)
+        journal.old.events journal.new.events }
 {
     match put_name(files, journal, draft, existing) {
         Ok(()) => {}
@@ -112,8 +116,9 @@ fn name_in<R: Files>(
 
 /// Removes a name again, unless it replaced a file.
 fn remove_new<R: Files>(files: &R, journal: &mut DiskJournal, name: &str, existing: Existing)
-    ensures { RemovesNew name.now (changes journal.old.events) (is_replaced existing)
+    ensures removed { RemovesNew name.now (changes journal.old.events) (is_replaced existing)
         (changes journal.new.events) }
+    ensures renames { renames journal.new.events ≡ renames journal.old.events }
 {
     match existing {
         Existing::Refused => {
@@ -137,6 +142,8 @@ fn put_name<R: Files>(
         (is_replaced existing) (changes journal.new.events)) }
     ensures err { OnErr result (RefusesDraft draft.new (changes journal.old.events)
         (is_replaced existing) (changes journal.new.events)) }
+    ensures over { LooksThenRenames (is_replaced existing) (string_bytes draft.old.target)
+        journal.old.events journal.new.events }
 {
     match existing {
         Existing::Refused => match name_new(files, journal, draft) {
@@ -157,6 +164,7 @@ fn look_again<R: Files>(
     existing: Existing,
 ) -> Result<(), Reason>
     ensures stays { StaysDone draft.old draft.new }
+    ensures renames { renames journal.new.events ≡ renames journal.old.events }
     ensures ok { OnOk result (changes journal.new.events ≡ changes journal.old.events) }
     ensures err { OnErr result (MayRemove (string_bytes draft.new.target)
         (changes journal.old.events) (changes journal.new.events)) }
@@ -185,7 +193,8 @@ fn leads_to<R: Files>(
     folder: &str,
     id: FileId,
 ) -> bool
-    ensures { changes journal.new.events ≡ changes journal.old.events }
+    ensures looks { changes journal.new.events ≡ changes journal.old.events }
+    ensures renames { renames journal.new.events ≡ renames journal.old.events }
 {
     match tftp_disk::look(files, journal, folder) {
         Ok(found) => {
@@ -205,6 +214,7 @@ pub(crate) fn has_no_link<R: Files>(
     folder: &str,
 ) -> bool
     ensures looks { changes journal.new.events ≡ changes journal.old.events }
+    ensures renames { renames journal.new.events ≡ renames journal.old.events }
     ensures folders { result ≡ true → AreFolders root.now folder.now journal.old.events
         journal.new.events }
 {
@@ -224,6 +234,7 @@ pub(crate) fn has_no_link<R: Files>(
 /// Whether the path is that of a folder, and no link.
 fn is_folder<R: Files>(files: &R, journal: &mut DiskJournal, path: &str) -> bool
     ensures looks { changes journal.new.events ≡ changes journal.old.events }
+    ensures renames { renames journal.new.events ≡ renames journal.old.events }
     ensures folder { result ≡ true → (found : Found)
         × (journal.new.events ≡ Looked path.now (Ok found) ∷ journal.old.events)
         × (found.kind ≡ Kind.Folder) }
@@ -245,6 +256,8 @@ fn name_new<R: Files>(
         (changes journal.new.events)) }
     ensures err { OnErr result (RefusesDraft draft.now (changes journal.old.events) false
         (changes journal.new.events)) }
+    ensures over { LooksThenRenames false (string_bytes draft.now.target) journal.old.events
+        journal.new.events }
 {
     let (path, target) = (draft.draft.as_str(), draft.target.as_str());
     match tftp_disk::link(files, journal, draft.file(), path, target) {
@@ -274,16 +287,31 @@ fn rename_new<R: Files>(
         (changes journal.new.events)) }
     ensures err { OnErr result (RenamesNoDraft draft.now (changes journal.old.events)
         (changes journal.new.events)) }
+    ensures over { LooksThenRenames false (string_bytes draft.now.target) journal.old.events
+        journal.new.events }
 {
     let (path, target) = (draft.draft.as_str(), draft.target.as_str());
-    match tftp_disk::look(files, journal, target) {
+    match check_free(files, journal, target) {
+        Ok(()) => {}
+        Err(error) => return Err(error),
+    }
+    match tftp_disk::rename(files, journal, draft.file(), path, target) {
+        Ok(()) => Ok(()),
+        Err(error) => Err(error),
+    }
+}
+
+/// Looks whether no file has the name.
+fn check_free<R: Files>(files: &R, journal: &mut DiskJournal, name: &str) -> io::Result<()>
+    ensures looks { changes journal.new.events ≡ changes journal.old.events }
+    ensures renames { renames journal.new.events ≡ renames journal.old.events }
+    ensures free { OnOk result (IsFree name.now journal.new.events) }
+{
+    match tftp_disk::look(files, journal, name) {
         Ok(_) => Err(io::Error::from(ErrorKind::AlreadyExists)),
         Err(error) => {
             if error.kind() == ErrorKind::NotFound {
-                match tftp_disk::rename(files, journal, draft.file(), path, target) {
-                    Ok(()) => Ok(()),
-                    Err(error) => Err(error),
-                }
+                Ok(())
             } else {
                 Err(error)
             }

@@ -2,9 +2,9 @@
 
 ghost use Rattle.std.specs.Prelude.{◌≡◌, ◌∷◌, true, Ok, OnOk, OnErr};
 ghost use Rattle.std.specs.String.{string_bytes};
-ghost use Rattle.tftp_disk.specs.Changes.{changes};
+ghost use Rattle.tftp_disk.specs.Changes.{changes, renames};
 ghost use Rattle.tftp_disk.specs.DiskJournal.DiskEvent.{Tried};
-ghost use Rattle.tftp_folder.specs.Commit.{MayBeReplaced, RenamesOver};
+ghost use Rattle.tftp_folder.specs.Commit.{MayBeReplaced, LooksThenRenames};
 ghost use Rattle.tftp_folder.specs.Draft.{IsDone, KeepsDone, NamesDraft, RefusesDraft, SameNames};
 
 use crate::folder_draft::FolderDraft;
@@ -31,6 +31,7 @@ pub(crate) fn check_replaced<R: Files>(
     found: &Found,
 ) -> Result<(), NameFault>
     ensures looks { changes journal.new.events ≡ changes journal.old.events }
+    ensures renames { renames journal.new.events ≡ renames journal.old.events }
     ensures regular { OnOk result (found.now.kind ≡ Kind.Regular) }
     ensures tried { OnOk result (journal.new.events ≡ Tried path.now (Ok tt)
         ∷ journal.old.events) }
@@ -60,7 +61,8 @@ pub(crate) fn rename_over<R: Files>(
         (changes journal.new.events)) }
     ensures err { OnErr result (RefusesDraft draft.new (changes journal.old.events) true
         (changes journal.new.events)) }
-    ensures over { OnOk result (RenamesOver (string_bytes draft.old.target) journal.new.events) }
+    ensures over { LooksThenRenames true (string_bytes draft.old.target) journal.old.events
+        journal.new.events }
 {
     match check_named(files, journal, draft) {
         Ok(()) => {}
@@ -84,6 +86,7 @@ fn check_named<R: Files>(
     ensures stays { OnOk result (KeepsDone draft.old draft.new) }
     ensures names { SameNames draft.old draft.new }
     ensures looks { changes journal.new.events ≡ changes journal.old.events }
+    ensures renames { renames journal.new.events ≡ renames journal.old.events }
     ensures over { OnOk result (MayBeReplaced (string_bytes draft.old.target) journal.new.events) }
 {
     match tftp_disk::look(files, journal, draft.target.as_str()) {

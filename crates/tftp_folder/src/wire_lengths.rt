@@ -1,25 +1,19 @@
 //! The lengths of files in netascii, each measured once.
 
-ghost use Rattle.std.specs.Prelude.{◌≡◌, ◌≤◌, ◌<◌, min, [], Ok, None, IfOk, OnOk};
+ghost use Rattle.std.specs.Prelude.{◌≡◌, ◌<◌, min, [], Ok, None, OnOk};
 ghost use Rattle.tftp_file.specs.Length.{up_to};
 ghost use Rattle.tftp_wire.specs.declared.mode.Mode.TheVariants.{Octet};
 ghost use Rattle.tftp_disk.specs.Given.{given};
-ghost use Rattle.tftp_folder.specs.Source.{calls_on, CountsChunk, CountsPass, StaysOpen};
+ghost use Rattle.tftp_disk.specs.Measuring.{calls_on, StaysOpen};
 
 use lru::LruCache;
 use std::alloc::{AllocError, Global};
 use std::cell::RefCell;
 use std::io::{self, ErrorKind, Read, Seek, SeekFrom};
 use std::num::NonZeroUsize;
-use tftp_disk::{DiskFile, FileId, Found};
-use tftp_file::{MAX_WIRE, wire_length_within};
+use tftp_disk::{DiskFile, FileId, Found, count_netascii};
+use tftp_file::MAX_WIRE;
 use tftp_wire::Mode;
-
-/// How many bytes are read at once of a file that is measured.
-const CHUNK: usize = 8_192;
-
-/// The longest text on the wire of so many bytes.
-const MOST_IN_CHUNK: u64 = 2 * CHUNK as u64;
 
 /// How many lengths are remembered.
 const MOST_LENGTHS: usize = 1_024;
@@ -109,7 +103,10 @@ impl WireLengths {
         if let Some(length) = self.recall(contents) {
             return Ok(length);
         }
-        let length = count_netascii(file)?;
+        let length = match count_netascii(file)? {
+            Some(text) => Some(text.wire_bytes),
+            None => None,
+        };
         match file.seek(SeekFrom::Start(0)) {
             Ok(_) => {
                 self.remember(contents, length);
@@ -132,37 +129,6 @@ impl WireLengths {
         if let Ok(mut measured) = self.measured.try_borrow_mut() {
             let _ = measured.put(contents, length);
         }
-    }
-}
-
-/// The length of an open file in netascii, which is read from its beginning to its end, at most
-/// until `MAX_WIRE` is passed: then it is `None`.
-fn count_netascii<F: Read + Drop>(file: &mut DiskFile<F>) -> io::Result<Option<u64>>
-    ensures counts { IfOk result (CountsPass (calls_on file.old) (calls_on file.new)) }
-    ensures stays { StaysOpen file.old file.new }
-{
-    let mut chunk = [0; CHUNK];
-    let mut total = 0;
-    while total <= MAX_WIRE {
-        let count = count_next(file, &mut chunk)?;
-        if count == 0 {
-            return Ok(Some(total));
-        }
-        total += count;
-    }
-    Ok(None)
-}
-
-/// Reads the next bytes, and counts them in netascii: 0 at the end.
-fn count_next<F: Read + Drop>(file: &mut DiskFile<F>, chunk: &mut [u8; CHUNK]) -> io::Result<u64>
-    ensures within { IfOk result (λ count. count ≤ MOST_IN_CHUNK) }
-    ensures counts { IfOk result (λ count. CountsChunk (calls_on file.old) (calls_on file.new)
-        count) }
-    ensures stays { StaysOpen file.old file.new }
-{
-    match file.read(&mut chunk[..]) {
-        Ok(count) => Ok(wire_length_within(&chunk[..count], Mode::Netascii, MOST_IN_CHUNK)),
-        Err(error) => Err(error),
     }
 }
 

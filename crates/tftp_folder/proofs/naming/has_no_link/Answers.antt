@@ -7,7 +7,7 @@ use Rattle.tftp_folder.proofs.naming.has_no_link.Goals as goal
 
 pub returns-then-folder-max-clause-folders : goal.returns-then-folder-max-clause-folders
 returns-then-folder-max-clause-folders g c = λ yes.
-    c.loop.invariant.2 c.loop.journal.events
+    c.loop.invariant.3 c.loop.journal.events
     (Above (subst (λ (n : ℕ). length c.loop.folder.now ≤ n) c.max.ensures c.if-folder-max.true))
 
 pub loop-preserved : goal.loop-preserved
@@ -15,7 +15,8 @@ loop-preserved g c =
     let found = c.is_folder.ensures.folder c.if-not-is_folder.false in (
       c.folder_of-folder.utf8,
       c.if-not-is_folder.ensures.looks ∙ c.loop.invariant.1,
-      λ after above. c.loop.invariant.2 after
+      c.if-not-is_folder.ensures.renames ∙ c.loop.invariant.2,
+      λ after above. c.loop.invariant.3 after
           (Then found.2 c.folder_of-folder.ensures
           (subst (λ (events : List DiskEvent). AreFolders c.args.root.now c.folder_of-folder.result.now events after)
           found.1 above)),

@@ -2,7 +2,7 @@
 use Rattle.std.proofs.Common.{◌≡◌, List}
 use denote.Shadow.{shadow}
 use denote.Text.{Utf8}
-use Rattle.tftp_disk.specs.Changes.{changes}
+use Rattle.tftp_disk.specs.Changes.{changes, renames}
 use Rattle.tftp_disk.specs.DiskJournal.{DiskEvent}
 use Rattle.tftp_folder.specs.Opened.{AreFolders}
 use Rattle.tftp_folder.proofs.naming.has_no_link.Given as goal
@@ -10,5 +10,6 @@ use Rattle.tftp_folder.proofs.naming.has_no_link.Given as goal
 abbrev pub invariant-loop : goal.invariant-loop
 invariant-loop g l =
     shadow (Utf8 l.folder) × (changes l.journal.events ≡ changes l.fn.journal.events)
+    × (renames l.journal.events ≡ renames l.fn.journal.events)
     × ((after : List DiskEvent) → AreFolders l.root l.folder l.journal.events after
     → AreFolders l.root l.fn.folder l.fn.journal.events after)

@@ -1,11 +1,11 @@
 -- The draft had got its name, as it is now.
-use Rattle.std.proofs.Common.{List, ℕ, inl, inr, subst}
+use Rattle.std.proofs.Common.{◌∙◌, List, ℕ, inl, inr, subst}
 use Rattle.tftp_disk.specs.DiskJournal.{DiskEvent}
 use Rattle.tftp_disk.specs.NamedFolder.{SyncsNoFolder}
 use Rattle.tftp_disk.specs.Changes.{changes}
 use Rattle.tftp_disk.specs.DiskFault.{is_replaced}
 use Rattle.tftp_folder.specs.Commit.{RemovesNew}
-use Rattle.tftp_folder.proofs.NamingLemmas.{names_stay}
+use Rattle.tftp_folder.proofs.NamingLemmas.{names_stay, renames_then}
 use Rattle.tftp_folder.proofs.naming.name_in.Goals as goal
 
 pub returns-in-Err-look_again-clause-err : goal.returns-in-Err-look_again-clause-err
@@ -34,6 +34,23 @@ returns-in-Err-sync-clause-err g c =
             c.in-Ok-look_again.ensures.ok c.in-Err-sync.ensures.err,
         subst (λ (name : List ℕ). RemovesNew name failed (is_replaced c.args.existing)
             (changes c.remove_new.new.journal.events))
-            c.as_str.ensures.value c.remove_new.ensures,
+            c.as_str.ensures.value c.remove_new.ensures.removed,
       ),
     )
+
+pub returns-in-Err-look_again-clause-over : goal.returns-in-Err-look_again-clause-over
+returns-in-Err-look_again-clause-over g c =
+    renames_then _ _ c.args.journal.now.events c.put_name.new.journal.events c.look_again.new.journal.events
+    c.in-Ok.ensures.over c.look_again.ensures.renames
+
+pub returns-in-Ok-sync-clause-over : goal.returns-in-Ok-sync-clause-over
+returns-in-Ok-sync-clause-over g c =
+    renames_then _ _ c.args.journal.now.events c.put_name.new.journal.events c.sync.new.journal.events
+    c.in-Ok.ensures.over
+    (c.sync.ensures.renames ∙ c.look_again.ensures.renames)
+
+pub returns-in-Err-sync-clause-over : goal.returns-in-Err-sync-clause-over
+returns-in-Err-sync-clause-over g c =
+    renames_then _ _ c.args.journal.now.events c.put_name.new.journal.events c.remove_new.new.journal.events
+    c.in-Ok.ensures.over
+    (c.remove_new.ensures.renames ∙ c.sync.ensures.renames ∙ c.look_again.ensures.renames)

@@ -1,19 +1,19 @@
 -- What has the name was looked at just before, by the same path.
-use Rattle.std.proofs.Common.{◌∙◌, ◌∷◌, ap, Ok}
+use Rattle.std.proofs.Common.{◌∙◌, true, ap, Ok, Err}
 use Rattle.std.specs.String.{string_bytes}
 use Rattle.tftp_disk.specs.DiskJournal.{state_of}
-use Rattle.tftp_disk.specs.DiskJournal.DiskEvent.{Renamed}
+use Rattle.tftp_folder.proofs.NamingLemmas.{renamed}
 use Rattle.tftp_folder.proofs.replacing.rename_over.Goals as goal
 
 pub returns-in-Ok-rename-clause-over : goal.returns-in-Ok-rename-clause-over
 returns-in-Ok-rename-clause-over g c =
-    let file = state_of c.file.result.now.journal.events in
-    let path = c.as_str-path.result.now in
-    let target = c.as_str-target.ensures.value ∙ ap string_bytes c.in-Ok.ensures.stays.names.target in (
-      c.check_named.new.journal.events,
-      file,
-      path,
-      c.in-Ok.ensures.over,
-      c.in-Ok-rename.ensures
-          ∙ (λ i. Renamed file path (target i) (Ok tt) ∷ c.check_named.new.journal.events),
-    )
+    renamed true _ c.args.journal.now.events c.check_named.new.journal.events _ (state_of c.file.result.now.journal.events)
+    c.as_str-path.result.now c.as_str-target.result.now (Ok tt) c.in-Ok.ensures.renames c.in-Ok.ensures.over
+    c.in-Ok-rename.ensures (c.as_str-target.ensures.value ∙ ap string_bytes c.in-Ok.ensures.stays.names.target)
+
+pub returns-in-Err-rename-clause-over : goal.returns-in-Err-rename-clause-over
+returns-in-Err-rename-clause-over g c =
+    renamed true _ c.args.journal.now.events c.check_named.new.journal.events _ (state_of c.file.result.now.journal.events)
+    c.as_str-path.result.now c.as_str-target.result.now (Err c.in-Err-rename.error) c.in-Ok.ensures.renames
+    c.in-Ok.ensures.over c.in-Err-rename.ensures
+    (c.as_str-target.ensures.value ∙ ap string_bytes c.check_named.ensures.names.target)

@@ -1,0 +1,111 @@
+-- What a draft took, call by call, and what its commit made of it.
+use Rattle.std.proofs.Common.{◌≡◌, ◌∙◌, ℕ, Bool, List, ◌∷◌, ◌++◌, Option, Some, None, Ok, Err, inl, inr, refl, sym, ap, subst, append-nil, append_assoc}
+use Rattle.std.specs.String.{string_bytes}
+use Rattle.tftp_disk.specs.DiskJournal.{DiskEvent, state_of}
+use Rattle.tftp_disk.specs.DiskJournal.DiskEvent.{Folder_synced}
+use Rattle.tftp_disk.specs.DiskWriter.{calls_of}
+use Rattle.tftp_store.specs.Drafts.{TakesInTurn}
+use Rattle.tftp_store.specs.Drafts.TakesInTurn.{Took_more, Took_nothing, Written_back}
+use Rattle.tftp_folder.specs.Commit.{LooksThenRenames, Names}
+use Rattle.tftp_folder.specs.Draft.{bytes_of, GivesName, SameNames}
+use Rattle.tftp_folder.specs.Effects.{changes_of, draft_of, folder_meaning}
+use Rattle.tftp_folder.specs.Stored.{IsNamedBy, StoresWhatItTook}
+use Rattle.tftp_folder.specs.Uploads.{path_below}
+use Rattle.tftp_folder.specs.declared.folder_draft.FolderDraft.{FolderDraft}
+use Rattle.tftp_folder.proofs.ChangingLemmas.{writes_admitted}
+
+module _ {F : Type 0} where
+  same_names : (a b c : FolderDraft F) → SameNames a b → SameNames b c → SameNames a c
+  same_names a b c first second = record {
+    draft = second.draft ∙ first.draft;
+    target = second.target ∙ first.target;
+    folder = second.folder ∙ first.folder;
+    port = second.port ∙ first.port;
+  }
+
+  -- the folder was opened, the name given, and the folder synced
+  named_by : (draft : FolderDraft F) (before : List DiskEvent) (replaces : Bool) (after : List DiskEvent)
+      → GivesName draft before replaces after
+      → IsNamedBy (state_of (calls_of draft.writer)) (string_bytes draft.draft) (string_bytes draft.target) before
+      replaces after
+  named_by draft before replaces after (Some folder, opened, (at, is_folder, told, opens), (named, names, (answer, done, syncs))) =
+      record {
+        folder = at;
+        is_folder = is_folder;
+        answer = Ok tt;
+        named = named;
+        gives =
+            subst (λ (o : List DiskEvent). Names (state_of (calls_of draft.writer)) (string_bytes draft.draft)
+            (string_bytes draft.target) o replaces named) opens names;
+        synced =
+            inl (
+              at,
+              answer,
+              is_folder,
+              done,
+              syncs ∙ ap (λ (path : Option (List ℕ)). Folder_synced path answer ∷ named) told,
+            );
+      }
+  named_by draft before replaces after (None, opened, (at, refusal, is_folder, denied, opens), (named, names, syncs)) =
+      record {
+        folder = at;
+        is_folder = is_folder;
+        answer = Err refusal;
+        named = named;
+        gives =
+            subst (λ (o : List DiskEvent). Names (state_of (calls_of draft.writer)) (string_bytes draft.draft)
+            (string_bytes draft.target) o replaces named) opens names;
+        synced = inr ((at, refusal, is_folder, denied), syncs);
+      }
+
+module _ {R G H F : Type 0} where
+  -- a draft has its names, and was handed what it took after what it had
+  took : (first last : FolderDraft F) (all : List ℕ)
+      → TakesInTurn (folder_meaning {R = R} {G = G} {H = H} {F = F}) first all last
+      → SameNames first last × (bytes_of last ≡ bytes_of first ++ all)
+  took first last all Took_nothing = (
+    record { draft = refl; target = refl; folder = refl; port = refl },
+    sym (append-nil (bytes_of first)),
+  )
+  took first last all (Took_more {bytes} {piece} {draft} {draft'} before after taken append) =
+      let had = took first draft bytes taken in (
+        same_names first draft last had.0 append.names,
+        append.handed ∙ ap (λ l. l ++ piece) had.1 ∙ append_assoc (bytes_of first) bytes piece,
+      )
+  took first last all (Written_back {bytes} {draft} {draft'} taken writes) =
+      let had = took first draft bytes taken in
+      (same_names first draft last had.0 writes.names, writes.handed ∙ had.1)
+
+  pub stores_what_it_took : StoresWhatItTook (folder_meaning {R = R} {G = G} {H = H} {F = F})
+  stores_what_it_took path bytes replace replaces before begun committing after first draft left begins takes commits =
+      let made = begins.made in
+      let had = took first draft bytes takes in
+      let target = path_below (string_bytes before.folder.root) path in
+      let place : string_bytes left.draft ≡ draft_of before =
+      ap string_bytes (commits.names.draft ∙ had.0.draft) ∙ made.place in
+      let aim : string_bytes left.target ≡ target =
+      ap string_bytes (commits.names.target ∙ had.0.target) ∙ made.aim in
+      let aimed : string_bytes draft.target ≡ target = ap string_bytes had.0.target ∙ made.aim in
+      let file = state_of (calls_of left.writer) in
+      record {
+        draft = draft_of before;
+        own = record {
+          admitted = writes_admitted path before begun first begins;
+          is_draft = (before.port, refl);
+          is_target = record { path = path; is_path = begins.is_path; place = refl; uploads = begins.uploads };
+        };
+        file = file;
+        place = commits.whole.place ∙ ap Some place;
+        content = commits.whole.whole ∙ had.1 ∙ ap (λ l. l ++ bytes) made.empty;
+        synced = commits.whole.done.synced;
+        sound = commits.whole.done.sound;
+        named =
+            subst (λ (t : List ℕ). IsNamedBy file (draft_of before) t (changes_of committing) replaces (changes_of after))
+            aim
+            (subst (λ (d : List ℕ). IsNamedBy file d (string_bytes left.target) (changes_of committing) replaces
+            (changes_of after)) place
+            (named_by left (changes_of committing) replaces (changes_of after) commits.named));
+        over =
+            subst (λ (t : List ℕ). LooksThenRenames replaces t committing.journal.events after.journal.events) aimed
+            commits.over;
+      }

@@ -1,0 +1,34 @@
+-- The draft got no name, whether it may replace a file or not.
+use Rattle.std.proofs.Common.{ap, Bool, subst}
+use Rattle.std.specs.String.{string_bytes}
+use Rattle.tftp_disk.specs.Changes.{changes}
+use Rattle.tftp_folder.specs.Draft.{NamesNothing}
+use Rattle.tftp_folder.proofs.NamingLemmas.{looks_as}
+use Rattle.tftp_folder.proofs.folder_store.FolderStore.name_draft.Goals as goal
+
+pub returns-in-Err-System-clause-not_named : goal.returns-in-Err-System-clause-not_named
+returns-in-Err-System-clause-not_named g c =
+    subst (λ (replaces : Bool). NamesNothing c.give_name.new.draft (changes c.args.self.now.journal.events)
+    replaces (changes c.give_name.new.journal.events))
+    c.of-existing.ensures c.in-Err-System.ensures.err
+
+pub returns-in-Err-Rule-clause-not_named : goal.returns-in-Err-Rule-clause-not_named
+returns-in-Err-Rule-clause-not_named g c =
+    subst (λ (replaces : Bool). NamesNothing c.give_name.new.draft (changes c.args.self.now.journal.events)
+    replaces (changes c.give_name.new.journal.events))
+    c.of-existing.ensures c.in-Err-Rule.ensures.err
+
+pub returns-in-Ok-clause-over : goal.returns-in-Ok-clause-over
+returns-in-Ok-clause-over g c =
+    looks_as _ _ _ _ c.args.self.now.journal.events c.give_name.new.journal.events c.of-existing.ensures
+    (ap string_bytes c.finish.ensures.names.target) c.give_name.ensures.over
+
+pub returns-in-Err-System-clause-over : goal.returns-in-Err-System-clause-over
+returns-in-Err-System-clause-over g c =
+    looks_as _ _ _ _ c.args.self.now.journal.events c.give_name.new.journal.events c.of-existing.ensures
+    (ap string_bytes c.finish.ensures.names.target) c.give_name.ensures.over
+
+pub returns-in-Err-Rule-clause-over : goal.returns-in-Err-Rule-clause-over
+returns-in-Err-Rule-clause-over g c =
+    looks_as _ _ _ _ c.args.self.now.journal.events c.give_name.new.journal.events c.of-existing.ensures
+    (ap string_bytes c.finish.ensures.names.target) c.give_name.ensures.over

@@ -1,0 +1,99 @@
+-- The effect of each call of a store over a folder on the store and on a draft (ours).
+use Rattle.std.specs.Prelude.{ℕ, ◌≡◌, Bool, true, List, ◌++◌, Option, None, IfSome, IfNone}
+use Rattle.std.specs.Prelude.{OnSome, Result, Err, IfOk, OnErr}
+use Rattle.std.specs.String.{string_bytes}
+use Rattle.tftp_file.specs.Path.{IsPath}
+use Rattle.tftp_file.specs.declared.fault.StoreFault.{StoreFault}
+use Rattle.tftp_file.specs.declared.fault.StoreFault.TheVariants.{Io}
+use Rattle.tftp_disk.specs.Changes.{changes}
+use Rattle.tftp_disk.specs.DiskFault.{MayNotBegin, MayNotName, MayNotOpen, MayNotStore}
+use Rattle.tftp_disk.specs.DiskJournal.{DiskEvent}
+use Rattle.tftp_store.specs.Store.{StoreMeaning}
+use Rattle.tftp_folder.specs.Begin.{draft_name, BeginsNone}
+use Rattle.tftp_folder.specs.Commit.{LooksThenRenames}
+use Rattle.tftp_folder.specs.Draft.{bytes_of, BeginsAt, GivesName, IsWhole, NamesNothing, SameNames}
+use Rattle.tftp_folder.specs.Settings.{AsksNothing, SameSettings}
+use Rattle.tftp_folder.specs.Uploads.{IsBelow, path_below}
+use Rattle.tftp_folder.specs.declared.folder_draft.FolderDraft.{FolderDraft}
+use Rattle.tftp_folder.specs.declared.folder_store.FolderStore.{FolderStore}
+
+module _ {R G H : Type 0} where
+  -- the calls of a store that change something
+  abbrev pub changes_of : FolderStore R G H → List DiskEvent
+  changes_of store = changes store.journal.events
+
+  -- where the next draft of a store is made
+  abbrev pub draft_of : FolderStore R G H → List ℕ
+  draft_of store = draft_name (string_bytes store.folder.drafts) store.port
+
+module _ {F : Type 0} where
+  -- a draft was written back: it has its names, and what it was handed
+  pub record HasWritten (draft draft' : FolderDraft F) : Type 0 where
+    pub names : SameNames draft draft'
+    pub handed : bytes_of draft' ≡ bytes_of draft
+
+module _ {R G H F : Type 0} where
+  -- a draft of the path was begun, or refused: the settings stay, a store that refuses all writes
+  -- has refused it, and changed nothing; it was begun only for a path that a client can name, below
+  -- the folder of uploads, if there is one. It was made for that place of the root, and is empty;
+  -- if it was refused, nothing else changed
+  pub record HasBegun (path : List ℕ) (before after : FolderStore R G H)
+      (result : Result (FolderDraft F) StoreFault) : Type 0 where
+    pub settings : SameSettings before after
+    pub read_only : before.is_read_only ≡ true → result ≡ Err Io
+    pub untouched : before.is_read_only ≡ true → changes_of after ≡ changes_of before
+    pub is_path : IfOk result (λ draft. IsPath path)
+    pub uploads : IfOk result (λ draft. IfSome before.uploads (λ folder. IsBelow folder path))
+    pub made : IfOk result (λ draft. BeginsAt (draft_of before)
+        (path_below (string_bytes before.folder.root) path) draft (changes_of before)
+        (changes_of after))
+    pub not_made : OnErr result
+        (BeginsNone (draft_of before) (changes_of before) (changes_of after))
+
+  -- bytes were appended to a draft, or refused: it was handed them after all earlier ones, or none
+  -- of them, and has its names; the store asked nothing of the disk on a path
+  pub record HasAppended (before : FolderStore R G H) (draft : FolderDraft F) (bytes : List ℕ)
+      (after : FolderStore R G H) (draft' : FolderDraft F) (fault : Option StoreFault)
+      : Type 0 where
+    pub store : AsksNothing before after
+    pub names : SameNames draft draft'
+    pub handed : IfNone fault (bytes_of draft' ≡ bytes_of draft ++ bytes)
+    pub kept : OnSome fault (bytes_of draft' ≡ bytes_of draft)
+
+  -- a draft was committed: by then all that it was handed was in its file and synced, and then it
+  -- got its name; or that was refused, and it got none, or lost it. A rename to the name
+  -- came just after a look at what had it. The settings stay
+  pub record HasCommitted (before : FolderStore R G H) (draft : FolderDraft F) (replaces : Bool)
+      (after : FolderStore R G H) (draft' : FolderDraft F) (fault : Option StoreFault)
+      : Type 0 where
+    pub settings : SameSettings before after
+    pub names : SameNames draft draft'
+    pub whole : IfNone fault (IsWhole draft' (bytes_of draft))
+    pub named : IfNone fault
+        (GivesName draft' (changes_of before) replaces (changes_of after))
+    pub not_named : OnSome fault
+        (NamesNothing draft' (changes_of before) replaces (changes_of after))
+    pub over : LooksThenRenames replaces (string_bytes draft.target) before.journal.events
+        after.journal.events
+
+  -- the model of a store over a folder: what its calls return, and their effect. Of what its files
+  -- have in them it says nothing
+  abbrev pub folder_meaning : StoreMeaning (FolderStore R G H) (FolderDraft F)
+  folder_meaning =
+      record {
+        root = λ store. string_bytes store.folder.root;
+        stored = λ store. None;
+        drafted = λ draft. None;
+        may_refuse_open = λ store path fault. MayNotOpen fault;
+        may_refuse_begin = λ store path replaces fault. MayNotBegin replaces fault;
+        must_refuse_open = λ store path fault. ⊥;
+        must_fail = λ store path want. ⊥;
+        begun = λ path replaces before after result. HasBegun path before after result;
+        after_append = HasAppended;
+        after_commit = λ before path draft replaces after draft' fault.
+            HasCommitted before draft replaces after draft' fault;
+        after_write_behind = AsksNothing;
+        writes_behind = HasWritten;
+        may_refuse_append = λ store draft bytes fault. MayNotStore fault;
+        may_refuse_commit = λ store path draft replaces fault. MayNotName replaces fault;
+      }
