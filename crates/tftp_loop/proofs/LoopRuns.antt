@@ -47,7 +47,7 @@ same_state {S} {F} {D} s t a r o b c d e l w f q n g h k = λ i. record {
   events = k i;
 }
 
--- the state of a daemon whose journal alone changed
+-- the state of a server whose journal alone changed
 pub noted_state : {S F D : Type 0} (old new : ServerLoop S F D) (events : List SocketEvent)
     → new ≡ record old { journal = new.journal } → new.journal.events ≡ events
     → loop_state None new ≡ record (loop_state None old) { events = events }

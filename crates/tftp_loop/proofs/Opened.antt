@@ -13,7 +13,7 @@ use Rattle.tftp_ends.specs.Opening.{ServesRead, serving_write}
 use Rattle.tftp_store.specs.declared.store.Opening.{Opening}
 use Rattle.tftp_store.specs.Store.{StoreMeaning}
 use Rattle.tftp_server.specs.State.{TransferState, ServerState, at, draft_of, is_closed, taken_of, with_new}
-use Rattle.tftp_server.specs.Request.{Came, Left, Nothing, Error_reply, A_transfer, Goes, Sent, Taken, Serves, left_by}
+use Rattle.tftp_server.specs.Request.{Came, Left, Nothing, Error_reply, A_transfer, Goes, Sent, Taken, StartsSending, left_by}
 use Rattle.tftp_server.specs.Port.{Ask, Ignores, Refuses, Reads, Writes, Service, Silent, Refused, Sends, Takes}
 use Rattle.tftp_loop.specs.Run.{Run}
 use Rattle.tftp_loop.specs.Run.Run.{Start, Then}
@@ -53,7 +53,7 @@ module _ {S F D : Type 0} (meaning : StoreMeaning S D) (sources : SourceMeaning 
     (from : Endpoint) (bytes : List ℕ) where
   serves_open : (path : List ℕ) (mode : Mode) (length : ℕ) (agreed : List Known) (source : F)
       (transfer : TransferState F D) (store : S)
-      → Serves meaning sources old from bytes path mode length agreed source (A_transfer transfer store) →
+      → StartsSending meaning sources old from bytes path mode length agreed source (A_transfer transfer store) →
       is_closed transfer ≡ false
   serves_open path mode length agreed source transfer store s =
       came_open (A_transfer transfer store) transfer s.end store old.store _ refl

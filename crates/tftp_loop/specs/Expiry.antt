@@ -67,7 +67,8 @@ module _ {S F D : Type 0} (meaning : StoreMeaning S D) (sources : SourceMeaning 
   IsIdle port (At_port d) = d.timer.port ≡ port → IsIdleAt d.does
   IsIdle port does = ⊤
 
-  abbrev pub ReceivesNone : ℕ → {old new : LoopState S F D} → LoopStep meaning sources old new → Type 0
+  abbrev pub ReceivesNone : ℕ → {old new : LoopState S F D}
+      → LoopStep meaning sources old new → Type 0
   ReceivesNone port (At_port d) = d.timer.port ≡ port → ReceivesNoneAt d.does
   ReceivesNone port does = ⊤
 

@@ -1,6 +1,6 @@
 -- The loop's own values as states of its run.
-use Rattle.std.specs.Prelude.{ℕ, ◌≡◌, ◌≢◌, ◌≤◌, ◌⊎◌, ⊤, false, List, [], ◌∷◌, map, take, Option, Some, None}
-use Rattle.std.specs.Prelude.{IfSome, vec_capacity}
+use Rattle.std.specs.Prelude.{ℕ, ◌≡◌, ◌≢◌, ◌≤◌, ◌⊎◌, ⊤, false, List, [], ◌∷◌, map, take, Option}
+use Rattle.std.specs.Prelude.{Some, None, IfSome, vec_capacity}
 use Rattle.tftp_file.specs.Source.{SourceMeaning}
 use Rattle.tftp_ends.specs.declared.endpoint.Endpoint.{Endpoint}
 use Rattle.tftp_store.specs.Store.{StoreMeaning}
@@ -99,7 +99,7 @@ pub record RoomFor (cap ports answer : ℕ) : Type 0 where
   pub longest : LONGEST_ANSWER ≤ answer
 
 module _ {S F D : Type 0} where
-  -- the state of a daemon with this datagram pending, if there is one
+  -- the state of a server with this datagram pending, if there is one
   abbrev pub loop_state : Option (Endpoint × List ℕ) → ServerLoop S F D → LoopState S F D
   loop_state pending d =
       record {
@@ -120,13 +120,13 @@ module _ {S F D : Type 0} where
         events = d.journal.events;
       }
 
-  -- a daemon that drains has nothing left to do
+  -- a server that drains has nothing left to do
   pub record IsEmptied (d : ServerLoop S F D) : Type 0 where
     pub begun : d.drain ≡ Begun
     pub none : d.pending ≡ None
     pub closed : d.ports.items ≡ []
 
-  -- the state of a daemon whose pending datagram is in this buffer
+  -- the state of a server whose pending datagram is in this buffer
   abbrev pub state_of : List ℕ → ServerLoop S F D → LoopState S F D
   state_of buffer d = loop_state (pending_in d.pending buffer) d
 
@@ -140,16 +140,17 @@ module _ {S F D : Type 0} where
     pub data Works (old new : LoopState S F D) : Type 0 where
       Work_by : (does : LoopStep meaning sources old new) → IsWork does → Works old new
 
-    -- from one state of a daemon to another, whatever its buffer has
+    -- from one state of a server to another, whatever its buffer has
     abbrev pub OnlyServes : ServerLoop S F D → ServerLoop S F D → Type 0
     OnlyServes old new =
-        (buffer : List ℕ) → Run (LoopStep meaning sources) (state_of buffer old) (state_of buffer new)
+        (buffer : List ℕ)
+        → Run (LoopStep meaning sources) (state_of buffer old) (state_of buffer new)
 
     -- the same, without a wait
     abbrev pub OnlyWorks : ServerLoop S F D → ServerLoop S F D → Type 0
     OnlyWorks old new = (buffer : List ℕ) → Run Works (state_of buffer old) (state_of buffer new)
 
-    -- from one state of a daemon and its buffer to another
+    -- from one state of a server and its buffer to another
     abbrev pub ServesRounds : List ℕ → ServerLoop S F D → List ℕ → ServerLoop S F D → Type 0
     ServesRounds before old after new =
         Run (LoopStep meaning sources) (state_of before old) (state_of after new)

@@ -1,5 +1,6 @@
 -- What each part of a round leaves at the ports, so that the next wait is allowed.
-use Rattle.std.specs.Prelude.{ℕ, ◌≡◌, ◌≤◌, ◌<◌, ◌+◌, ◌-◌, ◌||◌, ◌&&◌, not, ◌⊎◌, ⊤, true, false, List, ◌∷◌, map, min, max}
+use Rattle.std.specs.Prelude.{ℕ, ◌≡◌, ◌≤◌, ◌<◌, ◌+◌, ◌-◌, ◌||◌, ◌&&◌, not, ◌⊎◌, ⊤, true, false}
+use Rattle.std.specs.Prelude.{List, ◌∷◌, map, min, max}
 use Rattle.std.specs.Prelude.{length, take, slice_set, slice_index_or, Option, Some, None, is_some}
 use Rattle.std.specs.Prelude.{Bool, IsSome, All, if◌then◌else◌}
 use Rattle.std.specs.List.{list_any, swap_remove}
@@ -30,7 +31,8 @@ use Rattle.tftp_loop.specs.Steps.{Timer, PortState, LoopState, AnswersRequest, C
 use Rattle.tftp_loop.specs.Steps.{LosesRequest}
 use Rattle.tftp_loop.specs.Steps.{NotesRequest, SetsStore, deadline_by, next_look, marked_by}
 use Rattle.tftp_loop.specs.Steps.{is_draining, reads_requests, round_end, set_by}
-use Rattle.tftp_loop.specs.LoopStates.{HasRoom, OnlyServesPort, close_reported, loop_state, state_of, timer_of}
+use Rattle.tftp_loop.specs.LoopStates.{HasRoom, OnlyServesPort, close_reported, loop_state}
+use Rattle.tftp_loop.specs.LoopStates.{state_of, timer_of}
 
 -- ---- timers
 
@@ -137,11 +139,11 @@ module _ {S F D : Type 0} where
 
   -- ---- a loop
 
-  -- the timers of a daemon
+  -- the timers of a server
   abbrev pub timers_of : ServerLoop S F D → List Timer
   timers_of d = map timer_of d.ports.items
 
-  -- whether the request port of a daemon is read
+  -- whether the request port of a server is read
   abbrev pub reads_of : ServerLoop S F D → Bool
   reads_of d = not (is_draining d.drain) && d.sockets.is_ready
 
@@ -187,7 +189,7 @@ module _ {S F D : Type 0} where
     pub timed : AreTimed 0 d
     pub requests : HasTriedRequests d
 
-  -- the longest wait of a daemon, in milliseconds
+  -- the longest wait of a server, in milliseconds
   abbrev pub millis_of : ServerLoop S F D → ℕ
   millis_of d =
       if (reads_of d || (is_some d.pending
@@ -351,7 +353,8 @@ module _ {S F D : Type 0} where
           → (closes : Closes meaning sources (state_of buffer old) (state_of buffer new))
           × (closes.index ≡ index)) → Finishes index old new
 
-    -- what is done for a pending datagram before it is answered or lost: a note, or the store is set
+    -- what is done for a pending datagram before it is answered or lost: a note, or the store is
+    -- set
     pub data Prepares (old new : LoopState S F D) : Type 0 where
       Notes_it : NotesRequest meaning sources old new → Prepares old new
       Sets_store : SetsStore meaning sources old new → Prepares old new
@@ -363,7 +366,7 @@ module _ {S F D : Type 0} where
       pub ends : AnswersRequest meaning sources middle new
           ⊎ LosesRequest meaning sources middle new
 
-    -- the same, from one state of a daemon with this datagram pending to one without
+    -- the same, from one state of a server with this datagram pending to one without
     abbrev pub AnswersPending : Endpoint → List ℕ → ServerLoop S F D → ServerLoop S F D → Type 0
     AnswersPending from bytes old new =
         Concludes (loop_state (Some (from, bytes)) old) (loop_state None new)

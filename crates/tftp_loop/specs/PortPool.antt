@@ -48,18 +48,21 @@ pub record TriesInVain (range : Option PortRange) (before after : List SocketEve
   pub last : TriesPort range between after
 
 -- from one journal to the other a new socket is bound to this port, after others were tried
-pub record Binds (range : Option PortRange) (before after : List SocketEvent) (port : ℕ) : Type 0 where
+pub record Binds (range : Option PortRange) (before after : List SocketEvent) (port : ℕ)
+    : Type 0 where
   pub between : List SocketEvent
   pub earlier : TriesPorts range before between
   pub is : after ≡ Quiet (New_socket port) ∷ between
 
 -- the events of a call that returns a new socket, or none
-abbrev pub Tries : Option PortRange → List SocketEvent → List SocketEvent → Option ServerSocket → Type 0
+abbrev pub Tries : Option PortRange → List SocketEvent → List SocketEvent → Option ServerSocket
+    → Type 0
 Tries range before after None = TriesInVain range before after
 Tries range before after (Some socket) = Binds range before after socket.port
 
 -- the journal after a bind to the port, which may be in use
-abbrev pub after_bind : {E : Type 0} → ℕ → Result (Option ServerSocket) E → List SocketEvent → List SocketEvent
+abbrev pub after_bind : {E : Type 0} → ℕ → Result (Option ServerSocket) E → List SocketEvent
+    → List SocketEvent
 after_bind port (Ok (Some socket)) events = Quiet (New_socket socket.port) ∷ events
 after_bind port (Ok None) events = Quiet (No_socket port) ∷ events
 after_bind port (Err error) events = Quiet (No_socket port) ∷ events

@@ -29,8 +29,8 @@ module _ {S F D : Type 0} where
     pub now : new.now ≡ old.now
     pub active : new.active ≡ old.active
 
-  -- what the result of a receive states of the visit: that its transfer has closed, or when its port
-  -- is read
+  -- what the result of a receive states of the visit: that its transfer has closed, or when its
+  -- port is read
   pub record HasStatus (status : PortStatus) (visit : PortVisit S F D) : Type 0 where
     pub closed : status ≡ statuses.Closed
         → IsSome (taken_of (at visit.port.now.socket.udp.port visit.server.now.held))

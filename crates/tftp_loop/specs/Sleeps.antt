@@ -8,7 +8,8 @@ use Rattle.tftp_sockets.specs.Journal.{SocketEvent}
 use Rattle.tftp_sockets.specs.Quiet.{is_drained}
 use Rattle.tftp_loop.specs.Run.{Run}
 use Rattle.tftp_loop.specs.declared.serving.LoopConfig.{LoopConfig}
-use Rattle.tftp_loop.specs.Steps.{Timer, LoopState, LoopStep, Waits, at_start, is_draining, look_after, read_at}
+use Rattle.tftp_loop.specs.Steps.{Timer, LoopState, LoopStep, Waits, at_start, is_draining}
+use Rattle.tftp_loop.specs.Steps.{look_after, read_at}
 
 -- a port of a transfer is not marked, and a wait of so long is over when it is read again, which is
 -- at its deadline at the latest; the last event of the port is that a receive found nothing there,

@@ -1,7 +1,7 @@
 -- A run of a server over UDP: each step is followed at once by its answer, nothing else is sent or
 -- printed, and the server waits only when its work is done (RFC 1350, sections 2 and 4).
-use Rattle.std.specs.Prelude.{ℕ, ◌≡◌, ◌≢◌, ◌≤◌, ◌<◌, ◌-◌, ◌+◌, ◌==◌, ◌||◌, ◌&&◌, not, ◌⊎◌, min, max, Bool}
-use Rattle.std.specs.Prelude.{true, false}
+use Rattle.std.specs.Prelude.{ℕ, ◌≡◌, ◌≢◌, ◌≤◌, ◌<◌, ◌-◌, ◌+◌, ◌==◌, ◌||◌, ◌&&◌, not, ◌⊎◌, min}
+use Rattle.std.specs.Prelude.{max, Bool, true, false}
 use Rattle.std.specs.Prelude.{if◌then◌else◌, List, [], ◌∷◌, ◌++◌, length, map, All, IfSome}
 use Rattle.std.specs.Prelude.{slice_set, slice_index_or, Option, Some, None, is_some}
 use Rattle.std.specs.List.{swap_remove, list_any}
@@ -29,7 +29,8 @@ use Rattle.tftp_lines.specs.Printed.{line_text}
 use Rattle.tftp_lines.specs.declared.printed.Printed.TheVariants.{Closed}
 use Rattle.tftp_sockets.specs.Journal.{SocketEvent, QuietEvent, replied, answered}
 use Rattle.tftp_sockets.specs.Journal.SocketEvent.{Received, Watched, Elapsed, Printed, Quiet}
-use Rattle.tftp_sockets.specs.Journal.QuietEvent.{Empty, Failed, New_socket, No_socket, Out_of_memory}
+use Rattle.tftp_sockets.specs.Journal.QuietEvent.{Empty, Failed, New_socket, No_socket}
+use Rattle.tftp_sockets.specs.Journal.QuietEvent.{Out_of_memory}
 use Rattle.tftp_sockets.specs.Journal.QuietEvent.{Slept, Woke}
 use Rattle.tftp_sockets.specs.Quiet.{has_woken, is_among, was_tried}
 use Rattle.tftp_loop.specs.MayOpen.{LacksMemoryToOpen, MayOpen}
@@ -199,8 +200,8 @@ marked_by ports timer =
 module _ {S F D : Type 0} where
   -- the transfer at the port makes the step of a timeout, and its datagram is sent at once, from
   -- that port to the endpoint that the step returns (RFC 1350, section 2)
-  pub record AnswersTimeout (port : ℕ) (old new : ServerState S F D) (before after : List SocketEvent)
-      (step : Step) : Type 0 where
+  pub record AnswersTimeout (port : ℕ) (old new : ServerState S F D)
+      (before after : List SocketEvent) (step : Step) : Type 0 where
     pub outgoing : Outgoing
     pub times_out : TimesOutLent port old.held new.held step outgoing
     pub rest : new ≡ record old { held = new.held }
@@ -373,7 +374,8 @@ module _ {S F D : Type 0} (meaning : StoreMeaning S D) (sources : SourceMeaning 
     -- one
     Found_no_port : MayOpen old.server from bytes → (port : ℕ) → IsOneOf old.range port
         → RequestNote
-    -- it may open a transfer, and a new socket is bound to a port, one of the range, if there is one
+    -- it may open a transfer, and a new socket is bound to a port, one of the range, if there is
+    -- one
     Found_port : MayOpen old.server from bytes → (port : ℕ) → IsOneOf old.range port → RequestNote
     -- memory was refused for its path, or for the transfer that it opens
     Found_no_memory : LacksMemoryToOpen meaning sources old.server from bytes → RequestNote
@@ -382,8 +384,8 @@ module _ {S F D : Type 0} (meaning : StoreMeaning S D) (sources : SourceMeaning 
   pub data RequestLoss : Type 0 where
     -- no answer can come to its sender, which is at port 0
     No_answer : from.port ≡ 0 → RequestLoss
-    -- memory was refused for its path, or for the transfer that it opens, and the last event is that
-    -- it was
+    -- memory was refused for its path, or for the transfer that it opens, and the last event is
+    -- that it was
     No_memory_to_open : LacksMemoryToOpen meaning sources old.server from bytes
         → IsLast Out_of_memory old.events → RequestLoss
     -- it may open a transfer, and the last event is that no socket could be bound to a port
@@ -467,8 +469,8 @@ module _ {S F D : Type 0} where
     pub left : 1 ≤ old.left
     pub rounds : 1 ≤ old.rounds
     -- the request port was read since the last wait, if it is marked and the server does not drain,
-    -- or its datagram is pending: so a datagram is pending at one wait at most, since it is not read
-    -- while one is
+    -- or its datagram is pending: so a datagram is pending at one wait at most, since it is not
+    -- read while one is
     pub requests : (reads_requests old || is_some old.pending) ≡ true
         → was_tried old.requests old.events ≡ true
     pub transfers : All (IsServed old) old.timers
@@ -571,7 +573,8 @@ module _ {S F D : Type 0} (meaning : StoreMeaning S D) (sources : SourceMeaning 
     pub why : RequestLoss meaning sources old from bytes
     pub is : new ≡ record old { pending = None }
 
-  -- the clock is read, directly after a wait: it never goes back, and a round lasts a second at most
+  -- the clock is read, directly after a wait: it never goes back, and a round lasts a second at
+  -- most
   pub record ReadsClock : Type 0 where
     pub time : ℕ
     pub woken : has_woken old.events ≡ true

@@ -37,7 +37,8 @@ module _ {S F D : Type 0} where
   EndsBy (Err fault) last = StopsServing fault last.events
 
 -- only a port that could not be bound ended it
-abbrev pub EndsUnbound : {A : Type 0} → Result A LoopFault → List SocketEvent → List SocketEvent → Type 0
+abbrev pub EndsUnbound : {A : Type 0} → Result A LoopFault → List SocketEvent → List SocketEvent
+    → Type 0
 EndsUnbound (Ok done) before after = ⊥
 EndsUnbound (Err fault) before after = FailsToBind fault before after
 
@@ -45,7 +46,7 @@ module _ {S F D A : Type 0} (meaning : StoreMeaning S D) (sources : SourceMeanin
     (config : LoopConfig) where
   -- a server with a bound request port serves there, from one journal to the other, and ends with
   -- this result
-  pub record ServesFrom (port : ℕ) (server : ServerState S F D) (result : Result A LoopFault)
+  pub record RunsServerFrom (port : ℕ) (server : ServerState S F D) (result : Result A LoopFault)
       (before after : List SocketEvent) : Type 0 where
     pub last : LoopState S F D
     pub run : Run (LoopStep meaning sources) (at_start config port server before) last
@@ -55,9 +56,9 @@ module _ {S F D A : Type 0} (meaning : StoreMeaning S D) (sources : SourceMeanin
   -- a whole run of this configuration, from one journal to the other: the request port could not be
   -- bound; or it is at the address and the port that it was to listen at, any port for 0, its line
   -- is printed, and then the server serves
-  pub data Serves (server : ServerState S F D) (result : Result A LoopFault)
+  pub data RunsServer (server : ServerState S F D) (result : Result A LoopFault)
       (before after : List SocketEvent) : Type 0 where
-    Unbound : EndsUnbound result before after → Serves server result before after
+    Unbound : EndsUnbound result before after → RunsServer server result before after
     Bound : (port : ℕ) → IsBoundTo config.listen config.listen.ip port
-        → ServesFrom port server result (listening config.listen.ip port before) after
-        → Serves server result before after
+        → RunsServerFrom port server result (listening config.listen.ip port before) after
+        → RunsServer server result before after

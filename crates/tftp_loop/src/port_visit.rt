@@ -9,7 +9,8 @@ ghost use Rattle.tftp_loop.specs.PortVisit.{at_visit};
 ghost use Rattle.tftp_loop.specs.Steps.{AnswersDatagram, AnswersTimeout, LosesDatagram};
 ghost use Rattle.tftp_loop.specs.Steps.{Timer, WorksAtPort, most_in_round, restarted, timer_after};
 ghost use Rattle.tftp_loop.specs.LoopStates.{OnlyServesPort, at_port, timer_of};
-ghost use Rattle.tftp_loop.specs.MayWait.{IsNotVisited, IsTimed, IsUnclosedBy, KeepsTries, LeavesTimer};
+ghost use Rattle.tftp_loop.specs.MayWait.{IsNotVisited, IsTimed, IsUnclosedBy, KeepsTries};
+ghost use Rattle.tftp_loop.specs.MayWait.{LeavesTimer};
 ghost use Rattle.tftp_loop.specs.MayWait.{StaysOpen, UnlessClosed, leaves_by, leaves_timed};
 
 use crate::datagram::Datagram;
@@ -175,7 +176,7 @@ impl<S: Store> PortVisit<'_, S> {
         match self.port.socket.udp.receive(self.journal, buffer) {
             Receipt::Datagram(from, count) => {
                 let bytes = &buffer[..count];
-                self.answer_in_time(Datagram { from, bytes })
+                self.answer(Datagram { from, bytes })
             }
             Receipt::Nothing => {
                 mark_empty(self.port);
@@ -188,9 +189,10 @@ impl<S: Store> PortVisit<'_, S> {
         }
     }
 
-    /// Handles a datagram that was received at the port, and sends the answer. Once the transfer is
-    /// over age the datagram is dropped: so its timeouts run out.
-    fn answer_in_time(&mut self, datagram: Datagram<'_>) -> PortStatus
+    /// Handles a datagram that was received at the port, and sends the answer. After that the file
+    /// reads ahead or is written back. Once the transfer is over age the datagram is dropped: so
+    /// its timeouts run out.
+    fn answer(&mut self, datagram: Datagram<'_>) -> PortStatus
         requires { self.old.port.now.socket.received < most_in_round }
         ensures answers { AnswersReceived S.meaning S.Source.meaning datagram.entry self.old
             self.new }
@@ -203,21 +205,6 @@ impl<S: Store> PortVisit<'_, S> {
             note_received(self.port);
             return PortStatus::Unfinished;
         }
-        self.answer_received(datagram)
-    }
-
-    /// Handles a datagram that was received at the port, and sends the answer. After that the file
-    /// reads ahead or is written back.
-    fn answer_received(&mut self, datagram: Datagram<'_>) -> PortStatus
-        requires in_time { self.old.now ≤ self.old.port.now.socket.age_limit }
-        requires few { self.old.port.now.socket.received < most_in_round }
-        ensures answers { AnswersReceived S.meaning S.Source.meaning datagram.entry self.old
-            self.new }
-        ensures status { HasStatus result self.new }
-        ensures counted { self.new.port.now.socket.received
-            ≡ self.old.port.now.socket.received + 1 }
-        ensures open { UnlessClosed result (StaysOpen (at_visit self.old) (at_visit self.new)) }
-    {
         let tid = self.port.socket.udp.port();
         let socket = &mut self.port.socket;
         let Some(step) = handle(

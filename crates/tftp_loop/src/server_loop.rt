@@ -5,8 +5,9 @@ ghost use Rattle.std.specs.Prelude.{IfOk, IsTrue, length, map, false, if◌then�
 ghost use Rattle.std.specs.List.{list_any};
 ghost use Rattle.tftp_sockets.specs.Quiet.{is_among};
 ghost use Rattle.tftp_loop.specs.Steps.{drain_of, marked_by, set_by};
-ghost use Rattle.tftp_loop.specs.LoopStates.{FailsToPrint, HasRoom, IsEmptied, IsReserved, OnlyWorks};
-ghost use Rattle.tftp_loop.specs.LoopStates.{OnlyServes, ServesRounds, StopsRunning, WorksRound};
+ghost use Rattle.tftp_loop.specs.LoopStates.{FailsToPrint, HasRoom, IsEmptied, IsReserved};
+ghost use Rattle.tftp_loop.specs.LoopStates.{OnlyServes, OnlyWorks, ServesRounds, StopsRunning};
+ghost use Rattle.tftp_loop.specs.LoopStates.{WorksRound};
 ghost use Rattle.tftp_loop.specs.MayWait.{ClosesPort, Finishes, HasRead, HasSlept, HasWoken};
 ghost use Rattle.tftp_loop.specs.MayWait.{AwaitVisit, HasFew, WereVisited, before_visit};
 ghost use Rattle.tftp_loop.specs.MayWait.{IsOpenAt, IsSurveyOf, UnlessClosed};
@@ -35,11 +36,6 @@ use tftp_store::ServedStore;
 
 /// The most ports that one wait reports.
 const MOST_REPORTS: usize = 128;
-
-/// The number of polls before a wait that may sleep, while several transfers are active: some 25
-/// microseconds. A client that sends to a sleeping server has to wake it, which slows all clients
-/// of one processor.
-const POLLS: u32 = 64;
 
 /// A server with its sockets.
 #[derive(Drop)]
@@ -79,8 +75,8 @@ pub(crate) struct Buffers {
 }
 
 impl Buffers {
-    /// Buffers with room for the longest datagrams: a shorter one would cut a DATA, which then counts
-    /// as the last block (RFC 1350, section 6).
+    /// Buffers with room for the longest datagrams: a shorter one would cut a DATA, which then
+    /// counts as the last block (RFC 1350, section 6).
     pub(crate) fn new(alloc: Global) -> Result<Buffers, AllocError>
         ensures request { IfOk result (λ buffers.
             length buffers.request.items ≡ DATAGRAM_BUFFER) }
@@ -146,8 +142,8 @@ impl<S: ServedStore<Reason> + Drop> ServerLoop<S> {
         }
     }
 
-    /// Serves, wait by wait, until no transfer is yet to close or no wait may begin, or until it has
-    /// drained.
+    /// Serves, wait by wait, until no transfer is yet to close or no wait may begin, or until it
+    /// has drained.
     pub(crate) fn take_rounds<N: ServerUdp + Clock + Print + Eprint, D: DrainSignal>(
         &mut self,
         rt: &N,
@@ -183,7 +179,9 @@ impl<S: ServedStore<Reason> + Drop> ServerLoop<S> {
         Ok(())
     }
 
-    /// Begins to drain if that is signalled, and then handles datagrams and due timeouts.
+    /// Begins to drain if that is signalled, and then handles datagrams and due timeouts, until no
+    /// transfer is yet to close. Transfers precede a request, because an acknowledgement may free
+    /// the slot that its client's next request needs.
     fn take_round<N: ServerUdp + Print + Eprint, D: DrainSignal>(
         &mut self,
         rt: &N,
@@ -203,7 +201,12 @@ impl<S: ServedStore<Reason> + Drop> ServerLoop<S> {
         ensures room { HasRoom self.new }
     {
         self.look_at_signal(rt, signal);
-        self.take_ports(rt, request, datagram)
+        self.pass_over(rt, Pass::Ready, datagram)?;
+        if self.left == 0 {
+            return Ok(());
+        }
+        self.take_request(rt, request);
+        self.pass_over(rt, Pass::Due, datagram)
     }
 
     /// Begins to drain if that is signalled. The signal is looked at once a second at most.
@@ -258,33 +261,6 @@ impl<S: ServedStore<Reason> + Drop> ServerLoop<S> {
             return false;
         }
         self.sockets.is_ready
-    }
-
-    /// Handles datagrams and due timeouts, until no transfer is yet to close. Transfers precede a
-    /// request, because an acknowledgement may free the slot that its client's next request needs.
-    fn take_ports<N: ServerUdp + Print + Eprint>(
-        &mut self,
-        rt: &N,
-        request: &mut [u8],
-        datagram: &mut [u8],
-    ) -> Result<(), LoopFault>
-        requires room { HasRoom self.old }
-        requires settled { IsSettled self.old }
-        requires few { HasFew 0 self.old }
-        requires first { self.old.sockets.has_received ≡ false }
-        ensures works { WorksRound S.meaning S.Source.meaning request.old self.old request.new
-            self.new }
-        ensures tended { OnOk result (1 ≤ self.new.left → IsTended self.new) }
-        ensures rounds { self.new.rounds ≡ self.old.rounds }
-        ensures fault { IfErr result (λ fault. FailsToPrint fault self.new.journal.events) }
-        ensures room { HasRoom self.new }
-    {
-        self.pass_over(rt, Pass::Ready, datagram)?;
-        if self.left == 0 {
-            return Ok(());
-        }
-        self.take_request(rt, request);
-        self.pass_over(rt, Pass::Due, datagram)
     }
 
     /// Waits once, until a datagram has arrived or a port is to be read, for at most a second. A
@@ -393,7 +369,7 @@ impl<S: ServedStore<Reason> + Drop> ServerLoop<S> {
         ensures { HasSlept (millis_of self.old) reports.new.ports.items self.old self.new }
     {
         let millis = self.millis_to_wait(survey);
-        let polls = polls_before(millis, self.active);
+        let polls = polls_before(millis, self.active, self.sockets.polls);
         wait(
             &mut self.sockets.poll,
             reports,
@@ -415,8 +391,8 @@ impl<S: ServedStore<Reason> + Drop> ServerLoop<S> {
         self.sockets.limit = end;
     }
 
-    /// Sets the provisional deadlines, marks the ports that a wait reported, and counts anew what is
-    /// received at each.
+    /// Sets the provisional deadlines, marks the ports that a wait reported, and counts anew what
+    /// is received at each.
     fn mark(&mut self, reported: &[u16])
         ensures requests { self.new.sockets ≡ record self.old.sockets {
           is_ready = self.old.sockets.is_ready
@@ -434,8 +410,8 @@ impl<S: ServedStore<Reason> + Drop> ServerLoop<S> {
         self.sockets.mark(reported);
     }
 
-    /// The longest wait, in milliseconds: none if a port is to be read or a datagram is pending, and
-    /// else until the nearest time at which a port is read, at most a second.
+    /// The longest wait, in milliseconds: none if a port is to be read or a datagram is pending,
+    /// and else until the nearest time at which a port is read, at most a second.
     fn millis_to_wait(&self, survey: Survey) -> u64
         requires { IsSurveyOf self.now.ports.items survey }
         ensures { result ≡ millis_of self.now }
@@ -490,8 +466,8 @@ impl<S: ServedStore<Reason> + Drop> ServerLoop<S> {
         Ok(())
     }
 
-    /// Visits the port at this index, if there is one and the pass is for it, logs what could not be
-    /// sent, and removes the transfer if that closes.
+    /// Visits the port at this index, if there is one and the pass is for it, logs what could not
+    /// be sent, and removes the transfer if that closes.
     fn visit<P: Print + Eprint>(
         &mut self,
         rt: &P,
@@ -550,8 +526,8 @@ impl<S: ServedStore<Reason> + Drop> ServerLoop<S> {
         )
     }
 
-    /// Removes the transfer at this index with its port, if it has closed, and prints its outcome: it
-    /// is one less to close.
+    /// Removes the transfer at this index with its port, if it has closed, and prints its outcome:
+    /// it is one less to close.
     fn finish<P: Print + Eprint>(&mut self, rt: &P, index: usize) -> Result<(), LoopFault>
         requires left { 1 ≤ self.old.left }
         requires within { index < length self.old.ports.items }
@@ -591,7 +567,7 @@ impl<S: ServedStore<Reason> + Drop> ServerLoop<S> {
 }
 
 /// The number of polls before a wait of at most `millis` milliseconds, with this number of active
-/// transfers.
-fn polls_before(millis: u64, active: usize) -> u32 {
-    if millis > 0 && active > 1 { POLLS } else { 0 }
+/// transfers: so many, if several are.
+fn polls_before(millis: u64, active: usize, polls: u32) -> u32 {
+    if millis > 0 && active > 1 { polls } else { 0 }
 }

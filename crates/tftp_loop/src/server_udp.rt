@@ -16,6 +16,9 @@ use std::random::RandomSource;
 use tftp_ends::Endpoint;
 use tftp_sockets::{Journal, Receipt, ServerSocket};
 
+/// The number of polls of a server alone: some 25 microseconds.
+const POLLS: u32 = 64;
+
 /// How much a server has to do.
 #[derive(Clone, Copy)]
 pub struct Load {
@@ -43,6 +46,10 @@ pub trait ServerUdp {
 
     /// Creates the poll of non-blocking sockets.
     fn poll(&self) -> io::Result<Poll>;
+
+    /// The number of polls before a wait that may sleep, while several transfers are active. A client
+    /// that sends to a sleeping server has to wake it, which slows all clients of one processor.
+    fn polls(&self) -> u32;
 
     /// Receives a datagram at the request port, if one has arrived, and a server with this load does
     /// not leave it to another one.
@@ -78,6 +85,10 @@ impl<N: Net + RandomSource> ServerUdp for N {
 
     fn poll(&self) -> io::Result<Poll> {
         Poll::new(self)
+    }
+
+    fn polls(&self) -> u32 {
+        POLLS
     }
 
     /// A server alone leaves nothing.

@@ -1,7 +1,7 @@
 //! Serves over UDP, from the bind of the request port to the end.
 
 ghost use Rattle.std.specs.Prelude.{◌≡◌, true, false};
-ghost use Rattle.tftp_loop.specs.WholeRun.{Serves, ServesFrom, listening};
+ghost use Rattle.tftp_loop.specs.WholeRun.{RunsServer, RunsServerFrom, listening};
 
 use crate::drain::DrainSignal;
 use crate::port_order::PortRange;
@@ -85,7 +85,7 @@ pub fn serve<N: ServerUdp + Clock + Print + Eprint, S: ServedStore<Reason> + Dro
     signal: &D,
     journal: Journal,
 ) -> (Result<(), LoopFault>, Journal)
-    ensures { Serves S.meaning S.Source.meaning config.now server result.0 journal.events
+    ensures { RunsServer S.meaning S.Source.meaning config.now server result.0 journal.events
         result.1.events }
 {
     match Sockets::bind(rt, alloc, config) {
@@ -109,7 +109,7 @@ fn listen<N: ServerUdp + Clock + Print + Eprint, S: ServedStore<Reason> + Drop, 
     requires marked { sockets.is_ready ≡ true }
     requires asked { sockets.has_received ≡ false }
     requires range { sockets.pool.range ≡ config.now.ports }
-    ensures { ServesFrom S.meaning S.Source.meaning config.now sockets.requests.port server
+    ensures { RunsServerFrom S.meaning S.Source.meaning config.now sockets.requests.port server
         result.0 (listening sockets.requests.ip sockets.requests.port journal.events)
         result.1.events }
 {
@@ -139,7 +139,7 @@ fn run<N: ServerUdp + Clock + Print + Eprint, S: ServedStore<Reason> + Drop, D: 
     requires marked { sockets.is_ready ≡ true }
     requires asked { sockets.has_received ≡ false }
     requires range { sockets.pool.range ≡ config.now.ports }
-    ensures { ServesFrom S.meaning S.Source.meaning config.now sockets.requests.port server
+    ensures { RunsServerFrom S.meaning S.Source.meaning config.now sockets.requests.port server
         result.0 journal.events result.1.events }
 {
     let Ok(mut buffers) = Buffers::new(alloc) else {

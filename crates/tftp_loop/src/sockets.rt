@@ -24,6 +24,8 @@ use tftp_sockets::{Journal, LONGEST_WAIT, ServerSocket, Watch, read_clock};
 pub(crate) struct Sockets {
     pub(crate) poll: Poll,
     pub(crate) requests: ServerSocket,
+    /// The number of polls before a wait that may sleep, while several transfers are active.
+    pub(crate) polls: u32,
     /// Whether a datagram may be at the request port.
     pub(crate) is_ready: bool,
     /// Whether a datagram was received at the request port since the last wait.
@@ -58,6 +60,7 @@ impl Sockets {
         Ok(Sockets {
             poll,
             requests,
+            polls: net.polls(),
             is_ready: true,
             has_received: false,
             pool,

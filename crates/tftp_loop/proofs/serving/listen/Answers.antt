@@ -6,7 +6,7 @@ use Rattle.tftp_sockets.specs.Journal.{SocketEvent}
 use Rattle.tftp_sockets.specs.Journal.SocketEvent.{Printed}
 use Rattle.tftp_loop.specs.Run.Run.{Start}
 use Rattle.tftp_loop.specs.Steps.{at_start}
-use Rattle.tftp_loop.specs.WholeRun.{ServesFrom, listening}
+use Rattle.tftp_loop.specs.WholeRun.{RunsServerFrom, listening}
 use Rattle.tftp_loop.proofs.serving.listen.Goals as goal
 
 pub returns-in-Ok : goal.returns-in-Ok
@@ -14,7 +14,7 @@ returns-in-Ok g c =
     let line =
     c.print_line.ensures ∙ ap (λ (e : Endpoint). Printed (line_text (Listening e)) ∷ c.args.journal.events)
     c.listening.ensures in
-    let At : List SocketEvent → Type 0 = λ es. ServesFrom g.S.Store.meaning g.S.Source.Source.meaning
+    let At : List SocketEvent → Type 0 = λ es. RunsServerFrom g.S.Store.meaning g.S.Source.Source.meaning
     c.args.config.now c.args.sockets.requests.port c.args.server c.run.result.0 es c.run.result.1.events in
     subst At line c.run.ensures
 

@@ -1,7 +1,7 @@
 use Rattle.std.proofs.Common.{ℕ, List, ap, subst, refl}
 use Rattle.tftp_loop.specs.PortPool.{PoolState}
-use Rattle.tftp_loop.specs.WholeRun.{ServesFrom, listening}
-use Rattle.tftp_loop.specs.WholeRun.Serves.{Bound, Unbound}
+use Rattle.tftp_loop.specs.WholeRun.{RunsServerFrom, listening}
+use Rattle.tftp_loop.specs.WholeRun.RunsServer.{Bound, Unbound}
 use Rattle.tftp_loop.proofs.serving.serve.Goals as goal
 
 pub listen-requires-clause-range : goal.listen-requires-clause-range
@@ -10,7 +10,7 @@ listen-requires-clause-range g c = ap (λ (pool : PoolState). pool.range) c.in-O
 pub returns-in-Ok : goal.returns-in-Ok
 returns-in-Ok g c =
     let port = c.in-Ok.sockets.requests.port in
-    let At : List ℕ → Type 0 = λ ip. ServesFrom g.S.Store.meaning g.S.Source.Source.meaning c.args.config.now
+    let At : List ℕ → Type 0 = λ ip. RunsServerFrom g.S.Store.meaning g.S.Source.Source.meaning c.args.config.now
     port c.args.server c.listen.result.0 (listening ip port c.args.journal.events) c.listen.result.1.events in
     let bound = c.in-Ok.ensures.bound in
     Bound port (record { same_ip = refl; same_port = bound.same_port; has_port = bound.has_port })

@@ -13,13 +13,13 @@ use Rattle.tftp_loop.proofs.port_visit.PortVisit.take_datagram.Goals as goal
 pub returns-in-Datagram-clause-serves : goal.returns-in-Datagram-clause-serves
 returns-in-Datagram-clause-serves g c =
     serves_received g.S.Store.meaning g.S.Source.Source.meaning _ c.args.self.now _ _ refl
-    c.in-Datagram.ensures.noted c.answer_in_time.ensures.answers
+    c.in-Datagram.ensures.noted c.answer.ensures.answers
 
 pub returns-in-Datagram-clause-tried : goal.returns-in-Datagram-clause-tried
 returns-in-Datagram-clause-tried g c =
     let old = c.args.self.now in
-    let new = c.answer_in_time.new.self in
-    let answers = c.answer_in_time.ensures.answers in
+    let new = c.answer.new.self in
+    let answers = c.answer.ensures.answers in
     let noted = c.in-Datagram.ensures.noted in
     let same : new.port.now.socket.udp.port ≡ old.port.now.socket.udp.port =
     (stays_along g.S.Store.meaning g.S.Source.Source.meaning old.now _ _
@@ -59,7 +59,7 @@ returns-in-Failed-clause-serves g c =
     }
 
 pub returns-in-Datagram-clause-counted : goal.returns-in-Datagram-clause-counted
-returns-in-Datagram-clause-counted g c = let one = c.answer_in_time.ensures.counted in omega (arith, one)
+returns-in-Datagram-clause-counted g c = let one = c.answer.ensures.counted in omega (arith, one)
 
 pub returns-in-Nothing-clause-counted : goal.returns-in-Nothing-clause-counted
 returns-in-Nothing-clause-counted g c =
