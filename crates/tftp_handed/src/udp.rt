@@ -117,7 +117,17 @@ impl<N: ServerUdp + Clock> ServerUdp for HandedUdp<'_, N> {
         Ok(poll)
     }
 
-    /// Of several servers one with few transfers takes a datagram, which all of them find.
+    /// One of several servers makes none: the others, and the clients, need the processor.
+    fn polls(&self) -> u32
+        ensures { IsSome self.now.several → result ≡ 0 }
+    {
+        match &self.several {
+            Some(_) => 0,
+            None => self.rt.polls(),
+        }
+    }
+
+    /// Of several servers one that owes the others no time takes a datagram, which all of them find.
     fn receive(
         &self,
         requests: &ServerSocket,
