@@ -5,7 +5,7 @@ pub mod Conversing
 pub mod Counting
 pub mod GivenBytes
 pub mod HeldBytes
-pub mod MeasuringLemmas
+pub mod SentFile
 pub mod NamedFile
 pub mod NamedOnDisk
 pub mod PutLaws

@@ -1,5 +1,5 @@
 -- The file of a complete job has its name, and what moved is in it.
-use Rattle.std.proofs.Common.{◌≡◌, ℕ, Bool, true, List, Some, Result, Ok, Err, IfOk, IfErr, inl, inr, sym, ap, ◌∙◌, subst}
+use Rattle.std.proofs.Common.{◌≡◌, ℕ, Bool, true, List, Some, inl, inr, sym, ap, ◌∙◌, subst}
 use Rattle.std.proofs.Math.Logic.{∥∥₁_map}
 use Rattle.std.proofs.lemmas.Option.{same_Some}
 use Rattle.std.specs.declared.io.traits.Read as read
@@ -13,9 +13,11 @@ use Rattle.tftp_arguments.specs.Fault.{AskForText}
 use Rattle.tftp_disk.specs.Changes.{changes}
 use Rattle.tftp_disk.specs.declared.disk_source.DiskSource.{DiskSource}
 use Rattle.tftp_sockets.specs.Journal.{SocketEvent}
-use Rattle.tftp_client.specs.declared.command_line.Order.{Order}
+use Rattle.tftp_client.specs.declared.command_line.CommandLine.{CommandLine}
+use Rattle.tftp_client.specs.declared.command_line.CommandLine.TheVariants as lines
 use Rattle.tftp_client.specs.declared.local.LocalFile.{LocalFile}
 use Rattle.tftp_client.specs.declared.transfer.Job.{Job}
+use Rattle.tftp_client.specs.CommandLine.{IfExit, IfRun}
 use Rattle.tftp_client.specs.Converses.{Converses, State}
 use Rattle.tftp_client.specs.Fetched.{AreOwn, IsNamed, Paths}
 use Rattle.tftp_client.specs.OnDisk.{IsFor, IsOnDisk, job_paths}
@@ -101,11 +103,11 @@ module _ {R F D : Type 0} {reads : read.Ghosts F} {writes : write.Ghosts F} {see
     {lists : read.Ghosts D} (sources : SourceMeaning (DiskSource F))
     (sinks : SinkMeaning (LocalFile R F D reads writes seeks lists)) where
   -- an order was run, or there is none and nothing was done
-  pub does_words : {before after : List SocketEvent} (words : List (List ℕ)) {status : ℕ} (ordered : Result Order ℕ)
-      → IfOk ordered (λ order. WordsName words order.job)
-      → IfErr ordered (λ n. n ≡ 0 → AskForText tftp_app words)
-      → IfOk ordered (λ order. DoesOrder sources sinks order.job status before after)
-      → IfErr ordered (λ _. after ≡ before) → IfErr ordered (λ n. status ≡ n)
+  pub does_words : {before after : List SocketEvent} (words : List (List ℕ)) {status : ℕ} (line : CommandLine)
+      → IfRun line (λ order. WordsName words order.job)
+      → IfExit line (λ n. n ≡ 0 → AskForText tftp_app words)
+      → IfRun line (λ order. DoesOrder sources sinks order.job status before after)
+      → IfExit line (λ _. after ≡ before) → IfExit line (λ n. status ≡ n)
       → DoesWords sources sinks words status before after
-  does_words words (Ok order) names text runs none same = (inr (order.job, names, runs.0), runs.1, runs.2)
-  does_words words (Err n) names text runs none same = (inl (none, λ zero. text (sym same ∙ zero)), tt, tt)
+  does_words words (lines.Run order) names text runs none same = (inr (order.job, names, runs.0), runs.1, runs.2)
+  does_words words (lines.Exit n) names text runs none same = (inl (none, λ zero. text (sym same ∙ zero)), tt, tt)

@@ -1,20 +1,19 @@
 -- What moved in the run of a complete put was read of its file.
-use Rattle.std.proofs.Common.{◌≡◌, ℕ, Bool, true, List, [], ◌∷◌, append-nil, length, Some, Ok, Err, inl, inr, refl, sym, ap, ◌∙◌, subst}
-use Rattle.std.specs.Prelude.{if◌then◌else◌}
-use Rattle.std.proofs.lemmas.Bool.{true≢false}
-use Rattle.std.specs.declared.io.SeekFrom.TheVariants.{Start, End, Current}
+use Rattle.std.proofs.Common.{◌≡◌, ℕ, true, List, ◌++◌, length, take, inl, inr, refl, sym, ap, ◌∙◌, subst}
+use Rattle.std.proofs.Math.Seq.{take-append_seam}
+use Rattle.std.proofs.lemmas.Grind.{flat_map-append}
+use Rattle.std.proofs.lemmas.Option.{same_Some}
 use Rattle.tftp_wire.specs.declared.mode.Mode.{Mode}
-use Rattle.tftp_wire.specs.declared.mode.Mode.TheVariants.{Octet, Netascii}
+use Rattle.tftp_wire.specs.declared.mode.Mode.TheVariants.{Netascii}
 use Rattle.tftp_negotiate.specs.declared.known.Kind.{Kind}
 use Rattle.tftp_negotiate.specs.declared.known.Kind.TheVariants as kinds
+use Rattle.tftp_file.specs.Netascii.{wire_byte, wire_text}
 use Rattle.tftp_file.specs.Sink.{SinkMeaning}
 use Rattle.tftp_file.specs.Source.{GivesInTurn, SourceMeaning}
 use Rattle.tftp_file.specs.declared.files.Files.{Files}
 use Rattle.tftp_file.specs.declared.files.Files.TheVariants.{Source, Sink}
 use Rattle.tftp_ends.specs.End.{is_complete}
-use Rattle.tftp_disk.specs.DiskJournal.{DiskEvent}
-use Rattle.tftp_disk.specs.DiskJournal.DiskEvent.{Opened, Given, Sought, Written}
-use Rattle.tftp_disk.specs.DiskSource.{source_calls}
+use Rattle.tftp_disk.specs.DiskSource.{source_calls, wire_read}
 use Rattle.tftp_disk.specs.DiskSourceLaws.{GivesInOrder}
 use Rattle.tftp_disk.specs.Given.{given}
 use Rattle.tftp_disk.specs.declared.disk_source.DiskSource.{DiskSource}
@@ -22,104 +21,108 @@ use Rattle.tftp_sockets.specs.Journal.{SocketEvent}
 use Rattle.tftp_client.specs.declared.transfer.Job.{Job}
 use Rattle.tftp_client.specs.Converses.{Converses, State}
 use Rattle.tftp_client.specs.Moved.{nothing_moved, run_moves}
-use Rattle.tftp_client.specs.Outbound.{is_at_start}
-use Rattle.tftp_client.specs.Runs.{IsCountOf, IsFileOf, Refused, RunsAs, RunsJob, Transfers, begun, moved_by, opens, plain}
-use Rattle.tftp_client.specs.Sent.{BeginsAt, BeginsFor, IsOpenedAt, IsSent, IsSentFrom, SendsWhatReadsReturned}
+use Rattle.tftp_client.specs.Outbound.{HasLength, IsPassed}
+use Rattle.tftp_client.specs.Runs.{IsFileOf, Refused, RunsAs, RunsJob, Transfers, begun, moved_by, opens, plain}
+use Rattle.tftp_client.specs.Sent.{BeginsAt, BeginsFor, IsSent, IsSentFrom, SendsTheTextWhole}
+use Rattle.tftp_client.specs.Sent.{SendsWhatReadsReturned, StillHas}
 use Rattle.tftp_client.proofs.GivenBytes.{gave_all}
 use Rattle.tftp_client.proofs.SameKind.{converses}
+use Rattle.tftp_client.proofs.SentFile.{none_given, same_length}
 use Rattle.tftp_client.proofs.SentLength.{sent_all}
-
--- N of a file that is sent in octet
-counts_octet : {F K : Type 0} (sources : SourceMeaning (DiskSource F)) (sinks : SinkMeaning K) (source : DiskSource F)
-    (mode : Mode) (length count : ℕ) → IsCountOf sources sinks (Source source) mode length count → mode ≡ Octet
-    → count ≡ length
-counts_octet sources sinks source Octet length count counts octet = counts
-counts_octet sources sinks source Netascii length count counts octet = absurd (let e : ◌≡◌ {A = Mode} Netascii Octet = octet in cc)
-
--- nothing was given since the start
-none_given : (events : List DiskEvent) → is_at_start events ≡ true → given events ≡ []
-none_given [] start = absurd (true≢false (sym start))
-none_given (Opened path (Ok done) ∷ events) start = refl
-none_given (Opened path (Err error) ∷ events) start = none_given events start
-none_given (Sought (Start offset) (Ok place) ∷ events) start =
-    ap (λ (b : Bool). if b then [] else given events) start
-none_given (Sought (End offset) (Ok place) ∷ events) start = absurd (true≢false (sym start))
-none_given (Sought (Current offset) (Ok place) ∷ events) start = absurd (true≢false (sym start))
-none_given (Sought to (Err error) ∷ events) start = absurd (true≢false (sym start))
-none_given (Given [] ∷ events) start = append-nil (given events) ∙ none_given events start
-none_given (Given (byte ∷ bytes) ∷ events) start = absurd (true≢false (sym start))
-none_given (Written bytes ∷ events) start = absurd (true≢false (sym start))
-none_given (event ∷ events) start = none_given events start
 
 module _ {F K : Type 0} where
   -- a job without options has the same file
-  for_plain : (job : Job) (file : Files (DiskSource F) K) → BeginsAt (plain job) file → BeginsAt job file
-  for_plain job (Source source) is = is
-  for_plain job (Sink sink) is = is
+  for_plain : (job : Job) (bytes wire : ℕ) (file : Files (DiskSource F) K) → BeginsAt (plain job) bytes wire file
+      → BeginsAt job bytes wire file
+  for_plain job bytes wire (Source source) is = is
+  for_plain job bytes wire (Sink sink) is = is
 
-  to_plain : (job : Job) (file : Files (DiskSource F) K) → BeginsAt job file → BeginsAt (plain job) file
-  to_plain job (Source source) is = is
-  to_plain job (Sink sink) is = is
+  to_plain : (job : Job) (bytes wire : ℕ) (file : Files (DiskSource F) K) → BeginsAt job bytes wire file
+      → BeginsAt (plain job) bytes wire file
+  to_plain job bytes wire (Source source) is = is
+  to_plain job bytes wire (Sink sink) is = is
 
   of_plain : (job : Job) (files : Files (DiskSource F) K) (count : ℕ) (bytes : List ℕ) → IsSentFrom (plain job) files count bytes
       → IsSentFrom job files count bytes
   of_plain job (Source source) count bytes h =
-      record { opened = h.opened; mode = h.mode; gave = h.gave; counted = h.counted }
+      record { opened = h.opened; mode = h.mode; gave = h.gave; long = h.long }
   of_plain job (Sink sink) count bytes h = tt
+
+  -- what was sent of a text that was not changed
+  of_text : (job : Job) (files : Files (DiskSource F) K) (count : ℕ) (bytes text : List ℕ)
+      → IsSentFrom job files count bytes → job.mode ≡ Netascii → StillHas text files
+      → (bytes ≡ wire_text Netascii text) × (count ≡ length text)
+  of_text job (Sink sink) count bytes text sent netascii still = absurd still
+  of_text job (Source source) count bytes text sent netascii still =
+      let calls = source_calls source in
+      let length_is : IsPassed count (length bytes) calls =
+      subst (λ (m : Mode). HasLength m count (length bytes) calls) netascii sent.long in
+      let same : length_is.text ≡ text = same_Some length_is.text text (sym length_is.read ∙ still.0) in
+      let wire = wire_text Netascii text in
+      let more = wire_text Netascii still.1.0 in
+      let all : wire_read source ≡ wire ++ more =
+      ap (λ (m : Mode). wire_text m (given calls)) (sent.mode ∙ netascii) ∙ ap (wire_text Netascii) (sym still.1.1)
+      ∙ flat_map-append wire_byte text still.1.0 in
+      let long : length bytes ≡ length wire =
+      length_is.long ∙ ap (λ (t : List ℕ). length (wire_text Netascii t)) same in (
+        sym (take-append_seam bytes sent.gave.begins.0) ∙ ap (take (length bytes)) (sent.gave.begins.1 ∙ all)
+            ∙ ap (λ (n : ℕ). take n (wire ++ more)) long ∙ take-append_seam wire more,
+        length_is.count ∙ ap length same,
+      )
 
   module _ (sources : SourceMeaning (DiskSource F)) (sinks : SinkMeaning K) where
     -- the run of a job of this kind, or of one without options, with its file
     pub begins_job : (job : Job) {kind : Kind} {port : ℕ} {before : List SocketEvent} {last : State} {files : Files (DiskSource F) K}
         {count : ℕ} → job.kind ≡ kind
-        → (run : RunsAs sources sinks port kind job before last files count) × BeginsAt job run.runs.file
-        → (run : RunsAs sources sinks port job.kind job before last files count) × BeginsAt job run.runs.file
+        → (run : RunsAs sources sinks port kind job before last files count) × BeginsAt job count run.length run.runs.file
+        → (run : RunsAs sources sinks port job.kind job before last files count)
+        × BeginsAt job count run.length run.runs.file
     begins_job job {kind} {port} {before} {last} {files} {count} is run =
         let Of : Kind → Type 0 = λ k. (run : RunsAs sources sinks port k job before last files count)
-        × BeginsAt job run.runs.file in
+        × BeginsAt job count run.length run.runs.file in
         subst Of (sym is) run
 
     pub begins_again : {most : ℕ} (port : ℕ) (job other : Job) (before middle : List SocketEvent) (last : State)
         (files : Files (DiskSource F) K) (count : ℕ) → Refused sources sinks most job before middle → other ≡ plain job
-        → (run : RunsJob sources sinks port other middle last files count) × BeginsAt other run.runs.file
+        → (run : RunsJob sources sinks port other middle last files count) × BeginsAt other count run.length run.runs.file
         → (transfers : Transfers sources sinks most port job before last files count) × BeginsFor sources sinks transfers
     begins_again port job other before middle last files count refused is run =
         let Of : Job → Type 0 = λ j. (run : RunsJob sources sinks port j middle last files count)
-        × BeginsAt j run.runs.file in
-        let again = subst Of is run in (inr (middle, refused, again.0), for_plain job again.0.runs.file again.1)
+        × BeginsAt j count run.length run.runs.file in
+        let again = subst Of is run in
+        (inr (middle, refused, again.0), for_plain job count again.0.length again.0.runs.file again.1)
 
     -- a file that was sent
     sent : GivesInOrder sources → {port : ℕ} (job : Job) (kind : Kind) (size count : ℕ) {before : List SocketEvent} {s : State}
         (first source : DiskSource F)
         (run : Converses sources sinks port (begun port (opens kind job size) before) (Source first) s (Source source))
         → IsFileOf sources sinks kind (Source first) → is_complete s.end.position.phase ≡ true
-        → IsOpenedAt job.local.now job.mode first → IsCountOf sources sinks (Source source) job.mode size count
-        → IsSent job source count (run_moves run nothing_moved).bytes
-    sent in_order job kinds.Read size count first source run side done begins counts = absurd side
-    sent in_order job kinds.Write size count first source run side done begins counts =
+        → BeginsAt {K = K} job count size (Source first) → IsSent job source count (run_moves run nothing_moved).bytes
+    sent in_order job kinds.Read size count first source run side done begins = absurd side
+    sent in_order job kinds.Write size count first source run side done begins =
         let bytes = (run_moves run nothing_moved).bytes in
         let turns : GivesInTurn sources first bytes source = gave_all sources sinks first run done in
-        let h = in_order job.mode first source bytes turns begins.unread
-        (none_given (source_calls first) begins.start) in
+        let h = in_order job.mode first source bytes turns begins.0.unread
+        (none_given (source_calls first) begins.0.start) in
         record {
-          opened = h.place ∙ begins.opened;
-          mode = h.mode ∙ begins.unread.has_mode;
+          opened = h.place ∙ begins.0.opened;
+          mode = h.mode ∙ begins.0.unread.has_mode;
           gave = h.given;
-          counted = λ octet. counts_octet sources sinks source job.mode size count counts octet
-              ∙ sym (sent_all sources sinks size run refl refl refl done);
+          long = same_length job.mode count size (length bytes) (source_calls first) (source_calls source) h.found h.pass
+              (sent_all sources sinks size run refl refl refl done) begins.1;
         }
 
     run_sent : GivesInOrder sources → {port : ℕ} (job : Job) (kind : Kind) (size count : ℕ) {before : List SocketEvent}
         {s : State} (file files : Files (DiskSource F) K)
         (run : Converses sources sinks port (begun port (opens kind job size) before) file s files)
-        → IsFileOf sources sinks kind file → is_complete s.end.position.phase ≡ true → BeginsAt job file
-        → IsCountOf sources sinks files job.mode size count
+        → IsFileOf sources sinks kind file → is_complete s.end.position.phase ≡ true → BeginsAt job count size file
         → IsSentFrom job files count (run_moves run nothing_moved).bytes
-    run_sent in_order job kind size count file (Sink sink) run side done begins counts = tt
-    run_sent in_order job kind size count (Source first) (Source source) run side done begins counts =
-        sent in_order job kind size count first source run side done begins counts
-    run_sent in_order job kinds.Read size count (Sink sink) (Source source) run side done begins counts =
+    run_sent in_order job kind size count file (Sink sink) run side done begins = tt
+    run_sent in_order job kind size count (Source first) (Source source) run side done begins =
+        sent in_order job kind size count first source run side done begins
+    run_sent in_order job kinds.Read size count (Sink sink) (Source source) run side done begins =
         absurd (converses sources sinks kinds.Read run tt)
-    run_sent in_order job kinds.Write size count (Sink sink) (Source source) run side done begins counts = absurd side
+    run_sent in_order job kinds.Write size count (Sink sink) (Source source) run side done begins = absurd side
 
     -- what moved in the run of a complete job
     pub was_read : GivesInOrder sources → {most port : ℕ} {job : Job} {before : List SocketEvent} {s : State}
@@ -127,13 +130,18 @@ module _ {F K : Type 0} where
         → BeginsFor sources sinks transfers → is_complete s.end.position.phase ≡ true
         → IsSentFrom job files count (moved_by sources sinks transfers).bytes
     was_read in_order {job = job} {files = files} {count = count} (inl run) begins done =
-        run_sent in_order job job.kind run.length count run.runs.file files run.runs.converses run.side done begins run.counts
+        run_sent in_order job job.kind run.length count run.runs.file files run.runs.converses run.side done begins
     was_read in_order {job = job} {files = files} {count = count} (inr again) begins done =
         let run = again.2 in
         of_plain job files count (run_moves run.runs.converses nothing_moved).bytes
         (run_sent in_order (plain job) job.kind run.length count run.runs.file files run.runs.converses run.side done
-        (to_plain job run.runs.file begins) run.counts)
+        (to_plain job count run.length run.runs.file begins))
 
     pub sends_what_reads_returned : GivesInOrder sources → SendsWhatReadsReturned sources sinks
     sends_what_reads_returned in_order most port job before s files count transfers begins done =
         was_read in_order transfers begins done
+
+    pub sends_the_text_whole : GivesInOrder sources → SendsTheTextWhole sources sinks
+    sends_the_text_whole in_order most port job before s files count text transfers begins done netascii still =
+        of_text job files count (moved_by sources sinks transfers).bytes text (was_read in_order transfers begins done)
+        netascii still

@@ -8,6 +8,9 @@ use Rattle.tftp_negotiate.specs.declared.known.Kind.TheVariants.{Read, Write}
 use Rattle.tftp_disk.specs.declared.existing.Existing.TheVariants.{Refused, Replaced}
 use Rattle.tftp_arguments.specs.Read.{IsChosen, IsFlag, IsNumber, Reads}
 use Rattle.tftp_sockets.specs.Address.{Names}
+use Rattle.tftp_client.specs.declared.command_line.CommandLine.{CommandLine}
+use Rattle.tftp_client.specs.declared.command_line.CommandLine.TheVariants.{Run, Exit}
+use Rattle.tftp_client.specs.declared.command_line.Order.{Order}
 use Rattle.tftp_client.specs.declared.transfer.Job.{Job}
 
 -- the direction of a subcommand
@@ -33,3 +36,13 @@ pub record NamesJob (kind : Kind) (read : Reads) (job : Job) : Type 0 where
   pub asked : AsksAs read job.asked
   pub retries : IsNumber 8 (read.text (codes "retries")) (Some job.retries)
   pub falls_back : IsFlag (read.text (codes "fallback")) job.falls_back
+
+-- what holds of the order that a command line has the program run
+abbrev pub IfRun : CommandLine → (Order → Type 0) → Type 0
+IfRun (Run order) P = P order
+IfRun (Exit status) P = Unit {0}
+
+-- what holds of the status that a command line has the program end with
+abbrev pub IfExit : CommandLine → (ℕ → Type 0) → Type 0
+IfExit (Run order) P = Unit {0}
+IfExit (Exit status) P = P status

@@ -7,7 +7,6 @@ pub mod Fallback
 pub mod Fetched
 pub mod Given
 pub mod LocalError
-pub mod Measuring
 pub mod Moved
 pub mod OnDisk
 pub mod Ordered

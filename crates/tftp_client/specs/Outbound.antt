@@ -1,9 +1,12 @@
 -- A file to send, as it is when its transfer begins, by the calls on it (own).
-use Rattle.std.specs.Prelude.{ℕ, ◌≡◌, ◌==◌, Bool, true, false, List, [], ◌∷◌, Some, Ok}
+use Rattle.std.specs.Prelude.{ℕ, ◌≡◌, ◌==◌, Bool, true, false, List, [], ◌∷◌, length, Some, Ok}
 use Rattle.std.specs.declared.io.SeekFrom.TheVariants.{Start}
+use Rattle.tftp_wire.specs.declared.mode.Mode.{Mode}
+use Rattle.tftp_wire.specs.declared.mode.Mode.TheVariants.{Octet, Netascii}
+use Rattle.tftp_file.specs.Netascii.{wire_text}
 use Rattle.tftp_disk.specs.DiskJournal.{DiskEvent}
 use Rattle.tftp_disk.specs.DiskJournal.DiskEvent.{Opened, Given, Sought, Written}
-use Rattle.tftp_disk.specs.Given.{examined}
+use Rattle.tftp_disk.specs.Given.{examined, passed}
 use Rattle.tftp_disk.specs.declared.found.Found.{Found}
 
 -- its next read is from its start: nothing was read since it was opened or set there
@@ -22,3 +25,16 @@ pub record IsLongAs (bytes : ℕ) (events : List DiskEvent) : Type 0 where
   pub found : Found
   pub told : examined events ≡ Some found
   pub long : bytes ≡ found.bytes
+
+-- one pass over it, to its end, read so many bytes, whose text has so many in netascii
+pub record IsPassed (bytes wire : ℕ) (events : List DiskEvent) : Type 0 where
+  pub text : List ℕ
+  pub read : passed events ≡ Some text
+  pub count : bytes ≡ length text
+  pub long : wire ≡ length (wire_text Netascii text)
+
+-- it has so many bytes, and so many on the wire in this mode: in octet as the system said; in
+-- netascii as one pass over it counted
+abbrev pub HasLength : Mode → ℕ → ℕ → List DiskEvent → Type 0
+HasLength Octet bytes wire events = IsLongAs bytes events × (wire ≡ bytes)
+HasLength Netascii bytes wire events = IsPassed bytes wire events

@@ -32,7 +32,12 @@ use Rattle.tftp_client.specs.Taken.{nothing}
 -- a client whose end opened, once its request was sent from the port (RFC 1350, section 4)
 abbrev pub sent_from : ℕ → EndState → Endpoint → List ℕ → List SocketEvent → State
 sent_from port end to bytes before =
-    record { end = end; now = 0; deadline = deadline_at 0 end; events = Sent port to bytes ∷ before }
+    record {
+      end = end;
+      now = 0;
+      deadline = deadline_at 0 end;
+      events = Sent port to bytes ∷ before;
+    }
 
 abbrev pub begun : ℕ → EndState → List SocketEvent → State
 begun port end before = sent_from port end end.position.last_sent_to end.position.last_sent before
@@ -115,14 +120,15 @@ module _ {S K : Type 0} (sources : SourceMeaning S) (sinks : SinkMeaning K) wher
     pub stops : StopsBy most port (begun port end before) file after outcome
 
   -- the run of an end of this kind, as a job opens it, stopped
-  pub record FailsAs (most : ℕ) (kind : Kind) (job : Job) (length : ℕ) (before after : List SocketEvent)
-      (outcome : Outcome) : Type 0 where
+  pub record FailsAs (most : ℕ) (kind : Kind) (job : Job) (length : ℕ)
+      (before after : List SocketEvent) (outcome : Outcome) : Type 0 where
     pub may : MayOpen kind job length
     pub fails : Fails most (opens kind job length) before after outcome
     pub side : IsFileOf kind fails.file
 
   -- the same, of how the program ends; where no transfer was opened nothing was sent
-  abbrev pub FailsEnd : ℕ → Kind → Job → ℕ → List SocketEvent → List SocketEvent → ClientOutcome → Type 0
+  abbrev pub FailsEnd : ℕ → Kind → Job → ℕ → List SocketEvent → List SocketEvent → ClientOutcome
+      → Type 0
   FailsEnd most kind job length before after (ends.Failed outcome) =
       FailsAs most kind job length before after outcome
   FailsEnd most kind job length before after _ = after ≡ before
@@ -133,7 +139,7 @@ module _ {S K : Type 0} (sources : SourceMeaning S) (sinks : SinkMeaning K) wher
       (length : ℕ) × FailsEnd most job.kind job length before after end
 
   -- N of a file: how many bytes a received one holds; of one that is sent in octet, the length on
-  -- the wire. In netascii only the system states the length of a file that is sent
+  -- the wire. In netascii that is another, and N is what the calls on the file say
   abbrev pub IsCountOf : Files S K → Mode → ℕ → ℕ → Type 0
   IsCountOf (Sink sink) mode length count =
       (holding : Holding) × (sinks.held sink ≡ Some holding) × (count ≡ list_length holding.bytes)

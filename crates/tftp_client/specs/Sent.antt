@@ -5,15 +5,17 @@ use Rattle.std.specs.declared.io.traits.Read as read
 use Rattle.std.specs.declared.io.traits.Write as write
 use Rattle.std.specs.declared.io.traits.Seek as seek
 use Rattle.tftp_wire.specs.declared.mode.Mode.{Mode}
-use Rattle.tftp_wire.specs.declared.mode.Mode.TheVariants.{Octet}
+use Rattle.tftp_wire.specs.declared.mode.Mode.TheVariants.{Netascii}
 use Rattle.tftp_negotiate.specs.declared.known.Kind.{Kind}
+use Rattle.tftp_file.specs.Block.{IsPrefixOf}
+use Rattle.tftp_file.specs.Netascii.{wire_text}
 use Rattle.tftp_file.specs.Sink.{SinkMeaning}
 use Rattle.tftp_file.specs.Source.{SourceMeaning}
 use Rattle.tftp_file.specs.declared.files.Files.{Files}
 use Rattle.tftp_file.specs.declared.files.Files.TheVariants.{Source, Sink}
 use Rattle.tftp_ends.specs.End.{is_complete}
 use Rattle.tftp_disk.specs.DiskSource.{HasGiven, IsUnread, source_calls, source_mode}
-use Rattle.tftp_disk.specs.Given.{opened_at}
+use Rattle.tftp_disk.specs.Given.{given, opened_at, passed}
 use Rattle.tftp_disk.specs.declared.disk_source.DiskSource.{DiskSource}
 use Rattle.tftp_sockets.specs.Journal.{SocketEvent}
 use Rattle.tftp_client.specs.declared.local.LocalFile.{LocalFile}
@@ -21,7 +23,7 @@ use Rattle.tftp_client.specs.declared.transfer.Job.{Job}
 use Rattle.tftp_client.specs.Converses.{State}
 use Rattle.tftp_client.specs.OnDisk.{OrderOnDisk, WordsOnDisk}
 use Rattle.tftp_client.specs.Ordered.{RunsOrder, RunsWords}
-use Rattle.tftp_client.specs.Outbound.{is_at_start}
+use Rattle.tftp_client.specs.Outbound.{HasLength, is_at_start}
 use Rattle.tftp_client.specs.Runs.{RunsAs, Transfers, moved_by}
 
 module _ {F : Type 0} where
@@ -34,18 +36,28 @@ module _ {F : Type 0} where
 
   -- the bytes that were sent of the file of a job are a beginning of the wire text of what reads of
   -- LOCAL returned, from its start, in order and each byte once: all of it but what is left of what
-  -- was read. In octet N counts them
+  -- was read. N is the length of the file: in octet as the system said, and just so many bytes were
+  -- sent; in netascii as one pass over it counted before, and as many were sent as its text has
   pub record IsSent (job : Job) (source : DiskSource F) (count : ℕ) (bytes : List ℕ) : Type 0 where
     pub opened : opened_at (source_calls source) ≡ Some job.local.now
     pub mode : source_mode source ≡ job.mode
     pub gave : HasGiven source bytes
-    pub counted : job.mode ≡ Octet → count ≡ length bytes
+    pub long : HasLength job.mode count (length bytes) (source_calls source)
 
 module _ {F K : Type 0} where
-  -- a file to send is opened at the path of the job when its transfer begins
-  abbrev pub BeginsAt : Job → Files (DiskSource F) K → Type 0
-  BeginsAt job (Source source) = IsOpenedAt job.local.now job.mode source
-  BeginsAt job (Sink sink) = Unit {0}
+  -- a file to send is opened at the path of the job when its transfer begins: it has so many bytes,
+  -- and so many on the wire
+  abbrev pub BeginsAt : Job → ℕ → ℕ → Files (DiskSource F) K → Type 0
+  BeginsAt job bytes wire (Source source) =
+      IsOpenedAt job.local.now job.mode source
+      × HasLength job.mode bytes wire (source_calls source)
+  BeginsAt job bytes wire (Sink sink) = Unit {0}
+
+  -- one pass over it read this text, and what was read of it after that begins with the same text
+  abbrev pub StillHas : List ℕ → Files (DiskSource F) K → Type 0
+  StillHas text (Source source) =
+      (passed (source_calls source) ≡ Some text) × IsPrefixOf text (given (source_calls source))
+  StillHas text (Sink sink) = ⊥
 
   -- these bytes were sent of it
   abbrev pub IsSentFrom : Job → Files (DiskSource F) K → ℕ → List ℕ → Type 0
@@ -53,18 +65,20 @@ module _ {F K : Type 0} where
   IsSentFrom job (Sink sink) count bytes = Unit {0}
 
 module _ {F K : Type 0} (sources : SourceMeaning (DiskSource F)) (sinks : SinkMeaning K) where
-  -- the run of an end of this kind, as a job opens it, from the file of the job on
+  -- the run of an end of this kind, as a job opens it, from the file of the job on; N is its length
   abbrev pub RunsFor : ℕ → Kind → Job → List SocketEvent → State → Files (DiskSource F) K → ℕ
       → Type 0
   RunsFor port kind job before s files count =
-      (run : RunsAs sources sinks port kind job before s files count) × BeginsAt job run.runs.file
+      (run : RunsAs sources sinks port kind job before s files count)
+      × BeginsAt job count run.length run.runs.file
 
   -- the run of a job began with its file
   abbrev pub BeginsFor : {most port : ℕ} {job : Job} {before : List SocketEvent} {s : State}
       {files : Files (DiskSource F) K} {count : ℕ}
       → Transfers sources sinks most port job before s files count → Type 0
-  BeginsFor {job = job} (inl run) = BeginsAt job run.runs.file
-  BeginsFor {job = job} (inr again) = BeginsAt job again.2.runs.file
+  BeginsFor {job = job} {count = count} (inl run) = BeginsAt job count run.length run.runs.file
+  BeginsFor {job = job} {count = count} (inr again) =
+      BeginsAt job count again.2.length again.2.runs.file
 
   -- a job ran from its file on
   abbrev pub TransfersFor : ℕ → ℕ → Job → List SocketEvent → State → Files (DiskSource F) K → ℕ
@@ -100,6 +114,18 @@ module _ {F K : Type 0} (sources : SourceMeaning (DiskSource F)) (sinks : SinkMe
       (transfers : Transfers sources sinks most port job before s files count)
       → BeginsFor transfers → is_complete s.end.position.phase ≡ true
       → IsSentFrom job files count (moved_by sources sinks transfers).bytes
+
+  -- of a text that was not changed since its pass, a put in netascii that is complete sent just the
+  -- wire text, and N is the number of its bytes
+  abbrev pub SendsTheTextWhole : Type 0
+  SendsTheTextWhole =
+      (most port : ℕ) (job : Job) (before : List SocketEvent) (s : State)
+      (files : Files (DiskSource F) K) (count : ℕ) (text : List ℕ)
+      (transfers : Transfers sources sinks most port job before s files count)
+      → BeginsFor transfers → is_complete s.end.position.phase ≡ true → job.mode ≡ Netascii
+      → StillHas text files
+      → ((moved_by sources sinks transfers).bytes ≡ wire_text Netascii text)
+      × (count ≡ length text)
 
 module _ {R F D : Type 0} {reads : read.Ghosts F} {writes : write.Ghosts F}
     {seeks : seek.Ghosts F} {lists : read.Ghosts D}

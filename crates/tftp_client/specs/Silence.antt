@@ -29,8 +29,8 @@ module _ {S K : Type 0} (sources : SourceMeaning S) (sinks : SinkMeaning K) wher
   -- in silence a client whose end is open has waited at most once more than it may retransmit
   abbrev pub WaitsForEachSending : Type 0
   WaitsForEachSending =
-      (port : ℕ) (kind : Kind) (job : Job) (length : ℕ) (before : List SocketEvent) (file : Files S K)
-      (s : State) (files : Files S K)
+      (port : ℕ) (kind : Kind) (job : Job) (length : ℕ) (before : List SocketEvent)
+      (file : Files S K) (s : State) (files : Files S K)
       (run : Converses sources sinks port (begun port (opens kind job length) before) file s files)
       → IsSilent run → s.now < last_moment → IsOpen s.end
       → waits s.events ≤ job.retries + 1 + waits before
@@ -38,8 +38,8 @@ module _ {S K : Type 0} (sources : SourceMeaning S) (sinks : SinkMeaning K) wher
   -- and if it is closed, it timed out
   abbrev pub TimesOut : Type 0
   TimesOut =
-      (port : ℕ) (kind : Kind) (job : Job) (length : ℕ) (before : List SocketEvent) (file : Files S K)
-      (s : State) (files : Files S K) (outcome : Outcome)
+      (port : ℕ) (kind : Kind) (job : Job) (length : ℕ) (before : List SocketEvent)
+      (file : Files S K) (s : State) (files : Files S K) (outcome : Outcome)
       (run : Converses sources sinks port (begun port (opens kind job length) before) file s files)
       → IsSilent run → s.now < last_moment → outcome_of s.end.position.phase ≡ Some outcome
       → outcome ≡ TimedOut

@@ -1,7 +1,7 @@
 //! The command line of `tftp`, and the job that its words name.
 
 ghost use Rattle.std.specs.Prelude.{◌≡◌, ◌≢◌, ◌≤◌, codes, Some, None, map};
-ghost use Rattle.std.specs.Prelude.{IfOk, IfErr, IfSome};
+ghost use Rattle.std.specs.Prelude.{IfOk, IfSome};
 ghost use Rattle.clap.specs.Simple.{App, subcommand_rows_of};
 ghost use Rattle.tftp_wire.specs.declared.mode.Mode.TheVariants.{Octet, Netascii};
 ghost use Rattle.tftp_disk.specs.declared.existing.Existing.TheVariants.{Refused, Replaced};
@@ -9,7 +9,7 @@ ghost use Rattle.tftp_arguments.specs.Fault.{AskForText};
 ghost use Rattle.tftp_arguments.specs.Read.{IsChosen, read_of, text_of};
 ghost use Rattle.tftp_arguments.specs.Rules.{HasRule, IsApp, by_default, within, word_rule};
 ghost use Rattle.tftp_sockets.specs.Address.{Names};
-ghost use Rattle.tftp_client.specs.CommandLine.{AsksAs, NamesJob, kind_named};
+ghost use Rattle.tftp_client.specs.CommandLine.{AsksAs, IfExit, IfRun, NamesJob, kind_named};
 ghost use Rattle.tftp_client.specs.Words.{NamesBy, WordsName, bare_app, get_app, put_app, tftp_app};
 ghost use Rattle.tftp_client.specs.Words.{with_asked, with_options, with_reports};
 
@@ -62,8 +62,14 @@ pub(crate) struct Order<'a> {
     pub(crate) dallies: bool,
 }
 
-/// An order, or the exit status of a command line that orders no transfer.
-pub(crate) type Ordered<'a> = Result<Order<'a>, u8>;
+/// What a command line has the program do.
+#[derive(Clone, Copy)]
+pub(crate) enum CommandLine<'a> {
+    /// Run this order.
+    Run(Order<'a>),
+    /// End with this status: what was to be printed is printed.
+    Exit(u8),
+}
 
 /// Parses the words as a command line of `tftp`.
 pub(crate) fn read_words<'a, P: Print + Eprint, S: AsStr>(
@@ -72,11 +78,11 @@ pub(crate) fn read_words<'a, P: Print + Eprint, S: AsStr>(
     texts: &'a BlockTexts,
     words: &'a [S],
     errors: ErrorOutput,
-) -> anyhow::Result<Ordered<'a>>
-    ensures status { IfOk result (λ ordered. IfErr ordered (λ status. status ≤ 2)) }
-    ensures names { IfOk result (λ ordered. IfOk ordered (λ order.
+) -> anyhow::Result<CommandLine<'a>>
+    ensures status { IfOk result (λ line. IfExit line (λ status. status ≤ 2)) }
+    ensures names { IfOk result (λ line. IfRun line (λ order.
         WordsName (map S.text words.now) order.job)) }
-    ensures text { IfOk result (λ ordered. IfErr ordered (λ status. status ≡ 0
+    ensures text { IfOk result (λ line. IfExit line (λ status. status ≡ 0
         → AskForText tftp_app (map S.text words.now))) }
 {
     match command(alloc, texts) {
@@ -93,17 +99,17 @@ fn match_words<'a, P: Print + Eprint, S: AsStr>(
     command: &mut Command<'a>,
     words: &'a [S],
     errors: ErrorOutput,
-) -> anyhow::Result<Ordered<'a>>
+) -> anyhow::Result<CommandLine<'a>>
     requires { IsApp tftp_app command.old }
-    ensures status { IfOk result (λ ordered. IfErr ordered (λ status. status ≤ 2)) }
-    ensures names { IfOk result (λ ordered. IfOk ordered (λ order.
+    ensures status { IfOk result (λ line. IfExit line (λ status. status ≤ 2)) }
+    ensures names { IfOk result (λ line. IfRun line (λ order.
         WordsName (map S.text words.now) order.job)) }
-    ensures text { IfOk result (λ ordered. IfErr ordered (λ status. status ≡ 0
+    ensures text { IfOk result (λ line. IfExit line (λ status. status ≡ 0
         → AskForText tftp_app (map S.text words.now))) }
 {
     match command.try_get_matches_from_mut(words) {
         Ok(matches) => read_matches(rt, alloc, texts, &matches, errors),
-        Err(error) => Ok(Err(print_usage(rt, &error))),
+        Err(error) => Ok(CommandLine::Exit(print_usage(rt, &error))),
     }
 }
 
@@ -114,20 +120,23 @@ fn read_matches<'a, P: Print + Eprint>(
     texts: &'a BlockTexts,
     matches: &ArgMatches<'a>,
     errors: ErrorOutput,
-) -> anyhow::Result<Ordered<'a>>
-    ensures status { IfOk result (λ ordered. IfErr ordered (λ status. status ≡ 2)) }
-    ensures names { IfOk result (λ ordered. IfOk ordered (λ order.
+) -> anyhow::Result<CommandLine<'a>>
+    ensures status { IfOk result (λ line. IfExit line (λ status. status ≡ 2)) }
+    ensures names { IfOk result (λ line. IfRun line (λ order.
         NamesBy (subcommand_rows_of matches.now) order.job)) }
 {
     let Some((word, matches)) = matches.subcommand() else {
-        return Ok(Err(2));
+        return Ok(CommandLine::Exit(2));
     };
     match job_of(kind_of(word), matches, errors) {
-        Some(job) => Ok(Ok(Order {
+        Some(job) => Ok(CommandLine::Run(Order {
             job,
             dallies: !matches.get_flag("no-dally"),
         })),
-        None => Ok(Err(report_address(rt, alloc, texts, word, matches)?)),
+        None => {
+            let status = report_address(rt, alloc, texts, word, matches)?;
+            Ok(CommandLine::Exit(status))
+        }
     }
 }
 

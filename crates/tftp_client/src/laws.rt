@@ -1,7 +1,7 @@
 //! Laws of every run of a client, over the definitions alone.
 
 ghost use Rattle.tftp_client.specs.Given.{CountsWhatItSent, SendsWhatItsFileGave};
-ghost use Rattle.tftp_client.specs.Sent.{SendsWhatReadsReturned};
+ghost use Rattle.tftp_client.specs.Sent.{SendsTheTextWhole, SendsWhatReadsReturned};
 ghost use Rattle.tftp_client.specs.Silence.{TimesOut, WaitsForEachSending};
 
 use std::io::Read;
@@ -19,21 +19,23 @@ pub fn a_client_alone_times_out<S: Source, K: Sink>()
     ensures outcome { TimesOut S.meaning K.meaning }
 {}
 
-/// What moved in the run of a complete put is what its source gave, in order and each byte once, from
-/// the state in which the run began with it to that in which it ended. In octet N, which its line
-/// has, is the number of these bytes (RFC 1350, section 6).
+/// What moved in the run of a complete put is what its source gave, in order and each byte once,
+/// from the state in which the run began with it to that in which it ended. In octet N, which its
+/// line has, is the number of these bytes (RFC 1350, section 6).
 pub fn a_put_sends_what_its_file_gave<S: Source, K: Sink>()
     ensures given { SendsWhatItsFileGave S.meaning K.meaning }
     ensures counted { CountsWhatItSent S.meaning K.meaning }
 {}
 
-/// What moved in the run of a complete put from a [`DiskSource`] that was opened at LOCAL, and of which
-/// nothing was read before, is a beginning of the wire text of what reads of that file returned, in
-/// order and each byte once: all of it but what was read and not sent yet. In octet N is the number
-/// of these bytes.
+/// What moved in the run of a complete put from a [`DiskSource`] that was opened at LOCAL, and of
+/// which nothing was read before, is a beginning of the wire text of what reads of that file
+/// returned, in order and each byte once: all of it but what was read and not sent yet. In octet N
+/// is the number of these bytes. In netascii it is that of the bytes that one pass over the file
+/// read before; if what was read after it begins with these, their wire text is what moved.
 pub fn a_put_sends_what_reads_returned<F: Read, K: Sink>()
     ensures given { SendsWhatItsFileGave ⟦<DiskSource<F> as Source>⟧.meaning K.meaning }
     ensures reads { SendsWhatReadsReturned ⟦<DiskSource<F> as Source>⟧.meaning K.meaning }
+    ensures text { SendsTheTextWhole ⟦<DiskSource<F> as Source>⟧.meaning K.meaning }
 {
     gives_in_order::<F>();
 }

@@ -10,7 +10,6 @@ pub mod laws;
 mod local;
 mod local_error;
 mod local_names;
-mod measuring;
 mod naming;
 mod outbound;
 mod part_file;

@@ -21,8 +21,8 @@ use tftp_disk::{DiskJournal, Existing, Found, Kind, NamedFolder};
 
 /// Gives the file its name, and syncs the folder.
 ///
-/// `PartReplaced` if another file has its first name. `Exists` if a file has the name and none is to
-/// be replaced, `NotAFile` if what has it is no regular file.
+/// `PartReplaced` if another file has its first name. `Exists` if a file has the name and none is
+/// to be replaced, `NotAFile` if what has it is no regular file.
 pub(crate) fn give_name<R: Files>(
     files: &R,
     journal: &mut DiskJournal,
@@ -127,8 +127,8 @@ fn link<R: Files>(
     tftp_disk::link(files, journal, written.file(), part, local)
 }
 
-/// Syncs the folder of a file with both names. The file keeps its name, or the first one if the sync
-/// fails.
+/// Syncs the folder of a file with both names. The file keeps its name, or the first one if the
+/// sync fails.
 fn keep_one<R: Files>(
     files: &R,
     journal: &mut DiskJournal,
@@ -169,7 +169,8 @@ fn rename_new<R: Files>(
     written: &Written<R::File>,
 ) -> Result<(), LocalError>
     ensures keeps { MayRename (paths_of names.now Refused) (changes journal.old.events)
-        → Keeps (paths_of names.now Refused) (changes journal.old.events) (changes journal.new.events) }
+        → Keeps (paths_of names.now Refused) (changes journal.old.events)
+        (changes journal.new.events) }
     ensures ok { OnOk result (Renames (SyncsFolder folder.now.folder)
         (paths_of names.now Refused) (state_of (calls_of written.now.writer))
         (changes journal.old.events) (changes journal.new.events)) }
@@ -180,8 +181,8 @@ fn rename_new<R: Files>(
     }
 }
 
-/// Replaces the file that has the name, if it is a regular one still, and takes the permissions that
-/// it has by now.
+/// Replaces the file that has the name, if it is a regular one still, and takes the permissions
+/// that it has by now.
 fn replace<R: Files>(
     files: &R,
     journal: &mut DiskJournal,
@@ -213,7 +214,8 @@ fn rename<R: Files>(
     written: &Written<R::File>,
 ) -> Result<(), LocalError>
     ensures keeps { MayRename (paths_of names.now existing) (changes journal.old.events)
-        → Keeps (paths_of names.now existing) (changes journal.old.events) (changes journal.new.events) }
+        → Keeps (paths_of names.now existing) (changes journal.old.events)
+        (changes journal.new.events) }
     ensures ok { OnOk result (Renames (SyncsFolder folder.now.folder)
         (paths_of names.now existing) (state_of (calls_of written.now.writer))
         (changes journal.old.events) (changes journal.new.events)) }
@@ -228,8 +230,8 @@ fn rename<R: Files>(
     }
 }
 
-/// The regular file that has the name and is to be replaced, or `None` if there is no file. It fails
-/// if no file is to be replaced, or it is no regular file.
+/// The regular file that has the name and is to be replaced, or `None` if there is no file. It
+/// fails if no file is to be replaced, or it is no regular file.
 pub(crate) fn replaced_at<R: Files>(
     files: &R,
     journal: &mut DiskJournal,

@@ -3,48 +3,47 @@
 ghost use Rattle.std.specs.Prelude.{◌≡◌, ◌≤◌, true, IfOk, OnOk};
 ghost use Rattle.tftp_wire.specs.declared.mode.Mode.TheVariants.{Octet};
 ghost use Rattle.tftp_disk.specs.DiskSource.{source_calls};
-ghost use Rattle.tftp_client.specs.Measuring.{StaysOpen};
-ghost use Rattle.tftp_client.specs.Outbound.{IsLongAs, is_at_start};
+ghost use Rattle.tftp_disk.specs.Measuring.{StaysOpen, calls_on};
+ghost use Rattle.tftp_client.specs.Outbound.{HasLength, IsLongAs, IsPassed, is_at_start};
 ghost use Rattle.tftp_client.specs.Sent.{IsOpenedAt};
 
 use crate::local::LocalSource;
 use crate::local_error::LocalError;
-use crate::measuring::count_netascii;
 use std::alloc::Global;
 use std::fs::OpenFile;
 use std::io::{Read, Seek, SeekFrom};
 use std::rt::Files;
-use tftp_disk::{DiskFile, DiskJournal, DiskSource, Kind};
+use tftp_disk::{DiskFile, DiskJournal, DiskSource, Kind, TextLength, count_netascii};
 use tftp_file::MAX_WIRE;
 use tftp_wire::Mode;
 
 /// The capacity of the read buffer, in bytes. Blocks of this size and more bypass it.
 const READ_BUFFER: usize = 32_768;
 
-/// A file to send, and its lengths.
+/// A file to send, and its length.
 #[derive(Drop)]
 pub(crate) struct Outbound<F: Read + Drop> {
     pub(crate) source: LocalSource<F>,
-    /// The length of the file, in bytes.
-    pub(crate) host_bytes: u64,
-    /// The length of its text on the wire, in bytes; `MAX_WIRE + 1` if it exceeds `MAX_WIRE`.
-    pub(crate) wire_bytes: u64,
+    /// On the wire `MAX_WIRE + 1` if it exceeds `MAX_WIRE`.
+    pub(crate) length: TextLength,
 }
 
 impl<F: Read + Seek + OpenFile + Drop> Outbound<F> {
     /// Opens a regular file to send, at its start. Any other kind is refused before it is opened,
-    /// since opening a FIFO would block. The length is that of the open file; a file that states
-    /// none and has a byte is refused, as many of `/proc` are.
+    /// since opening a FIFO would block. The length is that of the open file, as the system says,
+    /// or in netascii as one pass over it counts; a file that states none and has a byte is
+    /// refused, as many of `/proc` are.
     pub(crate) fn open<R: Files<File = F>>(
         files: &R,
         alloc: Global,
         local: &str,
         mode: Mode,
     ) -> Result<Outbound<F>, LocalError>
-        ensures octet { IfOk result (λ outbound. mode ≡ Octet → outbound.wire_bytes ≤ MAX_WIRE
-            → outbound.host_bytes ≡ outbound.wire_bytes) }
         ensures opened { IfOk result (λ outbound. IsOpenedAt local.now mode outbound.source) }
-        ensures told { IfOk result (λ outbound. IsLongAs outbound.host_bytes
+        ensures told { IfOk result (λ outbound. mode ≡ Octet → IsLongAs outbound.length.bytes
+            (source_calls outbound.source)) }
+        ensures long { IfOk result (λ outbound. outbound.length.wire_bytes ≤ MAX_WIRE
+            → HasLength mode outbound.length.bytes outbound.length.wire_bytes
             (source_calls outbound.source)) }
     {
         let mut journal = DiskJournal::new();
@@ -54,11 +53,10 @@ impl<F: Read + Seek + OpenFile + Drop> Outbound<F> {
         let mut file = tftp_disk::open(files, &mut journal, local)?;
         let host_bytes = file.examine()?.bytes;
         check_known(&mut file, host_bytes)?;
-        let wire_bytes = wire_bytes(&mut file, mode, host_bytes)?;
+        let length = text_length(&mut file, mode, host_bytes)?;
         Ok(Outbound {
             source: DiskSource::new(alloc, file, mode, READ_BUFFER)?,
-            host_bytes,
-            wire_bytes,
+            length,
         })
     }
 }
@@ -79,43 +77,59 @@ fn check_known<F: Read>(file: &mut DiskFile<F>, host_bytes: u64) -> Result<(), L
     }
 }
 
-/// The length of a file's text on the wire, in bytes; `MAX_WIRE + 1` if it exceeds `MAX_WIRE`. In
-/// octet it is the file's length, and nothing is read.
-fn wire_bytes<F: Read + Seek + Drop>(
+/// The length of a file of which the system said so many bytes. In octet both lengths are that, and
+/// nothing is read. On the wire it is `MAX_WIRE + 1` if it exceeds `MAX_WIRE`.
+fn text_length<F: Read + Seek + Drop>(
     file: &mut DiskFile<F>,
     mode: Mode,
     host_bytes: u64,
-) -> Result<u64, LocalError>
-    ensures octet { IfOk result (λ count. mode ≡ Octet → count ≤ MAX_WIRE
-        → host_bytes ≡ count) }
-    ensures start { is_at_start file.old.journal.events ≡ true
-        → OnOk result (is_at_start file.new.journal.events ≡ true) }
+) -> Result<TextLength, LocalError>
+    requires told { IsLongAs host_bytes (calls_on file.old) }
+    requires start { is_at_start (calls_on file.old) ≡ true }
+    ensures start { OnOk result (is_at_start (calls_on file.new) ≡ true) }
+    ensures told { IfOk result (λ length. mode ≡ Octet
+        → IsLongAs length.bytes (calls_on file.new)) }
+    ensures long { IfOk result (λ length. length.wire_bytes ≤ MAX_WIRE
+        → HasLength mode length.bytes length.wire_bytes (calls_on file.new)) }
     ensures stays { StaysOpen file.old file.new }
 {
     match mode {
-        Mode::Octet => Ok(host_bytes.min(MAX_WIRE + 1)),
+        Mode::Octet => Ok(TextLength {
+            bytes: host_bytes,
+            wire_bytes: host_bytes.min(MAX_WIRE + 1),
+        }),
         Mode::Netascii => measure(file, host_bytes),
     }
 }
 
-/// The same in netascii. The file is read once, unless it is longer itself, and is then at its start
-/// again.
+/// The same in netascii. The file is read once, unless it is too long by its own length, and is
+/// then at its start again.
+#[tactic(auto, using(crate::proofs::SentFile::is_passed))]
 fn measure<F: Read + Seek + Drop>(
     file: &mut DiskFile<F>,
     host_bytes: u64,
-) -> Result<u64, LocalError>
-    ensures start { is_at_start file.old.journal.events ≡ true
-        → OnOk result (is_at_start file.new.journal.events ≡ true) }
+) -> Result<TextLength, LocalError>
+    requires { is_at_start (calls_on file.old) ≡ true }
+    ensures start { OnOk result (is_at_start (calls_on file.new) ≡ true) }
+    ensures counted { IfOk result (λ length. length.wire_bytes ≤ MAX_WIRE
+        → IsPassed length.bytes length.wire_bytes (calls_on file.new)) }
     ensures stays { StaysOpen file.old file.new }
 {
+    let too_long = TextLength {
+        bytes: host_bytes,
+        wire_bytes: MAX_WIRE + 1,
+    };
     if host_bytes > MAX_WIRE {
-        return Ok(MAX_WIRE + 1);
+        return Ok(too_long);
     }
-    let Ok(measured) = count_netascii(file) else {
+    let Ok(counted) = count_netascii(file) else {
         return Err(LocalError::Unreadable);
     };
-    match file.seek(SeekFrom::Start(0)) {
-        Ok(_) => Ok(measured.unwrap_or(MAX_WIRE + 1)),
-        Err(_) => Err(LocalError::Unreadable),
+    let Ok(_) = file.seek(SeekFrom::Start(0)) else {
+        return Err(LocalError::Unreadable);
+    };
+    match counted {
+        Some(length) => Ok(length),
+        None => Ok(too_long),
     }
 }

@@ -5,6 +5,7 @@ ghost use Rattle.tftp_lines.specs.ClientOutcome.{end_text, status_of};
 ghost use Rattle.tftp_lines.specs.declared.client_outcome.ClientOutcome.TheVariants as ends;
 ghost use Rattle.tftp_sockets.specs.Journal.SocketEvent.{Printed as Line};
 ghost use Rattle.tftp_sockets.specs.Quiet.{waits as waits_in};
+ghost use Rattle.tftp_client.specs.CommandLine.{IfExit, IfRun};
 ghost use Rattle.tftp_client.specs.Conversation.{state_of};
 ghost use Rattle.tftp_client.specs.Converses.{most_waits};
 ghost use Rattle.tftp_client.specs.OnDisk.{StoresWords};
@@ -13,7 +14,7 @@ ghost use Rattle.tftp_client.specs.Sent.{DoesOrder, DoesWords, SendsWords};
 
 use crate::cause::CauseLine;
 use crate::client_udp::ClientUdp;
-use crate::command_line::{BlockTexts, ErrorOutput, Order, Ordered, read_words};
+use crate::command_line::{BlockTexts, CommandLine, ErrorOutput, Order, read_words};
 use crate::local::{LocalFile, LocalSource};
 use crate::transfer::{Completed, Failure, Job, MAX_WAITS, transfer};
 use std::alloc::Global;
@@ -116,30 +117,30 @@ fn transfer_texts<'a, R: Files + Clone + Drop + ClientUdp + Clock + Print + Epri
     ensures waits { waits_in journal.new.events ≤ most_waits journal.old.events }
 {
     match read_words(rt, alloc, texts, words, errors) {
-        Ok(ordered) => Ok(run_ordered(rt, alloc, &ordered, journal)),
+        Ok(line) => Ok(run_command_line(rt, alloc, &line, journal)),
         Err(error) => Err(error),
     }
 }
 
-/// Runs an order. Without one, returns the status.
-fn run_ordered<R: Files + Clone + Drop + ClientUdp + Clock + Print + Eprint>(
+/// Does what the command line has the program do, and returns the status.
+fn run_command_line<R: Files + Clone + Drop + ClientUdp + Clock + Print + Eprint>(
     rt: &R,
     alloc: Global,
-    ordered: &Ordered<'_>,
+    line: &CommandLine<'_>,
     journal: &mut Journal,
 ) -> u8
-    requires { IfErr ordered.now (λ status. status ≤ 2) }
+    requires { IfExit line.now (λ status. status ≤ 2) }
     ensures status { result ≤ 2 }
-    ensures runs { IfOk ordered.now (λ order. DoesOrder
+    ensures runs { IfRun line.now (λ order. DoesOrder
         ⟦<LocalSource<R::File> as Source>⟧.meaning ⟦<LocalFile<R> as Sink>⟧.meaning
         order.job result journal.old.events journal.new.events) }
-    ensures none { IfErr ordered.now (λ _. journal.new.events ≡ journal.old.events) }
-    ensures same { IfErr ordered.now (λ status. result ≡ status) }
+    ensures none { IfExit line.now (λ _. journal.new.events ≡ journal.old.events) }
+    ensures same { IfExit line.now (λ status. result ≡ status) }
     ensures waits { waits_in journal.new.events ≤ most_waits journal.old.events }
 {
-    match ordered {
-        Ok(order) => run_order(rt, alloc, order, journal),
-        Err(status) => *status,
+    match line {
+        CommandLine::Run(order) => run_order(rt, alloc, order, journal),
+        CommandLine::Exit(status) => *status,
     }
 }
 

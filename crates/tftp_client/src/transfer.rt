@@ -1,30 +1,35 @@
 //! A transfer over UDP, and a second one without options if the server refuses them.
 
+mod asking;
 mod completed;
 mod conversation;
 mod failure;
+mod notes;
 
-ghost use Rattle.std.specs.Prelude.{ℕ, ◌≡◌, ◌≤◌, ◌+◌, IfOk, IfErr, OnOk, IsTrue};
+ghost use Rattle.std.specs.Prelude.{ℕ, ◌≡◌, ◌≤◌, ◌+◌, IfOk, IfErr, IsTrue};
 ghost use Rattle.tftp_negotiate.specs.declared.known.Kind.TheVariants.{Read, Write};
+ghost use Rattle.tftp_disk.specs.DiskSource.{source_calls};
 ghost use Rattle.tftp_ends.specs.Files.{AreFilesOf};
 ghost use Rattle.tftp_lines.specs.ClientOutcome.{status_of};
 ghost use Rattle.tftp_lines.specs.declared.client_outcome.ClientOutcome.TheVariants as ends;
 ghost use Rattle.tftp_sockets.specs.Quiet.{waits as waits_in};
-ghost use Rattle.tftp_client.specs.Conversation.{IsReady, any_address, state_of};
-ghost use Rattle.tftp_client.specs.Converses.{Converses, IsOpen, deadline_at};
+ghost use Rattle.tftp_client.specs.Conversation.{IsReady, state_of};
+ghost use Rattle.tftp_client.specs.Converses.{Converses, IsOpen};
 ghost use Rattle.tftp_client.specs.OnDisk.{IsFor, job_paths};
+ghost use Rattle.tftp_client.specs.Outbound.{HasLength};
 ghost use Rattle.tftp_client.specs.Sent.{BeginsAt, IsOpenedAt, RunsFor, TransfersFor};
 ghost use Rattle.tftp_client.specs.Stored.{count_of, stored};
 ghost use Rattle.tftp_client.specs.Taken.{nothing};
 ghost use Rattle.tftp_client.specs.Written.{paths_for, paths_of};
 ghost use Rattle.tftp_client.specs.Runs.{FailsBy, FailsEnd, FailsTransfer, MayFallBack, Runs};
 ghost use Rattle.tftp_client.specs.Runs.{Stops};
-ghost use Rattle.tftp_client.specs.Runs.{IsFileOf, MayOpen, begun, measured, opens, plain, sent_from};
+ghost use Rattle.tftp_client.specs.Runs.{IsFileOf, MayOpen, opens, plain};
 
 use crate::cause::Cause;
 use crate::client_udp::ClientUdp;
 use crate::local::{LocalFile, LocalSource, read_error};
 use crate::outbound::Outbound;
+use crate::transfer::asking::{ask_to_get, ask_to_put};
 pub(crate) use crate::transfer::completed::Completed;
 use crate::transfer::conversation::Conversation;
 pub(crate) use crate::transfer::conversation::{MAX_WAITS, Progress};
@@ -35,11 +40,11 @@ use std::io::Read;
 use std::rt::Files as FileSystem;
 use std::time::Clock;
 use tftp_disk::Existing;
-use tftp_ends::{End, EndConfig, Endpoint, Outcome};
+use tftp_ends::{EndConfig, Endpoint, Outcome};
 use tftp_file::{Files, MAX_WIRE, Sink, Source};
 use tftp_lines::ClientOutcome;
 use tftp_negotiate::{Asked, Kind, Limits, MAX_BLOCK};
-use tftp_sockets::{ClientSocket, Journal};
+use tftp_sockets::Journal;
 use tftp_wire::Mode;
 
 /// What `tftp` is to transfer.
@@ -241,96 +246,6 @@ fn get_into<N: ClientUdp + Clock + Eprint, R: FileSystem + Drop>(
     }
 }
 
-/// Sends the read request.
-fn ask_to_get<N: ClientUdp + Clock>(
-    rt: &N,
-    alloc: Global,
-    job: &Job<'_>,
-    journal: &mut Journal,
-) -> Result<Conversation, Failure>
-    ensures begins { IfOk result (λ conversation. state_of conversation journal.new.events
-        ≡ begun conversation.socket.port (opens Read job.now 0) journal.old.events) }
-    ensures may { OnOk result (MayOpen Read job.now 0) }
-    ensures err { IfErr result (λ failure. (status_of failure.end ≡ 2)
-        × (journal.new.events ≡ journal.old.events)) }
-{
-    let socket = bind_socket(rt)?;
-    let mut out = Vec::new(alloc);
-    let opened = End::get(
-        alloc,
-        job.server,
-        job.name.as_bytes(),
-        job.mode,
-        &job.asked,
-        &job.config(),
-        &mut out,
-    );
-    match opened {
-        Ok((end, _)) => {
-            let request = out.as_slice();
-            let opened = Opened {
-                socket,
-                end,
-                request,
-                total: None,
-            };
-            begin(rt, alloc, journal, job, opened)
-        }
-        Err(fault) => Err(Failure::of_opening(fault, job.kind)),
-    }
-}
-
-/// Binds the socket of a transfer, to every address of this host and a port chosen by the system.
-fn bind_socket<N: ClientUdp>(net: &N) -> Result<ClientSocket, Failure>
-    ensures ip { IfOk result (λ socket. socket.ip ≡ any_address) }
-    ensures err { IfErr result (λ failure. status_of failure.end ≡ 2) }
-{
-    match net.bind([0, 0, 0, 0]) {
-        Ok(socket) => Ok(socket),
-        Err(error) => Err(Failure::of_socket(error)),
-    }
-}
-
-/// An end that opened, before its request is sent.
-#[derive(Drop)]
-struct Opened<'a> {
-    socket: ClientSocket,
-    end: End,
-    request: &'a [u8],
-    /// The length of the file in bytes, if known.
-    total: Option<u64>,
-}
-
-/// Sends the request of an end, and returns the conversation.
-fn begin<C: Clock>(
-    clock: &C,
-    alloc: Global,
-    journal: &mut Journal,
-    job: &Job<'_>,
-    opened: Opened<'_>,
-) -> Result<Conversation, Failure>
-    ensures begins { IfOk result (λ conversation. state_of conversation journal.new.events
-        ≡ sent_from conversation.socket.port opened.entry.end job.now.server
-        opened.entry.request.now journal.old.events) }
-    ensures err { IfErr result (λ failure. (status_of failure.end ≡ 2)
-        × (journal.new.events ≡ journal.old.events)) }
-{
-    let Opened {
-        socket,
-        end,
-        request,
-        total,
-    } = opened;
-    match Conversation::new(clock, alloc, socket, end, (job.kind, job.progress), total) {
-        Ok(mut conversation) => {
-            let sent = conversation.socket.send(journal, job.server, request);
-            conversation.unsent = sent.err();
-            Ok(conversation)
-        }
-        Err(_) => Err(Failure::memory()),
-    }
-}
-
 /// Sends a file.
 fn put<R: FileSystem + Clone + Drop + ClientUdp + Clock + Eprint>(
     rt: &R,
@@ -366,83 +281,41 @@ fn put_from<R: FileSystem + Drop + ClientUdp + Clock + Eprint>(
     waits: &mut u32,
     journal: &mut Journal,
 ) -> Result<Completed<R>, Failure>
-    requires { IsOpenedAt job.now.local.now job.now.mode outbound.source }
+    requires opened { IsOpenedAt job.now.local.now job.now.mode outbound.source }
+    requires long { outbound.length.wire_bytes ≤ MAX_WIRE → HasLength job.now.mode
+        outbound.length.bytes outbound.length.wire_bytes (source_calls outbound.source) }
     ensures ok { IfOk result (λ completed. (runs : Runs
         ⟦<LocalSource<R::File> as Source>⟧.meaning ⟦<LocalFile<R> as Sink>⟧.meaning
-        completed.conversation.socket.port (opens Write job.now outbound.wire_bytes)
+        completed.conversation.socket.port (opens Write job.now outbound.length.wire_bytes)
         journal.old.events (state_of completed.conversation journal.new.events) completed.files)
-        × (completed.count ≡ count_of outbound.host_bytes completed.files)
-        × (outbound.wire_bytes ≤ MAX_WIRE) × MayOpen Write job.now outbound.wire_bytes
+        × (completed.count ≡ count_of outbound.length.bytes completed.files)
+        × MayOpen Write job.now outbound.length.wire_bytes
         × IsFileOf ⟦<LocalSource<R::File> as Source>⟧.meaning
         ⟦<LocalFile<R> as Sink>⟧.meaning Write runs.file
-        × BeginsAt job.now runs.file) }
+        × HasLength job.now.mode outbound.length.bytes outbound.length.wire_bytes
+        (source_calls outbound.source)
+        × BeginsAt job.now outbound.length.bytes outbound.length.wire_bytes runs.file) }
     ensures local { IfOk result (λ completed. IsFor job.now completed.files) }
     ensures err { IfErr result (λ failure. FailsEnd
         ⟦<LocalSource<R::File> as Source>⟧.meaning ⟦<LocalFile<R> as Sink>⟧.meaning
-        (waits.old + waits_in journal.old.events) Write job.now outbound.wire_bytes
+        (waits.old + waits_in journal.old.events) Write job.now outbound.length.wire_bytes
         journal.old.events journal.new.events failure.end) }
     ensures counted { waits.new + waits_in journal.new.events
         ≡ waits.old + waits_in journal.old.events }
 {
-    match ask_to_put(rt, alloc, job, outbound.wire_bytes, journal) {
+    match ask_to_put(rt, alloc, job, outbound.length.wire_bytes, journal) {
         Ok(conversation) => {
             let files: Files<LocalSource<R::File>, LocalFile<R>> = Files::Source(outbound.source);
-            converse(rt, conversation, files, outbound.host_bytes, waits, journal)
+            converse(
+                rt,
+                conversation,
+                files,
+                outbound.length.bytes,
+                waits,
+                journal,
+            )
         }
         Err(failure) => Err(failure),
-    }
-}
-
-/// Sends the write request for a file of `length` bytes on the wire.
-fn ask_to_put<N: ClientUdp + Clock>(
-    rt: &N,
-    alloc: Global,
-    job: &Job<'_>,
-    length: u64,
-    journal: &mut Journal,
-) -> Result<Conversation, Failure>
-    ensures begins { IfOk result (λ conversation. state_of conversation journal.new.events
-        ≡ begun conversation.socket.port (opens Write job.now length) journal.old.events) }
-    ensures fits { OnOk result (length ≤ MAX_WIRE) }
-    ensures may { OnOk result (MayOpen Write job.now length) }
-    ensures err { IfErr result (λ failure. (status_of failure.end ≡ 2)
-        × (journal.new.events ≡ journal.old.events)) }
-{
-    let socket = bind_socket(rt)?;
-    let asked = measured(&job.asked, length);
-    let mut out = Vec::new(alloc);
-    let opened = End::put(
-        alloc,
-        job.server,
-        job.name.as_bytes(),
-        job.mode,
-        &asked,
-        length,
-        &job.config(),
-        &mut out,
-    );
-    match opened {
-        Ok((end, _)) => {
-            let request = out.as_slice();
-            let opened = Opened {
-                socket,
-                end,
-                request,
-                total: Some(length),
-            };
-            begin(rt, alloc, journal, job, opened)
-        }
-        Err(fault) => Err(Failure::of_opening(fault, job.kind)),
-    }
-}
-
-/// The requested options, with `length` as the value of a requested `tsize`.
-fn measured(asked: &Asked, length: u64) -> Asked
-    ensures { result ≡ measured asked.now length }
-{
-    Asked {
-        tsize: asked.tsize.map(|_| length),
-        ..*asked
     }
 }
 
@@ -467,8 +340,8 @@ fn converse<C: Clock + Eprint, R: FileSystem + Drop>(
         × (completed.count ≡ count_of sent completed.files)) }
     ensures err { IfErr result (λ failure. Stops
         ⟦<LocalSource<R::File> as Source>⟧.meaning ⟦<LocalFile<R> as Sink>⟧.meaning
-        (waits.old + waits_in journal.old.events) conversation.socket.port (state_of conversation journal.old.events) files
-        journal.new.events failure.end) }
+        (waits.old + waits_in journal.old.events) conversation.socket.port
+        (state_of conversation journal.old.events) files journal.new.events failure.end) }
     ensures counted { waits.new + waits_in journal.new.events
         ≡ waits.old + waits_in journal.old.events }
 {

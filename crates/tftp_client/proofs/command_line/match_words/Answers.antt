@@ -4,6 +4,7 @@ use Rattle.clap.specs.Faults.{fault_of, is_simple_and_free}
 use Rattle.clap.specs.Kinds.{HasKind}
 use Rattle.clap.specs.Simple.{App, HasMatchesOf}
 use Rattle.clap.specs.Walk.{Row, Text}
+use Rattle.tftp_client.specs.CommandLine.{IfRun}
 use Rattle.tftp_client.specs.Words.{NamesBy, tftp_app}
 use Rattle.tftp_client.proofs.Commands.{free, simple}
 use Rattle.tftp_client.proofs.command_line.match_words.Goals as goal
@@ -13,7 +14,7 @@ returns-in-Ok-clause-names g c =
     let At : App → Type 0 = λ a. HasMatchesOf a (map g.S.AsStr.text c.args.words.now) c.in-Ok.matches in
     let known = subst At c.requires.app_is c.in-Ok.ensures.ok.2 in
     let Names : Option (Text × List Row) → Type 0 = λ o.
-    IfOk c.read_matches.result (λ ordered. IfOk ordered (λ order. NamesBy o order.job)) in
+    IfOk c.read_matches.result (λ line. IfRun line (λ order. NamesBy o order.job)) in
     subst Names (known simple).1 c.read_matches.ensures.names
 
 pub returns-in-Err-clause-text : goal.returns-in-Err-clause-text

@@ -10,8 +10,15 @@ use Rattle.tftp_client.proofs.transfer.put_from.Goals as goal
 
 pub returns-in-Ok-clause-ok : goal.returns-in-Ok-clause-ok
 returns-in-Ok-clause-ok g c =
-    IfOk-weaker c.converse.result _ _ (λ completed ran.
-    (runs _ _ c.in-Ok.ensures.begins tt (ran.0, ran.1), ran.2, c.in-Ok.ensures.fits, c.in-Ok.ensures.may, tt, c.requires)) c.converse.ensures.ok
+    IfOk-weaker c.converse.result _ _ (λ completed ran. (
+      runs _ _ c.in-Ok.ensures.begins tt (ran.0, ran.1),
+      ran.2,
+      c.in-Ok.ensures.may,
+      tt,
+      c.requires.long c.in-Ok.ensures.fits,
+      (c.requires.opened, c.requires.long c.in-Ok.ensures.fits),
+    ))
+    c.converse.ensures.ok
 
 pub returns-in-Ok-clause-local : goal.returns-in-Ok-clause-local
 returns-in-Ok-clause-local g c =
@@ -22,17 +29,17 @@ returns-in-Ok-clause-local g c =
 pub returns-in-Ok-clause-err : goal.returns-in-Ok-clause-err
 returns-in-Ok-clause-err g c =
     if_err c.converse.result _ _ (λ failure stopped. fails _ _ c.args.waits.now failure.end Write c.args.job.now
-    c.args.outbound.wire_bytes _ _ _ c.in-Ok.ensures.may c.in-Ok.ensures.begins stopped tt)
+    c.args.outbound.length.wire_bytes _ _ _ c.in-Ok.ensures.may c.in-Ok.ensures.begins stopped tt)
     c.converse.ensures.err
 
 pub converse-requires-clause-not_closed : goal.converse-requires-clause-not_closed
 converse-requires-clause-not_closed g c =
     begun_open {s = state_of c.in-Ok.conversation c.ask_to_put.new.journal.events} c.in-Ok.conversation.socket.port
-    (opens Write c.args.job.now c.args.outbound.wire_bytes) c.args.journal.now.events
-    c.in-Ok.ensures.begins (opens_open Write c.args.job.now c.args.outbound.wire_bytes)
+    (opens Write c.args.job.now c.args.outbound.length.wire_bytes) c.args.journal.now.events
+    c.in-Ok.ensures.begins (opens_open Write c.args.job.now c.args.outbound.length.wire_bytes)
 
 pub converse-requires-clause-ready : goal.converse-requires-clause-ready
 converse-requires-clause-ready g c is_open due =
     begun_ready {s = state_of c.in-Ok.conversation c.ask_to_put.new.journal.events} c.in-Ok.conversation.socket.port
-    (opens Write c.args.job.now c.args.outbound.wire_bytes) c.args.journal.now.events
+    (opens Write c.args.job.now c.args.outbound.length.wire_bytes) c.args.journal.now.events
     c.in-Ok.ensures.begins

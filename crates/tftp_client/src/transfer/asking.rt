@@ -1,0 +1,160 @@
+//! The request of a transfer, by which its end opens.
+
+ghost use Rattle.std.specs.Prelude.{ℕ, ◌≡◌, ◌≤◌, IfOk, IfErr, OnOk};
+ghost use Rattle.tftp_negotiate.specs.declared.known.Kind.TheVariants.{Read, Write};
+ghost use Rattle.tftp_lines.specs.ClientOutcome.{status_of};
+ghost use Rattle.tftp_client.specs.Conversation.{any_address, state_of};
+ghost use Rattle.tftp_client.specs.Runs.{MayOpen, begun, measured, opens, sent_from};
+
+use crate::client_udp::ClientUdp;
+use crate::transfer::conversation::Conversation;
+use crate::transfer::{Failure, Job};
+use std::alloc::Global;
+use std::time::Clock;
+use tftp_ends::End;
+use tftp_file::MAX_WIRE;
+use tftp_negotiate::Asked;
+use tftp_sockets::{ClientSocket, Journal};
+
+/// Sends the read request.
+pub(super) fn ask_to_get<N: ClientUdp + Clock>(
+    rt: &N,
+    alloc: Global,
+    job: &Job<'_>,
+    journal: &mut Journal,
+) -> Result<Conversation, Failure>
+    ensures begins { IfOk result (λ conversation. state_of conversation journal.new.events
+        ≡ begun conversation.socket.port (opens Read job.now 0) journal.old.events) }
+    ensures may { OnOk result (MayOpen Read job.now 0) }
+    ensures err { IfErr result (λ failure. (status_of failure.end ≡ 2)
+        × (journal.new.events ≡ journal.old.events)) }
+{
+    let socket = bind_socket(rt)?;
+    let mut out = Vec::new(alloc);
+    let opened = End::get(
+        alloc,
+        job.server,
+        job.name.as_bytes(),
+        job.mode,
+        &job.asked,
+        &job.config(),
+        &mut out,
+    );
+    match opened {
+        Ok((end, _)) => {
+            let request = out.as_slice();
+            let opened = Opened {
+                socket,
+                end,
+                request,
+                total: None,
+            };
+            begin(rt, alloc, journal, job, opened)
+        }
+        Err(fault) => Err(Failure::of_opening(fault, job.kind)),
+    }
+}
+
+/// Sends the write request for a file of `length` bytes on the wire.
+pub(super) fn ask_to_put<N: ClientUdp + Clock>(
+    rt: &N,
+    alloc: Global,
+    job: &Job<'_>,
+    length: u64,
+    journal: &mut Journal,
+) -> Result<Conversation, Failure>
+    ensures begins { IfOk result (λ conversation. state_of conversation journal.new.events
+        ≡ begun conversation.socket.port (opens Write job.now length) journal.old.events) }
+    ensures fits { OnOk result (length ≤ MAX_WIRE) }
+    ensures may { OnOk result (MayOpen Write job.now length) }
+    ensures err { IfErr result (λ failure. (status_of failure.end ≡ 2)
+        × (journal.new.events ≡ journal.old.events)) }
+{
+    let socket = bind_socket(rt)?;
+    let asked = measured(&job.asked, length);
+    let mut out = Vec::new(alloc);
+    let opened = End::put(
+        alloc,
+        job.server,
+        job.name.as_bytes(),
+        job.mode,
+        &asked,
+        length,
+        &job.config(),
+        &mut out,
+    );
+    match opened {
+        Ok((end, _)) => {
+            let request = out.as_slice();
+            let opened = Opened {
+                socket,
+                end,
+                request,
+                total: Some(length),
+            };
+            begin(rt, alloc, journal, job, opened)
+        }
+        Err(fault) => Err(Failure::of_opening(fault, job.kind)),
+    }
+}
+
+/// The requested options, with `length` as the value of a requested `tsize`.
+fn measured(asked: &Asked, length: u64) -> Asked
+    ensures { result ≡ measured asked.now length }
+{
+    Asked {
+        tsize: asked.tsize.map(|_| length),
+        ..*asked
+    }
+}
+
+/// Binds the socket of a transfer, to every address of this host and a port chosen by the system.
+fn bind_socket<N: ClientUdp>(net: &N) -> Result<ClientSocket, Failure>
+    ensures ip { IfOk result (λ socket. socket.ip ≡ any_address) }
+    ensures err { IfErr result (λ failure. status_of failure.end ≡ 2) }
+{
+    match net.bind([0, 0, 0, 0]) {
+        Ok(socket) => Ok(socket),
+        Err(error) => Err(Failure::of_socket(error)),
+    }
+}
+
+/// An end that opened, before its request is sent.
+#[derive(Drop)]
+struct Opened<'a> {
+    socket: ClientSocket,
+    end: End,
+    request: &'a [u8],
+    /// The length of the file in bytes, if known.
+    total: Option<u64>,
+}
+
+/// Sends the request of an end, and returns the conversation.
+fn begin<C: Clock>(
+    clock: &C,
+    alloc: Global,
+    journal: &mut Journal,
+    job: &Job<'_>,
+    opened: Opened<'_>,
+) -> Result<Conversation, Failure>
+    ensures begins { IfOk result (λ conversation. state_of conversation journal.new.events
+        ≡ sent_from conversation.socket.port opened.entry.end job.now.server
+        opened.entry.request.now journal.old.events) }
+    ensures err { IfErr result (λ failure. (status_of failure.end ≡ 2)
+        × (journal.new.events ≡ journal.old.events)) }
+{
+    let Opened {
+        socket,
+        end,
+        request,
+        total,
+    } = opened;
+    match Conversation::new(clock, alloc, socket, end, (job.kind, job.progress), total) {
+        Ok(mut conversation) => {
+            let sent = conversation.socket.send(journal, job.server, request);
+            conversation.unsent = sent.err();
+            Ok(conversation)
+        }
+        Err(_) => Err(Failure::memory()),
+    }
+}
