@@ -1,6 +1,6 @@
 -- In the end state of the journals what a receiver was handed is what its peer's file gave: the invariant by the run
 -- says it of a text that is padded, and no padding is part of what is claimed.
-use Rattle.std.proofs.Common.{◌≡◌, ℕ, true, false, List, [], ◌++◌, length, Some, None, refl, sym, ap, ◌∙◌, subst, inl}
+use Rattle.std.proofs.Common.{◌≡◌, ℕ, Bool, true, false, List, [], ◌++◌, length, Some, None, refl, sym, ap, ◌∙◌, subst, inl}
 use Rattle.std.proofs.Common.{inr}
 use Rattle.std.specs.Prelude.{◌≢◌, if◌then◌else◌, not, slice_get, option_map}
 use Rattle.std.proofs.lemmas.Bool.{true≢false}
@@ -26,9 +26,10 @@ use Rattle.tftp_rules.specs.ViewSafety.{IsAmong, IsSafeViews, safety_view}
 use Rattle.tftp_rules.proofs.ViewSafe.{shown_safe}
 use Rattle.tftp_promises.specs.ClientRuns.{moved_in}
 use Rattle.tftp_promises.specs.AnyFiles.{WasGivenBy, HasGot, HasPut, IsEnd, IsOurs, KeepAnyFiles}
-use Rattle.tftp_promises.specs.AnyFiles.{ProgramEnd, Serves, WasGiven, WasOpened, client_end, has_of, peer_of}
+use Rattle.tftp_promises.specs.AnyFiles.{ProgramEnd, ServesClient, WasGiven, WasOpened, WasTaken, client_end, has_of, peer_of}
 use Rattle.tftp_promises.specs.AnyFiles.{safety_of, transfer_end}
 use Rattle.tftp_promises.specs.Arrived.{ViewsEnd}
+use Rattle.tftp_promises.specs.Drafts.{HadStore, StoreBegan, TookSince}
 use Rattle.tftp_promises.specs.Given.{GaveSince, StoreOpened}
 use Rattle.tftp_promises.specs.Moved.{Moved}
 use Rattle.tftp_promises.specs.Openings.{ArePortsFresh, moved_at, opened_at}
@@ -39,7 +40,7 @@ use Rattle.tftp_promises.specs.Snapshots.{Has_asked, all_of}
 use Rattle.tftp_promises.proofs.ClientRoles.{run_role}
 use Rattle.tftp_promises.proofs.ClientsServed.{one_there, served_by}
 use Rattle.tftp_promises.proofs.Invariant.{By_run, ClientKept, GaveSo, HasFile, HasStored, IsGiven, IsKept, IsOpened}
-use Rattle.tftp_promises.proofs.Invariant.{IsViewed, TookSo}
+use Rattle.tftp_promises.proofs.Invariant.{IsTaken, IsViewed, TookSo}
 use Rattle.tftp_promises.proofs.Invariant.{length_of}
 use Rattle.tftp_promises.proofs.KeptShown.{receiver_text, text_if, views_end}
 use Rattle.tftp_promises.proofs.KeptViews.{view_there}
@@ -467,6 +468,54 @@ module _ {S F D G K : Type 0} {stores : StoreMeaning S D} {sources : SourceMeani
       let h = (kept 0).transfers port transfer a opened in
       given_of transfer a h.end h.address h.state h.path h.request sends transfer.files refl h.has
 
+  -- what its draft has taken since the store began it
+  taken_so : (transfer : TransferState F D) (a : Endpoint) (x : OpenEnd) → x.address ≡ a → x.state ≡ transfer.end →
+      x.path ≡ transfer.path → x.request ≡ transfer.request → x.committed ≡ is_complete x.state.position.phase →
+      (draft : D) → transfer.files ≡ Sink draft → IsTaken programs (all_of programs) x draft →
+      WasTaken programs transfer a
+  taken_so transfer a x at state path request complete draft is h = record {
+    began_with = h.first;
+    began =
+        subst (λ (m : Mode). StoreBegan programs.server.run transfer.path transfer.request m replaces h.first)
+        (ap (λ (e : EndState). e.role.mode) state)
+        (subst (λ (r : List ℕ). StoreBegan programs.server.run transfer.path r x.state.role.mode replaces h.first)
+        request
+        (subst (λ (p : List ℕ). StoreBegan programs.server.run p x.request x.state.role.mode replaces h.first) path
+        h.began));
+    draft = draft;
+    is_draft = is;
+    since =
+        subst (λ (b : Endpoint). TookSince stores (HadStore programs.server.run) transfer.path replaces h.first
+        transfer.end (moved_at programs b programs.server.run).bytes draft) at
+        (subst (λ (e : EndState). TookSince stores (HadStore programs.server.run) transfer.path replaces h.first e
+        (moved_at programs x.address programs.server.run).bytes draft) state
+        (subst (λ (p : List ℕ). TookSince stores (HadStore programs.server.run) p replaces h.first x.state
+        (moved_at programs x.address programs.server.run).bytes draft) path
+        (record {
+          going = λ o n. h.since.going o (complete ∙ n);
+          done = λ c. h.since.done (complete ∙ c);
+        })));
+  } where
+    replaces : Bool
+    replaces = programs.server.start.server.config.overwrite
+
+  taken_of : (transfer : TransferState F D) (a : Endpoint) (x : OpenEnd) → x.address ≡ a → x.state ≡ transfer.end →
+      x.path ≡ transfer.path → x.request ≡ transfer.request →
+      (is_sender x.state.role.side ≡ false → x.committed ≡ is_complete x.state.position.phase) →
+      is_sender transfer.end.role.side ≡ false → (files : Files F D) → transfer.files ≡ files →
+      HasStored programs (By_run 0) (all_of programs) x files → WasTaken programs transfer a
+  taken_of transfer a x at state path request complete receives (Sink draft) is has =
+      taken_so transfer a x at state path request (complete has.receiver) draft is has.taken
+  taken_of transfer a x at state path request complete receives (Source source) is has =
+      absurd (true≢false (sym has.sender ∙ (ap (λ (e : EndState). is_sender e.role.side) state ∙ receives)))
+
+  was_taken : (port : ℕ) (transfer : TransferState F D) (a : Endpoint) → HasOpened programs port transfer a →
+      is_sender transfer.end.role.side ≡ false → WasTaken programs transfer a
+  was_taken port transfer a opened receives =
+      let h = (kept 0).transfers port transfer a opened in
+      taken_of transfer a h.end h.address h.state h.path h.request h.viewed.kept.committed receives transfer.files refl
+      h.has
+
   -- what the source of a client has given
   module _ (k : ℕ) (client : Client) (found : slice_get programs.clients k ≡ Some client)
       (sends : is_sender client.first.role.side ≡ true) where
@@ -518,7 +567,7 @@ module _ {S F D G K : Type 0} {stores : StoreMeaning S D} {sources : SourceMeani
         SendsAt p client.last.end.role.mode y → has_of its_end ≡ y.moved.bytes →
         length y.moved.bytes ≡ y.state.role.length → HasGot programs client
     got_from p peer y at all long =
-        let s : Serves programs p client = served_by programs (kept 0) k client p found peer in
+        let s : ServesClient programs p client = served_by programs (kept 0) k client p found peer in
         let z = transfer_end programs s.transfer p in
         let same : y ≡ z =
         one_there programs (kept 0) fresh y z at.is_end (inr (s.port, s.transfer, p, s.opened, refl)) at.address in
@@ -568,7 +617,7 @@ module _ {S F D G K : Type 0} {stores : StoreMeaning S D} {sources : SourceMeani
     sends = ap (λ (r : Role). is_sender r.side) the_role ∙ sender
 
     module _ (p : Endpoint) (peer : peer_of the_end ≡ Some p) where
-      abbrev its_server : Serves programs p client
+      abbrev its_server : ServesClient programs p client
       its_server = served_by programs (kept 0) k client p found peer
 
       abbrev other_end : ProgramEnd
@@ -597,6 +646,7 @@ module _ {S F D G K : Type 0} {stores : StoreMeaning S D} {sources : SourceMeani
             peer = p;
             serves = its_server;
             given = given;
+            taken = was_taken its_server.port its_server.transfer p its_server.opened other_receives;
             same_mode = mode;
             stored =
                 ap (λ (n : Mode). wire_text n (moved_at programs p programs.server.run).bytes) (sym mode)
@@ -647,6 +697,7 @@ module _ {S F D G K : Type 0} {stores : StoreMeaning S D} {sources : SourceMeani
     at_port = at_its_port;
     opened = was_opened;
     given = was_given;
+    taken = was_taken;
     got = has_got;
     gave = has_given;
     put = has_put;

@@ -28,7 +28,7 @@ use Rattle.tftp_rules.proofs.SaidLemmas.{spells_own}
 use Rattle.tftp_rules.proofs.Refines.{shown_by}
 use Rattle.tftp_rules.proofs.Steps.{not-not, own_client}
 use Rattle.tftp_server.specs.State.{TransferState, at}
-use Rattle.tftp_promises.specs.AnyFiles.{IsEnd, ProgramEnd, Serves, client_end, peer_of, transfer_end}
+use Rattle.tftp_promises.specs.AnyFiles.{IsEnd, ProgramEnd, ServesClient, client_end, peer_of, transfer_end}
 use Rattle.tftp_promises.specs.ClientRuns.{moved_in}
 use Rattle.tftp_promises.specs.Openings.{ArePortsFresh}
 use Rattle.tftp_promises.specs.Order.{Programs, requests_at}
@@ -252,7 +252,7 @@ module _ {S F D G K : Type 0} {stores : StoreMeaning S D} {sources : SourceMeani
           its_request y.named.spells in
           ap path_of_name name ∙ y.named.path
 
-      serves : Serves programs p client
+      serves : ServesClient programs p client
       serves = record {
         port = port;
         transfer = transfer;
@@ -266,7 +266,7 @@ module _ {S F D G K : Type 0} {stores : StoreMeaning S D} {sources : SourceMeani
       }
 
     -- it is a transfer of the server
-    pub served_by : Serves programs p client
+    pub served_by : ServesClient programs p client
     served_by =
         let at_peer = shows.only p serving.is_open in
         let view = at_peer.1 in

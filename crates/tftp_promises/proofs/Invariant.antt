@@ -15,6 +15,7 @@ use Rattle.tftp_file.specs.Source.{SourceMeaning}
 use Rattle.tftp_file.specs.declared.files.Files.{Files}
 use Rattle.tftp_file.specs.declared.files.Files.TheVariants.{Source, Sink}
 use Rattle.tftp_ends.specs.End.{EndState, is_sender, is_client, is_complete, outcome_of}
+use Rattle.tftp_store.specs.Drafts.{TakesInTurn}
 use Rattle.tftp_store.specs.Store.{StoreMeaning}
 use Rattle.tftp_store.specs.declared.store.Opening.{Opening}
 use Rattle.tftp_rules.specs.EndKept.{EndKept}
@@ -29,6 +30,7 @@ use Rattle.tftp_sockets.specs.Journal.{SocketEvent}
 use Rattle.tftp_client.specs.Converses.{State}
 use Rattle.tftp_loop.specs.Steps.{LoopState}
 use Rattle.tftp_promises.specs.ClientRuns.{moved_in}
+use Rattle.tftp_promises.specs.Drafts.{HadStore, StoreBegan, WasCommitted}
 use Rattle.tftp_promises.specs.Given.{GaveSince, StoreOpened}
 use Rattle.tftp_promises.specs.Joint.{WasSentBefore}
 use Rattle.tftp_promises.specs.Modelled.{AreModelled}
@@ -64,6 +66,13 @@ pub record TookSo (x : OpenEnd) (moved : Moved) : Type 0 where
   pub stored : x.stored ≡ moved.bytes
   pub committed : x.committed ≡ true → moved.committed ≡ true
   pub refuses : x.refuses ≡ false
+
+-- the draft of an end has taken these bytes since it was begun, while the end is open and nothing is committed; a commit
+-- came after them
+pub record TookBy {S D : Type 0} (stores : StoreMeaning S D) (HasBeen : S → Type 0) (path : List ℕ) (replace : Bool)
+    (first : D) (x : OpenEnd) (bytes : List ℕ) (last : D) : Type 0 where
+  pub going : outcome_of x.state.position.phase ≡ None → x.committed ≡ false → TakesInTurn stores first bytes last
+  pub done : x.committed ≡ true → WasCommitted stores HasBeen path replace first bytes
 
 -- the request of a transfer is for its path
 pub record IsNamed (there bytes : List ℕ) : Type 0 where
@@ -214,17 +223,26 @@ module _ {S F D G K : Type 0} {stores : StoreMeaning S D} {sources : SourceMeani
     pub gave : GaveSo x (moved_at programs x.address snapshot.run)
     pub given : IsGiven snapshot x source
 
-  pub record StoresMoved (snapshot : Snapshot programs) (x : OpenEnd) : Type 0 where
+  -- the store began its draft so, and that has taken since what was handed to it
+  pub record IsTaken (snapshot : Snapshot programs) (x : OpenEnd) (draft : D) : Type 0 where
+    pub first : D
+    pub began : StoreBegan snapshot.run x.path x.request x.state.role.mode
+        programs.server.start.server.config.overwrite first
+    pub since : TookBy stores (HadStore snapshot.run) x.path programs.server.start.server.config.overwrite first x
+        (moved_at programs x.address snapshot.run).bytes draft
+
+  pub record StoresMoved (snapshot : Snapshot programs) (x : OpenEnd) (draft : D) : Type 0 where
     pub receiver : is_sender x.state.role.side ≡ false
     pub opened : IsOpened snapshot x
     pub took : TookSo x (moved_at programs x.address snapshot.run)
+    pub taken : IsTaken snapshot x draft
 
   -- what is known of the file of a transfer
   abbrev pub HasStored : How → Snapshot programs → OpenEnd → Files F D → Type 0
   HasStored (By_models models) snapshot x (Source source) = SendsKept snapshot x source
   HasStored (By_models models) snapshot x (Sink draft) = StoresKept snapshot x draft
   HasStored (By_run pad) snapshot x (Source source) = SendsMoved pad snapshot x source
-  HasStored (By_run pad) snapshot x (Sink draft) = StoresMoved snapshot x
+  HasStored (By_run pad) snapshot x (Sink draft) = StoresMoved snapshot x draft
 
   -- the end of a transfer, held or removed, which is at its port, or a stranger's
   pub record TransferKept (how : How) (views : List EndView) (messages : List Message) (snapshot : Snapshot programs)

@@ -54,9 +54,9 @@ module _ {S F D G K : Type 0} {stores : StoreMeaning S D} {sources : SourceMeani
   -- ---- one program where its journal is seen so far
 
   data ServerFits (seen : List SocketEvent) : (state : LoopState S F D) → ServerRun state → List SocketEvent → Type 0 where
-    Served : {state : LoopState S F D} {run : ServerRun state} {noted : List SocketEvent} →
+    After_steps : {state : LoopState S F D} {run : ServerRun state} {noted : List SocketEvent} →
         state.events ≡ noted ++ programs.server.start.events → noted ≡ seen → ServerFits seen state run noted
-    Serving : {old new : LoopState S F D} {run : ServerRun old} {old_noted noted : List SocketEvent} →
+    Within_step : {old new : LoopState S F D} {run : ServerRun old} {old_noted noted : List SocketEvent} →
         old.events ≡ old_noted ++ programs.server.start.events → (does : LoopStep stores sources old new) →
         Split old.events new.events old_noted noted seen → ServerFits seen new (Then run does) noted
 
@@ -77,8 +77,8 @@ module _ {S F D G K : Type 0} {stores : StoreMeaning S D} {sources : SourceMeani
 
   server_in : {seen : List SocketEvent} {state : LoopState S F D} {run : ServerRun state} {noted : List SocketEvent} (e : SocketEvent) →
       ServerFits seen state run noted → Contains seen e → Contains noted e
-  server_in e (Served is seen_is) i = subst (λ (es : List SocketEvent). Contains es e) (sym seen_is) i
-  server_in e (Serving is does s) i = split_in e s i
+  server_in e (After_steps is seen_is) i = subst (λ (es : List SocketEvent). Contains es e) (sym seen_is) i
+  server_in e (Within_step is does s) i = split_in e s i
 
   client_in : {client : Client} {seen : List SocketEvent} {stage : ClientStage G K} (port : ℕ) (to : Endpoint)
       (bytes : List ℕ) → ClientFits client seen stage → Contains seen (Sent port to bytes) →
@@ -185,7 +185,7 @@ module _ {S F D G K : Type 0} {stores : StoreMeaning S D} {sources : SourceMeani
         (split ahead x [] others own added noted_is seen_is) =
         let h = heads e x (events_of 0 earlier) old_noted seen_is in
         let fits : Fits (snap run old_noted clients) earlier =
-        record { server = Served is (sym h.1); count = count; clients = fit } in
+        record { server = After_steps is (sym h.1); count = count; clients = fit } in
         let joint = ih (snap run old_noted clients) fits in
         let ip_is : (port : ℕ) (a : Endpoint) → IsAt stores sources inputs outputs programs 0 port a →
         a ≡ endpoint programs.ip port = λ port a at. at.2 ∙ ap (λ (ip : List ℕ). endpoint ip port)
@@ -198,7 +198,7 @@ module _ {S F D G K : Type 0} {stores : StoreMeaning S D} {sources : SourceMeani
         let h = heads e x (events_of 0 earlier) (y ∷ rest ++ _) seen_is in
         ih (snap (Then run does) noted clients)
         (record {
-          server = Serving is does (step_back ahead x y rest (events_of 0 earlier) others own added noted_is
+          server = Within_step is does (step_back ahead x y rest (events_of 0 earlier) others own added noted_is
               h.1);
           count = count;
           clients = fit;
@@ -222,8 +222,8 @@ module _ {S F D G K : Type 0} {stores : StoreMeaning S D} {sources : SourceMeani
 
     server_any : {state : LoopState S F D} {run : ServerRun state} {noted : List SocketEvent} →
         ServerFits (e ∷ events_of 0 earlier) state run noted → Joint programs (snap run noted clients)
-    server_any (Served {run = run} {noted = noted} is seen_is) = server_back run noted is seen_is
-    server_any (Serving is does s) = server_steps is does s
+    server_any (After_steps {run = run} {noted = noted} is seen_is) = server_back run noted is seen_is
+    server_any (Within_step is does s) = server_steps is does s
 
   -- ---- a client
 
@@ -456,8 +456,8 @@ module _ {S F D G K : Type 0} {stores : StoreMeaning S D} {sources : SourceMeani
       {noted : List SocketEvent} → map (λ (client : Client). Unasked) programs.clients ≡ clients →
       ServerFits [] state run noted →
       Joint programs (snap run noted clients)
-  all_first clients all (Served {run = run} {noted = noted} is none) = server_first run noted clients is none all
-  all_first clients all (Serving is does (split ahead x rest others own added noted_is none)) =
+  all_first clients all (After_steps {run = run} {noted = noted} is none) = server_first run noted clients is none all
+  all_first clients all (Within_step is does (split ahead x rest others own added noted_is none)) =
       no_more x (rest ++ _) none
 
   joint_to : (order : List Noted) → IsHonest stores sources inputs outputs programs order → (sn : Snapshot programs) →
@@ -477,7 +477,7 @@ module _ {S F D G K : Type 0} {stores : StoreMeaning S D} {sources : SourceMeani
       let stage_of : Client → ClientStage G K =
       λ client. Has_asked client.last client.files client.noted (moved_in client.runs) in
       joint_to order honest (all_of programs) (record {
-        server = Served programs.server.is_noted (sym is_order.server);
+        server = After_steps programs.server.is_noted (sym is_order.server);
         count = length-map programs.clients stage_of;
         clients = λ k client is. (
           stage_of client,

@@ -67,7 +67,12 @@ module _ {S F D G K : Type 0} {stores : StoreMeaning S D} {sources : SourceMeani
             };
       }
   stored_still (By_run pad) old k stage x (Sink draft) h =
-      record { receiver = h.receiver; opened = opened_still old k stage x h.opened; took = h.took }
+      record {
+        receiver = h.receiver;
+        opened = opened_still old k stage x h.opened;
+        took = h.took;
+        taken = record { first = h.taken.first; began = h.taken.began; since = h.taken.since };
+      }
 
   -- a transfer is at no client's endpoint
   pub transfer_apart : {how : How programs} (old : Snapshot programs) (kept : IsKept programs how old) →

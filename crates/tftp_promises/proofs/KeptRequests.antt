@@ -19,6 +19,7 @@ use Rattle.tftp_file.specs.declared.files.Files.TheVariants.{Source, Sink}
 use Rattle.tftp_ends.specs.Action.{Decodes}
 use Rattle.tftp_ends.specs.End.{EndState}
 use Rattle.tftp_ends.specs.Opening.{serving_read, serving_write}
+use Rattle.tftp_store.specs.Drafts.{TakesInTurn, Took_nothing}
 use Rattle.tftp_store.specs.Store.{StoreMeaning, Stored, files_of, new_draft}
 use Rattle.tftp_server.specs.State.{TransferState, ServerState}
 use Rattle.tftp_server.specs.declared.config.Config.{Config}
@@ -40,16 +41,16 @@ use Rattle.tftp_promises.specs.Promises.{joined}
 use Rattle.tftp_promises.specs.Snapshots.{Snapshot, server_did}
 use Rattle.tftp_promises.proofs.GivenSteps.{gave_first}
 use Rattle.tftp_promises.proofs.Invariant.{How, By_models, By_run, GaveSo, HasStored, IsFreshBy, IsKept, IsKnown, IsNamed}
-use Rattle.tftp_promises.proofs.Invariant.{IsGiven, TookSo}
+use Rattle.tftp_promises.proofs.Invariant.{IsGiven, IsTaken, TookSo}
 use Rattle.tftp_promises.proofs.Invariant.{length_of, place_text}
 use Rattle.tftp_promises.proofs.KeptAsks.{says_request}
 use Rattle.tftp_promises.proofs.KeptOpenings.{at_server, came_here, its_place, none_there, opening_keeps, store_is}
 use Rattle.tftp_promises.proofs.KeptRefusals.{refusal_keeps, silent_keeps}
-use Rattle.tftp_promises.proofs.PortAnswers.{Begins_to_send, Begins_to_store, IfKnown, IsOpenedBy, OpensToSend}
+use Rattle.tftp_promises.proofs.PortAnswers.{Begins_to_send, Begins_to_store, IfKnown, IsBegunBy, IsOpenedBy, OpensToSend}
 use Rattle.tftp_promises.proofs.PortAnswers.{OpensToStore, PortAnswers, Says_error, SendsFile, Silent, port_answers}
 use Rattle.tftp_promises.proofs.Requested.{IsAsked}
 use Rattle.tftp_promises.proofs.RequestedEnds.{first_of_text, read_length, read_mode, read_peer, read_sends}
-use Rattle.tftp_promises.proofs.RequestedEnds.{write_begins, write_moves_none, write_peer, write_stores}
+use Rattle.tftp_promises.proofs.RequestedEnds.{write_begins, write_mode, write_moves_none, write_peer, write_stores}
 use Rattle.tftp_promises.proofs.ServerStays.{content_by, content_known, if_some, same_if, same_if_known}
 use Rattle.tftp_promises.proofs.Texts.{begins_padded, pad_length}
 use Rattle.tftp_promises.proofs.Unanswered.{none_answers}
@@ -293,6 +294,20 @@ module _ {S F D G K : Type 0} {stores : StoreMeaning S D} {sources : SourceMeani
         (came_here programs old kept answers added noted fresh stored_by o.store o.is) in
         let none : (first_moved stored_by.end).bytes ≡ [] =
         write_moves_none o.agreed answers.from asked.request.mode server.config.retries in
+        let begun = subst (λ (m : Mode). IsBegunBy stores sources server answers.from answers.bytes
+        (content_by programs how old.state) path m answers.steps.came o.draft)
+        (sym (write_mode o.agreed answers.from asked.request.mode server.config.retries)) o.begun in
+        let taken : IsTaken programs now receiver o.draft = record {
+          first = o.draft;
+          began =
+              inl (refl, ap (λ (c : Config). c.overwrite) kept.server.config, begun.0, begun.1, begun.2);
+          since = record {
+            going =
+                λ _ _. subst (λ (bs : List ℕ). TakesInTurn stores o.draft bs o.draft)
+                (sym (ap (λ (m : Moved). m.bytes) moved ∙ none)) Took_nothing;
+            done = λ c. absurd (true≢false (sym c));
+          };
+        } in
         store_has (subst (λ (w : How programs). HasStored programs w now receiver (Sink o.draft)) (sym is) (record {
           receiver = write_stores o.agreed answers.from asked.request.mode server.config.retries;
           opened = record {
@@ -306,6 +321,7 @@ module _ {S F D G K : Type 0} {stores : StoreMeaning S D} {sources : SourceMeani
           took =
               subst (λ (m : Moved). TookSo receiver m) (sym moved)
               (record { stored = sym none; committed = λ c. absurd (true≢false (sym c)); refuses = refl });
+          taken = taken;
         }))
 
     storing_keeps : IsKept programs how now

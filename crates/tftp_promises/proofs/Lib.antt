@@ -67,6 +67,7 @@ pub mod MovedSends
 pub mod MovedStores
 pub mod MovedSteps
 pub mod GivenSteps
+pub mod DraftsTake
 pub mod ClientRoles
 pub mod MovedFiles
 pub mod ClientsServed

@@ -1,11 +1,12 @@
 -- A step of a transfer over any files, by what the finished run moved.
-use Rattle.std.proofs.Common.{◌≡◌, ℕ, Bool, true, false, List, length, None, ap, ◌∙◌, subst}
+use Rattle.std.proofs.Common.{◌≡◌, ℕ, Bool, true, false, List, length, None, refl, sym, ap, ◌∙◌, subst}
 use Rattle.std.specs.Prelude.{⊤}
 use Rattle.tftp_file.specs.Block.{IsPrefixOf}
 use Rattle.tftp_file.specs.Sink.{Holding}
 use Rattle.tftp_file.specs.Source.{SourceMeaning}
 use Rattle.tftp_file.specs.declared.files.Files.{Files}
 use Rattle.tftp_file.specs.declared.files.Files.TheVariants.{Source, Sink}
+use Rattle.tftp_ends.specs.Action.{datagram_action}
 use Rattle.tftp_ends.specs.End.{is_sender, outcome_of}
 use Rattle.tftp_ends.specs.Files.{AreSame}
 use Rattle.tftp_ends.specs.Step.{Turn, DatagramStep}
@@ -19,14 +20,16 @@ use Rattle.tftp_rules.specs.Machine.{Endpoint, Network}
 use Rattle.tftp_rules.specs.OpenEnds.{OpenEnd, files_of, end_after}
 use Rattle.tftp_promises.specs.Given.{GaveSince}
 use Rattle.tftp_promises.specs.Moved.{Moved, step_moves}
+use Rattle.tftp_promises.proofs.DraftsTake.{complete_responds, fate_takes}
 use Rattle.tftp_promises.proofs.GivenSteps.{step_gives}
-use Rattle.tftp_promises.proofs.Invariant.{GaveSo, TookSo}
+use Rattle.tftp_promises.proofs.Invariant.{GaveSo, TookBy, TookSo}
 use Rattle.tftp_promises.proofs.KeptFiles.{source_is, sink_is}
 use Rattle.tftp_promises.proofs.MovedSends.{source_moves}
 use Rattle.tftp_promises.proofs.MovedStores.{sink_moves}
 use Rattle.tftp_promises.proofs.Texts.{pad_length, pad_to}
 
-module _ {S F D : Type 0} (stores : StoreMeaning S D) (sources : SourceMeaning F) (IsFirst : Opening F → Type 0) where
+module _ {S F D : Type 0} (stores : StoreMeaning S D) (sources : SourceMeaning F) (IsFirst : Opening F → Type 0)
+    (HasBegun : D → Type 0) (HasBeen : S → Type 0) (path : List ℕ) (replace : Bool) where
   -- what a source has given since it was opened
   pub record GivenSo (source : F) (x : OpenEnd) (moved : Moved) : Type 0 where
     pub opening : Opening F
@@ -34,11 +37,17 @@ module _ {S F D : Type 0} (stores : StoreMeaning S D) (sources : SourceMeaning F
     pub long : x.state.role.length ≡ opening.length
     pub since : GaveSince sources opening.source x.state moved.bytes source
 
+  -- what a draft has taken since it was begun
+  pub record TakenSo (draft : D) (x : OpenEnd) (moved : Moved) : Type 0 where
+    pub first : D
+    pub began : HasBegun first
+    pub since : TookBy stores HasBeen path replace first x moved.bytes draft
+
   -- what has moved at the end of a transfer with these files
   abbrev pub GotSo : Files F D → OpenEnd → Moved → Type 0
   GotSo (Source source) x moved =
       (is_sender x.state.role.side ≡ true) × GaveSo x moved × GivenSo source x moved
-  GotSo (Sink draft) x moved = (is_sender x.state.role.side ≡ false) × TookSo x moved
+  GotSo (Sink draft) x moved = (is_sender x.state.role.side ≡ false) × TookSo x moved × TakenSo draft x moved
 
   -- a step over what moves
   pub record MovesOver (x : OpenEnd) (from : Endpoint) (bytes : List ℕ) (turn : Turn) (files' : Files F D)
@@ -49,7 +58,7 @@ module _ {S F D : Type 0} (stores : StoreMeaning S D) (sources : SourceMeaning F
 
   module _ (x : OpenEnd) (network : Network) (kept : EndKept network x)
       (still : outcome_of x.state.position.phase ≡ None) (from : Endpoint) (bytes : List ℕ) (turn : Turn)
-      (store store' : S) (path path' : List ℕ) (replace : Bool) (pad : ℕ) (all : List ℕ)
+      (store store' : S) (been : HasBeen store') (path' : List ℕ) (pad : ℕ) (all : List ℕ)
       (text : is_sender x.state.role.side ≡ true → x.text ≡ pad_to pad x.state.role.length all)
       (moved : Moved) where
     pub files_move : (files files' : Files F D) → AreSame (λ (a b : F). ⊤) (λ (a b : D). ⊤) files files' →
@@ -80,12 +89,17 @@ module _ {S F D : Type 0} (stores : StoreMeaning S D) (sources : SourceMeaning F
         let d : Drafting S D = record { store = store; draft = draft; path = path; replace = replace } in
         let d' : Drafting S D = record { store = store'; draft = draft'; path = path'; replace = replace } in
         let m = sink_moves sources (drafting_sink stores) from turn x moved h.1 d d' bytes step in
+        let now = step_moves sources (drafting_sink stores) from bytes x.state (Sink d) turn (Sink d') step moved in
+        let since =
+        fate_takes x turn d d' m.after moved.bytes now.bytes refl refl been still h.2.since
+        (datagram_action x.state from bytes step.decoded)
+        (λ c. complete_responds x.state from bytes step.decoded (sym (kept.committed h.0) ∙ c)) m.fate in
         record {
           content = Sink m.after;
           steps =
               subst (λ (f : Files (List ℕ) Holding). DatagramStep known_source known_sink from bytes x.state f turn
               (Sink m.after)) (sink_is x h.0) m.steps;
-          got = (h.0, m.took);
+          got = (h.0, m.took, record { first = h.2.first; began = h.2.began; since = since });
         }
     files_move (Source source) (Sink draft') kind h step told = absurd kind
     files_move (Sink draft) (Source source') kind h step told = absurd kind

@@ -1,21 +1,27 @@
 -- A step of a receiver over any sink is one over what the sink was handed.
 use Rattle.std.proofs.Common.{◌≡◌, ℕ, Bool, true, false, List, [], ◌∷◌, ◌++◌, append-nil, Some, Result, Ok, Err, refl}
-use Rattle.std.proofs.Common.{sym, ap, ◌∙◌}
-use Rattle.std.specs.Prelude.{◌≢◌, ◌||◌, is_ok, nat_lt, length, IfErr}
+use Rattle.std.proofs.Common.{None, sym, ap, ◌∙◌, subst, inl, inr}
+use Rattle.std.specs.Prelude.{◌≢◌, ◌⊎◌, ◌||◌, is_ok, nat_lt, length, IfErr}
+use Rattle.std.specs.Result.{result_err}
 use Rattle.std.proofs.lemmas.Bool.{true≢false}
 use Rattle.tftp_file.specs.Sink.{Holding, SinkMeaning, AppendsFreely, CommitsFreely, KeptPrefix, UnlessArmed}
 use Rattle.tftp_file.specs.Sink.{as_committed, with_piece}
 use Rattle.tftp_file.specs.Source.{SourceMeaning}
 use Rattle.tftp_file.specs.declared.fault.StoreFault.{StoreFault}
 use Rattle.tftp_file.specs.declared.fault.StoreFault.TheVariants as faults
+use Rattle.tftp_file.specs.declared.files.Files.{Files}
 use Rattle.tftp_file.specs.declared.files.Files.TheVariants.{Sink}
 use Rattle.tftp_ends.specs.declared.action.Action.{Action}
 use Rattle.tftp_ends.specs.declared.action.Action.TheVariants.{Respond, Send, Store}
 use Rattle.tftp_ends.specs.declared.endpoint.Endpoint.{Endpoint}
+use Rattle.tftp_ends.specs.declared.error_reply.ErrorReply.{ErrorReply}
+use Rattle.tftp_ends.specs.declared.error_reply.ErrorReply.TheVariants as replies
+use Rattle.tftp_ends.specs.declared.outcome.Outcome.TheVariants as outcomes
 use Rattle.tftp_ends.specs.declared.phase.Terms.{Terms}
 use Rattle.tftp_ends.specs.Action.{datagram_action}
-use Rattle.tftp_ends.specs.End.{EndState}
-use Rattle.tftp_ends.specs.Step.{Done, Turn, Appended, Stores, GoesOn, Acts, DatagramStep}
+use Rattle.tftp_ends.specs.End.{EndState, outcome_of}
+use Rattle.tftp_ends.specs.Step.{Done, Turn, Appended, Stores, GoesOn, Acts, DatagramStep, commit_reply, committed_turn}
+use Rattle.tftp_ends.specs.Step.{holding, refused_turn}
 use Rattle.tftp_rules.specs.KnownFiles.{known_source, known_sink}
 use Rattle.tftp_rules.specs.OpenEnds.{OpenEnd, holding_of, end_after}
 use Rattle.tftp_promises.specs.Moved.{Moved, acts_move, commits_after, step_moves, with_more}
@@ -99,41 +105,85 @@ or_right false b e = e
 
 -- ---- a step
 -- of a receiver over what its sink was handed
-pub record SinkMoves (x : OpenEnd) (turn : Turn) (moved : Moved) (P : Holding → Type 0) : Type 0 where
+pub record SinkMoves (x : OpenEnd) (turn : Turn) (moved : Moved) (P Q : Holding → Type 0) : Type 0 where
   pub after : Holding
   pub steps : P after
   pub took : TookSo (end_after x turn (Sink after)) moved
+  -- what became of the sink
+  pub fate : Q after
+
+module _ {K : Type 0} (sinks : SinkMeaning K) (turn : Turn) (before : Bool) (k k' : K) where
+  -- what became of a sink that was handed these bytes: it took them, or the end has closed; and it was committed after
+  -- them, or was before
+  pub record StoreFate (bytes : List ℕ) (after : Bool) : Type 0 where
+    pub going : outcome_of turn.position.phase ≡ None → after ≡ false → Appended sinks bytes k k' (Ok tt)
+    pub done : after ≡ true → (before ≡ true)
+        ⊎ ((mid : K) × Appended sinks bytes k mid (Ok tt) × sinks.after_commit mid k' None)
+
+  -- by the action, and by what had been handed to it before and after that
+  abbrev pub Fate : Action → (earlier now : List ℕ) → Bool → Type 0
+  Fate (Respond response) earlier now after = (k' ≡ k) × (now ≡ earlier) × (after ≡ before)
+  Fate (Send terms number) earlier now after = ⊥
+  Fate (Store terms number) earlier now after =
+      (bytes : List ℕ) × (now ≡ earlier ++ bytes) × StoreFate bytes after
 
 module _ {S K : Type 0} (sources : SourceMeaning S) (sinks : SinkMeaning K) (from : Endpoint) (turn : Turn) where
-  -- after an append
-  record GoesSo (e : EndState) (before mid : Holding) (committed : Bool) (P : Holding → Type 0) : Type 0 where
+  -- after an append: the sink is left so, or is committed
+  record GoesSo (e : EndState) (k k' : K) (answer : Result Done StoreFault) (before mid : Holding) (committed : Bool)
+      (P : Holding → Type 0) : Type 0 where
     after : Holding
     steps : P after
     bytes : after.bytes ≡ mid.bytes
     refuses : after.refuses ≡ mid.refuses
     commits : after.committed ≡ true → (mid.committed ≡ true → before.committed ≡ true) →
         (before.committed || committed) ≡ true
+    going : outcome_of turn.position.phase ≡ None → after.committed ≡ false → (answer ≡ Ok tt) × (k' ≡ k)
+    done : after.committed ≡ true → (mid.committed ≡ true) ⊎ ((answer ≡ Ok tt) × sinks.after_commit k k' None)
 
   -- a sink that was not called again
-  stays_so : {e : EndState} {before mid : Holding} {committed : Bool} {P : Holding → Type 0} → P mid →
-      GoesSo e before mid committed P
-  stays_so {before = before} {mid = mid} {committed = committed} steps =
+  stays_so : {e : EndState} {k k' : K} {answer : Result Done StoreFault} {before mid : Holding} {committed : Bool}
+      {P : Holding → Type 0} → (outcome_of turn.position.phase ≡ None → (answer ≡ Ok tt) × (k' ≡ k)) → P mid →
+      GoesSo e k k' answer before mid committed P
+  stays_so {before = before} {mid = mid} {committed = committed} going steps =
       record {
         after = mid;
         steps = steps;
         bytes = refl;
         refuses = refl;
         commits = λ c was. or_left before.committed committed (was c);
+        going = λ o n. going o;
+        done = λ c. inl c;
       }
+
+  -- an end that was refused has closed
+  closes : {A : Type 0} (terms : Terms) (reply : ErrorReply) (e : EndState) →
+      turn ≡ refused_turn terms reply outcomes.StoreFault from e → outcome_of turn.position.phase ≡ None → A
+  closes terms reply e answers o =
+      absurd (let f : Some outcomes.StoreFault ≡ None =
+      ap (λ (t : Turn). outcome_of t.position.phase) (sym answers) ∙ o in cc)
+
+  -- a commit that succeeded, or that closed the end
+  module _ (terms : Terms) (number : ℕ) (e : EndState) (k k' : K) (mid : Holding) where
+    commit_going : (answer : Result Done StoreFault) → turn ≡ committed_turn terms number from e answer →
+        outcome_of turn.position.phase ≡ None → (commit_leaves answer mid).committed ≡ false → k' ≡ k
+    commit_going (Ok done) answers o c = absurd (true≢false c)
+    commit_going (Err fault) answers o c = closes terms (commit_reply fault) e answers o
+
+    commit_done : (answer : Result Done StoreFault) → sinks.after_commit k k' (result_err answer) →
+        (commit_leaves answer mid).committed ≡ true → (mid.committed ≡ true) ⊎ sinks.after_commit k k' None
+    commit_done (Ok done) effect c = inr effect
+    commit_done (Err fault) effect c = inl c
 
   goes_so : (terms : Terms) (number : ℕ) (e : EndState) (last : Bool) (text : List ℕ) (k k' : K)
       (answer : Result Done StoreFault) (before mid : Holding) → mid.refuses ≡ false →
       (h : GoesOn sinks terms number from e last text k answer turn k') →
-      GoesSo e before mid (commits_after sources sinks terms number from e last text k answer turn k' h)
+      GoesSo e k k' answer before mid (commits_after sources sinks terms number from e last text k answer turn k' h)
       (GoesOn known_sink terms number from e last text mid answer turn)
-  goes_so terms number e true text k k' (Err fault) before mid free h = stays_so (h.0, refl)
-  goes_so terms number e false text k k' (Err fault) before mid free h = stays_so (h.0, refl)
-  goes_so terms number e false text k k' (Ok done) before mid free h = stays_so (h.0, refl)
+  goes_so terms number e true text k k' (Err fault) before mid free h =
+      stays_so (closes terms replies.DiskFull e h.0) (h.0, refl)
+  goes_so terms number e false text k k' (Err fault) before mid free h =
+      stays_so (closes terms replies.DiskFull e h.0) (h.0, refl)
+  goes_so terms number e false text k k' (Ok done) before mid free h = stays_so (λ o. (refl, h.1)) (h.0, refl)
   goes_so terms number e true text k k' (Ok done) before mid free h = record {
     after = commit_leaves h.answer mid;
     steps = record {
@@ -149,6 +199,11 @@ module _ {S K : Type 0} (sources : SourceMeaning S) (sinks : SinkMeaning K) (fro
     bytes = commit_bytes h.answer mid;
     refuses = commit_refuses h.answer mid;
     commits = λ c was. committed h.answer c was;
+    going = λ o c. (refl, commit_going terms number (holding text e) k k' mid h.answer h.answers o c);
+    done = λ c. elim (commit_done terms number (holding text e) k k' mid h.answer h.effect c) [
+      | inl was ↦ inl was
+      | inr commit ↦ inr (refl, commit)
+    ];
   } where
     committed : (answer : Result Done StoreFault) → (commit_leaves answer mid).committed ≡ true →
         (mid.committed ≡ true → before.committed ≡ true) → (before.committed || is_ok answer) ≡ true
@@ -168,12 +223,24 @@ module _ {S K : Type 0} (sources : SourceMeaning S) (sinks : SinkMeaning K) (fro
     tt,
   )
 
+  -- the sink is as it was
+  same_sink : (a b : K) → ◌≡◌ {A = Files S K} (Sink a) (Sink b) → a ≡ b
+  same_sink a b e = cc
+
   module _ (x : OpenEnd) (moved : Moved) (took : TookSo x moved) (k k' : K) where
+    -- an append that succeeded
+    appended : (terms : Terms) (number : ℕ) (piece : List ℕ)
+        (h : Stores sinks terms number from piece x.state k turn k') → h.answer ≡ Ok tt →
+        Appended sinks h.bytes k h.mid (Ok tt)
+    appended terms number piece h is =
+        subst (λ (a : Result Done StoreFault). Appended sinks h.bytes k h.mid a) is h.appended
+
     stores_so : (terms : Terms) (number : ℕ) (piece : List ℕ)
         (h : Stores sinks terms number from piece x.state k turn k') →
         SinkMoves x turn (with_more h.bytes (moved.committed || commits_after sources sinks terms number from x.state
         (nat_lt (length piece) terms.size) h.after h.mid h.answer turn k' h.rest) moved)
         (Stores known_sink terms number from piece x.state (holding_of x) turn)
+        (λ (after : Holding). StoreFate sinks turn x.committed k k' h.bytes after.committed)
     stores_so terms number piece h =
         let before = holding_of x in
         let mid = handed h.bytes before in
@@ -197,6 +264,16 @@ module _ {S K : Type 0} (sources : SourceMeaning S) (sinks : SinkMeaning K) (fro
             committed = λ c. goes.commits c (λ m. took.committed (handed_committed h.bytes before m));
             refuses = goes.refuses ∙ (handed_refuses h.bytes before ∙ took.refuses);
           };
+          fate = record {
+            going =
+                λ o c. let g = goes.going o c in
+                subst (λ (z : K). Appended sinks h.bytes k z (Ok tt)) (sym g.1)
+                (appended terms number piece h g.0);
+            done = λ c. elim (goes.done c) [
+              | inl was ↦ inl (handed_committed h.bytes before was)
+              | inr d ↦ inr (h.mid, appended terms number piece h d.0, d.1)
+            ];
+          };
         }
 
     sink_acts : (action : Action) (bytes : List ℕ) (acts : Acts sources sinks action from bytes x.state (Sink k) turn
@@ -204,21 +281,27 @@ module _ {S K : Type 0} (sources : SourceMeaning S) (sinks : SinkMeaning K) (fro
         SinkMoves x turn (acts_move sources sinks action from bytes x.state (Sink k) turn (Sink k') acts moved)
         (λ (after : Holding). Acts known_source known_sink action from bytes x.state (Sink (holding_of x)) turn
         (Sink after))
+        (λ (after : Holding). Fate sinks turn x.committed k k' action moved.bytes
+        (acts_move sources sinks action from bytes x.state (Sink k) turn (Sink k') acts moved).bytes after.committed)
     sink_acts (Respond response) bytes acts = record {
       after = holding_of x;
       steps = (acts.0, refl);
       took = record { stored = took.stored; committed = took.committed; refuses = took.refuses };
+      fate = (same_sink k' k acts.1, refl, refl);
     }
     sink_acts (Send terms number) bytes acts = absurd acts
     sink_acts (Store terms number) bytes acts =
         let h = stores_so terms number acts.0 acts.2 in
-        record { after = h.after; steps = (acts.0, acts.1, h.steps); took = h.took }
+        record { after = h.after; steps = (acts.0, acts.1, h.steps); took = h.took; fate = (acts.2.bytes, refl, h.fate) }
 
     -- a step
     pub sink_moves : (bytes : List ℕ) (step : DatagramStep sources sinks from bytes x.state (Sink k) turn (Sink k')) →
         SinkMoves x turn (step_moves sources sinks from bytes x.state (Sink k) turn (Sink k') step moved)
         (λ (after : Holding). DatagramStep known_source known_sink from bytes x.state (Sink (holding_of x)) turn
         (Sink after))
+        (λ (after : Holding). Fate sinks turn x.committed k k' (datagram_action x.state from bytes step.decoded)
+        moved.bytes (step_moves sources sinks from bytes x.state (Sink k) turn (Sink k') step moved).bytes
+        after.committed)
     sink_moves bytes step =
         let h = sink_acts (datagram_action x.state from bytes step.decoded) bytes step.acts in
         record {
@@ -230,4 +313,5 @@ module _ {S K : Type 0} (sources : SourceMeaning S) (sinks : SinkMeaning K) (fro
             again = step.again;
           };
           took = h.took;
+          fate = h.fate;
         }

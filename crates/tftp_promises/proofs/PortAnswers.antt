@@ -98,6 +98,12 @@ module _ {S F D : Type 0} (meaning : StoreMeaning S D) (sources : SourceMeaning 
       request = bytes;
     }) old.store
 
+  -- the store began this draft when it was asked for one of the path
+  abbrev pub IsBegunBy : List ℕ → Mode → Came S F D → D → Type 0
+  IsBegunBy path mode came draft =
+      (agreed : List Known) × (asks : AsksToWrite meaning sources old from bytes path mode agreed came)
+      × (asks.draft ≡ Ok draft)
+
   -- a transfer receives a file for this path; what the store holds is the same
   pub record OpensToStore (path : List ℕ) (mode : Mode) (came : Came S F D) : Type 0 where
     pub agreed : List Known
@@ -106,6 +112,7 @@ module _ {S F D : Type 0} (meaning : StoreMeaning S D) (sources : SourceMeaning 
     pub same : IfKnown content (λ stored. meaning.stored store ≡ meaning.stored old.store)
     pub draft : D
     pub drafted : IfKnown content (λ stored. meaning.drafted draft ≡ Some new_draft)
+    pub begun : IsBegunBy path mode came draft
     pub is : came ≡ A_transfer (record {
       end = serving_write agreed from mode old.config.retries;
       files = Sink draft;
@@ -277,10 +284,11 @@ module _ {S F D : Type 0} (meaning : StoreMeaning S D) (sources : SourceMeaning 
           (known stored e) begins
 
       write_by : (mode : Mode) (agreed : List Known) (draft : Result D StoreFault) → AreGranted agreed →
+          ((begun : D) → draft ≡ Ok begun → IsBegunBy path mode came begun) →
           Begins meaning.drafted (meaning.stored old.store) (meaning.stored store) path old.config.overwrite draft →
           Taken meaning sources old from bytes (by_draft path mode agreed draft) draft store came →
           Write_answers path mode
-      write_by mode agreed (Err fault) granted begins h =
+      write_by mode agreed (Err fault) granted begun begins h =
           inl (record {
             reply = begin_reply fault;
             store = store;
@@ -290,7 +298,7 @@ module _ {S F D : Type 0} (meaning : StoreMeaning S D) (sources : SourceMeaning 
                 (begins_known (Err fault) begins stored e) ∙ sym (known stored e));
             is = h;
           })
-      write_by mode agreed (Ok draft) granted begins h =
+      write_by mode agreed (Ok draft) granted begun begins h =
           inr (record {
             agreed = agreed;
             granted = granted;
@@ -302,13 +310,15 @@ module _ {S F D : Type 0} (meaning : StoreMeaning S D) (sources : SourceMeaning 
             drafted =
                 if_known (λ stored. meaning.drafted draft ≡ Some new_draft)
                 (λ stored e. (begins_known (Ok draft) begins stored e).2);
+            begun = begun draft refl;
             is = h;
           })
 
     -- a write is refused, or a transfer opens
     pub write_answered : (path : List ℕ) (mode : Mode) (agreed : List Known) → AreGranted agreed →
         AsksToWrite meaning sources old from bytes path mode agreed came → Write_answers path mode
-    write_answered path mode agreed granted h = write_by path h.store mode agreed h.draft granted h.begins h.goes_on
+    write_answered path mode agreed granted h =
+        write_by path h.store mode agreed h.draft granted (λ draft is. (agreed, h, is)) h.begins h.goes_on
 
     -- ---- what the port decided
     decided : (decoded : Option WirePacket) (repeated : Bool) (ask : Ask) →

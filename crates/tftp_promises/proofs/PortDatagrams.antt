@@ -36,6 +36,7 @@ use Rattle.tftp_rules.specs.OpenEnds.{OpenEnd, files_of, in_state, end_after, op
 use Rattle.tftp_rules.proofs.EndMoves.{end_armed}
 use Rattle.tftp_rules.proofs.EndTurns.{datagram_goes}
 use Rattle.tftp_rules.proofs.KnownSteps.{step_known}
+use Rattle.tftp_promises.specs.Drafts.{HadStore, StoreBegan}
 use Rattle.tftp_promises.specs.Given.{GaveSince, StoreOpened}
 use Rattle.tftp_promises.specs.Modelled.{AreModelled}
 use Rattle.tftp_promises.specs.Moved.{Moved, acts_move, port_moves, step_moves}
@@ -45,10 +46,11 @@ use Rattle.tftp_promises.specs.Programs.{endpoint}
 use Rattle.tftp_promises.specs.Promises.{joined}
 use Rattle.tftp_promises.specs.Snapshots.{Snapshot, server_did}
 use Rattle.tftp_promises.proofs.ClosedEnds.{ClosedAnswers, closed_datagram_goes, wrong_datagram_goes}
-use Rattle.tftp_promises.proofs.Invariant.{How, By_models, By_run, GaveSo, TookSo, IsGiven, IsKnown, IsOpened, IsToldAt, length_of}
+use Rattle.tftp_promises.proofs.Invariant.{How, By_models, By_run, GaveSo, TookBy, TookSo, IsGiven, IsKnown, IsOpened, IsTaken, IsToldAt, length_of}
 use Rattle.tftp_promises.proofs.Invariant.{place_text, HasArrived, HasStored, IsThere, TransferKept, IsKept, IsFreshBy}
 use Rattle.tftp_promises.proofs.Invariant.{IsStrangers}
-use Rattle.tftp_promises.proofs.MovedFiles.{GivenSo, GotSo, MovesOver, files_move}
+use Rattle.tftp_promises.proofs.DraftsTake.{took_longer}
+use Rattle.tftp_promises.proofs.MovedFiles.{GivenSo, GotSo, MovesOver, TakenSo, files_move}
 use Rattle.tftp_promises.proofs.MovedSteps.{moves_here, none_at_port, none_beside}
 use Rattle.tftp_promises.proofs.Places.{not_ours}
 use Rattle.tftp_promises.proofs.PortEnds.{after_rest, has_peer, same_in}
@@ -392,8 +394,23 @@ module _ {S F D G K : Type 0} {stores : StoreMeaning S D} {sources : SourceMeani
     abbrev Began : Opening F → Type 0
     Began opening = StoreOpened old.run x.path x.request x.state.role.mode opening
 
-    got_before : (pad : ℕ) (files : Files F D) → HasStored programs (By_run pad) old x files →
-        GotSo stores sources Began files x before
+    -- and its draft, which is committed under its path, to replace a file or not
+    abbrev its_path : List ℕ
+    its_path = taken.transfer.path
+
+    abbrev replaces : Bool
+    replaces = old.state.server.config.overwrite
+
+    abbrev Drafted : D → Type 0
+    Drafted draft = StoreBegan old.run x.path x.request x.state.role.mode replaces draft
+
+    abbrev Been : S → Type 0
+    Been store = HadStore now.run store
+
+    abbrev Got : Files F D → OpenEnd → Moved → Type 0
+    Got files y moved = GotSo stores sources Began Drafted Been its_path replaces files y moved
+
+    got_before : (pad : ℕ) (files : Files F D) → HasStored programs (By_run pad) old x files → Got files x before
     got_before pad (Source source) has = (
       has.sender,
       subst (λ (a : Endpoint). GaveSo x (moved_at programs a old.run)) x_place has.gave,
@@ -406,8 +423,23 @@ module _ {S F D G K : Type 0} {stores : StoreMeaning S D} {sources : SourceMeani
             (moved_at programs a old.run).bytes source) x_place has.given.since;
       },
     )
-    got_before pad (Sink draft) has =
-        (has.receiver, subst (λ (a : Endpoint). TookSo x (moved_at programs a old.run)) x_place has.took)
+    got_before pad (Sink draft) has = (
+      has.receiver,
+      subst (λ (a : Endpoint). TookSo x (moved_at programs a old.run)) x_place has.took,
+      record {
+        first = has.taken.first;
+        began =
+            subst (λ (r : Bool). StoreBegan old.run x.path x.request x.state.role.mode r has.taken.first)
+            (sym replace_is) has.taken.began;
+        since =
+            subst (λ (p : List ℕ). TookBy stores Been p replaces has.taken.first x before.bytes draft) was.path
+            (subst (λ (r : Bool). TookBy stores Been x.path r has.taken.first x before.bytes draft) (sym replace_is)
+            (took_longer (λ store been. inr been)
+            (subst (λ (a : Endpoint). TookBy stores (HadStore old.run) x.path
+            programs.server.start.server.config.overwrite has.taken.first x (moved_at programs a old.run).bytes draft)
+            x_place has.taken.since)));
+      },
+    )
 
     opened_then : (pad : ℕ) (files : Files F D) → HasStored programs (By_run pad) old x files → IsOpened programs old x
     opened_then pad (Source source) has = has.opened
@@ -444,7 +476,7 @@ module _ {S F D G K : Type 0} {stores : StoreMeaning S D} {sources : SourceMeani
 
     -- what its source gave then
     given_left : (source : F) (left : List ℕ) →
-        GivenSo stores sources Began source (end_after x turn (Source left)) moved_then →
+        GivenSo stores sources Began Drafted Been its_path replaces source (end_after x turn (Source left)) moved_then →
         IsGiven programs now (end_after x turn (Source left)) source
     given_left source left h = record {
       opening = h.opening;
@@ -456,7 +488,7 @@ module _ {S F D G K : Type 0} {stores : StoreMeaning S D} {sources : SourceMeani
     }
 
     given_held : (source : F) (holding : Holding) →
-        GivenSo stores sources Began source (end_after x turn (Sink holding)) moved_then →
+        GivenSo stores sources Began Drafted Been its_path replaces source (end_after x turn (Sink holding)) moved_then →
         IsGiven programs now (end_after x turn (Sink holding)) source
     given_held source holding h = record {
       opening = h.opening;
@@ -467,9 +499,42 @@ module _ {S F D G K : Type 0} {stores : StoreMeaning S D} {sources : SourceMeani
           (Sink holding) h.since;
     }
 
+    -- and what its draft took
+    taken_held : (draft : D) (holding : Holding) →
+        TakenSo stores sources Began Drafted Been its_path replaces draft (end_after x turn (Sink holding)) moved_then →
+        IsTaken programs now (end_after x turn (Sink holding)) draft
+    taken_held draft holding h = record {
+      first = h.first;
+      began =
+          inr (subst (λ (r : Bool). StoreBegan old.run x.path x.request x.state.role.mode r h.first) replace_is h.began);
+      since =
+          moved_after (λ (y : OpenEnd) (m : Moved). TookBy stores Been x.path
+          programs.server.start.server.config.overwrite h.first y m.bytes draft) (Sink holding)
+          (subst (λ (r : Bool). TookBy stores Been x.path r h.first (end_after x turn (Sink holding)) moved_then.bytes
+          draft) replace_is
+          (subst (λ (p : List ℕ). TookBy stores Been p replaces h.first (end_after x turn (Sink holding))
+          moved_then.bytes draft) (sym was.path) h.since));
+    }
+
+    taken_left : (draft : D) (left : List ℕ) →
+        TakenSo stores sources Began Drafted Been its_path replaces draft (end_after x turn (Source left)) moved_then →
+        IsTaken programs now (end_after x turn (Source left)) draft
+    taken_left draft left h = record {
+      first = h.first;
+      began =
+          inr (subst (λ (r : Bool). StoreBegan old.run x.path x.request x.state.role.mode r h.first) replace_is h.began);
+      since =
+          moved_after (λ (y : OpenEnd) (m : Moved). TookBy stores Been x.path
+          programs.server.start.server.config.overwrite h.first y m.bytes draft) (Source left)
+          (subst (λ (r : Bool). TookBy stores Been x.path r h.first (end_after x turn (Source left)) moved_then.bytes
+          draft) replace_is
+          (subst (λ (p : List ℕ). TookBy stores Been p replaces h.first (end_after x turn (Source left))
+          moved_then.bytes draft) (sym was.path) h.since));
+    }
+
     got_has : (pad : ℕ) (files files' : Files F D) → AreSame (λ (a b : F). ⊤) (λ (a b : D). ⊤) files files' →
         HasStored programs (By_run pad) old x files → (content : Files (List ℕ) Holding) →
-        GotSo stores sources Began files' (end_after x turn content) moved_then →
+        Got files' (end_after x turn content) moved_then →
         HasStored programs (By_run pad) now (end_after x turn content) files'
     got_has pad (Source source) (Source source') kind has (Source left) got = record {
       sender = has.sender;
@@ -482,6 +547,7 @@ module _ {S F D G K : Type 0} {stores : StoreMeaning S D} {sources : SourceMeani
       receiver = has.receiver;
       opened = opened_after (Sink holding) has.opened;
       took = moved_after TookSo (Sink holding) got.1;
+      taken = taken_held draft' holding got.2;
     }
     got_has pad (Source source) (Source source') kind has (Sink holding) got = record {
       sender = has.sender;
@@ -494,6 +560,7 @@ module _ {S F D G K : Type 0} {stores : StoreMeaning S D} {sources : SourceMeani
       receiver = has.receiver;
       opened = opened_after (Source left) has.opened;
       took = moved_after TookSo (Source left) got.1;
+      taken = taken_left draft' left got.2;
     }
     got_has pad (Source source) (Sink draft') kind has content got = absurd kind
     got_has pad (Sink draft) (Source source') kind has content got = absurd kind
@@ -510,11 +577,13 @@ module _ {S F D G K : Type 0} {stores : StoreMeaning S D} {sources : SourceMeani
         (long pad taken.transfer.files has) in
         let Over : EndState → Type 0 =
         λ (e : EndState). (step : step_x e) → IsPrefixOf (after_by e step).bytes all →
-        MovesOver stores sources Began x from bytes turn taken.next.files (after_by e step) in
+        MovesOver stores sources Began Drafted Been its_path replaces x from bytes turn taken.next.files
+        (after_by e step) in
         let at_x : Over x.state = λ step begins.
-        files_move stores sources Began x (joined programs) was.viewed.kept (no_outcome (outcome_of x.state.position.phase) o)
-        from bytes turn old.state.server.store serves.next.server.store taken.transfer.path taken.next.path
-        old.state.server.config.overwrite pad all text before taken.transfer.files taken.next.files taken.takes.kind
+        files_move stores sources Began Drafted Been its_path replaces x (joined programs) was.viewed.kept
+        (no_outcome (outcome_of x.state.position.phase) o)
+        from bytes turn old.state.server.store serves.next.server.store (inl store_is) taken.next.path
+        pad all text before taken.transfer.files taken.next.files taken.takes.kind
         (got_before pad taken.transfer.files has) step begins
         in
         let begins : IsPrefixOf moved_then.bytes all =

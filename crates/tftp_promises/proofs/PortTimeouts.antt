@@ -34,6 +34,7 @@ use Rattle.tftp_promises.specs.Programs.{endpoint}
 use Rattle.tftp_promises.specs.Promises.{joined}
 use Rattle.tftp_promises.specs.Snapshots.{Snapshot, server_did}
 use Rattle.tftp_promises.proofs.ClosedEnds.{closed_timeout_goes}
+use Rattle.tftp_promises.proofs.DraftsTake.{took_still}
 use Rattle.tftp_promises.proofs.GivenSteps.{gave_still}
 use Rattle.tftp_promises.proofs.Invariant.{How, By_models, By_run, HasStored, IsOpened, TransferKept, IsKept, IsFreshBy}
 use Rattle.tftp_promises.proofs.Invariant.{IsStrangers}
@@ -187,6 +188,11 @@ module _ {S F D G K : Type 0} {stores : StoreMeaning S D} {sources : SourceMeani
             stored = ap (λ (z : Holding). z.bytes) n ∙ h.took.stored;
             committed = λ c. h.took.committed (ap (λ (z : Holding). z.committed) (sym n) ∙ c);
             refuses = ap (λ (z : Holding). z.refuses) n ∙ h.took.refuses;
+          };
+          taken = record {
+            first = h.taken.first;
+            began = h.taken.began;
+            since = took_still (ap (λ (z : Holding). z.committed) n) still h.taken.since;
           };
         }
     has_left (By_models models) (Source source) h (Sink held) e still done =

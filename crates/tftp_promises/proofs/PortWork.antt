@@ -2,7 +2,7 @@
 -- finds none, a timeout finds no open transfer, or the file does its work.
 use Rattle.std.proofs.Common.{◌≡◌, ℕ, Bool, List, [], ◌∷◌, ◌++◌, set, Option, Some, None, refl, sym, ap, ◌∙◌, subst}
 use Rattle.std.proofs.Common.{inl, inr}
-use Rattle.std.specs.Prelude.{IsSome, ⊤}
+use Rattle.std.specs.Prelude.{◌⊎◌, IsSome}
 use Rattle.std.proofs.lemmas.List.{append-nil}
 use Rattle.tftp_file.specs.Sink.{SinkMeaning}
 use Rattle.tftp_file.specs.Source.{SourceMeaning}
@@ -10,7 +10,7 @@ use Rattle.tftp_file.specs.declared.files.Files.{Files}
 use Rattle.tftp_file.specs.declared.files.Files.TheVariants.{Source, Sink}
 use Rattle.tftp_ends.specs.Files.{AreSame, KeepsFiles}
 use Rattle.tftp_store.specs.Store.{Stored, StoreMeaning, files_of as stored_files}
-use Rattle.tftp_server.specs.Draft.{Drafting, files_in, drafting_sink, KeepsStore}
+use Rattle.tftp_server.specs.Draft.{Drafting, files_in, drafting_sink, KeepsDraft, KeepsStore}
 use Rattle.tftp_server.specs.State.{TransferState, ServerState, at, with_next}
 use Rattle.tftp_server.specs.Steps.{KeepsHeld}
 use Rattle.tftp_server.specs.Work.{FilesWork, WorksAt}
@@ -29,6 +29,7 @@ use Rattle.tftp_promises.specs.Promises.{joined}
 use Rattle.tftp_promises.specs.Snapshots.{Snapshot, server_did}
 use Rattle.tftp_promises.proofs.ClosedEnds.{set_same}
 use Rattle.tftp_promises.proofs.DraftSteps.{are_held}
+use Rattle.tftp_promises.proofs.DraftsTake.{took_none}
 use Rattle.tftp_promises.proofs.GivenSteps.{gave_none}
 use Rattle.tftp_promises.proofs.Invariant.{How, By_models, By_run, IsKnown, HasStored, TransferKept, IsKept, IsFreshBy}
 use Rattle.tftp_promises.proofs.KeptEvents.{IsSilent, IsUnsent, none_silent, unsent_silent}
@@ -247,11 +248,12 @@ module _ {S F D G K : Type 0} {stores : StoreMeaning S D} {sources : SourceMeani
           stay = subst (λ (w : How programs). FilesStay programs w old.state new) (sym by) h.stay;
         }
 
-    -- a source gave no bytes
-    abbrev GaveNone : Files F D → Files F D → Type 0
-    GaveNone files files' = AreSame (λ (a b : F). sources.gives a [] b) (λ (a b : D). ⊤) files files'
+    -- a source gave no bytes, and a draft took none
+    abbrev MovedNone : Files F D → Files F D → Type 0
+    MovedNone files files' =
+        AreSame (λ (a b : F). sources.gives a [] b) (λ (a b : D). (b ≡ a) ⊎ stores.writes_behind a b) files files'
 
-    same_kind : (pad : ℕ) (x : OpenEnd) (files files' : Files F D) → GaveNone files files' →
+    same_kind : (pad : ℕ) (x : OpenEnd) (files files' : Files F D) → MovedNone files files' →
         HasStored programs (By_run pad) now x files → HasStored programs (By_run pad) now x files'
     same_kind pad x (Source source) (Source source') none h = record {
       sender = h.sender;
@@ -266,12 +268,17 @@ module _ {S F D G K : Type 0} {stores : StoreMeaning S D} {sources : SourceMeani
             since = gave_none h.given.since none;
           };
     }
-    same_kind pad x (Sink draft) (Sink draft') kind h = h
+    same_kind pad x (Sink draft) (Sink draft') none h = record {
+      receiver = h.receiver;
+      opened = h.opened;
+      took = h.took;
+      taken = record { first = h.taken.first; began = h.taken.began; since = took_none none h.taken.since };
+    }
     same_kind pad x (Source source) (Sink draft') kind h = absurd kind
     same_kind pad x (Sink draft) (Source source') kind h = absurd kind
 
     run_left : (transfer next : TransferState F D) (found : at port old.state.server.held ≡ Some transfer) (pad : ℕ) →
-        how ≡ By_run pad → GaveNone transfer.files next.files → IsLeft transfer next found
+        how ≡ By_run pad → MovedNone transfer.files next.files → IsLeft transfer next found
     run_left transfer next found pad by kind =
         let h = its_end port transfer found in
         let has =
@@ -286,7 +293,7 @@ module _ {S F D G K : Type 0} {stores : StoreMeaning S D} {sources : SourceMeani
         }
 
     left_by_how : (transfer next : TransferState F D) (found : at port old.state.server.held ≡ Some transfer) →
-        GaveNone transfer.files next.files →
+        MovedNone transfer.files next.files →
         ((models : AreModelled programs) → IsSome (stores.stored old.state.server.store) →
         HasStored programs (By_models models) old (its_end port transfer found).end transfer.files →
         FilesLeft programs models old (At_port serves) added (its_end port transfer found).end next.files) →
@@ -296,19 +303,24 @@ module _ {S F D G K : Type 0} {stores : StoreMeaning S D} {sources : SourceMeani
       by_case (By_models models) by = models_left transfer next found models by (left models)
       by_case (By_run pad) by = run_left transfer next found pad by kind
 
-    -- the files of a transfer that was not handled, or that worked, are of one kind, and gave no bytes
+    -- the files of a transfer that was not handled, or that worked, are of one kind, and no bytes moved
+    same_draft : (a b : D) → ◌≡◌ {A = Files F D} (Sink a) (Sink b) → a ≡ b
+    same_draft a b e = cc
+
     kept_kind : (store store' : S) (path path' : List ℕ) (replace : Bool) (files files' : Files F D) →
+        KeepsDraft files files' store store' →
         KeepsFiles sources (drafting_sink stores) (files_in store path replace files)
-        (files_in store' path' replace files') → GaveNone files files'
-    kept_kind store store' path path' replace (Source source) (Source source') keeps = keeps.gave
-    kept_kind store store' path path' replace (Sink draft) (Sink draft') keeps = tt
-    kept_kind store store' path path' replace (Source source) (Sink draft') keeps = absurd keeps
-    kept_kind store store' path path' replace (Sink draft) (Source source') keeps = absurd keeps
+        (files_in store' path' replace files') → MovedNone files files'
+    kept_kind store store' path path' replace (Source source) (Source source') stays keeps = keeps.gave
+    kept_kind store store' path path' replace (Sink draft) (Sink draft') stays keeps =
+        inl (same_draft draft' draft stays.1)
+    kept_kind store store' path path' replace (Source source) (Sink draft') stays keeps = absurd keeps
+    kept_kind store store' path path' replace (Sink draft) (Source source') stays keeps = absurd keeps
 
     work_kind : (store store' : S) (files files' : Files F D) → FilesWork stores sources store store' files files' →
-        GaveNone files files'
+        MovedNone files files'
     work_kind store store' (Source source) (Source source') works = works.1.gave
-    work_kind store store' (Sink draft) (Sink draft') works = tt
+    work_kind store store' (Sink draft) (Sink draft') works = inr works.drafts_behind
     work_kind store store' (Source source) (Sink draft') works = absurd works
     work_kind store store' (Sink draft) (Source source') works = absurd works
 
@@ -329,7 +341,7 @@ module _ {S F D G K : Type 0} {stores : StoreMeaning S D} {sources : SourceMeani
           same_end transfer keeps.0 e keeps.2 keeps.1.end keeps.1.path keeps.1.request loses.config silent
           (left_by_how transfer keeps.0 e
           (kept_kind old.state.server.store serves.next.server.store transfer.path keeps.0.path
-          old.state.server.config.overwrite transfer.files keeps.0.files keeps.1.files)
+          old.state.server.config.overwrite transfer.files keeps.0.files keeps.1.draft keeps.1.files)
           (λ models known has. lost_left models known (At_port serves) added serves.next.server.store store_now
           (its_end port transfer e).end old.state.server.config.overwrite transfer.path keeps.0.path
           transfer.files keeps.0.files has keeps.1.stays keeps.1.files))

@@ -38,6 +38,11 @@ pub read_mode : (agreed : List Known) (peer : Endpoint) (mode : Mode) (text : Li
 read_mode [] peer mode text retries = refl
 read_mode (known ∷ agreed) peer mode text retries = refl
 
+pub write_mode : (agreed : List Known) (peer : Endpoint) (mode : Mode) (retries : ℕ) →
+    (serving_write agreed peer mode retries).role.mode ≡ mode
+write_mode [] peer mode retries = refl
+write_mode (known ∷ agreed) peer mode retries = refl
+
 pub read_length : (agreed : List Known) (peer : Endpoint) (mode : Mode) (measured retries : ℕ) (piece : List ℕ) →
     (serving_read agreed peer mode measured retries piece).role.length ≡ measured
 read_length [] peer mode measured retries piece = refl

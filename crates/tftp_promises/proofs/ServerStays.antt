@@ -14,15 +14,17 @@ use Rattle.tftp_sockets.specs.Journal.{SocketEvent}
 use Rattle.tftp_loop.specs.Steps.{LoopState, LoopStep}
 use Rattle.tftp_rules.specs.Machine.{Endpoint}
 use Rattle.tftp_rules.specs.OpenEnds.{OpenEnd}
+use Rattle.tftp_promises.specs.Drafts.{HadStore}
 use Rattle.tftp_promises.specs.Given.{GaveSince}
 use Rattle.tftp_promises.specs.Moved.{Moved, or_before}
 use Rattle.tftp_promises.specs.Openings.{HasClosed, moved_at, opened_at, place_at}
 use Rattle.tftp_promises.specs.Order.{Programs, requests_at}
 use Rattle.tftp_promises.specs.Ports.{IsStored, Removes}
 use Rattle.tftp_promises.specs.Snapshots.{Snapshot, server_did}
+use Rattle.tftp_promises.proofs.DraftsTake.{took_longer}
 use Rattle.tftp_promises.proofs.RunPlaces.{placed_by, places}
 use Rattle.tftp_promises.proofs.Invariant.{How, By_models, By_run, HasArrived, IsGiven, IsKnown, IsOpened, GaveSo, TookSo, HasStored}
-use Rattle.tftp_promises.proofs.Invariant.{IsKept}
+use Rattle.tftp_promises.proofs.Invariant.{IsKept, IsTaken, TookBy}
 use Rattle.tftp_promises.proofs.MovedSteps.{MovesNone}
 use Rattle.tftp_promises.proofs.PortAnswers.{IfKnown}
 
@@ -151,6 +153,19 @@ module _ {S F D G K : Type 0} {stores : StoreMeaning S D} {sources : SourceMeani
         (moved_after old does added x none) h.since;
   }
 
+  -- and so is what its draft took
+  taken_after : (old : Snapshot programs) {new : LoopState S F D} (does : LoopStep stores sources old.state new)
+      (added : List SocketEvent) (x : OpenEnd) → MovesNone programs old.run does x.address → (draft : D) →
+      IsTaken programs old x draft → IsTaken programs (server_did programs old does added) x draft
+  taken_after old does added x none draft h = record {
+    first = h.first;
+    began = inr h.began;
+    since =
+        subst (λ (m : Moved). TookBy stores (HadStore (server_did programs old does added).run) x.path
+        programs.server.start.server.config.overwrite h.first x m.bytes draft) (moved_after old does added x none)
+        (took_longer (λ store been. inr been) h.since);
+  }
+
   -- what is known of a transfer's file stays known
   pub stored_after : (how : How programs) (old : Snapshot programs) {new : LoopState S F D}
       (does : LoopStep stores sources old.state new) (added : List SocketEvent) → FilesStay programs how old.state new →
@@ -184,6 +199,7 @@ module _ {S F D G K : Type 0} {stores : StoreMeaning S D} {sources : SourceMeani
         receiver = h.receiver;
         opened = opened_after old does added x none h.opened;
         took = subst (λ (m : Moved). TookSo x m) (moved_after old does added x none) h.took;
+        taken = taken_after old does added x none draft h.taken;
       }
 
 module _ {S F D G K : Type 0} {stores : StoreMeaning S D} {sources : SourceMeaning F} {inputs : SourceMeaning G}

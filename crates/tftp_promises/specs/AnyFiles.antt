@@ -7,7 +7,7 @@ use Rattle.tftp_file.specs.Netascii.{wire_text}
 use Rattle.tftp_file.specs.Path.{path_of_name}
 use Rattle.tftp_file.specs.Sink.{SinkMeaning}
 use Rattle.tftp_file.specs.Source.{SourceMeaning}
-use Rattle.tftp_file.specs.declared.files.Files.TheVariants.{Source}
+use Rattle.tftp_file.specs.declared.files.Files.TheVariants.{Source, Sink}
 use Rattle.tftp_ends.specs.End.{EndState, is_client, is_complete, is_sender, record_of}
 use Rattle.tftp_store.specs.Store.{StoreMeaning}
 use Rattle.tftp_store.specs.declared.store.Opening.{Opening}
@@ -16,6 +16,7 @@ use Rattle.tftp_rules.specs.OpenEnds.{received_text}
 use Rattle.tftp_rules.specs.Safety.{AreSafe, SafetyView}
 use Rattle.tftp_server.specs.State.{TransferState}
 use Rattle.tftp_promises.specs.ClientRuns.{moved_in}
+use Rattle.tftp_promises.specs.Drafts.{HadStore, StoreBegan, TookSince}
 use Rattle.tftp_promises.specs.Given.{GaveSince, StoreOpened}
 use Rattle.tftp_promises.specs.Moved.{Moved}
 use Rattle.tftp_promises.specs.Openings.{moved_at, opened_at}
@@ -94,7 +95,7 @@ module _ {S F D G K : Type 0} {stores : StoreMeaning S D} {sources : SourceMeani
 
   -- a transfer of the server at this endpoint is the client's: it has the client as its peer, the
   -- datagram that opened it spells the client's request, and its path is that of the client's name
-  pub record Serves (p : Endpoint)
+  pub record ServesClient (p : Endpoint)
       (client : ClientProgram inputs outputs (requests_at programs))
       : Type 0 where
     pub port : ℕ
@@ -128,6 +129,19 @@ module _ {S F D G K : Type 0} {stores : StoreMeaning S D} {sources : SourceMeani
     pub since : GaveSince sources opening.source transfer.end
         (moved_at programs a programs.server.run).bytes source
 
+  -- the store began a draft for the request of the transfer, under its path and in its mode, and
+  -- that has taken since, call by call, what the transfer handed to it; once the transfer is
+  -- complete, a commit after that succeeded
+  pub record WasTaken (transfer : TransferState F D) (a : Endpoint) : Type 0 where
+    pub began_with : D
+    pub began : StoreBegan programs.server.run transfer.path transfer.request
+        transfer.end.role.mode programs.server.start.server.config.overwrite began_with
+    pub draft : D
+    pub is_draft : transfer.files ≡ Sink draft
+    pub since : TookSince stores (HadStore programs.server.run) transfer.path
+        programs.server.start.server.config.overwrite began_with transfer.end
+        (moved_at programs a programs.server.run).bytes draft
+
   -- the source that a client began with has given since, call by call, what the client sent
   pub record WasGivenBy (client : ClientProgram inputs outputs (requests_at programs))
       : Type 0 where
@@ -142,7 +156,7 @@ module _ {S F D G K : Type 0} {stores : StoreMeaning S D} {sources : SourceMeani
   -- path of the name that it asked for; and it is committed
   pub record HasGot (client : ClientProgram inputs outputs (requests_at programs)) : Type 0 where
     pub peer : Endpoint
-    pub serves : Serves peer client
+    pub serves : ServesClient peer client
     pub given : WasGiven serves.transfer peer
     pub same_mode : serves.transfer.end.role.mode ≡ client.first.role.mode
     pub sent : wire_text client.first.role.mode (moved_in client.runs).bytes
@@ -151,13 +165,14 @@ module _ {S F D G K : Type 0} {stores : StoreMeaning S D} {sources : SourceMeani
     pub measured : length (moved_at programs peer programs.server.run).bytes ≡ given.opening.length
     pub committed : (moved_in client.runs).committed ≡ true
 
-  -- the file of a client, once it has sent all of it: what the client's source gave is all that the
-  -- draft was handed, as wire text, that the server's store began for this client's request, under
-  -- the path of its name; and a commit of that succeeded
+  -- the file of a client, once it has sent all of it: what the client's source gave is, as wire
+  -- text, all that the draft took, call by call, that the server's store began for this client's
+  -- request, under the path of its name; and a commit of that succeeded
   pub record HasPut (client : ClientProgram inputs outputs (requests_at programs)) : Type 0 where
     pub peer : Endpoint
-    pub serves : Serves peer client
+    pub serves : ServesClient peer client
     pub given : WasGivenBy client
+    pub taken : WasTaken serves.transfer peer
     pub same_mode : serves.transfer.end.role.mode ≡ client.first.role.mode
     pub stored : wire_text client.first.role.mode (moved_at programs peer programs.server.run).bytes
         ≡ (moved_in client.runs).bytes
@@ -177,7 +192,7 @@ module _ {S F D G K : Type 0} {stores : StoreMeaning S D} {sources : SourceMeani
     pub served : (k : ℕ)
         (client : ClientProgram inputs outputs (requests_at programs))
         (p : Endpoint) → slice_get programs.clients k ≡ Some client →
-        peer_of (client_end client) ≡ Some p → Serves p client
+        peer_of (client_end client) ≡ Some p → ServesClient p client
     -- a transfer is at its port, unless its peer is a stranger
     pub at_port : (port : ℕ) (transfer : TransferState F D) (a p : Endpoint) →
         HasOpened programs port transfer a → peer_of (transfer_end transfer a) ≡ Some p →
@@ -189,7 +204,11 @@ module _ {S F D G K : Type 0} {stores : StoreMeaning S D} {sources : SourceMeani
     pub given : (port : ℕ) (transfer : TransferState F D) (a : Endpoint) →
         HasOpened programs port transfer a → is_sender transfer.end.role.side ≡ true →
         WasGiven transfer a
-    -- and all of it, once a client that received it is complete
+    -- what a transfer stores was taken by the draft that the store began for it
+    pub taken : (port : ℕ) (transfer : TransferState F D) (a : Endpoint) →
+        HasOpened programs port transfer a → is_sender transfer.end.role.side ≡ false →
+        WasTaken transfer a
+    -- and what it sends all, once a client that received it is complete
     pub got : (k : ℕ) (client : ClientProgram inputs outputs (requests_at programs)) →
         slice_get programs.clients k ≡ Some client → is_sender client.first.role.side ≡ false →
         is_complete client.last.end.position.phase ≡ true → HasGot client

@@ -7,6 +7,7 @@ pub mod Order
 pub mod Ports
 pub mod Openings
 pub mod Given
+pub mod Drafts
 pub mod Modelled
 pub mod Arrived
 pub mod Promises
