@@ -1,25 +1,28 @@
--- What each call of a store leaves of it is left by a run.
-use Rattle.std.proofs.Common.{◌≡◌, ℕ, Bool, true, false, List, [], ◌∷◌, Option, Some, None, sym, ap, subst}
+-- What each call of a store keeps of it and of its drafts is kept by a run.
+use Rattle.std.proofs.Common.{◌≡◌, ℕ, Bool, true, false, List, [], ◌∷◌, Option, Some, None, refl, sym, ap, subst}
 use Rattle.std.proofs.Common.{inl, inr}
-use Rattle.std.specs.Prelude.{Result, Ok, Err, ⊤}
+use Rattle.std.specs.Prelude.{Result, Ok, Err, IfOk, IfSome, ⊤}
+use Rattle.tftp_wire.specs.declared.mode.Mode.{Mode}
+use Rattle.tftp_negotiate.specs.declared.known.Known.{Known}
 use Rattle.tftp_file.specs.Source.{SourceMeaning}
 use Rattle.tftp_file.specs.declared.fault.StoreFault.{StoreFault}
 use Rattle.tftp_file.specs.declared.files.Files.{Files}
 use Rattle.tftp_file.specs.declared.files.Files.TheVariants.{Source, Sink}
 use Rattle.tftp_ends.specs.End.{EndState}
-use Rattle.tftp_ends.specs.Files.{AreSame}
+use Rattle.tftp_ends.specs.Files.{AreSame, KeepsFiles}
 use Rattle.tftp_ends.specs.Step.{Acts, Appended, Done, GoesOn, Turn}
 use Rattle.tftp_ends.specs.declared.action.Action.{Action}
 use Rattle.tftp_ends.specs.declared.action.Action.TheVariants.{Respond, Send, Store}
 use Rattle.tftp_ends.specs.declared.endpoint.Endpoint.{Endpoint}
 use Rattle.tftp_ends.specs.declared.phase.Terms.{Terms}
+use Rattle.tftp_store.specs.Drafts.{CallsKeep}
 use Rattle.tftp_store.specs.Store.{StoreMeaning}
 use Rattle.tftp_store.specs.declared.store.Opening.{Opening}
 use Rattle.tftp_server.specs.Draft.{Drafting, KeepsDraft, KeepsStore, drafting_sink, files_in}
-use Rattle.tftp_server.specs.Port.{Ask, Ignores, Refuses, Reads, Writes, Service, Silent, Refused, Sends, Takes}
+use Rattle.tftp_server.specs.Port.{Ask, Ignores, Refuses, Reads, Writes, Service, Silent, Refused, Sends, Takes, by_draft}
 use Rattle.tftp_server.specs.Request.{Came, Goes, Left, Sent, Taken, left_by}
-use Rattle.tftp_server.specs.State.{TransferState, ServerState}
-use Rattle.tftp_server.specs.Steps.{KeepsHeld, StepIn}
+use Rattle.tftp_server.specs.State.{TransferState, ServerState, at, draft_of, with_new, with_next}
+use Rattle.tftp_server.specs.Steps.{KeepsHeld, StepIn, with_end}
 use Rattle.tftp_server.specs.Work.{FilesWork, WorksAt}
 use Rattle.tftp_loop.specs.Run.{Start, Then}
 use Rattle.tftp_loop.specs.Steps.{PortStep, LoopStep, LoopState, PortState}
@@ -28,153 +31,236 @@ use Rattle.tftp_loop.specs.Steps.PortStep.{A_failed_receive, A_timeout, A_missed
 use Rattle.tftp_loop.specs.Steps.LoopStep.{Waited, At_port, Request_received, No_request_found, Request_not_received}
 use Rattle.tftp_loop.specs.Steps.LoopStep.{Request_noted, Request_answered, Request_lost, Clock_read, Store_set}
 use Rattle.tftp_loop.specs.Steps.LoopStep.{Drain_begun, Transfer_closed}
-use Rattle.tftp_daemon.specs.Leaves.{RunLeaves}
+use Rattle.tftp_daemon.specs.Leaves.{HasOfServer, RunKeeps, RunLeaves}
+use Rattle.tftp_daemon.proofs.HeldLemmas.{held_any, held_at, held_new, held_next, held_without}
 
--- a relation that each call of a store keeps
-pub record AreKept {S D : Type 0} (Same : S → S → Type 0) (meaning : StoreMeaning S D) : Type 0 where
-  pub itself : (a : S) → Same a a
-  pub joined : (a b c : S) → Same a b → Same b c → Same a c
-  pub begun : (path : List ℕ) (a b : S) (fault : Option StoreFault) → meaning.begun path a b fault → Same a b
-  pub appended : (a b : S) (fault : Option StoreFault) → meaning.after_append a b fault → Same a b
-  pub committed : (a b : S) (fault : Option StoreFault) → meaning.after_commit a b fault → Same a b
-  pub behind : (a b : S) → meaning.after_write_behind a b → Same a b
+module _ {S F D : Type 0} (OfStore : S → Type 0) (OfDraft : D → Type 0) (meaning : StoreMeaning S D)
+    (sources : SourceMeaning F) (keeps : CallsKeep OfStore OfDraft meaning) where
+  -- ---- of a store and the file of one transfer
+  -- the file is a source, or a draft that has this
+  abbrev OfFiles : Files F D → Type 0
+  OfFiles files = IfSome (draft_of files) OfDraft
 
-module _ {S F D : Type 0} (Same : S → S → Type 0) (meaning : StoreMeaning S D) (sources : SourceMeaning F)
-    (keeps : AreKept Same meaning) where
-  -- the store is the same
-  stays : {a b : S} → b ≡ a → Same a b
-  stays {a} {b} is = subst (Same a) (sym is) (keeps.itself a)
+  abbrev OfBoth : Drafting S D → Type 0
+  OfBoth k = OfStore k.store × OfDraft k.draft
 
-  -- ---- at the port of a transfer
-  abbrev store_in : S → Files F (Drafting S D) → S
-  store_in store (Source source) = store
-  store_in store (Sink draft) = draft.store
+  same_store : {a b : S} → b ≡ a → OfStore a → OfStore b
+  same_store {a} {b} is has = subst OfStore (sym is) has
+
+  same_both : {k m : Drafting S D} → m ≡ k → OfBoth k → OfBoth m
+  same_both {k} {m} is has = subst OfBoth (sym is) has
+
+  abbrev sink_in : Drafting S D → Files F (Drafting S D) → Drafting S D
+  sink_in k (Source source) = k
+  sink_in k (Sink sink) = sink
 
   appended_so : (bytes : List ℕ) (k m : Drafting S D) (answer : Result Done StoreFault)
-      → Appended (drafting_sink meaning) bytes k m answer → Same k.store m.store
-  appended_so [] k m answer h = stays (ap (λ (d : Drafting S D). d.store) h.1)
-  appended_so (b ∷ bytes) k m answer h = keeps.appended k.store m.store _ h.3.0
+      → Appended (drafting_sink meaning) bytes k m answer → OfBoth k → OfBoth m
+  appended_so [] k m answer h has = same_both h.1 has
+  appended_so (b ∷ bytes) k m answer h has =
+      keeps.appended (b ∷ bytes) k.store m.store k.draft m.draft _ has.0 has.1 h.3.0
 
   goes_on_so : (terms : Terms) (number : ℕ) (from : Endpoint) (e : EndState) (last : Bool) (after : List ℕ)
       (m : Drafting S D) (answer : Result Done StoreFault) (turn : Turn) (k : Drafting S D)
-      → GoesOn (drafting_sink meaning) terms number from e last after m answer turn k → Same m.store k.store
-  goes_on_so terms number from e true after m (Err fault) turn k h = stays (ap (λ (d : Drafting S D). d.store) h.1)
-  goes_on_so terms number from e false after m (Err fault) turn k h = stays (ap (λ (d : Drafting S D). d.store) h.1)
-  goes_on_so terms number from e true after m (Ok done) turn k h = keeps.committed m.store k.store _ h.effect
-  goes_on_so terms number from e false after m (Ok done) turn k h = stays (ap (λ (d : Drafting S D). d.store) h.1)
+      → GoesOn (drafting_sink meaning) terms number from e last after m answer turn k → OfBoth m → OfBoth k
+  goes_on_so terms number from e true after m (Err fault) turn k h has = same_both h.1 has
+  goes_on_so terms number from e false after m (Err fault) turn k h has = same_both h.1 has
+  goes_on_so terms number from e true after m (Ok done) turn k h has =
+      keeps.committed m.path m.replace m.store k.store m.draft k.draft _ has.0 has.1 h.effect
+  goes_on_so terms number from e false after m (Ok done) turn k h has = same_both h.1 has
 
   acts_so : (action : Action) (from : Endpoint) (bytes : List ℕ) (e : EndState) (k : Drafting S D) (turn : Turn)
       (k' : Drafting S D)
-      → Acts sources (drafting_sink meaning) action from bytes e (Sink k) turn (Sink k') → Same k.store k'.store
-  acts_so (Respond response) from bytes e k turn k' h = stays (ap (store_in k.store) h.1)
-  acts_so (Send terms number) from bytes e k turn k' h = absurd h
-  acts_so (Store terms number) from bytes e k turn k' h =
+      → Acts sources (drafting_sink meaning) action from bytes e (Sink k) turn (Sink k') → OfBoth k → OfBoth k'
+  acts_so (Respond response) from bytes e k turn k' h has = same_both (ap (sink_in k) h.1) has
+  acts_so (Send terms number) from bytes e k turn k' h has = absurd h
+  acts_so (Store terms number) from bytes e k turn k' h has =
       let s = h.2 in
-      keeps.joined k.store s.mid.store k'.store (appended_so s.bytes k s.mid s.answer s.appended)
-      (goes_on_so terms number from e _ s.after s.mid s.answer turn k' s.rest)
+      goes_on_so terms number from e _ s.after s.mid s.answer turn k' s.rest
+      (appended_so s.bytes k s.mid s.answer s.appended has)
 
   step_so : (from : Endpoint) (bytes : List ℕ) (e : EndState) (turn : Turn) (a b : S) (path path' : List ℕ)
       (replace : Bool) (files files' : Files F D)
       → StepIn meaning sources from bytes e (files_in a path replace files) turn (files_in b path' replace files')
-      → KeepsStore files a b
-      → AreSame (λ (x y : F). ⊤) (λ (x y : D). ⊤) files files' → Same a b
-  step_so from bytes e turn a b path path' replace (Source source) files' steps same kind = stays same
-  step_so from bytes e turn a b path path' replace (Sink draft) (Source source) steps same kind = absurd kind
-  step_so from bytes e turn a b path path' replace (Sink draft) (Sink draft') steps same kind = acts_so _ from bytes
-      e _ turn _ steps.acts
+      → KeepsStore files a b → AreSame (λ (x y : F). ⊤) (λ (x y : D). ⊤) files files'
+      → OfStore a → OfFiles files → OfStore b × OfFiles files'
+  step_so from bytes e turn a b path path' replace (Source source) (Source source') steps same kind has of =
+      (same_store same has, tt)
+  step_so from bytes e turn a b path path' replace (Source source) (Sink draft) steps same kind has of = absurd kind
+  step_so from bytes e turn a b path path' replace (Sink draft) (Source source) steps same kind has of = absurd kind
+  step_so from bytes e turn a b path path' replace (Sink draft) (Sink draft') steps same kind has of =
+      acts_so _ from bytes e _ turn _ steps.acts (has, of)
 
-  work_so : (a b : S) (files files' : Files F D) → FilesWork meaning sources a b files files' → Same a b
-  work_so a b (Source source) (Source source') h = stays h.0
-  work_so a b (Sink draft) (Sink draft') h = keeps.behind a b h.behind
-  work_so a b (Source source) (Sink draft) h = absurd h
-  work_so a b (Sink draft) (Source source) h = absurd h
+  work_so : (a b : S) (files files' : Files F D) → FilesWork meaning sources a b files files' → OfStore a
+      → OfFiles files → OfStore b × OfFiles files'
+  work_so a b (Source source) (Source source') h has of = (same_store h.0 has, tt)
+  work_so a b (Sink draft) (Sink draft') h has of =
+      (keeps.behind a b has h.behind, keeps.drafts_behind draft draft' of h.drafts_behind)
+  work_so a b (Source source) (Sink draft) h has of = absurd h
+  work_so a b (Sink draft) (Source source) h has of = absurd h
+
+  kept_so : (a b : S) (path path' : List ℕ) (replace : Bool) (files files' : Files F D) → KeepsStore files a b
+      → KeepsDraft files files' a b
+      → KeepsFiles sources (drafting_sink meaning) (files_in a path replace files) (files_in b path' replace files')
+      → OfStore a → OfFiles files → OfStore b × OfFiles files'
+  kept_so a b path path' replace (Source source) (Source source') same draft kept has of = (same_store same has, tt)
+  kept_so a b path path' replace (Source source) (Sink draft') same draft kept has of = absurd kept
+  kept_so a b path path' replace (Sink draft) files' same kept files has of =
+      (same_store kept.0 has, subst OfFiles (sym kept.1) of)
+
+  -- ---- of those that are held
+  abbrev OfTransfer : TransferState F D → Type 0
+  OfTransfer transfer = OfFiles transfer.files
+
+  abbrev OfServer : ServerState S F D → Type 0
+  OfServer server = HasOfServer OfStore OfDraft server
+
+  -- the server with another transfer at an identifier
+  next_so : (tid : ℕ) (old new : ServerState S F D) (next : TransferState F D) → OfServer old
+      → OfStore new.store × OfTransfer next → new.held ≡ with_next tid next old.held → OfServer new
+  next_so tid old new next has both is = record {
+    store = both.0;
+    drafts = held_next OfTransfer tid old.held new.held next has.drafts both.1 is;
+  }
+
+  same_server : (old new : ServerState S F D) → new ≡ old → OfServer old → OfServer new
+  same_server old new is has = subst OfServer (sym is) has
+
+  -- ---- at the port of a transfer
+  held_so : (tid : ℕ) (transfer : Option (TransferState F D)) (old new : ServerState S F D)
+      → at tid old.held ≡ transfer → KeepsHeld meaning sources tid transfer old new → OfServer old → OfServer new
+  held_so tid None old new found kept has = same_server old new kept has
+  held_so tid (Some transfer) old new found kept has =
+      next_so tid old new kept.0 has
+      (kept_so old.store new.store transfer.path kept.0.path old.config.overwrite transfer.files kept.0.files
+      kept.1.stays kept.1.draft kept.1.files has.store (held_at OfTransfer tid old.held has.drafts found))
+      kept.2
 
   works_so : (tid : ℕ) (transfer : Option (TransferState F D)) (old new : ServerState S F D)
-      → WorksAt meaning sources tid transfer old new → Same old.store new.store
-  works_so tid None old new h = stays (ap (λ (s : ServerState S F D). s.store) h)
-  works_so tid (Some transfer) old new h = work_so old.store new.store transfer.files h.0.files h.1.files
+      → at tid old.held ≡ transfer → WorksAt meaning sources tid transfer old new → OfServer old → OfServer new
+  works_so tid None old new found works has = same_server old new works has
+  works_so tid (Some transfer) old new found works has =
+      next_so tid old new works.0 has
+      (work_so old.store new.store transfer.files works.0.files works.1.files has.store
+      (held_at OfTransfer tid old.held has.drafts found))
+      works.2
 
-  kept_so : (a b : S) (files files' : Files F D) → KeepsStore files a b → KeepsDraft files files' a b → Same a b
-  kept_so a b (Source source) files' same kept = stays same
-  kept_so a b (Sink draft) files' same kept = stays kept.0
-
-  held_so : (tid : ℕ) (transfer : Option (TransferState F D)) (old new : ServerState S F D)
-      → KeepsHeld meaning sources tid transfer old new → Same old.store new.store
-  held_so tid None old new h = stays (ap (λ (s : ServerState S F D). s.store) h)
-  held_so tid (Some transfer) old new h = kept_so old.store new.store transfer.files h.0.files h.1.stays h.1.draft
-
-  port_so : (now : ℕ) (old new : PortState S F D) → PortStep meaning sources now old new
-      → Same old.server.store new.server.store
-  port_so now old new (A_datagram d) =
+  port_so : (now : ℕ) (old new : PortState S F D) → PortStep meaning sources now old new → OfServer old.server
+      → OfServer new.server
+  port_so now old new (A_datagram d) has =
       let t = d.handles.takes in
-      step_so d.from d.bytes t.transfer.end t.takes.turn old.server.store new.server.store t.transfer.path
+      next_so old.timer.port old.server new.server t.next has
+      (step_so d.from d.bytes t.transfer.end t.takes.turn old.server.store new.server.store t.transfer.path
       t.next.path old.server.config.overwrite t.transfer.files t.next.files t.takes.steps t.takes.stays t.takes.kind
-  port_so now old new (A_lost_datagram d) = held_so old.timer.port _ old.server new.server d.loses.keeps
-  port_so now old new (A_late_datagram d) = stays (ap (λ (s : ServerState S F D). s.store) d.server)
-  port_so now old new (Nothing_found d) = stays (ap (λ (s : ServerState S F D). s.store) d.server)
-  port_so now old new (A_failed_receive d) = stays (ap (λ (s : ServerState S F D). s.store) d.server)
-  port_so now old new (A_timeout d) = stays (ap (λ (s : ServerState S F D). s.store) d.times_out.rest)
-  port_so now old new (A_missed_timeout d) = stays (ap (λ (s : ServerState S F D). s.store) d.server)
-  port_so now old new (Work d) = works_so old.timer.port _ old.server new.server d.works.works
+      has.store (held_at OfTransfer old.timer.port old.server.held has.drafts t.found))
+      t.held
+  port_so now old new (A_lost_datagram d) has =
+      held_so old.timer.port _ old.server new.server refl d.loses.keeps has
+  port_so now old new (A_late_datagram d) has = same_server old.server new.server d.server has
+  port_so now old new (Nothing_found d) has = same_server old.server new.server d.server has
+  port_so now old new (A_failed_receive d) has = same_server old.server new.server d.server has
+  port_so now old new (A_timeout d) has =
+      let t = d.times_out.times_out in
+      next_so old.timer.port old.server new.server (with_end t.end t.transfer) has (
+        same_store (ap (λ (s : ServerState S F D). s.store) d.times_out.rest) has.store,
+        held_at OfTransfer old.timer.port old.server.held has.drafts t.found,
+      )
+      t.held
+  port_so now old new (A_missed_timeout d) has = same_server old.server new.server d.server has
+  port_so now old new (Work d) has = works_so old.timer.port _ old.server new.server refl d.works.works has
 
   -- ---- at the request port
-  module _ (old : ServerState S F D) (from : Endpoint) (bytes : List ℕ) (tid : ℕ) where
+  module _ (old : ServerState S F D) (from : Endpoint) (bytes : List ℕ) (tid : ℕ) (has : OfServer old) where
     abbrev Left_so : Came S F D → Type 0
-    Left_so came = Same old.store (left_by came old from tid).new.store
+    Left_so came = OfServer (left_by came old from tid).new
+
+    -- an ERROR was sent, and the store has it
+    refused_so : (store : S) → OfStore store → OfServer (record old { store = store })
+    refused_so store of = record { store = of; drafts = has.drafts }
+
+    -- a transfer was opened
+    opened_so : (store : S) (new : TransferState F D) → OfStore store → OfTransfer new
+        → OfServer (record old { store = store; held = with_new tid new old.held })
+    opened_so store new of is = record {
+      store = of;
+      drafts = held_new OfTransfer tid old.held new has.drafts is;
+    }
 
     sent_so : (service : Service) (file : Result (Opening F) StoreFault) (came : Came S F D)
         → Sent meaning sources old from bytes service file came → Left_so came
     sent_so Silent file came h = absurd h
-    sent_so (Refused reply) file came h = subst Left_so (sym h) (keeps.itself old.store)
+    sent_so (Refused reply) file came h = subst Left_so (sym h) (refused_so old.store has.store)
     sent_so (Sends path mode length agreed) (Err fault) came h = absurd h
-    sent_so (Sends path mode length agreed) (Ok file) came (inl s) = subst Left_so (sym s.opens)
-        (keeps.itself old.store)
-    sent_so (Sends path mode length agreed) (Ok file) came (inr x) = subst Left_so (sym x.2) (keeps.itself old.store)
+    sent_so (Sends path mode length agreed) (Ok file) came (inl s) =
+        subst Left_so (sym s.opens) (opened_so old.store _ has.store tt)
+    sent_so (Sends path mode length agreed) (Ok file) came (inr x) =
+        subst Left_so (sym x.2) (refused_so old.store has.store)
     sent_so (Takes path mode agreed) file came h = absurd h
 
-    taken_so : (service : Service) (draft : Result D StoreFault) (begun : S) (came : Came S F D)
-        → Same old.store begun → Taken meaning sources old from bytes service draft begun came → Left_so came
-    taken_so Silent draft begun came same h = absurd h
-    taken_so (Refused reply) draft begun came same h = subst Left_so (sym h) same
-    taken_so (Sends path mode length agreed) draft begun came same h = absurd h
-    taken_so (Takes path mode agreed) (Err fault) begun came same h = absurd h
-    taken_so (Takes path mode agreed) (Ok draft) begun came same h = subst Left_so (sym h) same
+    taken_so : (path : List ℕ) (mode : Mode) (agreed : List Known) (draft : Result D StoreFault) (store : S)
+        (came : Came S F D) → OfStore store × IfOk draft OfDraft
+        → Taken meaning sources old from bytes (by_draft path mode agreed draft) draft store came
+        → Left_so came
+    taken_so path mode agreed (Err fault) store came of h = subst Left_so (sym h) (refused_so store of.0)
+    taken_so path mode agreed (Ok draft) store came of h = subst Left_so (sym h) (opened_so store _ of.0 of.1)
 
     goes_so : (ask : Ask) (came : Came S F D) → Goes meaning sources old from bytes ask came → Left_so came
-    goes_so Ignores came h = subst Left_so (sym h) (keeps.itself old.store)
-    goes_so (Refuses reply) came h = subst Left_so (sym h) (keeps.itself old.store)
+    goes_so Ignores came h = subst Left_so (sym h) has
+    goes_so (Refuses reply) came h = subst Left_so (sym h) (refused_so old.store has.store)
     goes_so (Reads path mode options) came h = sent_so _ h.file came h.goes_on
-    goes_so (Writes path mode agreed) came h = taken_so _ h.draft h.store came
-        (keeps.begun path old.store h.store _ h.begun) h.goes_on
+    goes_so (Writes path mode agreed) came h =
+        taken_so path mode agreed h.draft h.store came
+        (keeps.begun path old.config.overwrite old.store h.store h.draft has.store h.begun) h.goes_on
 
   -- ---- in a run
-  abbrev store_of : LoopState S F D → S
-  store_of s = s.server.store
+  abbrev server_of : LoopState S F D → ServerState S F D
+  server_of s = s.server
 
-  leaves_so : (old new : LoopState S F D) → LoopStep meaning sources old new → Same old.server.store new.server.store
-  leaves_so old new (Waited d) = stays (ap store_of d.is)
-  leaves_so old new (At_port d) =
-      subst (Same old.server.store) (sym (ap store_of d.is)) (port_so old.now _ d.next d.does)
-  leaves_so old new (Request_received d) = stays (ap store_of d.is)
-  leaves_so old new (No_request_found d) = stays (ap store_of d.is)
-  leaves_so old new (Request_not_received d) = stays (ap store_of d.is)
-  leaves_so old new (Request_noted d) = stays (ap store_of d.is)
-  leaves_so old new (Request_answered d) =
-      let answered = goes_so old.server d.from d.bytes d.tid _ d.steps.came d.steps.goes in
-      let left = subst (λ (l : Left S F D). Same old.server.store l.new.store) (sym d.steps.left) answered in
-      subst (Same old.server.store) (sym (ap store_of d.is)) left
-  leaves_so old new (Request_lost d) = stays (ap store_of d.is)
-  leaves_so old new (Clock_read d) = stays (ap store_of d.is)
-  leaves_so old new (Store_set d) =
-      subst (Same old.server.store) (sym (ap store_of d.is))
-      (keeps.joined old.server.store d.behind.between d.store
-      (keeps.behind old.server.store d.behind.between d.behind.port)
-      (keeps.behind d.behind.between d.store d.behind.longest))
-  leaves_so old new (Transfer_closed d) = stays (ap store_of d.is)
-  leaves_so old new (Drain_begun d) = stays (ap store_of d.is)
+  does_so : (old new : LoopState S F D) → LoopStep meaning sources old new → OfServer old.server
+      → OfServer new.server
+  does_so old new (Waited d) has = same_server old.server new.server (ap server_of d.is) has
+  does_so old new (At_port d) has =
+      subst OfServer (sym (ap server_of d.is)) (port_so old.now _ d.next d.does has)
+  does_so old new (Request_received d) has = same_server old.server new.server (ap server_of d.is) has
+  does_so old new (No_request_found d) has = same_server old.server new.server (ap server_of d.is) has
+  does_so old new (Request_not_received d) has = same_server old.server new.server (ap server_of d.is) has
+  does_so old new (Request_noted d) has = same_server old.server new.server (ap server_of d.is) has
+  does_so old new (Request_answered d) has =
+      let answered = goes_so old.server d.from d.bytes d.tid has _ d.steps.came d.steps.goes in
+      let left = subst (λ (l : Left S F D). OfServer l.new) (sym d.steps.left) answered in
+      subst OfServer (sym (ap server_of d.is)) left
+  does_so old new (Request_lost d) has = same_server old.server new.server (ap server_of d.is) has
+  does_so old new (Clock_read d) has = same_server old.server new.server (ap server_of d.is) has
+  does_so old new (Store_set d) has =
+      subst OfServer (sym (ap server_of d.is))
+      (record {
+        store =
+            keeps.behind d.behind.between d.store
+            (keeps.behind old.server.store d.behind.between has.store d.behind.port) d.behind.longest;
+        drafts = has.drafts;
+      })
+  does_so old new (Transfer_closed d) has =
+      subst OfServer (sym (ap server_of d.is))
+      (record {
+        store = has.store;
+        drafts = held_without OfTransfer d.timer.port old.server.held has.drafts;
+      })
+  does_so old new (Drain_begun d) has = same_server old.server new.server (ap server_of d.is) has
 
-  pub run_leaves : RunLeaves Same meaning sources
-  run_leaves old new Start = keeps.itself old.server.store
-  run_leaves old new (Then {middle} run does) =
-      keeps.joined old.server.store middle.server.store new.server.store (run_leaves old middle run)
-      (leaves_so middle new does)
+  pub run_keeps : RunKeeps OfStore OfDraft meaning sources
+  run_keeps old new Start has = has
+  run_keeps old new (Then {middle} run does) has = does_so middle new does (run_keeps old middle run has)
+
+-- a relation from the first store on, which each call keeps, holds at the end
+pub run_leaves : {S F D : Type 0} (Same : S → S → Type 0) (meaning : StoreMeaning S D) (sources : SourceMeaning F)
+    → ((start : S) → Same start start) → ((start : S) → CallsKeep (Same start) (λ (draft : D). ⊤) meaning)
+    → RunLeaves Same meaning sources
+run_leaves {S} {F} {D} Same meaning sources itself keeps old new run =
+    let any : (transfer : TransferState F D) → IfSome (draft_of transfer.files) (λ (draft : D). ⊤) =
+    λ transfer. trivial (draft_of transfer.files) in
+    (run_keeps (Same old.server.store) (λ draft. ⊤) meaning sources (keeps old.server.store) old new run
+    (record { store = itself old.server.store; drafts = held_any _ any old.server.held })).store
+  where
+    trivial : (draft : Option D) → IfSome draft (λ (d : D). ⊤)
+    trivial None = tt
+    trivial (Some draft) = tt

@@ -1,4 +1,6 @@
 mod ConfiguredLemmas
 mod Commands
+mod HeldLemmas
 mod Keeping
 mod NoneStores
+mod WithinLimits

@@ -1,14 +1,10 @@
 -- A run over a store that begins drafts of some paths alone, or none, has no transfer that stores
 -- elsewhere.
-use Rattle.std.proofs.Common.{◌≡◌, ℕ, Bool, true, false, cond, List, [], ◌∷◌, Option, Some, None, refl, sym, ap}
+use Rattle.std.proofs.Common.{◌≡◌, ℕ, Bool, List, Option, Some, None, refl, sym, ap}
 use Rattle.std.proofs.Common.{subst, inl, inr}
 use Rattle.std.specs.Prelude.{◌⊎◌, Result, Ok, Err, IfSome, All, ⊤}
-use Rattle.std.specs.Result.{result_err}
-use Rattle.std.specs.BTreeMap.{is_at}
-use Rattle.std.specs.Map.{lookup, values_of}
-use Rattle.std.specs.Ordering.{nat_cmp}
-use Rattle.std.proofs.lemmas.List.Elements.{All-head, All-tail, All-weaker}
-use Rattle.std.proofs.lemmas.Map.Views.{All-map-remove_entry, All-values-insert_entry, All-values-set_value}
+use Rattle.std.specs.Map.{values_of}
+use Rattle.std.proofs.lemmas.List.Elements.{All-weaker}
 use Rattle.tftp_wire.specs.declared.mode.Mode.{Mode}
 use Rattle.tftp_negotiate.specs.declared.known.Known.{Known}
 use Rattle.tftp_file.specs.Source.{SourceMeaning}
@@ -22,7 +18,7 @@ use Rattle.tftp_store.specs.declared.store.Opening.{Opening}
 use Rattle.tftp_server.specs.Draft.{drafting_sink, files_in}
 use Rattle.tftp_server.specs.Port.{Ask, Ignores, Refuses, Reads, Writes, Service, Silent, Refused, Sends, Takes, by_draft}
 use Rattle.tftp_server.specs.Request.{Came, Goes, Left, Sent, Taken, left_by}
-use Rattle.tftp_server.specs.State.{TransferState, ServerState, at, draft_of, with_new, with_next}
+use Rattle.tftp_server.specs.State.{TransferState, ServerState, at, draft_of}
 use Rattle.tftp_server.specs.Steps.{KeepsHeld, with_end}
 use Rattle.tftp_server.specs.Work.{FilesWork, WorksAt}
 use Rattle.tftp_loop.specs.Run.{Start, Then}
@@ -33,6 +29,7 @@ use Rattle.tftp_loop.specs.Steps.LoopStep.{Waited, At_port, Request_received, No
 use Rattle.tftp_loop.specs.Steps.LoopStep.{Request_noted, Request_answered, Request_lost, Clock_read, Store_set}
 use Rattle.tftp_loop.specs.Steps.LoopStep.{Drain_begun, Transfer_closed}
 use Rattle.tftp_daemon.specs.Leaves.{NoneStores, RunKeepsHeld, RunLeaves, StoresOnly}
+use Rattle.tftp_daemon.proofs.HeldLemmas.{held_at, held_new, held_next, held_without}
 
 module _ {F D : Type 0} where
   -- ---- of the files of one transfer
@@ -58,17 +55,6 @@ module _ {F D : Type 0} where
   work_so meaning sources store store' (Source a) (Sink b) works reads = absurd works
   work_so meaning sources store store' (Sink a) files' works reads = absurd (let bad : Some a ≡ None = reads in cc)
 
-  -- ---- of those that are held
-  module _ (P : TransferState F D → Type 0) where
-    found_in : (test : ℕ → Bool) (held : List (ℕ × TransferState F D))
-        → All P (values_of held) → IfSome (lookup test held) P
-    found_in test [] all = tt
-    found_in test (e ∷ held) all = by (test e.0) (found_in test held (All-tail P _ _ all))
-      where
-        by : (b : Bool) → IfSome (lookup test held) P → IfSome (cond b (Some e.1) (lookup test held)) P
-        by true rest = All-head P _ _ all
-        by false rest = rest
-
   -- ---- that store only under such paths
   module _ (May : List ℕ → Type 0) where
     -- a transfer that stores nothing, or under such a path
@@ -85,26 +71,10 @@ module _ {F D : Type 0} where
     still_fine transfer next reads path (inl none) = inl (reads none)
     still_fine transfer next reads path (inr may) = inr (subst May (sym path) may)
 
-    -- the one at an identifier
-    fine_at : (tid : ℕ) (held : List (ℕ × TransferState F D)) {transfer : TransferState F D} → AreFine held
-        → at tid held ≡ Some transfer → IsFine transfer
-    fine_at tid held fine found =
-        subst (λ (o : Option (TransferState F D)). IfSome o IsFine) found
-        (found_in IsFine (is_at (nat_cmp tid)) held fine)
-
-    -- with another at an identifier, and with one more
-    fine_next : (tid : ℕ) (held after : List (ℕ × TransferState F D)) (next : TransferState F D) → AreFine held
-        → IsFine next → after ≡ with_next tid next held → AreFine after
-    fine_next tid held after next fine is_fine is =
-        subst AreFine (sym is) (All-values-set_value (is_at (nat_cmp tid)) IsFine held next fine is_fine)
-
-    fine_new : (tid : ℕ) (held : List (ℕ × TransferState F D)) (new : TransferState F D) → AreFine held
-        → IsFine new → AreFine (with_new tid new held)
-    fine_new tid held new fine is_fine = All-values-insert_entry nat_cmp tid new IsFine held fine is_fine
-
 module _ {S F D : Type 0} (Admits : S → Type 0) (May : List ℕ → Type 0) (meaning : StoreMeaning S D)
     (sources : SourceMeaning F)
-    (begins : (path : List ℕ) (a b : S) → Admits a → meaning.begun path a b None → May path) where
+    (begins : (path : List ℕ) (replace : Bool) (a b : S) (draft : D) → Admits a
+    → meaning.begun path replace a b (Ok draft) → May path) where
   abbrev FineIn : ServerState S F D → Type 0
   FineIn server = AreFine May server.held
 
@@ -116,29 +86,29 @@ module _ {S F D : Type 0} (Admits : S → Type 0) (May : List ℕ → Type 0) (m
       → at tid old.held ≡ transfer → KeepsHeld meaning sources tid transfer old new → FineIn old → FineIn new
   held_fine tid None old new found kept fine = same_fine old new kept fine
   held_fine tid (Some transfer) old new found kept fine =
-      fine_next May tid old.held new.held kept.0 fine
+      held_next (IsFine May) tid old.held new.held kept.0 fine
       (still_fine May transfer kept.0
       (kept_so meaning sources old.store new.store transfer.path kept.0.path old.config.overwrite transfer.files
       kept.0.files kept.1.files)
-      kept.1.path (fine_at May tid old.held fine found))
+      kept.1.path (held_at (IsFine May) tid old.held fine found))
       kept.2
 
   works_fine : (tid : ℕ) (transfer : Option (TransferState F D)) (old new : ServerState S F D)
       → at tid old.held ≡ transfer → WorksAt meaning sources tid transfer old new → FineIn old → FineIn new
   works_fine tid None old new found works fine = same_fine old new works fine
   works_fine tid (Some transfer) old new found works fine =
-      fine_next May tid old.held new.held works.0 fine
+      held_next (IsFine May) tid old.held new.held works.0 fine
       (still_fine May transfer works.0 (work_so meaning sources old.store new.store transfer.files works.0.files works.1.files)
-      (ap (λ (t : TransferState F D). t.path) works.1.rest) (fine_at May tid old.held fine found))
+      (ap (λ (t : TransferState F D). t.path) works.1.rest) (held_at (IsFine May) tid old.held fine found))
       works.2
 
   port_fine : (now : ℕ) (old new : PortState S F D) → PortStep meaning sources now old new → FineIn old.server
       → FineIn new.server
   port_fine now old new (A_datagram d) fine =
       let t = d.handles.takes in
-      fine_next May old.timer.port old.server.held new.server.held t.next fine
+      held_next (IsFine May) old.timer.port old.server.held new.server.held t.next fine
       (still_fine May t.transfer t.next (same_so t.transfer.files t.next.files t.takes.kind) t.takes.path
-      (fine_at May old.timer.port old.server.held fine t.found))
+      (held_at (IsFine May) old.timer.port old.server.held fine t.found))
       t.held
   port_fine now old new (A_lost_datagram d) fine =
       held_fine old.timer.port _ old.server new.server refl d.loses.keeps fine
@@ -147,8 +117,8 @@ module _ {S F D : Type 0} (Admits : S → Type 0) (May : List ℕ → Type 0) (m
   port_fine now old new (A_failed_receive d) fine = same_fine old.server new.server d.server fine
   port_fine now old new (A_timeout d) fine =
       let t = d.times_out.times_out in
-      fine_next May old.timer.port old.server.held new.server.held (with_end t.end t.transfer) fine
-      (fine_at May old.timer.port old.server.held fine t.found)
+      held_next (IsFine May) old.timer.port old.server.held new.server.held (with_end t.end t.transfer) fine
+      (held_at (IsFine May) old.timer.port old.server.held fine t.found)
       t.held
   port_fine now old new (A_missed_timeout d) fine = same_fine old.server new.server d.server fine
   port_fine now old new (Work d) fine = works_fine old.timer.port _ old.server new.server refl d.works.works fine
@@ -165,24 +135,24 @@ module _ {S F D : Type 0} (Admits : S → Type 0) (May : List ℕ → Type 0) (m
     sent_fine (Refused reply) file came h = subst Left_fine (sym h) fine
     sent_fine (Sends path mode length agreed) (Err fault) came h = absurd h
     sent_fine (Sends path mode length agreed) (Ok file) came (inl s) =
-        subst Left_fine (sym s.opens) (fine_new May tid old.held _ fine (inl refl))
+        subst Left_fine (sym s.opens) (held_new (IsFine May) tid old.held _ fine (inl refl))
     sent_fine (Sends path mode length agreed) (Ok file) came (inr x) = subst Left_fine (sym x.2) fine
     sent_fine (Takes path mode agreed) file came h = absurd h
 
-    taken_fine : (path : List ℕ) (mode : Mode) (agreed : List Known) (draft : Result D StoreFault) (store : S)
-        (came : Came S F D) → meaning.begun path old.store store (result_err draft)
+    taken_fine : (path : List ℕ) (mode : Mode) (agreed : List Known) (replace : Bool) (draft : Result D StoreFault)
+        (store : S) (came : Came S F D) → meaning.begun path replace old.store store draft
         → Taken meaning sources old from bytes (by_draft path mode agreed draft) draft store came
         → Left_fine came
-    taken_fine path mode agreed (Err fault) store came begun h = subst Left_fine (sym h) fine
-    taken_fine path mode agreed (Ok draft) store came begun h =
+    taken_fine path mode agreed replace (Err fault) store came begun h = subst Left_fine (sym h) fine
+    taken_fine path mode agreed replace (Ok draft) store came begun h =
         subst Left_fine (sym h)
-        (fine_new May tid old.held _ fine (inr (begins path old.store store admits begun)))
+        (held_new (IsFine May) tid old.held _ fine (inr (begins path replace old.store store draft admits begun)))
 
     goes_fine : (ask : Ask) (came : Came S F D) → Goes meaning sources old from bytes ask came → Left_fine came
     goes_fine Ignores came h = subst Left_fine (sym h) fine
     goes_fine (Refuses reply) came h = subst Left_fine (sym h) fine
     goes_fine (Reads path mode options) came h = sent_fine _ h.file came h.goes_on
-    goes_fine (Writes path mode agreed) came h = taken_fine path mode agreed h.draft h.store came h.begun h.goes_on
+    goes_fine (Writes path mode agreed) came h = taken_fine path mode agreed _ h.draft h.store came h.begun h.goes_on
 
   -- ---- in a run
   abbrev held_in : LoopState S F D → List (ℕ × TransferState F D)
@@ -206,8 +176,7 @@ module _ {S F D : Type 0} (Admits : S → Type 0) (May : List ℕ → Type 0) (m
   does_fine old new (Store_set d) admits fine = subst (AreFine May) (sym (ap held_in d.is)) fine
   does_fine old new (Transfer_closed d) admits fine =
       subst (AreFine May) (sym (ap held_in d.is))
-      (All-map-remove_entry (is_at (nat_cmp d.timer.port)) (λ (e : ℕ × TransferState F D). e.1) (IsFine May)
-      old.server.held fine)
+      (held_without (IsFine May) d.timer.port old.server.held fine)
   does_fine old new (Drain_begun d) admits fine = subst (AreFine May) (sym (ap held_in d.is)) fine
 
   module _ {Same : S → S → Type 0} (leaves : RunLeaves Same meaning sources)
@@ -250,7 +219,8 @@ module _ {S F D : Type 0} {Same : S → S → Type 0} (Admits : S → Type 0) (m
     (keeps : (a b : S) → Same a b → Admits a → Admits b) where
   -- over a store that begins drafts of such paths alone
   pub stores_only : (May : List ℕ → Type 0)
-      → ((path : List ℕ) (a b : S) → Admits a → meaning.begun path a b None → May path)
+      → ((path : List ℕ) (replace : Bool) (a b : S) (draft : D) → Admits a
+      → meaning.begun path replace a b (Ok draft) → May path)
       → RunKeepsHeld Admits meaning sources (StoresOnly May)
   stores_only May begins old new run admits only =
       All-weaker (IsFine May) _ (from_fine May) (values_of new.server.held)
@@ -258,7 +228,8 @@ module _ {S F D : Type 0} {Same : S → S → Type 0} (Admits : S → Type 0) (m
       (All-weaker _ (IsFine May) (to_fine May) (values_of old.server.held) only))
 
   -- over one that begins none
-  pub stores_nothing : ((path : List ℕ) (a b : S) → Admits a → meaning.begun path a b None → ⊥)
+  pub stores_nothing : ((path : List ℕ) (replace : Bool) (a b : S) (draft : D) → Admits a
+      → meaning.begun path replace a b (Ok draft) → ⊥)
       → RunKeepsHeld Admits meaning sources NoneStores
   stores_nothing begins old new run admits none =
       All-weaker (IsFine (λ _. ⊥)) _ (λ transfer. fine_reads (λ _. ⊥) transfer (λ path never. never))

@@ -9,7 +9,7 @@ use Rattle.tftp_store.specs.Store.{StoreMeaning}
 use Rattle.tftp_server.specs.Config.{IsConfig}
 use Rattle.tftp_server.specs.State.{ServerState}
 use Rattle.tftp_sockets.specs.Journal.{SocketEvent}
-use Rattle.tftp_loop.specs.WholeRun.{Serves}
+use Rattle.tftp_loop.specs.WholeRun.{RunsServer}
 use Rattle.tftp_loop.specs.declared.serving.LoopConfig.{LoopConfig}
 use Rattle.tftp_loop.specs.declared.serving.LoopFault.{LoopFault}
 use Rattle.tftp_arguments.specs.Fault.{AskForText}
@@ -17,7 +17,9 @@ use Rattle.tftp_daemon.specs.Words.{WordsConfigure, tftpd_app}
 use Rattle.tftp_daemon.specs.declared.daemon.DaemonConfig.{DaemonConfig}
 use Rattle.tftp_daemon.specs.declared.listen.Listen.{Listen}
 use Rattle.tftp_daemon.specs.declared.listen.Listen.TheVariants.{At, Handed}
+use Rattle.tftp_folder.specs.Effects.{changes_of}
 use Rattle.tftp_folder.specs.Opened.{IsRootOf}
+use Rattle.tftp_folder.specs.Uploads.{path_below}
 use Rattle.tftp_folder.specs.declared.folder_store.FolderStore.{FolderStore}
 
 -- the status of the program: 0, or 2 for a fault
@@ -57,13 +59,19 @@ IsUploads None uploads = uploads ≡ None
 IsUploads (Some folder) uploads =
     (path : List ℕ) × (path_of_name folder ≡ Ok path) × (uploads ≡ Some path)
 
+-- the folder of drafts: the one that takes all writes, if there is one, else the root
+abbrev pub drafts_in : List ℕ → Option (List ℕ) → List ℕ
+drafts_in root None = root
+drafts_in root (Some folder) = path_below root folder
+
 -- the root is the folder that this path leads to, as the system said when the store was opened
 abbrev pub IsRootAt : List ℕ → List ℕ → Type 0
 IsRootAt path root = (events : _) × IsRootOf path root events
 
 module _ {R G H F D : Type 0} where
   -- the server of a configuration, which is valid, without transfers: its limits, and a store over
-  -- its folder that refuses writes, or takes them below one folder alone, as it says
+  -- its folder that refuses writes, or takes them below one folder alone, as it says, has its drafts
+  -- there, and has changed nothing on the disk
   pub record IsServerOf (config : DaemonConfig) (server : ServerState (FolderStore R G H) F D)
       : Type 0 where
     pub valid : IsConfig config.config
@@ -72,6 +80,9 @@ module _ {R G H F D : Type 0} where
     pub root : IsRootAt config.root.now (string_bytes server.store.folder.root)
     pub read_only : server.store.is_read_only ≡ config.read_only
     pub uploads : IsUploads (option_map (λ folder. folder.now) config.uploads) server.store.uploads
+    pub drafts : string_bytes server.store.folder.drafts
+        ≡ drafts_in (string_bytes server.store.folder.root) server.store.uploads
+    pub unchanged : changes_of server.store ≡ []
 
   module _ (meaning : StoreMeaning (FolderStore R G H) D) (sources : SourceMeaning F) where
     -- a server ran over UDP, from one journal to the other, and its result has this status
@@ -79,7 +90,7 @@ module _ {R G H F D : Type 0} where
         (status : ℕ) (before after : List SocketEvent) : Type 0 where
       pub result : Result (Unit {0}) LoopFault
       pub is_status : status ≡ status_of result
-      pub serves : Serves meaning sources service server result before after
+      pub serves : RunsServer meaning sources service server result before after
 
     -- a server of the configuration ran
     pub record ServesConfig (config : DaemonConfig) (status : ℕ) (before after : List SocketEvent)

@@ -2,13 +2,28 @@
 use Rattle.std.specs.Prelude.{ℕ, ◌≡◌, true, List, All, Some, None, IfSome}
 use Rattle.std.specs.Map.{values_of}
 use Rattle.tftp_file.specs.Source.{SourceMeaning}
-use Rattle.tftp_server.specs.State.{TransferState, draft_of}
+use Rattle.tftp_server.specs.State.{ServerState, TransferState, draft_of}
 use Rattle.tftp_store.specs.Store.{StoreMeaning}
 use Rattle.tftp_loop.specs.Run.{Run}
 use Rattle.tftp_loop.specs.Steps.{LoopStep, LoopState}
 use Rattle.tftp_folder.specs.Settings.{SameSettings}
 use Rattle.tftp_folder.specs.Uploads.{IsBelow}
 use Rattle.tftp_folder.specs.declared.folder_store.FolderStore.{FolderStore}
+
+-- the store of a server has this, and each draft of its transfers that
+pub record HasOfServer {S F D : Type 0} (OfStore : S → Type 0) (OfDraft : D → Type 0)
+    (server : ServerState S F D) : Type 0 where
+  pub store : OfStore server.store
+  pub drafts : All (λ (transfer : TransferState F D). IfSome (draft_of transfer.files) OfDraft)
+      (values_of server.held)
+
+module _ {S F D : Type 0} (OfStore : S → Type 0) (OfDraft : D → Type 0) (meaning : StoreMeaning S D)
+    (sources : SourceMeaning F) where
+  -- a run keeps this of the store and of each draft of the transfers
+  abbrev pub RunKeeps : Type 0
+  RunKeeps =
+      (old new : LoopState S F D) → Run (LoopStep meaning sources) old new
+      → HasOfServer OfStore OfDraft old.server → HasOfServer OfStore OfDraft new.server
 
 module _ {S F D : Type 0} (Same : S → S → Type 0) (meaning : StoreMeaning S D)
     (sources : SourceMeaning F) where

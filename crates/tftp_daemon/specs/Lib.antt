@@ -2,4 +2,5 @@ pub mod Leaves
 pub mod CommandLine
 pub mod Words
 pub mod Configured
+pub mod Changes
 pub mod Servers

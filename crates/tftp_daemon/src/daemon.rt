@@ -1,10 +1,13 @@
 //! `tftpd`: a server over UDP that serves the files of a folder.
 
-ghost use Rattle.std.specs.Prelude.{◌≡◌, ◌≤◌, IfOk, option_map};
+ghost use Rattle.std.specs.Prelude.{◌≡◌, ◌≤◌, [], IfOk, None, false, option_map};
 ghost use Rattle.std.specs.String.{string_bytes};
 ghost use Rattle.tftp_server.specs.Config.{IsConfig};
+ghost use Rattle.tftp_folder.specs.Effects.{changes_of};
+ghost use Rattle.tftp_folder.specs.Opened.{IsRootOf};
 ghost use Rattle.tftp_daemon.specs.Configured.{IsRootAt, IsServerOf, IsUploads, ListensAt};
-ghost use Rattle.tftp_daemon.specs.Configured.{MayServe, RunsService, service_at, status_of};
+ghost use Rattle.tftp_daemon.specs.Configured.{MayServe, RunsService, drafts_in, service_at};
+ghost use Rattle.tftp_daemon.specs.Configured.{status_of};
 
 use crate::drain_file::DrainFile;
 use crate::listen::Listen;
@@ -270,10 +273,13 @@ fn open_store<R: Files + Drop>(
     ensures read_only { IfOk result (λ store. store.is_read_only ≡ config.now.read_only) }
     ensures uploads { IfOk result (λ store.
         IsUploads (option_map (λ folder. folder.now) config.now.uploads) store.uploads) }
+    ensures drafts { IfOk result (λ store. string_bytes store.folder.drafts
+        ≡ drafts_in (string_bytes store.folder.root) store.uploads) }
+    ensures unchanged { IfOk result (λ store. changes_of store ≡ []) }
 {
-    let mut store = match FolderStore::new(files, alloc, config.root) {
+    let mut store = match open_root(files, alloc, config) {
         Ok(store) => store,
-        Err(error) => return Err(fault_of(&error, DaemonFault::Root(reason_of(&error)))),
+        Err(fault) => return Err(fault),
     };
     if config.read_only {
         store.refuse_writes();
@@ -284,6 +290,25 @@ fn open_store<R: Files + Drop>(
         }
     }
     Ok(store)
+}
+
+/// The store over the folder, which takes writes everywhere.
+fn open_root<R: Files + Drop>(
+    files: R,
+    alloc: Global,
+    config: &DaemonConfig<'_>,
+) -> Result<FolderStore<R>, DaemonFault>
+    ensures root { IfOk result (λ store. IsRootOf config.now.root.now
+        (string_bytes store.folder.root) store.journal.events) }
+    ensures settings { IfOk result (λ store. (store.is_read_only ≡ false)
+        × (store.uploads ≡ None)) }
+    ensures drafts { IfOk result (λ store. string_bytes store.folder.drafts
+        ≡ string_bytes store.folder.root) }
+{
+    match FolderStore::new(files, alloc, config.root) {
+        Ok(store) => Ok(store),
+        Err(error) => Err(fault_of(&error, DaemonFault::Root(reason_of(&error)))),
+    }
 }
 
 /// The fault of a folder that could not be opened: out of memory, or else this one.

@@ -1,10 +1,13 @@
 //! Laws of the runs of `tftpd`, over the definitions alone.
 
+ghost use Rattle.tftp_daemon.specs.Changes.{ReadOnlyRunChangesNothing, RunStaysWithin};
+ghost use Rattle.tftp_daemon.specs.Changes.{UploadsRunChangesBelow};
 ghost use Rattle.tftp_daemon.specs.Leaves.{ReadOnlyRunStoresNothing, RunKeepsSettings};
 ghost use Rattle.tftp_daemon.specs.Leaves.{UploadsStayInTheirFolder};
 
 use std::rt::Files;
 use tftp_file::Source;
+use tftp_folder::laws::{keeps_within_its_limits, read_only_changes_nothing};
 use tftp_folder::{FolderSource, FolderStore};
 use tftp_server::Store;
 
@@ -31,4 +34,33 @@ pub fn uploads_stay_in_their_folder<R: Files + Drop>()
         ⟦<FolderSource<R::File> as Source>⟧.meaning }
 {
     a_run_keeps_the_settings::<R>();
+}
+
+/// A run changes nothing on the disk but within the limits of its store, which are those of the
+/// configuration: drafts at the server's own names are made and removed, and get the names of paths
+/// that clients can spell, and what got such a name may lose it. No other file is made, named,
+/// replaced or removed, whatever datagrams come and whatever the system answers.
+pub fn a_run_stays_within_its_limits<R: Files + Drop>()
+    ensures { RunStaysWithin ⟦<FolderStore<R> as Store>⟧.meaning
+        ⟦<FolderSource<R::File> as Source>⟧.meaning }
+{
+    keeps_within_its_limits::<R>();
+}
+
+/// A run by words with `--read-only` changes nothing on the disk.
+pub fn a_read_only_run_changes_nothing<R: Files + Drop>()
+    ensures { ReadOnlyRunChangesNothing ⟦<FolderStore<R> as Store>⟧.meaning
+        ⟦<FolderSource<R::File> as Source>⟧.meaning }
+{
+    a_run_stays_within_its_limits::<R>();
+    read_only_changes_nothing();
+}
+
+/// A run by words with `--uploads FOLDER` makes, names and removes files in that folder of the root
+/// and below it alone.
+pub fn a_run_changes_its_uploads_alone<R: Files + Drop>()
+    ensures { UploadsRunChangesBelow ⟦<FolderStore<R> as Store>⟧.meaning
+        ⟦<FolderSource<R::File> as Source>⟧.meaning }
+{
+    a_run_stays_within_its_limits::<R>();
 }

@@ -1,8 +1,9 @@
 -- The server has the store that was opened.
-use Rattle.std.proofs.Common.{◌≡◌, ◌∙◌, ap, subst, sym, option_map}
+use Rattle.std.proofs.Common.{◌≡◌, ◌∙◌, [], ap, subst, sym, option_map}
 use Rattle.std.specs.String.{string_bytes}
+use Rattle.tftp_folder.specs.Effects.{changes_of}
 use Rattle.tftp_folder.specs.declared.folder_store.FolderStore.{FolderStore}
-use Rattle.tftp_daemon.specs.Configured.{IsRootAt, IsServerOf, IsUploads}
+use Rattle.tftp_daemon.specs.Configured.{IsRootAt, IsServerOf, IsUploads, drafts_in}
 use Rattle.tftp_daemon.proofs.daemon.open_server.Goals as goal
 
 pub returns-in-Ok-new : goal.returns-in-Ok-new
@@ -22,4 +23,10 @@ returns-in-Ok-new g c =
           subst (λ (s : FolderStore _ _ _).
           IsUploads (option_map (λ folder. folder.now) c.args.config.now.uploads) s.uploads) same
           c.in-Ok-open_store.ensures.uploads;
+      drafts =
+          subst (λ (s : FolderStore _ _ _).
+          string_bytes s.folder.drafts ≡ drafts_in (string_bytes s.folder.root) s.uploads) same
+          c.in-Ok-open_store.ensures.drafts;
+      unchanged =
+          subst (λ (s : FolderStore _ _ _). changes_of s ≡ []) same c.in-Ok-open_store.ensures.unchanged;
     }

@@ -1,0 +1,46 @@
+-- What holds of each transfer of a table.
+use Rattle.std.proofs.Common.{◌≡◌, ℕ, Bool, true, false, cond, List, [], ◌∷◌, Option, Some, sym, subst}
+use Rattle.std.specs.Prelude.{IfSome, All, Contains}
+use Rattle.std.specs.BTreeMap.{is_at}
+use Rattle.std.specs.Map.{lookup, values_of}
+use Rattle.std.specs.Ordering.{nat_cmp}
+use Rattle.std.proofs.lemmas.List.Elements.{All-contains_itself, All-head, All-tail, All-weaker}
+use Rattle.std.proofs.lemmas.Map.Views.{All-map-remove_entry, All-values-insert_entry, All-values-set_value}
+use Rattle.tftp_server.specs.State.{at, with_new, with_next, without}
+
+module _ {T : Type 0} (P : T → Type 0) where
+  abbrev AllHeld : List (ℕ × T) → Type 0
+  AllHeld held = All P (values_of held)
+
+  found_in : (test : ℕ → Bool) (held : List (ℕ × T)) → AllHeld held → IfSome (lookup test held) P
+  found_in test [] all = tt
+  found_in test (e ∷ held) all = by (test e.0) (found_in test held (All-tail P _ _ all))
+    where
+      by : (b : Bool) → IfSome (lookup test held) P → IfSome (cond b (Some e.1) (lookup test held)) P
+      by true rest = All-head P _ _ all
+      by false rest = rest
+
+  -- the one at an identifier
+  pub held_at : (tid : ℕ) (held : List (ℕ × T)) {transfer : T} → AllHeld held → at tid held ≡ Some transfer
+      → P transfer
+  held_at tid held all found =
+      subst (λ (o : Option T). IfSome o P) found (found_in (is_at (nat_cmp tid)) held all)
+
+  -- with another at an identifier, with one more, and without one
+  pub held_next : (tid : ℕ) (held after : List (ℕ × T)) (next : T) → AllHeld held → P next
+      → after ≡ with_next tid next held → AllHeld after
+  held_next tid held after next all has is =
+      subst AllHeld (sym is) (All-values-set_value (is_at (nat_cmp tid)) P held next all has)
+
+  pub held_new : (tid : ℕ) (held : List (ℕ × T)) (new : T) → AllHeld held → P new → AllHeld (with_new tid new held)
+  held_new tid held new all has = All-values-insert_entry nat_cmp tid new P held all has
+
+  pub held_without : (tid : ℕ) (held : List (ℕ × T)) → AllHeld held → AllHeld (without tid held)
+  held_without tid held all =
+      All-map-remove_entry (is_at (nat_cmp tid)) (λ (e : ℕ × T). e.1) P held all
+
+  -- if it holds of every one
+  pub held_any : ((transfer : T) → P transfer) → (held : List (ℕ × T)) → AllHeld held
+  held_any has held =
+      All-weaker (Contains (values_of held)) P (λ transfer contained. has transfer) (values_of held)
+      (All-contains_itself (values_of held))

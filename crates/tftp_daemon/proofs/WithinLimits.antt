@@ -1,0 +1,134 @@
+-- A run stays within the limits of its store.
+use Rattle.std.proofs.Common.{◌≡◌, ◌∙◌, ℕ, true, List, [], ◌∷◌, Option, Some, None, refl, sym, ap, subst, inl, inr}
+use Rattle.std.specs.Prelude.{◌⊎◌, Ok, IfSome, All}
+use Rattle.std.specs.Map.{values_of}
+use Rattle.std.specs.String.{string_bytes}
+use Rattle.std.proofs.lemmas.List.Elements.{All-cons, All-nil}
+use Rattle.std.proofs.lemmas.List.{append_assoc}
+use Rattle.tftp_file.specs.Path.{path_of_name}
+use Rattle.tftp_file.specs.Source.{SourceMeaning}
+use Rattle.tftp_disk.specs.DiskJournal.{DiskEvent}
+use Rattle.tftp_disk.specs.DiskJournal.DiskEvent.{Looked, Followed, Resolved, Opened, Tried, Made, Linked, Renamed}
+use Rattle.tftp_disk.specs.DiskJournal.DiskEvent.{Removed, Folder_opened, Folder_synced, Examined, Given, Not_given}
+use Rattle.tftp_disk.specs.DiskJournal.DiskEvent.{Sought, Written, Not_written, Synced, Mode_set}
+use Rattle.tftp_store.specs.Store.{StoreMeaning}
+use Rattle.tftp_server.specs.State.{TransferState, draft_of}
+use Rattle.tftp_folder.specs.Changing.{AreChanges, IsChange, IsDraftIn, IsTarget, KeepsWithin, Limits, ReadOnlyChangesNothing}
+use Rattle.tftp_folder.specs.Changing.{IsWithin, limits_of}
+use Rattle.tftp_folder.specs.Effects.{changes_of}
+use Rattle.tftp_folder.specs.Uploads.{IsBelow, path_below}
+use Rattle.tftp_folder.specs.declared.folder_draft.FolderDraft.{FolderDraft}
+use Rattle.tftp_folder.specs.declared.folder_store.FolderStore.{FolderStore}
+use Rattle.tftp_daemon.specs.Changes.{IsChangeBelow, IsOwnDraft, ReadOnlyRunChangesNothing, RunStaysWithin}
+use Rattle.tftp_daemon.specs.Changes.{UploadsRunChangesBelow}
+use Rattle.tftp_daemon.specs.Configured.{IsUploads, drafts_in}
+use Rattle.tftp_daemon.proofs.Keeping.{run_keeps}
+
+-- ---- what lies in the folder of uploads
+
+-- a draft there
+draft_below : (folder path : List ℕ) → IsDraftIn folder path → IsBelow folder path
+draft_below folder path (port, is) = (_, is)
+
+-- a place of the root that is below the folder
+target_below : (limits : Limits) (folder target : List ℕ) → limits.uploads ≡ Some folder → IsTarget limits target
+    → IsBelow (path_below limits.root folder) target
+target_below limits folder target uploads is =
+    let below : IsBelow folder is.path =
+    subst (λ (u : Option (List ℕ)). IfSome u (λ (f : List ℕ). IsBelow f is.path)) uploads is.uploads in (
+      below.0,
+      is.place ∙ ap (λ (p : List ℕ). path_below limits.root p) below.1
+          ∙ sym (append_assoc limits.root (47 ∷ folder) (47 ∷ below.0)),
+    )
+
+module _ (limits : Limits) (folder : List ℕ) (uploads : limits.uploads ≡ Some folder)
+    (drafts : limits.drafts ≡ path_below limits.root folder) where
+  target_in : (target : List ℕ) → IsTarget limits target → IsBelow limits.drafts target
+  target_in target is =
+      subst (λ (f : List ℕ). IsBelow f target) (sym drafts) (target_below limits folder target uploads is)
+
+  either_in : (path : List ℕ) {WasGiven : Type 0} → (IsDraftIn limits.drafts path) ⊎ (IsTarget limits path × WasGiven)
+      → IsBelow limits.drafts path
+  either_in path (inl is) = draft_below limits.drafts path is
+  either_in path (inr is) = target_in path is.0
+
+  change_below : (event : DiskEvent) (before : List DiskEvent) → IsChange limits event before
+      → IsChangeBelow limits.drafts event
+  change_below (Made path answer) before is = draft_below limits.drafts path is.change
+  change_below (Removed path answer) before is = either_in path is.change
+  change_below (Linked file from to answer) before is =
+      (draft_below limits.drafts from is.change.0, target_in to is.change.1)
+  change_below (Renamed file from to answer) before is =
+      (draft_below limits.drafts from is.change.0, target_in to is.change.1)
+  change_below (Looked path answer) before is = tt
+  change_below (Followed path answer) before is = tt
+  change_below (Resolved path answer) before is = tt
+  change_below (Opened path answer) before is = tt
+  change_below (Tried path answer) before is = tt
+  change_below (Folder_opened path answer) before is = tt
+  change_below (Folder_synced path answer) before is = tt
+  change_below (Examined answer) before is = tt
+  change_below (Given bytes) before is = tt
+  change_below (Not_given error) before is = tt
+  change_below (Sought to answer) before is = tt
+  change_below (Written bytes) before is = tt
+  change_below (Not_written error) before is = tt
+  change_below (Synced answer) before is = tt
+  change_below (Mode_set mode answer) before is = tt
+
+  changes_below : (events : List DiskEvent) → AreChanges limits events → All (IsChangeBelow limits.drafts) events
+  changes_below [] are = All-nil (IsChangeBelow limits.drafts)
+  changes_below (event ∷ events) are =
+      All-cons (IsChangeBelow limits.drafts) event events (change_below event events are.0)
+      (changes_below events are.1)
+
+-- ---- what a run keeps
+
+module _ {R G H F E : Type 0} (meaning : StoreMeaning (FolderStore R G H) (FolderDraft E))
+    (sources : SourceMeaning F) where
+  pub stays_within : KeepsWithin meaning → RunStaysWithin meaning sources
+  stays_within keeps config first last runs =
+      let limits = limits_of first.server.store in
+      run_keeps (IsWithin limits) (IsOwnDraft limits) meaning sources (keeps limits) first last runs.run
+      (record {
+        store = record { has = refl; changed = subst (AreChanges limits) (sym runs.is_server.unchanged) tt };
+        drafts =
+            none_held (λ transfer. IfSome (draft_of transfer.files) (IsOwnDraft limits)) first.server.held
+            runs.is_server.empty;
+      })
+    where
+      none_held : (P : TransferState F (FolderDraft E) → Type 0) (held : List (ℕ × TransferState F (FolderDraft E)))
+          → held ≡ [] → All P (values_of held)
+      none_held P held none =
+          subst (λ (h : List (ℕ × TransferState F (FolderDraft E))). All P (values_of h))
+          (sym none) (All-nil P)
+
+  pub read_only_changes_nothing : RunStaysWithin meaning sources → ReadOnlyChangesNothing
+      → ReadOnlyRunChangesNothing meaning sources
+  read_only_changes_nothing stays nothing words config first last named asks runs =
+      let refuses : first.server.store.is_read_only ≡ true =
+      runs.is_server.read_only ∙ named.read_only.yes asks in
+      nothing (limits_of first.server.store) last.server.store.journal.events refuses
+      (stays config first last runs).store.changed
+
+  -- the folder of uploads that the words name
+  uploads_of : (uploads named : Option (List ℕ)) (folder path : List ℕ) → Some folder ≡ named
+      → IsUploads named uploads → path_of_name folder ≡ Ok path → uploads ≡ Some path
+  uploads_of uploads None folder path is takes names = absurd (let bad : Some folder ≡ None = is in cc)
+  uploads_of uploads (Some other) folder path is takes names =
+      let same : other ≡ folder = cc in
+      let path_is : Ok takes.0 ≡ path_of_name folder =
+      subst (λ (n : List ℕ). Ok takes.0 ≡ path_of_name n) same (sym takes.1) in
+      cc
+
+  pub uploads_change_below : RunStaysWithin meaning sources → UploadsRunChangesBelow meaning sources
+  uploads_change_below stays words config folder path first last named asks names runs =
+      let store = first.server.store in
+      let uploads : store.uploads ≡ Some path =
+      uploads_of store.uploads _ folder path (sym asks ∙ named.uploads) runs.is_server.uploads names in
+      let drafts : string_bytes store.folder.drafts ≡ path_below (string_bytes store.folder.root) path =
+      runs.is_server.drafts
+      ∙ ap (λ (u : Option (List ℕ)). drafts_in (string_bytes store.folder.root) u) uploads in
+      subst (λ (f : List ℕ). All (IsChangeBelow f) (changes_of last.server.store)) drafts
+      (changes_below (limits_of store) path uploads drafts (changes_of last.server.store)
+      (stays config first last runs).store.changed)
