@@ -24,11 +24,12 @@ use Rattle.tftp_folder.specs.declared.folder_store.FolderStore.{FolderStore}
 use Rattle.tftp_promises.specs.AnyFiles.{HasGot, HasPut, KeepAnyFiles}
 use Rattle.tftp_promises.specs.ClientPrograms.{IsCounted}
 use Rattle.tftp_promises.specs.ClientRuns.{moved_in}
+use Rattle.tftp_promises.specs.Drafts.{StoreBegan}
 use Rattle.tftp_promises.specs.Given.{StoreOpened}
 use Rattle.tftp_promises.specs.Openings.{moved_at}
 use Rattle.tftp_promises.specs.Order.{Programs, requests_at}
 use Rattle.tftp_promises.specs.Programs.{ClientProgram}
-use Rattle.tftp_words.specs.EndToEnd.{FileDone, GotFile, HasDone, OrderDone, PutFile, WordsDone, WordsMoveFiles}
+use Rattle.tftp_words.specs.EndToEnd.{FileDone, GotFile, HasDone, OrderComplete, PutFile, WordsComplete, WordsMoveFiles}
 use Rattle.tftp_words.specs.Ran.{AreAllRuns, ClientRan, IsRunFor, Job, LastDid, finished_by, finished_in, side_of}
 use Rattle.tftp_words.specs.WordsKept.{WordsKeepAnyFiles}
 
@@ -132,9 +133,12 @@ module _ {S F D G K : Type 0} {stores : StoreMeaning S D} {sources : SourceMeani
           put.given.since.given;
       path = put.serves.transfer.path;
       named = ap path_of_name (sym runs.name) ∙ put.serves.path;
-      is_path = refl;
+      began_with = put.taken.began_with;
+      began =
+          subst (λ (m : Mode). StoreBegan programs.server.run put.serves.transfer.path put.serves.transfer.request m
+          programs.server.start.server.config.overwrite put.taken.began_with) (put.same_mode ∙ runs.mode) put.taken.began;
       bytes = (moved_at programs put.peer programs.server.run).bytes;
-      handed = refl;
+      committed = put.taken.since.done put.complete;
       same =
           ap (λ (m : Mode). wire_text m (moved_at programs put.peer programs.server.run).bytes) (sym runs.mode)
           ∙ (put.stored ∙ ap (λ (m : Moved). m.bytes) is_moved);
@@ -169,7 +173,7 @@ module _ {S F D G K : Type 0} {stores : StoreMeaning S D} {sources : SourceMeani
     its_order : (job : Job) (status : ℕ) (before after : List SocketEvent)
         (h : RunsOrder inputs outputs job status before after) →
         LastDid (finished_by inputs outputs job status before after h) own →
-        OrderDone programs job status before after h
+        OrderComplete inputs outputs (FileDone programs) job status before after h
     its_order job status before after (inl done) last =
         its_file job done.1.files done.1.count (moved_by inputs outputs done.1.transfers) done.1.side last
     its_order job status before after (inr failed) last = tt
@@ -177,7 +181,7 @@ module _ {S F D G K : Type 0} {stores : StoreMeaning S D} {sources : SourceMeani
     its_words : (words : List (List ℕ)) (status : ℕ) (before after : List SocketEvent)
         (h : RunsWords inputs outputs words status before after) →
         LastDid (finished_in inputs outputs words status before after h) own →
-        WordsDone programs words status before after h
+        WordsComplete inputs outputs (FileDone programs) words status before after h
     its_words words status before after (inl none) last = tt
     its_words words status before after (inr did) last = its_order did.0 status before after did.2 last
 

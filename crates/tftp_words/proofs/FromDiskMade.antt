@@ -22,10 +22,9 @@ use Rattle.tftp_folder.specs.declared.folder_source.FolderSource.{FolderSource}
 use Rattle.tftp_folder.specs.declared.folder_store.FolderStore.{FolderStore}
 use Rattle.tftp_daemon.specs.Leaves.{RunKeepsSettings}
 use Rattle.tftp_promises.specs.Order.{Programs}
-use Rattle.tftp_words.specs.EndToEnd.{FileDone, GotFile, HasDone, OrderDone, WordsDone, WordsMoveFiles}
-use Rattle.tftp_words.specs.FromDisk.{ClientStored, FileReaches, FromDiskToDisk, ReachesDisk, OrderReaches, WordsReach, ran_of}
-use Rattle.tftp_words.specs.FromDisk.{root}
-use Rattle.tftp_words.specs.Ran.{Job}
+use Rattle.tftp_words.specs.EndToEnd.{FileDone, GotFile, HasDone, OrderComplete, WordsComplete, WordsMoveFiles}
+use Rattle.tftp_words.specs.FromDisk.{ClientStored, FileReaches, FromDiskToDisk, ReachesDisk, ran_of}
+use Rattle.tftp_words.specs.Ran.{Job, root_of}
 use Rattle.tftp_words.proofs.OpenedAt.{opened_there}
 
 -- what the models of a store of a folder and of its sources say
@@ -43,10 +42,10 @@ module _ {S L F D : Type 0} {reads : read.Ghosts F} {writes : write.Ghosts F} {s
   module _ {R G H E B : Type 0} {stores : StoreMeaning (FolderStore R G H) B} {sources : SourceMeaning (FolderSource E)}
       (of : AreOfFolder stores sources) (programs : Programs stores sources inputs outputs) where
     its_opening : (job : Job) (count : ℕ) (bytes : List ℕ) (got : GotFile programs job count bytes) →
-        OpensSource (root inputs outputs programs) got.path job.mode got.opening.source
+        OpensSource (root_of programs) got.path job.mode got.opening.source
     its_opening job count bytes got =
-        of.opens (root inputs outputs programs) got.path job.mode got.opening.source
-        (opened_there (root inputs outputs programs) got.path got.got.serves.transfer.request job.mode got.opening
+        of.opens (root_of programs) got.path job.mode got.opening.source
+        (opened_there (root_of programs) got.path got.got.serves.transfer.request job.mode got.opening
         programs.server.run
         (λ state run. of.root state.server.store ∙ (of.keeps programs.server.start state run).root) got.opened)
 
@@ -61,21 +60,23 @@ module _ {S L F D : Type 0} {reads : read.Ghosts F} {writes : write.Ghosts F} {s
           got = done;
           opens = opens;
           read =
-              of.gives (root inputs outputs programs) done.path job.mode done.opening.source done.source
+              of.gives (root_of programs) done.path job.mode done.opening.source done.source
               (wire_text job.mode bytes) opens done.gave;
         }
 
     its_order : (job : Job) (status : ℕ) (before after : List SocketEvent)
         (h : RunsOrder inputs outputs job status before after) → OrderOnDisk inputs outputs job status before after h →
-        OrderDone programs job status before after h → OrderReaches inputs outputs programs job status before after h
+        OrderComplete inputs outputs (FileDone programs) job status before after h →
+        OrderComplete inputs outputs (FileReaches inputs outputs programs) job status before after h
     its_order job status before after (inl done) stored moved =
         its_file job done.1.files done.1.count _ stored moved
     its_order job status before after (inr failed) stored moved = tt
 
     its_words : (words : List (List ℕ)) (status : ℕ) (before after : List SocketEvent)
         (h : RunsWords inputs outputs words status before after) →
-        WordsOnDisk inputs outputs words status before after h → WordsDone programs words status before after h →
-        WordsReach inputs outputs programs words status before after h
+        WordsOnDisk inputs outputs words status before after h →
+        WordsComplete inputs outputs (FileDone programs) words status before after h →
+        WordsComplete inputs outputs (FileReaches inputs outputs programs) words status before after h
     its_words words status before after (inl none) stored moved = tt
     its_words words status before after (inr did) stored moved =
         its_order did.0 status before after did.2 stored moved

@@ -1,5 +1,5 @@
--- What reads of LOCAL returned to each complete put is what the server's draft was handed.
-use Rattle.std.proofs.Common.{ℕ, List, [], ◌∷◌, inl, inr}
+-- What reads of LOCAL returned to each complete put is what the server wrote to the file that it named.
+use Rattle.std.proofs.Common.{◌≡◌, ℕ, List, [], ◌∷◌, subst, inl, inr}
 use Rattle.std.specs.Prelude.{map}
 use Rattle.std.specs.List.{AllByRecursion}
 use Rattle.tftp_file.specs.Sink.{SinkMeaning}
@@ -8,34 +8,86 @@ use Rattle.tftp_file.specs.declared.files.Files.{Files}
 use Rattle.tftp_file.specs.declared.files.Files.TheVariants.{Source, Sink}
 use Rattle.tftp_store.specs.Store.{StoreMeaning}
 use Rattle.tftp_disk.specs.declared.disk_source.DiskSource.{DiskSource}
+use Rattle.tftp_loop.specs.Steps.{LoopState, LoopStep}
+use Rattle.tftp_loop.specs.Run.{Run}
 use Rattle.tftp_sockets.specs.Journal.{SocketEvent}
 use Rattle.tftp_client.specs.Ordered.{RunsOrder, RunsWords}
 use Rattle.tftp_client.specs.Sent.{IsSentFrom, OrderSent, WordsSent}
+use Rattle.tftp_daemon.specs.Leaves.{RunKeepsSettings}
+use Rattle.tftp_folder.specs.Changing.{Limits, limits_of}
+use Rattle.tftp_folder.specs.Settings.{SameSettings}
+use Rattle.tftp_folder.specs.Stored.{IsStoredAt, StoresWhatItTook}
+use Rattle.tftp_folder.specs.declared.folder_draft.FolderDraft.{FolderDraft}
 use Rattle.tftp_folder.specs.declared.folder_store.FolderStore.{FolderStore}
 use Rattle.tftp_promises.specs.Order.{Programs}
-use Rattle.tftp_words.specs.EndToEnd.{FileDone, HasDone, OrderDone, WordsDone, WordsMoveFiles}
-use Rattle.tftp_words.specs.PutFromDisk.{ClientSent, FileLeaves, LeavesDisk, OrderLeaves, PutsFromDisk, WordsLeave, run_of}
+use Rattle.tftp_words.specs.EndToEnd.{FileDone, HasDone, OrderComplete, PutFile, WordsComplete, WordsMoveFiles}
+use Rattle.tftp_words.specs.PutFromDisk.{ClientSent, FileLeaves, LeavesDisk, PutsFromDiskToDisk, run_of}
 use Rattle.tftp_words.specs.Ran.{Job}
+use Rattle.tftp_words.proofs.BegunAt.{BegunBy, began_there}
+
+-- what the models of a store of a folder and of its drafts say
+pub record KeepsFolder {R G H E B : Type 0} (stores : StoreMeaning (FolderStore R G H) (FolderDraft B))
+    (sources : SourceMeaning E) : Type 0 where
+  pub settings : RunKeepsSettings stores sources
+  pub drafts : StoresWhatItTook stores
+
+-- the same settings are the same limits
+same_limits : {R G H : Type 0} (before after : FolderStore R G H) → SameSettings before after →
+    limits_of after ≡ limits_of before
+same_limits before after same =
+    let a = same.read_only in
+    let b = same.uploads in
+    let c = same.root in
+    let d = same.drafts in
+    cc
 
 module _ {L K : Type 0} {inputs : SourceMeaning (DiskSource L)} {outputs : SinkMeaning K} where
-  module _ {S F D : Type 0} {stores : StoreMeaning S D} {sources : SourceMeaning F}
-      (programs : Programs stores sources inputs outputs) where
+  module _ {R G H E B : Type 0} {stores : StoreMeaning (FolderStore R G H) (FolderDraft B)} {sources : SourceMeaning E}
+      (keeps : KeepsFolder stores sources) (programs : Programs stores sources inputs outputs) where
+    -- the store that began a draft has the settings of the first
+    abbrev Set : FolderStore R G H → Type 0
+    Set store = SameSettings programs.server.start.server.store store
+
+    began : (job : Job) (count : ℕ) (text : List ℕ) (put : PutFile programs job count text) →
+        BegunBy stores Set put.path programs.server.start.server.config.overwrite put.began_with
+    began job count text put =
+        began_there Set put.path put.put.serves.transfer.request job.mode
+        programs.server.start.server.config.overwrite put.began_with programs.server.run
+        (λ (state : LoopState (FolderStore R G H) E (FolderDraft B))
+        (run : Run (LoopStep stores sources) programs.server.start state). keeps.settings programs.server.start state run)
+        put.began
+
     its_file : (job : Job) (files : Files (DiskSource L) K) (count : ℕ) (bytes : List ℕ) →
         IsSentFrom job files count bytes → FileDone programs job files count bytes →
         FileLeaves inputs outputs programs job files count bytes
-    its_file job (Source source) count bytes sent done = record { sent = sent; put = done }
+    its_file job (Source source) count bytes sent done =
+        let b = began job count bytes done in
+        let c = done.committed in
+        record {
+          sent = sent;
+          put = done;
+          stored =
+              subst (λ (l : Limits). IsStoredAt l done.path done.bytes programs.server.start.server.config.overwrite
+              c.before.journal.events c.after.journal.events)
+              (same_limits programs.server.start.server.store b.before b.is_so)
+              (keeps.drafts done.path done.bytes programs.server.start.server.config.overwrite
+              programs.server.start.server.config.overwrite b.before b.after c.before c.after done.began_with c.draft
+              c.left b.begun c.took c.commits);
+        }
     its_file job (Sink sink) count bytes sent done = done
 
     its_order : (job : Job) (status : ℕ) (before after : List SocketEvent)
         (h : RunsOrder inputs outputs job status before after) → OrderSent inputs outputs job status before after h →
-        OrderDone programs job status before after h → OrderLeaves inputs outputs programs job status before after h
+        OrderComplete inputs outputs (FileDone programs) job status before after h →
+        OrderComplete inputs outputs (FileLeaves inputs outputs programs) job status before after h
     its_order job status before after (inl done) sent moved = its_file job done.1.files done.1.count _ sent moved
     its_order job status before after (inr failed) sent moved = tt
 
     its_words : (words : List (List ℕ)) (status : ℕ) (before after : List SocketEvent)
         (h : RunsWords inputs outputs words status before after) →
-        WordsSent inputs outputs words status before after h → WordsDone programs words status before after h →
-        WordsLeave inputs outputs programs words status before after h
+        WordsSent inputs outputs words status before after h →
+        WordsComplete inputs outputs (FileDone programs) words status before after h →
+        WordsComplete inputs outputs (FileLeaves inputs outputs programs) words status before after h
     its_words words status before after (inl none) sent moved = tt
     its_words words status before after (inr did) sent moved = its_order did.0 status before after did.2 sent moved
 
@@ -49,13 +101,14 @@ module _ {L K : Type 0} {inputs : SourceMeaning (DiskSource L)} {outputs : SinkM
     )
 
   -- from the words
-  pub puts_from_disk : {R G H E B : Type 0} (stores : StoreMeaning (FolderStore R G H) B) (sources : SourceMeaning E) →
-      WordsMoveFiles stores sources inputs outputs → PutsFromDisk inputs outputs stores sources
-  puts_from_disk stores sources move server port clients bound asks =
+  pub puts_from_disk : {R G H E B : Type 0} (stores : StoreMeaning (FolderStore R G H) (FolderDraft B))
+      (sources : SourceMeaning E) → KeepsFolder stores sources → WordsMoveFiles stores sources inputs outputs →
+      PutsFromDiskToDisk inputs outputs stores sources
+  puts_from_disk stores sources keeps move server port clients bound asks =
       let made = move server port (map (run_of inputs outputs) clients) bound asks in (
         made.0,
         made.1,
         λ order is_order honest fresh.
             let done = made.2 order is_order honest fresh in
-            (done.0, all_leave made.0 clients done.1),
+            (done.0, all_leave keeps made.0 clients done.1),
       )

@@ -11,7 +11,7 @@ use Rattle.tftp_server.specs.State.{ServerState}
 use Rattle.tftp_server.specs.declared.config.Config.{Config}
 use Rattle.tftp_sockets.specs.Bound.{IsBoundTo}
 use Rattle.tftp_loop.specs.Steps.{LoopState, at_start}
-use Rattle.tftp_loop.specs.WholeRun.{Serves, ServesFrom, Unbound, Bound, listening}
+use Rattle.tftp_loop.specs.WholeRun.{RunsServer, RunsServerFrom, Unbound, Bound, listening}
 use Rattle.tftp_loop.specs.declared.serving.LoopFault.{LoopFault}
 use Rattle.tftp_folder.specs.declared.folder_store.FolderStore.{FolderStore}
 use Rattle.tftp_daemon.specs.Configured.{IsRootAt, IsServerOf, ListensAt, ServesWords, service_at}
@@ -48,7 +48,7 @@ module _ {R G H F D : Type 0} {stores : StoreMeaning (FolderStore R G H) D} {sou
   module _ (config : DaemonConfig) (named : WordsConfigure ran.words config) (at : Endpoint)
       (listens : ListensAt config.listen at) (server : ServerState (FolderStore R G H) F D) (of : IsServerOf config server) where
     from_port : {A : Type 0} {result : Result A LoopFault} (bound : ℕ) → bound ≡ port → IsBoundTo at at.ip bound →
-        ServesFrom stores sources (service_at config at) bound server result (listening at.ip bound ran.before)
+        RunsServerFrom stores sources (service_at config at) bound server result (listening at.ip bound ran.before)
         ran.after → Made
     from_port bound same is_bound serves =
         let before = listening at.ip bound ran.before in
@@ -79,7 +79,7 @@ module _ {R G H F D : Type 0} {stores : StoreMeaning (FolderStore R G H) D} {sou
         )
 
     by_serving : {A : Type 0} {result : Result A LoopFault} →
-        (serves : Serves stores sources (service_at config at) server result ran.before ran.after) →
+        (serves : RunsServer stores sources (service_at config at) server result ran.before ran.after) →
         bound_by serves ≡ Some port → Made
     by_serving (Unbound ends) is = absurd (let f : None ≡ Some port = is in cc)
     by_serving (Bound bound is_bound serves) is = from_port bound (same_Some bound port is) is_bound serves

@@ -1,5 +1,5 @@
 -- From end to end: what a complete get was handed is just what its server's source gave, and what a
--- complete put sent is just what its server's draft was handed.
+-- complete put sent is just what its server's draft took, which was committed.
 use Rattle.std.specs.Prelude.{ℕ, ◌≡◌, List, length, slice_get, Some, Ok}
 use Rattle.std.specs.List.{AllByRecursion}
 use Rattle.std.proofs.Common.{inl, inr}
@@ -18,11 +18,27 @@ use Rattle.tftp_client.specs.Runs.{moved_by}
 use Rattle.tftp_folder.specs.declared.folder_store.FolderStore.{FolderStore}
 use Rattle.tftp_promises.specs.AnyFiles.{HasGot, HasPut, KeepAnyFiles}
 use Rattle.tftp_promises.specs.ClientRuns.{moved_in}
+use Rattle.tftp_promises.specs.Drafts.{HadStore, StoreBegan, WasCommitted}
 use Rattle.tftp_promises.specs.Given.{StoreOpened}
-use Rattle.tftp_promises.specs.Openings.{ArePortsFresh, moved_at}
+use Rattle.tftp_promises.specs.Openings.{ArePortsFresh}
 use Rattle.tftp_promises.specs.Order.{IsHonest, IsOrder, Noted, Programs, requests_at}
 use Rattle.tftp_promises.specs.Programs.{ClientProgram, endpoint}
 use Rattle.tftp_words.specs.Ran.{AllAsk, AreRan, ClientRan, Job, ServerRan, port_of}
+
+module _ {G K : Type 0} (inputs : SourceMeaning G) (outputs : SinkMeaning K)
+    (Holds : Job → Files G K → ℕ → List ℕ → Type 0) where
+  -- of a complete job: this holds of its file, of N of its line, and of what moved in its run
+  abbrev pub OrderComplete : (job : Job) (status : ℕ) (before after : List SocketEvent)
+      → RunsOrder inputs outputs job status before after → Type 0
+  OrderComplete job status before after (inl done) =
+      Holds job done.1.files done.1.count (moved_by inputs outputs done.1.transfers).bytes
+  OrderComplete job status before after (inr failed) = Unit {0}
+
+  -- the same of the job that words name
+  abbrev pub WordsComplete : (words : List (List ℕ)) (status : ℕ) (before after : List SocketEvent)
+      → RunsWords inputs outputs words status before after → Type 0
+  WordsComplete words status before after (inl none) = Unit {0}
+  WordsComplete words status before after (inr did) = OrderComplete did.0 status before after did.2
 
 module _ {S F D G K : Type 0} {stores : StoreMeaning S D} {sources : SourceMeaning F}
     {inputs : SourceMeaning G} {outputs : SinkMeaning K}
@@ -64,40 +80,32 @@ module _ {S F D G K : Type 0} {stores : StoreMeaning S D} {sources : SourceMeani
     pub source : G
     pub held : program.files ≡ Source source
     pub gave : GivesInTurn inputs first text source
-    -- the server's store began a draft for that name, which was handed just these bytes, and a
-    -- commit after them succeeded
+    -- the server's store began a draft of that name for it, which took, call by call, the bytes of
+    -- which this is the wire text, and no others; and a commit after them succeeded
     pub path : List ℕ
     pub named : path_of_name job.name.now ≡ Ok path
-    pub is_path : put.serves.transfer.path ≡ path
+    pub began_with : D
+    pub began : StoreBegan programs.server.run path put.serves.transfer.request job.mode
+        programs.server.start.server.config.overwrite began_with
     pub bytes : List ℕ
-    pub handed : (moved_at programs put.peer programs.server.run).bytes ≡ bytes
     pub same : wire_text job.mode bytes ≡ text
+    pub committed : WasCommitted stores (HadStore programs.server.run) path
+        programs.server.start.server.config.overwrite began_with bytes
 
   -- the file of a complete job, in whose run these bytes moved
   abbrev pub FileDone : Job → Files G K → ℕ → List ℕ → Type 0
   FileDone job (Source source) count bytes = PutFile job count bytes
   FileDone job (Sink sink) count bytes = GotFile job count bytes
 
-  abbrev pub OrderDone : (job : Job) (status : ℕ) (before after : List SocketEvent)
-      → RunsOrder inputs outputs job status before after → Type 0
-  OrderDone job status before after (inl done) =
-      FileDone job done.1.files done.1.count (moved_by inputs outputs done.1.transfers).bytes
-  OrderDone job status before after (inr failed) = Unit {0}
-
-  -- and of words
-  abbrev pub WordsDone : (words : List (List ℕ)) (status : ℕ) (before after : List SocketEvent)
-      → RunsWords inputs outputs words status before after → Type 0
-  WordsDone words status before after (inl none) = Unit {0}
-  WordsDone words status before after (inr did) = OrderDone did.0 status before after did.2
-
   abbrev pub HasDone : ClientRan inputs outputs → Type 0
-  HasDone ran = WordsDone ran.words ran.status ran.before ran.after ran.ran
+  HasDone ran =
+      WordsComplete inputs outputs FileDone ran.words ran.status ran.before ran.after ran.ran
 
 -- `tftpd` ran these words, and its request port was bound; each `tftp` ran those, which name that
 -- server: then there are programs that noted just that, and in whatever order an honest network
 -- joined them, if their ports are fresh they keep the promises; what the file of a complete get was
 -- handed is just what the server's source gave, and what that of a complete put gave is just what
--- the server's draft was handed
+-- the server's draft took before a commit of it succeeded
 abbrev pub WordsMoveFiles : {R G H F D I K : Type 0} (stores : StoreMeaning (FolderStore R G H) D)
     (sources : SourceMeaning F) (inputs : SourceMeaning I) (outputs : SinkMeaning K) → Type 0
 WordsMoveFiles stores sources inputs outputs =

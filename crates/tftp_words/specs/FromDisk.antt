@@ -2,11 +2,9 @@
 -- returned at its server.
 use Rattle.std.specs.Prelude.{ℕ, ◌≡◌, List, map, Some}
 use Rattle.std.specs.List.{AllByRecursion}
-use Rattle.std.proofs.Common.{inl, inr}
 use Rattle.std.specs.declared.io.traits.Read as read
 use Rattle.std.specs.declared.io.traits.Write as write
 use Rattle.std.specs.declared.io.traits.Seek as seek
-use Rattle.std.specs.String.{string_bytes}
 use Rattle.tftp_file.specs.Netascii.{wire_text}
 use Rattle.tftp_file.specs.Sink.{SinkMeaning}
 use Rattle.tftp_file.specs.Source.{SourceMeaning}
@@ -15,8 +13,6 @@ use Rattle.tftp_file.specs.declared.files.Files.TheVariants.{Source, Sink}
 use Rattle.tftp_store.specs.Store.{StoreMeaning}
 use Rattle.tftp_sockets.specs.Journal.{SocketEvent}
 use Rattle.tftp_client.specs.OnDisk.{IsStored, StoresWords}
-use Rattle.tftp_client.specs.Ordered.{RunsOrder, RunsWords}
-use Rattle.tftp_client.specs.Runs.{moved_by}
 use Rattle.tftp_client.specs.declared.local.LocalFile.{LocalFile}
 use Rattle.tftp_disk.specs.DiskSourceLaws.{GivenInOrder}
 use Rattle.tftp_folder.specs.Source.{OpensSource, text_of}
@@ -26,8 +22,8 @@ use Rattle.tftp_promises.specs.AnyFiles.{KeepAnyFiles}
 use Rattle.tftp_promises.specs.Openings.{ArePortsFresh}
 use Rattle.tftp_promises.specs.Order.{IsHonest, IsOrder, Noted, Programs}
 use Rattle.tftp_promises.specs.Programs.{endpoint}
-use Rattle.tftp_words.specs.EndToEnd.{GotFile, PutFile}
-use Rattle.tftp_words.specs.Ran.{AllAsk, AreRan, ClientRan, Job, ServerRan, port_of}
+use Rattle.tftp_words.specs.EndToEnd.{GotFile, PutFile, WordsComplete}
+use Rattle.tftp_words.specs.Ran.{AllAsk, AreRan, ClientRan, Job, ServerRan, port_of, root_of}
 
 module _ {S L F D : Type 0} {reads : read.Ghosts F} {writes : write.Ghosts F}
     {seeks : seek.Ghosts F} {lists : read.Ghosts D} (inputs : SourceMeaning S)
@@ -55,10 +51,6 @@ module _ {S L F D : Type 0} {reads : read.Ghosts F} {writes : write.Ghosts F}
   module _ {R G H E B : Type 0} {stores : StoreMeaning (FolderStore R G H) B}
       {sources : SourceMeaning (FolderSource E)}
       (programs : Programs stores sources inputs outputs) where
-    -- the path of the server's folder, which the words of `tftpd` name (`IsServerRan`)
-    abbrev pub root : List ℕ
-    root = string_bytes programs.server.start.server.store.folder.root
-
     -- a complete get: a file of just these bytes was made, written, synced and then named. The
     -- server's store found a file at the path of the name in its folder, and opened it there; these
     -- bytes are, as wire text, a beginning of what reads of that file returned, in order from its
@@ -67,7 +59,7 @@ module _ {S L F D : Type 0} {reads : read.Ghosts F} {writes : write.Ghosts F}
         (bytes : List ℕ) : Type 0 where
       pub stored : IsStored job local bytes
       pub got : GotFile programs job count bytes
-      pub opens : OpensSource root got.path job.mode got.opening.source
+      pub opens : OpensSource (root_of programs) got.path job.mode got.opening.source
       pub read : GivenInOrder (text_of got.opening.source) (text_of got.source)
           (wire_text job.mode bytes)
 
@@ -77,21 +69,10 @@ module _ {S L F D : Type 0} {reads : read.Ghosts F} {writes : write.Ghosts F}
     FileReaches job (Source source) count bytes = PutFile programs job count bytes
     FileReaches job (Sink local) count bytes = IsGot job local count bytes
 
-    abbrev pub OrderReaches : (job : Job) (status : ℕ) (before after : List SocketEvent)
-        → RunsOrder inputs outputs job status before after → Type 0
-    OrderReaches job status before after (inl done) =
-        FileReaches job done.1.files done.1.count (moved_by inputs outputs done.1.transfers).bytes
-    OrderReaches job status before after (inr failed) = Unit {0}
-
-    -- and of words
-    abbrev pub WordsReach : (words : List (List ℕ)) (status : ℕ) (before after : List SocketEvent)
-        → RunsWords inputs outputs words status before after → Type 0
-    WordsReach words status before after (inl none) = Unit {0}
-    WordsReach words status before after (inr did) = OrderReaches did.0 status before after did.2
-
     abbrev pub ReachesDisk : ClientStored → Type 0
     ReachesDisk client =
-        WordsReach client.words client.status client.before client.after client.stored.0
+        WordsComplete inputs outputs FileReaches client.words client.status client.before client.after
+        client.stored.0
 
   -- `tftpd` ran these words, and its request port was bound; each `tftp` ran those, which name that
   -- server: then there are programs that noted just that, and in whatever order an honest network

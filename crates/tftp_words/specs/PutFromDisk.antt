@@ -1,8 +1,7 @@
--- From the disk of a client: what reads of LOCAL returned to a complete put is what its server's
--- draft was handed.
+-- From disk to disk, for a put: what reads of LOCAL returned to a complete put is what its server
+-- wrote to a file that it made, synced, and then named as the client asked.
 use Rattle.std.specs.Prelude.{ℕ, ◌≡◌, List, map, Some}
 use Rattle.std.specs.List.{AllByRecursion}
-use Rattle.std.proofs.Common.{inl, inr}
 use Rattle.tftp_file.specs.Sink.{SinkMeaning}
 use Rattle.tftp_file.specs.Source.{SourceMeaning}
 use Rattle.tftp_file.specs.declared.files.Files.{Files}
@@ -10,15 +9,16 @@ use Rattle.tftp_file.specs.declared.files.Files.TheVariants.{Source, Sink}
 use Rattle.tftp_store.specs.Store.{StoreMeaning}
 use Rattle.tftp_disk.specs.declared.disk_source.DiskSource.{DiskSource}
 use Rattle.tftp_sockets.specs.Journal.{SocketEvent}
-use Rattle.tftp_client.specs.Ordered.{RunsOrder, RunsWords}
-use Rattle.tftp_client.specs.Runs.{moved_by}
 use Rattle.tftp_client.specs.Sent.{IsSent, SendsWords}
+use Rattle.tftp_folder.specs.Changing.{limits_of}
+use Rattle.tftp_folder.specs.Stored.{IsStoredAt}
+use Rattle.tftp_folder.specs.declared.folder_draft.FolderDraft.{FolderDraft}
 use Rattle.tftp_folder.specs.declared.folder_store.FolderStore.{FolderStore}
 use Rattle.tftp_promises.specs.AnyFiles.{KeepAnyFiles}
 use Rattle.tftp_promises.specs.Openings.{ArePortsFresh}
 use Rattle.tftp_promises.specs.Order.{IsHonest, IsOrder, Noted, Programs}
 use Rattle.tftp_promises.specs.Programs.{endpoint}
-use Rattle.tftp_words.specs.EndToEnd.{GotFile, PutFile}
+use Rattle.tftp_words.specs.EndToEnd.{GotFile, PutFile, WordsComplete}
 use Rattle.tftp_words.specs.Ran.{AllAsk, AreRan, ClientRan, Job, ServerRan, port_of}
 
 module _ {L K : Type 0} (inputs : SourceMeaning (DiskSource L)) (outputs : SinkMeaning K) where
@@ -42,43 +42,37 @@ module _ {L K : Type 0} (inputs : SourceMeaning (DiskSource L)) (outputs : SinkM
         ran = client.sent.0;
       }
 
-  module _ {S F D : Type 0} {stores : StoreMeaning S D} {sources : SourceMeaning F}
-      (programs : Programs stores sources inputs outputs) where
-    -- a complete put: these bytes are a beginning of the wire text of what reads of LOCAL returned, in
-    -- order from its start, and the server's draft was handed just what they are the wire text of
+  module _ {R G H E B : Type 0} {stores : StoreMeaning (FolderStore R G H) (FolderDraft B)}
+      {sources : SourceMeaning E} (programs : Programs stores sources inputs outputs) where
+    -- a complete put: these bytes are a beginning of the wire text of what reads of LOCAL returned,
+    -- in order from its start. They are the wire text of just the bytes that the server wrote to a
+    -- file that it made in the folder of its drafts, in order and each once; that was synced, and
+    -- then got the name in the server's folder that the client asked for
     pub record IsPut (job : Job) (source : DiskSource L) (count : ℕ) (bytes : List ℕ)
         : Type 0 where
       pub sent : IsSent job source count bytes
       pub put : PutFile programs job count bytes
+      pub stored : IsStoredAt (limits_of programs.server.start.server.store) put.path put.bytes
+          programs.server.start.server.config.overwrite put.committed.before.journal.events
+          put.committed.after.journal.events
 
     -- a complete job, in whose run these bytes moved
     abbrev pub FileLeaves : Job → Files (DiskSource L) K → ℕ → List ℕ → Type 0
     FileLeaves job (Source source) count bytes = IsPut job source count bytes
     FileLeaves job (Sink sink) count bytes = GotFile programs job count bytes
 
-    abbrev pub OrderLeaves : (job : Job) (status : ℕ) (before after : List SocketEvent)
-        → RunsOrder inputs outputs job status before after → Type 0
-    OrderLeaves job status before after (inl done) =
-        FileLeaves job done.1.files done.1.count (moved_by inputs outputs done.1.transfers).bytes
-    OrderLeaves job status before after (inr failed) = Unit {0}
-
-    -- and of words
-    abbrev pub WordsLeave : (words : List (List ℕ)) (status : ℕ) (before after : List SocketEvent)
-        → RunsWords inputs outputs words status before after → Type 0
-    WordsLeave words status before after (inl none) = Unit {0}
-    WordsLeave words status before after (inr did) = OrderLeaves did.0 status before after did.2
-
     abbrev pub LeavesDisk : ClientSent → Type 0
     LeavesDisk client =
-        WordsLeave client.words client.status client.before client.after client.sent.0
+        WordsComplete inputs outputs FileLeaves client.words client.status client.before client.after
+        client.sent.0
 
   -- `tftpd` ran these words, and its request port was bound; each `tftp` ran those, which name that
   -- server: then there are programs that noted just that, and in whatever order an honest network
-  -- joined them, if their ports are fresh they keep the promises, and what reads of LOCAL returned to
-  -- each complete put is what the server's draft was handed
-  abbrev pub PutsFromDisk : {R G H E B : Type 0} (stores : StoreMeaning (FolderStore R G H) B)
-      (sources : SourceMeaning E) → Type 0
-  PutsFromDisk stores sources =
+  -- joined them, if their ports are fresh they keep the promises, and what reads of LOCAL returned
+  -- to each complete put is what the server wrote to the file that it made and named
+  abbrev pub PutsFromDiskToDisk : {R G H E B : Type 0}
+      (stores : StoreMeaning (FolderStore R G H) (FolderDraft B)) (sources : SourceMeaning E) → Type 0
+  PutsFromDiskToDisk stores sources =
       (server : ServerRan stores sources) (port : ℕ) (clients : List ClientSent)
       → port_of server ≡ Some port → AllAsk (endpoint server.ip port) (map run_of clients)
       → (programs : Programs stores sources inputs outputs)

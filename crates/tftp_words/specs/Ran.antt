@@ -14,7 +14,7 @@ use Rattle.tftp_store.specs.Store.{StoreMeaning}
 use Rattle.tftp_server.specs.State.{ServerState}
 use Rattle.tftp_sockets.specs.Bound.{IsBoundTo}
 use Rattle.tftp_sockets.specs.Journal.{SocketEvent}
-use Rattle.tftp_loop.specs.WholeRun.{Serves, Unbound, Bound, listening}
+use Rattle.tftp_loop.specs.WholeRun.{RunsServer, Unbound, Bound, listening}
 use Rattle.tftp_loop.specs.declared.serving.LoopConfig.{LoopConfig}
 use Rattle.tftp_loop.specs.declared.serving.LoopFault.{LoopFault}
 use Rattle.tftp_client.specs.Moved.{Moved}
@@ -65,7 +65,7 @@ pub record ClientRan {G K : Type 0} (inputs : SourceMeaning G) (outputs : SinkMe
 abbrev pub bound_by : {R G H F D A : Type 0} {stores : StoreMeaning (FolderStore R G H) D}
     {sources : SourceMeaning F} {config : LoopConfig} {server : ServerState (FolderStore R G H) F D}
     {result : Result A LoopFault} {before after : List SocketEvent}
-    → Serves stores sources config server result before after → Option ℕ
+    → RunsServer stores sources config server result before after → Option ℕ
 bound_by (Unbound ends) = None
 bound_by (Bound port is serves) = Some port
 
@@ -198,6 +198,12 @@ module _ {R G H F D : Type 0} {stores : StoreMeaning (FolderStore R G H) D}
   AllServe ip port servers =
       AllByRecursion (λ (ran : ServerRan stores sources).
       (ran.ip ≡ ip) × (port_of ran ≡ Some port)) servers
+
+-- the path of the server's folder, which the words of `tftpd` name (`IsServerRan`)
+abbrev pub root_of : {R G H F D I K : Type 0} {stores : StoreMeaning (FolderStore R G H) D}
+    {sources : SourceMeaning F} {inputs : SourceMeaning I} {outputs : SinkMeaning K}
+    → Programs stores sources inputs outputs → List ℕ
+root_of programs = string_bytes programs.server.start.server.store.folder.root
 
 -- these programs are what all the commands ran
 pub record AreRan {R G H F D I K : Type 0} {stores : StoreMeaning (FolderStore R G H) D}

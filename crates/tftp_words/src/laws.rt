@@ -2,7 +2,7 @@
 
 ghost use Rattle.tftp_words.specs.EndToEnd.{WordsMoveFiles};
 ghost use Rattle.tftp_words.specs.FromDisk.{FromDiskToDisk};
-ghost use Rattle.tftp_words.specs.PutFromDisk.{PutsFromDisk};
+ghost use Rattle.tftp_words.specs.PutFromDisk.{PutsFromDiskToDisk};
 ghost use Rattle.tftp_words.specs.WordsKept.{SeveralKeepAnyFiles, WordsKeepAnyFiles};
 
 use std::io::Read;
@@ -11,7 +11,7 @@ use tftp_client::LocalFile;
 use tftp_daemon::laws::a_run_keeps_the_settings;
 use tftp_disk::DiskSource;
 use tftp_file::{Sink, Source};
-use tftp_folder::laws::gives_its_file;
+use tftp_folder::laws::{gives_its_file, stores_what_it_took};
 use tftp_folder::{FolderSource, FolderStore};
 use tftp_promises::laws::{
     a_client_is_one_run, a_server_is_one_run, each_client_keeps_promises, programs_keep_promises,
@@ -21,11 +21,11 @@ use tftp_server::Store;
 /// If `tftpd` ran these words, and each `tftp` those, which name that server, then what they noted
 /// is what programs of a network noted, which keep the promises over any files if the network is
 /// honest and their ports are fresh. What the file of a complete get was handed is then just what
-/// the source gave, call by call, that the server's store opened under the path of its name; and what
-/// that of a complete put gave is just what the draft was handed that the store began under the path
-/// of its name, and committed. Of several `tftpd` at one address and request port, each and each
-/// client that it serves keep the promises, and of one that passes it over it has nothing (RFC 1350,
-/// sections 2, 4 and 6).
+/// the source gave, call by call, that the server's store opened under the path of its name; and
+/// what that of a complete put gave is just what the draft took, call by call, that the store began
+/// under the path of its name, before its commit. Of several `tftpd` at one address and request
+/// port, each and each client that it serves keep the promises, and of one that passes it over it
+/// has nothing (RFC 1350, sections 2, 4 and 6).
 pub fn words_keep_promises<R: Files + Drop, G: Source, K: Sink>()
     ensures one { WordsKeepAnyFiles ⟦<FolderStore<R> as Store>⟧.meaning
         ⟦<FolderSource<R::File> as Source>⟧.meaning G.meaning K.meaning }
@@ -40,12 +40,12 @@ pub fn words_keep_promises<R: Files + Drop, G: Source, K: Sink>()
     each_client_keeps_promises::<FolderStore<R>, G, K>();
 }
 
-/// From disk to disk: if `tftpd` ran these words, and each `tftp` those, which name that server, and
-/// an honest network joined them with fresh ports, then each `tftp get` that printed `complete N` has
-/// made, written, synced and then named a file of N bytes, which are just what reads of the file of
-/// its name in ROOT returned at the server, in order, or a beginning of that. The server found that
-/// file at the path of the name in its folder, and opened it there. What a `tftp put` sent is what
-/// the server's draft was handed (RFC 1350, sections 2, 4 and 6).
+/// From disk to disk: if `tftpd` ran these words, and each `tftp` those, which name that server,
+/// and an honest network joined them with fresh ports, then each `tftp get` that printed
+/// `complete N` has made, written, synced and then named a file of N bytes, which are just what
+/// reads of the file of its name in ROOT returned at the server, in order, or a beginning of that.
+/// The server found that file at the path of the name in its folder, and opened it there (RFC 1350,
+/// sections 2, 4 and 6).
 pub fn complete_gets_go_from_disk_to_disk<R: Files + Drop, L: Files + Drop, G: Source>()
     ensures { FromDiskToDisk G.meaning ⟦<LocalFile<L> as Sink>⟧.meaning
         ⟦<FolderStore<R> as Store>⟧.meaning ⟦<FolderSource<R::File> as Source>⟧.meaning }
@@ -55,15 +55,18 @@ pub fn complete_gets_go_from_disk_to_disk<R: Files + Drop, L: Files + Drop, G: S
     gives_its_file::<R::File>();
 }
 
-/// From the disk of a client to the draft of its server: if `tftpd` ran these words, and each `tftp`
-/// those, which name that server, and an honest network joined them with fresh ports, then what each
+/// From disk to disk in the other direction: if `tftpd` ran these words, and each `tftp` those,
+/// which name that server, and an honest network joined them with fresh ports, then what each
 /// `tftp put` that printed `complete N` sent, N bytes in octet, is what reads of LOCAL returned, in
-/// order from its start, or a beginning of that; and it is just what the draft was handed that the
-/// server's store began under the path of the name, and committed. A `tftp put` is one whose clause
-/// `sends` is this (RFC 1350, sections 2, 4 and 6).
-pub fn complete_puts_go_from_disk<R: Files + Drop, F: Read, K: Sink>()
-    ensures { PutsFromDisk ⟦<DiskSource<F> as Source>⟧.meaning K.meaning
+/// order from its start, or a beginning of that. It is the wire text of just the bytes that the server
+/// wrote to a file that it made in the folder of its drafts, in order and each once. That was
+/// synced, and then got its name, ROOT/NAME, and the folder was synced. A `tftp put` is one whose
+/// clause `sends` is this (RFC 1350, sections 2, 4 and 6).
+pub fn complete_puts_go_from_disk_to_disk<R: Files + Drop, F: Read, K: Sink>()
+    ensures { PutsFromDiskToDisk ⟦<DiskSource<F> as Source>⟧.meaning K.meaning
         ⟦<FolderStore<R> as Store>⟧.meaning ⟦<FolderSource<R::File> as Source>⟧.meaning }
 {
     words_keep_promises::<R, DiskSource<F>, K>();
+    a_run_keeps_the_settings::<R>();
+    stores_what_it_took::<R>();
 }

@@ -1,6 +1,0 @@
--- The lemma that is the law.
-use Rattle.tftp_words.proofs.PutFromDiskMade.{puts_from_disk}
-use Rattle.tftp_words.proofs.laws.complete_puts_go_from_disk.Goals as goal
-
-pub returns : goal.returns
-returns g c = puts_from_disk _ _ c.words_keep_promises.ensures.files
