@@ -12,7 +12,7 @@ use Rattle.tftp_server.specs.declared.fault.ServerFault.TheVariants.{TidInUse, N
 use Rattle.tftp_c.specs.declared.event.TftpEndpoint.{TftpEndpoint}
 use Rattle.tftp_c.specs.Faults.{AsksFile, Returns, ReturnsHeld, open_fault}
 use Rattle.tftp_c.specs.Reports.{endpoint_of}
-use Rattle.tftp_c.specs.Served.{Table, table_fault}
+use Rattle.tftp_c.specs.HeldServer.{Table, table_fault}
 
 -- the number that a call returns for a fault
 pub returns : (because : OpenFault → Type 0) (fault : OpenFault) (returned : ℕ) →

@@ -11,7 +11,7 @@ use Rattle.tftp_server.specs.declared.fault.ServerFault.TheVariants.{TidInUse}
 use Rattle.tftp_c.specs.declared.elsewhere.Absent.{Absent}
 use Rattle.tftp_c.specs.Reports.{endpoint_of}
 use Rattle.tftp_c.specs.declared.event.TftpEndpoint.{TftpEndpoint}
-use Rattle.tftp_c.specs.Served.{OpensAt, Table}
+use Rattle.tftp_c.specs.HeldServer.{OpensAt, Table}
 
 -- the transfer of an admission that is held
 pub opens_at : {T : Type 0} (done : T) (tid : ℕ) (from : TftpEndpoint) (peer : Endpoint) (request : List ℕ)

@@ -22,7 +22,7 @@ use Rattle.tftp_c.specs.declared.event.TftpEvent.{TftpEvent}
 use Rattle.tftp_c.specs.declared.slice_sink.SliceSink.{SliceSink}
 use Rattle.tftp_c.specs.Handled.{Received, Sent, Stored, Taken, TimedOut}
 use Rattle.tftp_c.specs.Reports.{Reports, Sends, endpoint_of}
-use Rattle.tftp_c.specs.Served.{CallersTransfer, StepsAt, Table}
+use Rattle.tftp_c.specs.HeldServer.{CallersTransfer, StepsAt, Table}
 use Rattle.tftp_c.proofs.ReplyLemmas.{steps_of, timed_out}
 use Rattle.tftp_c.proofs.StoredLemmas.{seen, stored_made}
 

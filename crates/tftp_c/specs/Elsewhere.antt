@@ -26,10 +26,11 @@ no_store =
       may_refuse_begin = λ s path replace fault. fault ≡ Io;
       must_refuse_open = λ s path fault. fault ≡ Io;
       must_fail = λ s path want. ⊥;
-      begun = λ path before after fault. ⊤;
-      after_append = λ before after fault. ⊤;
-      after_commit = λ before after fault. ⊤;
+      begun = λ path replace before after result. ⊤;
+      after_append = λ before draft bytes after draft' fault. ⊤;
+      after_commit = λ before path draft replace after draft' fault. ⊤;
       after_write_behind = λ before after. ⊤;
+      writes_behind = λ draft draft'. ⊤;
       may_refuse_append = λ s draft bytes fault. fault ≡ Io;
       may_refuse_commit = λ s path draft replace fault. fault ≡ Io;
     }

@@ -25,8 +25,8 @@ use Rattle.tftp_c.specs.declared.event.TftpEndpoint.{TftpEndpoint}
 use Rattle.tftp_c.specs.declared.event.TftpOptions.{TftpOptions}
 use Rattle.tftp_c.specs.Opens.{asked_of, mode_of}
 use Rattle.tftp_c.specs.Reports.{endpoint_of}
-use Rattle.tftp_c.specs.Served.{Table, config_of, table_fault}
-use Rattle.tftp_c.specs.Serves.{limits_of}
+use Rattle.tftp_c.specs.HeldServer.{Table, config_of, table_fault}
+use Rattle.tftp_c.specs.ServerOpens.{limits_of}
 
 -- the number of a fault of an end
 abbrev pub open_fault : OpenFault → ℕ

@@ -7,7 +7,7 @@ pub mod Modes
 pub mod Opens
 pub mod Owned
 pub mod Reports
-pub mod Served
-pub mod Serves
+pub mod HeldServer
+pub mod ServerOpens
 pub mod Shown
 pub mod Slices

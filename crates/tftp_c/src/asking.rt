@@ -2,7 +2,7 @@
 
 ghost use Rattle.std.specs.Prelude.{◌≡◌, ◌≤◌, length, take, IfSome};
 ghost use Rattle.tftp_ends.specs.Step.{error_bytes};
-ghost use Rattle.tftp_c.specs.Served.{Asks, AsksFor, Copied};
+ghost use Rattle.tftp_c.specs.HeldServer.{Asks, AsksFor, Copied};
 
 use crate::elsewhere::Elsewhere;
 use crate::event::{self, TftpEndpoint, TftpQuestion};

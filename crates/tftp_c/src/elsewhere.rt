@@ -43,6 +43,8 @@ impl Store for Elsewhere {
 
     ghost unmoved = { λ _. tt };
 
+    ghost unwritten = { λ _. tt };
+
     fn open(
         &self,
         _alloc: Global,

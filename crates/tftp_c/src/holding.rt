@@ -4,12 +4,12 @@ ghost use Rattle.std.specs.Prelude.{◌≡◌, IfOk, IfErr, OnOk};
 ghost use Rattle.tftp_ends.specs.Files.{AreFilesOf};
 ghost use Rattle.tftp_server.specs.Config.{IsConfig};
 ghost use Rattle.tftp_c.specs.Faults.{GetFails, PutFails, ReturnsHeld, StartRefused};
-ghost use Rattle.tftp_c.specs.Served.{config_of, table_fault, OpensAt, OpensGet, OpensPut, Starts};
+ghost use Rattle.tftp_c.specs.HeldServer.{config_of, table_fault, OpensAt, OpensGet, OpensPut, Starts};
 
 use crate::elsewhere::{Absent, Elsewhere};
 use crate::event::{self, TftpEndpoint, TftpEvent, TftpOptions};
+use crate::held_server::HeldServer;
 use crate::report::endpoint;
-use crate::served::Served;
 use crate::serving::{limits, serve_get, serve_put};
 use std::alloc::Global;
 use tftp_ends::End;
@@ -28,7 +28,7 @@ fn config(options: &TftpOptions, transfers: u8) -> Config
 }
 
 /// A server without transfers, which holds so many at once.
-pub(crate) fn start(alloc: Global, options: &TftpOptions, transfers: u8) -> Result<Served, u8>
+pub(crate) fn start(alloc: Global, options: &TftpOptions, transfers: u8) -> Result<HeldServer, u8>
     ensures ok { IfOk result (Starts options.now transfers) }
     ensures allowed { OnOk result (IsConfig (config_of options.now transfers)) }
     ensures err { IfErr result (StartRefused options.now transfers) }
@@ -38,7 +38,7 @@ pub(crate) fn start(alloc: Global, options: &TftpOptions, transfers: u8) -> Resu
         return Err(event::BAD_REQUEST);
     }
     match Server::new(alloc, config, Elsewhere) {
-        Ok(server) => Ok(Served {
+        Ok(server) => Ok(HeldServer {
             server,
             options: *options,
         }),
@@ -93,7 +93,7 @@ fn hold(
 /// Opens a transfer that sends the file of a read request, whose first bytes are `next`.
 pub(crate) fn get(
     alloc: Global,
-    served: &mut Served,
+    served: &mut HeldServer,
     tid: u16,
     from: &TftpEndpoint,
     request: &[u8],
@@ -127,7 +127,7 @@ pub(crate) fn get(
 /// Opens a transfer that receives the file of a write request.
 pub(crate) fn put(
     alloc: Global,
-    served: &mut Served,
+    served: &mut HeldServer,
     tid: u16,
     from: &TftpEndpoint,
     request: &[u8],

@@ -5,9 +5,9 @@ ghost use Rattle.tftp_server.specs.CallersFiles.{is_open_receiver, is_open_sende
 ghost use Rattle.tftp_server.specs.Config.{IsConfig};
 ghost use Rattle.tftp_server.specs.State.{at, is_open, without};
 ghost use Rattle.tftp_c.specs.Faults.{GetFails, PutFails, StartRefused};
-ghost use Rattle.tftp_c.specs.Served.{AsksFor, HoldsServer, OnServer, OpensGet, OpensPut};
-ghost use Rattle.tftp_c.specs.Served.{config_of};
-ghost use Rattle.tftp_c.specs.Served.{ReceivedAt, SentAt, Starts, TimedOutAt};
+ghost use Rattle.tftp_c.specs.HeldServer.{AsksFor, HoldsServer, OnServer, OpensGet, OpensPut};
+ghost use Rattle.tftp_c.specs.HeldServer.{config_of};
+ghost use Rattle.tftp_c.specs.HeldServer.{ReceivedAt, SentAt, Starts, TimedOutAt};
 
 use crate::event::{self, TftpEndpoint, TftpEvent, TftpOptions, TftpQuestion};
 use crate::server_handle::TftpServer;

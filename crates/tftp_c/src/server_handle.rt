@@ -3,7 +3,7 @@
 ghost use Rattle.std.specs.Prelude.{◌≡◌, Some, None, is_some, option_map};
 ghost use Rattle.std.specs.declared.option.Option.{Option};
 
-use crate::served::Served;
+use crate::held_server::HeldServer;
 use crate::server_slot::ServerSlot;
 use std::alloc::Global;
 use std::mem;
@@ -27,7 +27,7 @@ impl TftpServer {
         }
     }
 
-    fn of(server: Box<Served>) -> TftpServer
+    fn of(server: Box<HeldServer>) -> TftpServer
         ensures { result.slot.value ≡ Some server.value }
     {
         TftpServer {
@@ -37,7 +37,7 @@ impl TftpServer {
     }
 
     /// Takes the server, and leaves none.
-    pub(crate) fn take(&mut self, alloc: Global) -> Option<Box<Served>>
+    pub(crate) fn take(&mut self, alloc: Global) -> Option<Box<HeldServer>>
         ensures taken { option_map (λ b. b.value) result ≡ self.old.slot.value }
         ensures left { self.new.slot.value ≡ None }
     {
@@ -50,7 +50,7 @@ impl TftpServer {
     }
 
     /// Puts a server where there is none.
-    pub(crate) fn put(&mut self, server: Box<Served>)
+    pub(crate) fn put(&mut self, server: Box<HeldServer>)
         requires { self.old.slot.value ≡ None }
         ensures { self.new.slot.value ≡ Some server.value }
     {

@@ -3,12 +3,12 @@
 ghost use Rattle.std.specs.Prelude.{◌≡◌, Some, None, IsSome};
 ghost use Rattle.std.specs.declared.option.Option.{Option};
 ghost use Rattle.std.specs.Coded.{coded_option};
-ghost use Rattle.tftp_c.specs.declared.served.Served.{Served};
-ghost use Rattle.tftp_c.specs.contracts.served.Served.{the_row};
+ghost use Rattle.tftp_c.specs.declared.held_server.HeldServer.{HeldServer};
+ghost use Rattle.tftp_c.specs.contracts.held_server.HeldServer.{the_row};
 ghost use Rattle.tftp_c.specs.Owned.{owned_at};
 
+use crate::held_server::HeldServer;
 use crate::loose::Loose;
-use crate::served::Served;
 use std::alloc::Global;
 use std::marker::Model;
 use std::ptr;
@@ -20,7 +20,7 @@ use std::ptr;
 #[derive(Drop)]
 pub struct ServerSlot {
     at: *mut u8,
-    pub ghost value: { Option Served } by { coded_option the_row.coded },
+    pub ghost value: { Option HeldServer } by { coded_option the_row.coded },
 }
 
 impl Model for ServerSlot {
@@ -29,7 +29,7 @@ impl Model for ServerSlot {
 
 impl ServerSlot {
     /// Forgets the type of the pointer.
-    fn seal(loose: Loose<Served, Global>) -> ServerSlot
+    fn seal(loose: Loose<HeldServer, Global>) -> ServerSlot
         ensures { result.value ≡ Some loose.value }
     {
         let Loose { at, alloc: _ } = loose;
@@ -37,13 +37,13 @@ impl ServerSlot {
     }
 
     /// Gives the pointer its type back.
-    fn unseal(self, alloc: Global) -> Loose<Served, Global>
+    fn unseal(self, alloc: Global) -> Loose<HeldServer, Global>
         requires { IsSome self.value }
         ensures { Some result.value ≡ self.value }
     {
         let ServerSlot { at } = self;
         Loose {
-            at: at as *mut Served,
+            at: at as *mut HeldServer,
             alloc,
         }
     }
@@ -58,13 +58,13 @@ impl ServerSlot {
 }
 
 impl ServerSlot {
-    pub(crate) fn of(server: Box<Served>) -> ServerSlot
+    pub(crate) fn of(server: Box<HeldServer>) -> ServerSlot
         ensures { result.value ≡ Some server.value }
     {
         ServerSlot::seal(Loose::of(server))
     }
 
-    pub(crate) fn into_box(self, alloc: Global) -> Box<Served>
+    pub(crate) fn into_box(self, alloc: Global) -> Box<HeldServer>
         requires { IsSome self.value }
         ensures { Some result.value ≡ self.value }
     {

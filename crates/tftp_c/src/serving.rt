@@ -11,7 +11,7 @@ ghost use Rattle.tftp_negotiate.specs.Ranges.{IsBlockSize};
 ghost use Rattle.tftp_ends.specs.Opening.{ServesRead};
 ghost use Rattle.tftp_c.specs.Faults.{GetUnserved, NoRead, NoWrite, PutUnserved, SendRefused};
 ghost use Rattle.tftp_c.specs.Reports.{endpoint_of};
-ghost use Rattle.tftp_c.specs.Serves.{limits_of, FirstSent, ServesGet, ServesPut};
+ghost use Rattle.tftp_c.specs.ServerOpens.{limits_of, FirstSent, ServesGet, ServesPut};
 
 use crate::client::Client;
 use crate::event::{self, TftpEndpoint, TftpEvent, TftpOptions};

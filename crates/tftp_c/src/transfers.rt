@@ -6,7 +6,7 @@ ghost use Rattle.tftp_server.specs.CallersFiles.{is_open_receiver, is_open_sende
 ghost use Rattle.tftp_server.specs.State.{at, is_open};
 ghost use Rattle.tftp_c.specs.Handled.{Stored, Taken};
 ghost use Rattle.tftp_c.specs.Reports.{Reports, Sends};
-ghost use Rattle.tftp_c.specs.Served.{CallersTransfer, ReceivedAt, SentAt, StepsAt, TimedOutAt};
+ghost use Rattle.tftp_c.specs.HeldServer.{CallersTransfer, ReceivedAt, SentAt, StepsAt, TimedOutAt};
 
 use crate::elsewhere::Elsewhere;
 use crate::event::{TftpEndpoint, TftpEvent};

@@ -11,7 +11,7 @@ use Rattle.tftp_rules.specs.OpenEnds.{OpenEnd}
 use Rattle.tftp_player.specs.WorldKept.{HasPorts}
 use Rattle.tftp_player.specs.Effect.{no_effect, said_by, report_by}
 use Rattle.tftp_player.specs.Played.{ends_from, end_at, address_of, AllKept}
-use Rattle.tftp_player.specs.ServerEnd.{PlayedServer, Transfer}
+use Rattle.tftp_player.specs.ServerEnd.{PlayedServer, ServerTransfer}
 use Rattle.tftp_player.specs.Simulation.{ends_of, world_of, EndsDatagramStep, DatagramAt, LostAt, EndTakes}
 use Rattle.tftp_player.specs.Arriving.{ArrivalRefuses, EndsAsk, EndsDelivery, EndsRefuse}
 use Rattle.tftp_player.specs.World.{WorldState, StoredFile, replied, report_of, no_report, WorldEnd, Open_end}
@@ -35,7 +35,7 @@ port_is : (port : ℕ) (p : Player) → (address_of port p).port ≡ port
 port_is port (Client c) = refl
 port_is port (Server q) = refl
 
-ports_from : (port : ℕ) (held : List (ℕ × Transfer)) (ps : List Player) (k : ℕ) (x : WorldEnd) →
+ports_from : (port : ℕ) (held : List (ℕ × ServerTransfer)) (ps : List Player) (k : ℕ) (x : WorldEnd) →
     slice_get (ends_from port held ps) k ≡ Some x → (end_address x).port ≡ port + k
 ports_from port held [] k x e = absurd (let f : None ≡ Some x = e in cc)
 ports_from port held (p ∷ ps) zero x e =

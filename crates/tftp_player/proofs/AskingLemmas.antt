@@ -26,7 +26,7 @@ use Rattle.tftp_rules.specs.Machine.{Endpoint}
 use Rattle.tftp_player.specs.Played.{PlayerKept, end_at, ends_from, records_from, open_server_end, server_end}
 use Rattle.tftp_player.specs.Requested.{IsRequested, OpensNone, IsAdmitted, new_server_end, requested_by}
 use Rattle.tftp_player.specs.Requests.{is_transfer, IsRepeated, open_transfers, served, service}
-use Rattle.tftp_player.specs.ServerEnd.{PlayedServer, ServerEndKept, Transfer}
+use Rattle.tftp_player.specs.ServerEnd.{PlayedServer, ServerEndKept, ServerTransfer}
 use Rattle.tftp_player.specs.Simulation.{IsOwned, IsRising, ArePartsConsistent, ends_of, world_of}
 use Rattle.tftp_player.specs.World.{WorldState, datagram, next_port, no_report, said_in, opened_in, sent_report}
 use Rattle.tftp_player.specs.World.{WorldEnd, Open_end}
@@ -59,7 +59,7 @@ both_or_none {P = P} false false f g = refl
 both_or_none {P = P} true false f g = absurd (true≢false (sym (g.1 (f.0 refl))))
 both_or_none {P = P} false true f g = absurd (true≢false (sym (f.1 (g.0 refl))))
 
-same_repeated : (from : Endpoint) (decoded : Option Packet) (held : List (ℕ × Transfer)) (a b : Bool) →
+same_repeated : (from : Endpoint) (decoded : Option Packet) (held : List (ℕ × ServerTransfer)) (a b : Bool) →
     server.IsRepeated a from decoded held → server.IsRepeated b from decoded held → a ≡ b
 same_repeated from None held a b f g = f ∙ sym g
 same_repeated from (Some packet) held a b f g = both_or_none a b f g
@@ -190,7 +190,7 @@ module _ (from : Endpoint) (bytes : List ℕ) (before : PlayedServer) (ps : List
     abbrev own : List Datagram → ServerEnd
     own sent = new_server_end (q sent).mode (q sent).path (q sent).file
 
-    abbrev transfer : List Datagram → Transfer
+    abbrev transfer : List Datagram → ServerTransfer
     transfer sent = (q sent).transfer
 
     -- it passes the port's tests that need no store
@@ -242,9 +242,9 @@ module _ (from : Endpoint) (bytes : List ℕ) (before : PlayedServer) (ps : List
         ∙ lookup-insert_same numbers port (transfer sent) before.held
 
     recorded : (sent : List Datagram) →
-        option_map (λ (g : Transfer). record_of g.end) (at port after.held) ≡ Some (record_of (x sent).state)
+        option_map (λ (g : ServerTransfer). record_of g.end) (at port after.held) ≡ Some (record_of (x sent).state)
     recorded sent =
-        ap (option_map (λ (g : Transfer). record_of g.end)) (found sent)
+        ap (option_map (λ (g : ServerTransfer). record_of g.end)) (found sent)
         ∙ ap (λ (e : EndState). Some (record_of e)) (q sent).is_new.state
 
     -- it was admitted, and it is held
@@ -252,13 +252,13 @@ module _ (from : Endpoint) (bytes : List ℕ) (before : PlayedServer) (ps : List
     opened_requested e = let f : None ≡ Some (own []) = sym e ∙ requested_own [] in cc
 
     pub opened_recorded : (r : Option Record) →
-        r ≡ option_map (λ (g : Transfer). record_of g.end) (at port after.held) → r ≡ None → ⊥
+        r ≡ option_map (λ (g : ServerTransfer). record_of g.end) (at port after.held) → r ≡ None → ⊥
     opened_recorded r e n = let f : None ≡ Some (record_of (x []).state) = sym n ∙ (e ∙ recorded []) in cc
 
     end_is : (sent : List Datagram) → end_at port after.held (Server (own sent)) ≡ Open_end (x sent)
     end_is sent =
         let g = transfer sent in
-        ap (λ (u : Option Transfer). server_end port (own sent) None u) (found sent)
+        ap (λ (u : Option ServerTransfer). server_end port (own sent) None u) (found sent)
         ∙ ap Open_end
         (ap (λ (n : ℕ). open_server_end n (own sent) g.end (left_in g.files) (draft_of g.files) g.request) (port_world sent)
         ∙ (q sent).is_new.end)
@@ -348,7 +348,7 @@ module _ (from : Endpoint) (bytes : List ℕ) (before : PlayedServer) (ps : List
     same_served kept sent e = let f : Some kept ≡ Some (own sent) = sym e ∙ requested_own sent in cc
 
     pub opened_consistent : (kept : ServerEnd) (r : Record) (ps0 ps1 : List Player) (records0 records1 : List (ℕ × Record)) →
-        o ≡ Some kept → Some r ≡ option_map (λ (g : Transfer). record_of g.end) (at port after.held) →
+        o ≡ Some kept → Some r ≡ option_map (λ (g : ServerTransfer). record_of g.end) (at port after.held) →
         ps0 ≡ ps → ps1 ≡ ps0 ++ Server kept ∷ [] → records0 ≡ records → records1 ≡ records0 ++ (port, r) ∷ [] →
         ArePartsConsistent after ps1 records1
     opened_consistent kept r ps0 ps1 records0 records1 e f a b g k =

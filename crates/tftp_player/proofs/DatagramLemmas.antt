@@ -20,7 +20,7 @@ use Rattle.tftp_player.specs.Clients.{ClientDatagramStep}
 use Rattle.tftp_player.specs.Effect.{no_effect}
 use Rattle.tftp_player.specs.PlayedClient.{PlayedClient}
 use Rattle.tftp_player.specs.Played.{client_end, end_at, PlayerKept, PlayerDatagramStep, has_ended, address_of}
-use Rattle.tftp_player.specs.ServerEnd.{PlayedServer, Transfer, CommitsLast, ServerEndKept, ServerEndDatagramStep}
+use Rattle.tftp_player.specs.ServerEnd.{PlayedServer, ServerTransfer, CommitsLast, ServerEndKept, ServerEndDatagramStep}
 use Rattle.tftp_player.specs.Simulation.{ends_of, ArePartsConsistent, LostAt, EndsDatagramStep, record_closed, EndTakes}
 use Rattle.tftp_player.specs.World.{file_at, in_the_way, is_closed, has_committed, WorldEnd, Open_end, Closed_end}
 use Rattle.tftp_player.specs.World.{end_address}
@@ -87,7 +87,7 @@ module _ (port : ℕ) (s s' : ServerEnd) (before after : PlayedServer) (from : E
     (r : Record)
     (kept : PlayerKept port before.held (Server s)) (open_now : is_some s.ended ≡ false)
     (t : ServerEndDatagramStep port from bytes s s' before after effect r) where
-  abbrev h : Transfer
+  abbrev h : ServerTransfer
   h = t.transfer
 
   abbrev x0 : OpenEnd
@@ -106,16 +106,16 @@ module _ (port : ℕ) (s s' : ServerEnd) (before after : PlayedServer) (from : E
   is_kept = same_transfer h kept_here.transfer (sym t.found ∙ kept_here.found)
 
   server_side : is_client h.end.role.side ≡ false
-  server_side = ap (λ (k : Transfer). is_client k.end.role.side) is_kept ∙ kept_here.side
+  server_side = ap (λ (k : ServerTransfer). is_client k.end.role.side) is_kept ∙ kept_here.side
 
   path_is : h.path ≡ s.path
-  path_is = ap (λ (k : Transfer). k.path) is_kept ∙ kept_here.path
+  path_is = ap (λ (k : ServerTransfer). k.path) is_kept ∙ kept_here.path
 
   files_fit : AreFilesOf h.end.role.side h.files
-  files_fit = subst (λ (k : Transfer). AreFilesOf k.end.role.side k.files) (sym is_kept) kept_here.files
+  files_fit = subst (λ (k : ServerTransfer). AreFilesOf k.end.role.side k.files) (sym is_kept) kept_here.files
 
   commits_last : CommitsLast h.files h.end.position.phase
-  commits_last = subst (λ (k : Transfer). CommitsLast k.files k.end.position.phase) (sym is_kept) kept_here.commits
+  commits_last = subst (λ (k : ServerTransfer). CommitsLast k.files k.end.position.phase) (sym is_kept) kept_here.commits
 
   steps_so :
       StepIn memory_meaning memory_source from bytes h.end
@@ -137,7 +137,7 @@ module _ (port : ℕ) (s s' : ServerEnd) (before after : PlayedServer) (from : E
   known =
       still_known (terms_of h.end.position.phase) (terms_of t.turn.position.phase)
       (λ agreed e. step_has agreed _ from bytes h.end (held_files s.refuses h.files) held_now t.turn e steps_end)
-      (ap (λ (k : Transfer). is_some (terms_of k.end.position.phase)) is_kept ∙ kept_here.known)
+      (ap (λ (k : ServerTransfer). is_some (terms_of k.end.position.phase)) is_kept ∙ kept_here.known)
 
   steps_here : EndStep (is_client h.end.role.side) in_way from bytes h.end (files_of x0) t.turn held_now
   steps_here =

@@ -10,7 +10,7 @@ use Rattle.tftp_player.specs.World.{WorldEnd, end_record}
 use Rattle.tftp_player.specs.Requests.{is_transfer, open_transfers}
 use Rattle.tftp_ends.specs.declared.record.Record.{Record}
 use Rattle.tftp_player.specs.Played.{end_at, ends_from, records_from, PlayerKept, AllKept}
-use Rattle.tftp_player.specs.ServerEnd.{Transfer}
+use Rattle.tftp_player.specs.ServerEnd.{ServerTransfer}
 use Rattle.tftp_player.specs.declared.player.Player.{Player}
 
 -- `mapped_from port held ps` is the list of the values of the ends, in order, from this port on
@@ -204,24 +204,24 @@ transfers-close ends k x y e was is =
     omega (arith, count_set is_transfer ends k x y e, one, none)
 
 -- ---- of the ends of a world
-pub ends_length : (held : List (ℕ × Transfer)) (ps : List Player) → length (ends_from 1024 held ps) ≡ length ps
+pub ends_length : (held : List (ℕ × ServerTransfer)) (ps : List Player) → length (ends_from 1024 held ps) ≡ length ps
 ends_length held ps = mapped-length end_at ends_from (λ port h. refl) (λ port h p qs. refl) 1024 held ps
 
-pub ends_get : (held : List (ℕ × Transfer)) (ps : List Player) (k : ℕ) (p : Player) → slice_get ps k ≡ Some p →
+pub ends_get : (held : List (ℕ × ServerTransfer)) (ps : List Player) (k : ℕ) (p : Player) → slice_get ps k ≡ Some p →
     slice_get (ends_from 1024 held ps) k ≡ Some (end_at (1024 + k) held p)
 ends_get held ps k p e = mapped-get end_at ends_from (λ port h. refl) (λ port h q qs. refl) 1024 held ps k p e
 
-pub to_kept : (port : ℕ) (held : List (ℕ × Transfer)) (ps : List Player) → AllKept port held ps →
+pub to_kept : (port : ℕ) (held : List (ℕ × ServerTransfer)) (ps : List Player) → AllKept port held ps →
     Kept_from PlayerKept port held ps
 to_kept port held [] k = tt
 to_kept port held (p ∷ ps) k = (k.0, to_kept (port + 1) held ps k.1)
 
-pub from_kept : (port : ℕ) (held : List (ℕ × Transfer)) (ps : List Player) → Kept_from PlayerKept port held ps →
+pub from_kept : (port : ℕ) (held : List (ℕ × ServerTransfer)) (ps : List Player) → Kept_from PlayerKept port held ps →
     AllKept port held ps
 from_kept port held [] k = tt
 from_kept port held (p ∷ ps) k = (k.0, from_kept (port + 1) held ps k.1)
 
-pub kept_at : (held : List (ℕ × Transfer)) (ps : List Player) (k : ℕ) (p : Player) → AllKept 1024 held ps →
+pub kept_at : (held : List (ℕ × ServerTransfer)) (ps : List Player) (k : ℕ) (p : Player) → AllKept 1024 held ps →
     slice_get ps k ≡ Some p → PlayerKept (1024 + k) held p
 kept_at held ps k p all e = kept-get PlayerKept 1024 held ps k p (to_kept 1024 held ps all) e
 

@@ -8,7 +8,7 @@ use Rattle.std.specs.List.{AllByRecursion}
 use Rattle.std.specs.Ordering.{nat_cmp}
 use Rattle.tftp_server.specs.State.{without}
 use Rattle.tftp_player.specs.PlayedClient.{PlayedClient}
-use Rattle.tftp_player.specs.ServerEnd.{Transfer}
+use Rattle.tftp_player.specs.ServerEnd.{ServerTransfer}
 use Rattle.tftp_player.specs.Simulation.{IsOwned, IsRising}
 use Rattle.tftp_player.specs.declared.player.Player.{Player}
 use Rattle.tftp_player.specs.declared.player.Player.TheVariants.{Client, Server}
@@ -18,8 +18,8 @@ use Rattle.tftp_rules.proofs.Entries.{at_same, numbers, same_at}
 use Rattle.tftp_rules.proofs.Indices.{slice_get-set_same, slice_get-set_other, slice_get-push_old}
 
 -- each transfer is one of these ends
-abbrev pub AllOwned : List Player → List (ℕ × Transfer) → Type 0
-AllOwned ps held = AllByRecursion (λ (e : ℕ × Transfer). IsOwned ps e.0) held
+abbrev pub AllOwned : List Player → List (ℕ × ServerTransfer) → Type 0
+AllOwned ps held = AllByRecursion (λ (e : ℕ × ServerTransfer). IsOwned ps e.0) held
 
 -- another end is at its index as before
 owned_elsewhere : (ps : List Player) (index : ℕ) (p' : Player) (k : ℕ) → k ≢ 1024 + index → IsOwned ps k →
@@ -53,14 +53,14 @@ not_a_client ps index c k there o e =
     let f : Server o.served ≡ Client c = cc in
     cc
 
-pub client_owned : (ps : List Player) (index : ℕ) (c : PlayedClient) (p' : Player) (held : List (ℕ × Transfer)) →
+pub client_owned : (ps : List Player) (index : ℕ) (c : PlayedClient) (p' : Player) (held : List (ℕ × ServerTransfer)) →
     slice_get ps index ≡ Some (Client c) → AllOwned ps held → AllOwned (slice_set ps index p') held
 client_owned ps index c p' held there all =
     AllKeys-weaker (IsOwned ps) (IsOwned (slice_set ps index p')) held
     (λ k o. owned_elsewhere ps index p' k (not_a_client ps index c k there o) o) all
 
 -- an end of the server that is still open
-pub server_owned : (ps : List Player) (index : ℕ) (p : Player) (s' : ServerEnd) (held : List (ℕ × Transfer)) →
+pub server_owned : (ps : List Player) (index : ℕ) (p : Player) (s' : ServerEnd) (held : List (ℕ × ServerTransfer)) →
     slice_get ps index ≡ Some p → s'.ended ≡ None → AllOwned ps held →
     AllOwned (slice_set ps index (Server s')) held
 server_owned ps index p s' held there lives all =
@@ -80,7 +80,7 @@ same_end ps index s k there e o =
     let both : Some (Server o.served) ≡ Some (Server s) = sym o.there ∙ (ap (slice_get ps) same ∙ there) in
     cc
 
-pub same_owned : (ps : List Player) (index : ℕ) (s s' : ServerEnd) (held : List (ℕ × Transfer)) →
+pub same_owned : (ps : List Player) (index : ℕ) (s s' : ServerEnd) (held : List (ℕ × ServerTransfer)) →
     slice_get ps index ≡ Some (Server s) → s'.ended ≡ s.ended → AllOwned ps held →
     AllOwned (slice_set ps index (Server s')) held
 same_owned ps index s s' held there e all =
@@ -96,16 +96,16 @@ same_owned ps index s s' held there e all =
           owned_elsewhere ps index (Server s') k (λ f. true≢false (sym (at_same numbers (1024 + index) k f) ∙ t)) o
 
 -- and one that was removed from it
-pub closed_owned : (ps : List Player) (port index : ℕ) (p' : Player) (held : List (ℕ × Transfer)) →
+pub closed_owned : (ps : List Player) (port index : ℕ) (p' : Player) (held : List (ℕ × ServerTransfer)) →
     port ≡ 1024 + index → IsRising held → AllOwned ps held → AllOwned (slice_set ps index p') (without port held)
 closed_owned ps port index p' held is rising all =
-    all_both (λ (e : ℕ × Transfer). e.0 ≢ port) (λ (e : ℕ × Transfer). IsOwned ps e.0)
-    (λ (e : ℕ × Transfer). IsOwned (slice_set ps index p') e.0) (without port held)
+    all_both (λ (e : ℕ × ServerTransfer). e.0 ≢ port) (λ (e : ℕ × ServerTransfer). IsOwned ps e.0)
+    (λ (e : ℕ × ServerTransfer). IsOwned (slice_set ps index p') e.0) (without port held)
     (λ e n o. owned_elsewhere ps index p' e.0 (λ same. n (same ∙ sym is)) o) (gone-without port held rising)
     (AllKeys-without (IsOwned ps) port held all)
 
 -- after an end was added
-pub pushed_owned : (ps : List Player) (p : Player) (held : List (ℕ × Transfer)) → AllOwned ps held →
+pub pushed_owned : (ps : List Player) (p : Player) (held : List (ℕ × ServerTransfer)) → AllOwned ps held →
     AllOwned (ps ++ p ∷ []) held
 pushed_owned ps p held all = AllKeys-weaker (IsOwned ps) (IsOwned (ps ++ p ∷ [])) held (λ k o. record {
   index = o.index;

@@ -26,7 +26,7 @@ use Rattle.tftp_player.specs.Clients.{server_at}
 use Rattle.tftp_player.specs.Effect.{effect_of, no_effect, said_by, index_after, report_by}
 use Rattle.tftp_player.specs.Played.{server_end, end_at, ends_from, records_from, PlayerKept, IsServerEndAt}
 use Rattle.tftp_player.specs.Played.{PlayerTimeoutStep, has_ended, address_of, client_end}
-use Rattle.tftp_player.specs.ServerEnd.{PlayedServer, Transfer, CommitsLast}
+use Rattle.tftp_player.specs.ServerEnd.{PlayedServer, ServerTransfer, CommitsLast}
 use Rattle.tftp_player.specs.Simulation.{ends_of, ArePartsConsistent, SameStore, EndTimesOut, EndsTimeoutStep}
 use Rattle.tftp_player.specs.Simulation.{record_closed}
 use Rattle.tftp_player.specs.Simulation.{world_of}
@@ -82,7 +82,7 @@ module _ (index : ℕ) (before after : PlayedServer) (ps : List Player) (p : Pla
         ∙ (sym (records_set 1024 (ends_of before ps) index (end_at (1024 + index) after.held p'))
         ∙ ap (records_from 1024) (sym set_ends)));
     below =
-        subst (λ (n : ℕ). AllByRecursion (λ (e : ℕ × Transfer). e.0 < 1024 + n) after.held)
+        subst (λ (n : ℕ). AllByRecursion (λ (e : ℕ × ServerTransfer). e.0 < 1024 + n) after.held)
         (sym (length-set ps index p')) (t.below (1024 + length ps) consistent.below);
     count = counted_still t.counted ∙ ap open_transfers (sym set_ends);
     owned = t.owned index ps refl there consistent.rising consistent.owned;
@@ -152,14 +152,14 @@ player_times_out port (Server s) (Server s') before after effect r kept open_now
     let k = served_kept port s before.held open_now kept in
     let here : h ≡ k.transfer = same_transfer h k.transfer (sym t.1 ∙ k.found) in
     let fits : AreFilesOf h.end.role.side h.files =
-    subst (λ (v : Transfer). AreFilesOf v.end.role.side v.files) (sym here) k.files in
+    subst (λ (v : ServerTransfer). AreFilesOf v.end.role.side v.files) (sym here) k.files in
     let commits : CommitsLast h.files (timeout_turn h.end).position.phase =
-    timeout_commits h.files h.end (ap (λ (v : Transfer). is_some (outcome_of v.end.position.phase)) here ∙ k.is_open)
-    (subst (λ (v : Transfer). CommitsLast v.files v.end.position.phase) (sym here) k.commits) in
+    timeout_commits h.files h.end (ap (λ (v : ServerTransfer). is_some (outcome_of v.end.position.phase)) here ∙ k.is_open)
+    (subst (λ (v : ServerTransfer). CommitsLast v.files v.end.position.phase) (sym here) k.commits) in
     let known : is_some (terms_of (timeout_turn h.end).position.phase) ≡ true =
     still_known (terms_of h.end.position.phase) (terms_of (timeout_turn h.end).position.phase)
     (λ agreed e. timeout_has agreed h.end e)
-    (ap (λ (v : Transfer). is_some (terms_of v.end.position.phase)) here ∙ k.known) in
+    (ap (λ (v : ServerTransfer). is_some (terms_of v.end.position.phase)) here ∙ k.known) in
     record {
       end = held_end port s h;
       stepped =
@@ -189,26 +189,26 @@ keeps_store port (Client c) (Server s') before after effect r t = absurd t
 keeps_store port (Server s) (Client c') before after effect r t = absurd t
 
 -- an end that is open in the world is open as it is played
-ended_by : (port : ℕ) (s : ServerEnd) (o : Option Record) (h : Option Transfer) →
+ended_by : (port : ℕ) (s : ServerEnd) (o : Option Record) (h : Option ServerTransfer) →
     is_closed (server_end port s o h) ≡ false → is_some o ≡ false
 ended_by port s None h e = refl
 ended_by port s (Some r) h e = absurd (true≢false e)
 
-pub has_not_ended : (port : ℕ) (held : List (ℕ × Transfer)) (p : Player) → is_closed (end_at port held p) ≡ false →
+pub has_not_ended : (port : ℕ) (held : List (ℕ × ServerTransfer)) (p : Player) → is_closed (end_at port held p) ≡ false →
     has_ended p ≡ false
 has_not_ended port held (Client c) e = sym (standing_closed (client_end port c)) ∙ e
 has_not_ended port held (Server s) e = ended_by port s s.ended (at port held) e
 
 -- what is recorded says whether it is closed
-served_shows : (port : ℕ) (s : ServerEnd) (o : Option Record) (held : List (ℕ × Transfer)) → IsServerEndAt port s o held →
+served_shows : (port : ℕ) (s : ServerEnd) (o : Option Record) (held : List (ℕ × ServerTransfer)) → IsServerEndAt port s o held →
     is_some (end_record (server_end port s o (at port held))).outcome ≡ is_closed (server_end port s o (at port held))
 served_shows port s (Some r) held k = k.closed
 served_shows port s None held k =
     subst
-    (λ (h : Option Transfer). is_some (end_record (server_end port s None h)).outcome
+    (λ (h : Option ServerTransfer). is_some (end_record (server_end port s None h)).outcome
     ≡ is_closed (server_end port s None h)) (sym k.found) k.is_open
 
-record_shows : (port : ℕ) (held : List (ℕ × Transfer)) (p : Player) → PlayerKept port held p →
+record_shows : (port : ℕ) (held : List (ℕ × ServerTransfer)) (p : Player) → PlayerKept port held p →
     is_some (end_record (end_at port held p)).outcome ≡ is_closed (end_at port held p)
 record_shows port held (Client c) k =
     ap (λ (r : Record). is_some r.outcome) (standing_record (client_end port c))
@@ -339,13 +339,13 @@ records_length : (port : ℕ) (ends : List WorldEnd) → length (records_from po
 records_length port [] = refl
 records_length port (x ∷ ends) = ap suc (records_length (port + 1) ends)
 
-served_address : (port : ℕ) (s : ServerEnd) (o : Option Record) (h : Option Transfer) →
+served_address : (port : ℕ) (s : ServerEnd) (o : Option Record) (h : Option ServerTransfer) →
     end_address (server_end port s o h) ≡ server_at port
 served_address port s (Some r) h = refl
 served_address port s None (Some h) = refl
 served_address port s None None = refl
 
-pub address_is : (port : ℕ) (held : List (ℕ × Transfer)) (p : Player) →
+pub address_is : (port : ℕ) (held : List (ℕ × ServerTransfer)) (p : Player) →
     end_address (end_at port held p) ≡ address_of port p
 address_is port held (Client c) = standing_address (client_end port c)
 address_is port held (Server s) = served_address port s s.ended (at port held)

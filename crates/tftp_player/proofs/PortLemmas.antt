@@ -30,7 +30,7 @@ use Rattle.tftp_player.specs.Openings.{sending_end, receiving_end}
 use Rattle.tftp_player.specs.Played.{open_server_end}
 use Rattle.tftp_player.specs.Requested.{new_server_end, receiver_at, requested_by, sender_at}
 use Rattle.tftp_player.specs.Requests.{begun_of, open_transfers, opened_of, served, service}
-use Rattle.tftp_player.specs.ServerEnd.{Transfer, CommitsLast}
+use Rattle.tftp_player.specs.ServerEnd.{ServerTransfer, CommitsLast}
 use Rattle.tftp_player.specs.World.{WorldState, file_at, in_the_way, next_port, datagram, no_report, opened_in, said_in}
 use Rattle.tftp_player.specs.World.{sent_report}
 use Rattle.tftp_player.specs.WorldSteps.{ServiceStep}
@@ -152,7 +152,7 @@ module _ (w : WorldState) (mode : Mode) (path file : List ℕ) where
 
 -- ---- an end of the server as it opens
 -- it is consistent with what the server holds
-pub record IsNewEnd (w : WorldState) (from : Endpoint) (s : ServerEnd) (transfer : Transfer) (x : OpenEnd) : Type 0 where
+pub record IsNewEnd (w : WorldState) (from : Endpoint) (s : ServerEnd) (transfer : ServerTransfer) (x : OpenEnd) : Type 0 where
   pub state : transfer.end ≡ x.state
   pub end : open_server_end (next_port w) s transfer.end (left_in transfer.files) (draft_of transfer.files) transfer.request
       ≡ x
@@ -188,7 +188,7 @@ module _ (w : WorldState) (asking : PortAsking) (result : PortLeft) where
     pub mode : Mode
     pub path : List ℕ
     pub file : List ℕ
-    pub transfer : Transfer
+    pub transfer : ServerTransfer
     pub end : OpenEnd
     pub opens : OpensFor w mode path file what
     pub is_new : IsNewEnd w asking.from (new_server_end mode path file) transfer end

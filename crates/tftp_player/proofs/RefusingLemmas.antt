@@ -23,7 +23,7 @@ use Rattle.tftp_player.specs.Played.{PlayerKept}
 use Rattle.tftp_player.specs.Played.{IsServerEndAt, armed_by, armed_server_end, armed_server_end_in, armed_player}
 use Rattle.tftp_player.specs.PlayedClient.{PlayedClient}
 use Rattle.tftp_player.specs.Requests.{is_transfer, open_transfers}
-use Rattle.tftp_player.specs.ServerEnd.{PlayedServer, Transfer, ServerEndKept}
+use Rattle.tftp_player.specs.ServerEnd.{PlayedServer, ServerTransfer, ServerEndKept}
 use Rattle.tftp_player.specs.Simulation.{ends_of, ArePartsConsistent, world_of}
 use Rattle.tftp_player.specs.World.{WorldState, is_closed, no_report, WorldEnd, Open_end, Closed_end, end_record}
 use Rattle.tftp_player.specs.World.{standing}
@@ -93,15 +93,15 @@ transfer_armed port s e (Sink draft) request fits =
     sym (armed_receiver (open_server_end port s e [] (Some draft) request) fits)
 
 -- by how it ended
-served_armed : (port : ℕ) (s : ServerEnd) (o : Option Record) (held : List (ℕ × Transfer)) → IsServerEndAt port s o held →
+served_armed : (port : ℕ) (s : ServerEnd) (o : Option Record) (held : List (ℕ × ServerTransfer)) → IsServerEndAt port s o held →
     server_end port (armed_by o (at port held) s) o (at port held) ≡ armed_end (server_end port s o (at port held))
 served_armed port s (Some r) held k = refl
 served_armed port s None held k =
-    subst (λ (h : Option Transfer). server_end port (armed_by None h s) None h ≡ armed_end (server_end port s None h))
+    subst (λ (h : Option ServerTransfer). server_end port (armed_by None h s) None h ≡ armed_end (server_end port s None h))
     (sym k.found)
     (ap Open_end (transfer_armed port s k.transfer.end k.transfer.files k.transfer.request k.files))
 
-armed_kept : (port : ℕ) (s : ServerEnd) (draft : Option Drafted) (held : List (ℕ × Transfer)) → ServerEndKept port s held →
+armed_kept : (port : ℕ) (s : ServerEnd) (draft : Option Drafted) (held : List (ℕ × ServerTransfer)) → ServerEndKept port s held →
     ServerEndKept port (armed_server_end draft s) held
 armed_kept port s None held k = k
 armed_kept port s (Some draft) held k = record {
@@ -116,7 +116,7 @@ armed_kept port s (Some draft) held k = record {
   path = k.path;
 }
 
-served_armed_kept : (port : ℕ) (s : ServerEnd) (o : Option Record) (held : List (ℕ × Transfer)) → IsServerEndAt port s o held →
+served_armed_kept : (port : ℕ) (s : ServerEnd) (o : Option Record) (held : List (ℕ × ServerTransfer)) → IsServerEndAt port s o held →
     IsServerEndAt port (armed_by o (at port held) s) o held
 served_armed_kept port s (Some r) held k = k
 served_armed_kept port s None held k = armed_kept port s (draft_at (at port held)) held k
@@ -126,11 +126,11 @@ drafts_ended : (draft : Option Drafted) (s : ServerEnd) → (armed_server_end dr
 drafts_ended None s = refl
 drafts_ended (Some draft) s = refl
 
-armed_ended : (o : Option Record) (h : Option Transfer) (s : ServerEnd) → (armed_by o h s).ended ≡ s.ended
+armed_ended : (o : Option Record) (h : Option ServerTransfer) (s : ServerEnd) → (armed_by o h s).ended ≡ s.ended
 armed_ended (Some r) h s = refl
 armed_ended None h s = drafts_ended (draft_at h) s
 
-pub player_armed : (port : ℕ) (held : List (ℕ × Transfer)) (p : Player) → PlayerKept port held p →
+pub player_armed : (port : ℕ) (held : List (ℕ × ServerTransfer)) (p : Player) → PlayerKept port held p →
     (end_at port held (armed_player port held p) ≡ armed_end (end_at port held p))
     × PlayerKept port held (armed_player port held p)
 player_armed port held (Client c) k = (
@@ -145,7 +145,7 @@ player_armed port held (Server s) k =
     )
 
 -- and it owns the same transfers
-armed_owned : (port index : ℕ) (held : List (ℕ × Transfer)) (ps : List Player) (p : Player) →
+armed_owned : (port index : ℕ) (held : List (ℕ × ServerTransfer)) (ps : List Player) (p : Player) →
     slice_get ps index ≡ Some p → AllOwned ps held → AllOwned (slice_set ps index (armed_player port held p)) held
 armed_owned port index held ps (Client c) there all =
     client_owned ps index c (armed_player port held (Client c)) held there all
@@ -202,7 +202,7 @@ module _ (config : Config) (sent : List Datagram) (server : PlayedServer) (ps : 
         (to_kept 1024 server.held ps consistent.kept) armed.1);
     recorded = consistent.recorded ∙ (sym same_records ∙ ap (records_from 1024) (sym new_ends));
     below =
-        subst (λ (n : ℕ). AllByRecursion (λ (e : ℕ × Transfer). e.0 < 1024 + n) server.held)
+        subst (λ (n : ℕ). AllByRecursion (λ (e : ℕ × ServerTransfer). e.0 < 1024 + n) server.held)
         (sym (length-set ps index q)) consistent.below;
     count =
         consistent.count

@@ -18,7 +18,7 @@ use Rattle.tftp_player.specs.Played.{AllKept, IsServerEndAt, PlayerKept, client_
 use Rattle.tftp_player.specs.Played.{server_end}
 use Rattle.tftp_player.specs.Clients.{left_in}
 use Rattle.tftp_player.specs.Requests.{IsRepeated, Repeats, AnyRepeats}
-use Rattle.tftp_player.specs.ServerEnd.{PlayedServer, Transfer}
+use Rattle.tftp_player.specs.ServerEnd.{PlayedServer, ServerTransfer}
 use Rattle.tftp_player.specs.Simulation.{IsOwned, ArePartsConsistent, ends_of}
 use Rattle.tftp_player.specs.World.{Open_end, by_outcome}
 use Rattle.tftp_player.specs.declared.player.Player.{Player}
@@ -30,7 +30,7 @@ use Rattle.tftp_player.proofs.EndsByPort.{ends_get, kept_at}
 
 module _ (from : Endpoint) (packet : Packet) where
   -- a transfer that is found is one of them
-  found_by : (port : ℕ) (e : ℕ × Transfer) (held : List (ℕ × Transfer)) (t : Transfer) (b : Bool) →
+  found_by : (port : ℕ) (e : ℕ × ServerTransfer) (held : List (ℕ × ServerTransfer)) (t : ServerTransfer) (b : Bool) →
       is_at (nat_cmp port) e.0 ≡ b → at port (e ∷ held) ≡ Some t → server.Repeats from packet t →
       (at port held ≡ Some t → server.AnyRepeats from packet held) → server.AnyRepeats from packet (e ∷ held)
   found_by port e held t true h found r rest =
@@ -40,35 +40,35 @@ module _ (from : Endpoint) (packet : Packet) where
   found_by port e held t false h found r rest =
       inr (rest (ap (λ (c : Bool). cond c (Some e.1) (at port held)) (sym h) ∙ found))
 
-  any_found : (port : ℕ) (held : List (ℕ × Transfer)) (t : Transfer) → at port held ≡ Some t →
+  any_found : (port : ℕ) (held : List (ℕ × ServerTransfer)) (t : ServerTransfer) → at port held ≡ Some t →
       server.Repeats from packet t → server.AnyRepeats from packet held
   any_found port [] t found r = absurd (let f : None ≡ Some t = found in cc)
   any_found port (e ∷ held) t found r =
       found_by port e held t (is_at (nat_cmp port) e.0) refl found r (λ there. any_found port held t there r)
 
-  module _ (held : List (ℕ × Transfer)) where
+  module _ (held : List (ℕ × ServerTransfer)) where
     -- an open end of the server, by what is held of it
-    served_here : (port : ℕ) (s : ServerEnd) (ended : Option Record) (t : Transfer) → ended ≡ None →
+    served_here : (port : ℕ) (s : ServerEnd) (ended : Option Record) (t : ServerTransfer) → ended ≡ None →
         at port held ≡ Some t →
         server_end port s ended (at port held)
         ≡ Open_end (open_server_end port s t.end (left_in t.files) (server.draft_of t.files) t.request)
     served_here port s ended t lives found =
         ap (λ (o : Option Record). server_end port s o (at port held)) lives
-        ∙ ap (λ (o : Option Transfer). server_end port s None o) found
+        ∙ ap (λ (o : Option ServerTransfer). server_end port s None o) found
 
-    served_side : (port : ℕ) (s : ServerEnd) (ended : Option Record) (t : Transfer) → ended ≡ None →
+    served_side : (port : ℕ) (s : ServerEnd) (ended : Option Record) (t : ServerTransfer) → ended ≡ None →
         at port held ≡ Some t → IsServerEndAt port s ended held → is_client t.end.role.side ≡ false
     served_side port s (Some r) t lives found kept = absurd (let f : Some r ≡ None = lives in cc)
     served_side port s None t lives found kept =
-        ap (λ (u : Transfer). is_client u.end.role.side) (same_Some t kept.transfer (sym found ∙ kept.found))
+        ap (λ (u : ServerTransfer). is_client u.end.role.side) (same_Some t kept.transfer (sym found ∙ kept.found))
         ∙ kept.side
 
     -- what repeats a transfer repeats the end that has it
     module _ (ps : List Player) (all : AllKept 1024 held ps) where
-      abbrev Has_end : ℕ × Transfer → Type 0
+      abbrev Has_end : ℕ × ServerTransfer → Type 0
       Has_end e = IsOwned ps e.0 × (at e.0 held ≡ Some e.1)
 
-      owned_repeats : (e : ℕ × Transfer) → Has_end e → server.Repeats from packet e.1 →
+      owned_repeats : (e : ℕ × ServerTransfer) → Has_end e → server.Repeats from packet e.1 →
           AnyRepeats from packet (ends_from 1024 held ps)
       owned_repeats e h r =
           let own = h.0 in
@@ -84,7 +84,7 @@ module _ (from : Endpoint) (packet : Packet) where
           (ends_get held ps own.index (Server own.served) own.there)
           (subst (Repeats from packet) (sym here) (record { still = side; peer = r.peer; same = r.same }))
 
-      any_owned : (es : List (ℕ × Transfer)) → AllByRecursion Has_end es → server.AnyRepeats from packet es →
+      any_owned : (es : List (ℕ × ServerTransfer)) → AllByRecursion Has_end es → server.AnyRepeats from packet es →
           AnyRepeats from packet (ends_from 1024 held ps)
       any_owned [] owned r = absurd r
       any_owned (e ∷ es) owned (inl r) = owned_repeats e owned.0 r

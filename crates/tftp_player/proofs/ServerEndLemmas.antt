@@ -26,7 +26,7 @@ use Rattle.tftp_rules.specs.Machine.{Endpoint}
 use Rattle.tftp_rules.proofs.Entries.{lookup-set_same, numbers}
 use Rattle.tftp_player.specs.Clients.{server_at}
 use Rattle.tftp_player.specs.Effect.{effect_of}
-use Rattle.tftp_player.specs.ServerEnd.{server_armed, PlayedServer, Transfer, ServerEndKept, ServerEndTurns}
+use Rattle.tftp_player.specs.ServerEnd.{server_armed, PlayedServer, ServerTransfer, ServerEndKept, ServerEndTurns}
 use Rattle.tftp_player.specs.ServerEnd.{ServerEndTimeoutStep}
 use Rattle.tftp_player.specs.ServerEnd.{ServerEndDatagramStep, Concludes, ClosesAs, IsRoomFor, IsSentBy, concluded_end}
 use Rattle.tftp_player.specs.ServerEnd.{concluded_held}
@@ -36,7 +36,7 @@ use Rattle.tftp_player.specs.declared.server_end.ServerEnd.{ServerEnd}
 use Rattle.tftp_player.proofs.RoomLemmas.{answer_short, known_agrees, timeout_short}
 
 -- a transfer that made a step has closed as the step returned
-pub closes_as : (port : ℕ) (h next : Transfer) (held held' : List (ℕ × Transfer)) (turn : Turn) (step : Step) →
+pub closes_as : (port : ℕ) (h next : ServerTransfer) (held held' : List (ℕ × ServerTransfer)) (turn : Turn) (step : Step) →
     at port held ≡ Some h → held' ≡ with_next port next held → next.end ≡ after_turn h.end turn →
     step ≡ reported h.end turn →
     ClosesAs step.closed (at port held')
@@ -44,7 +44,7 @@ closes_as port h next held held' turn step found e is reports =
     subst (ClosesAs step.closed) (sym (ap (at port) e ∙ lookup-set_same numbers port h next held found))
     (ap (λ (s : Step). s.closed) reports ∙ ap (λ (e : EndState). outcome_of e.position.phase) (sym is))
 
-pub times_out_closes : (port : ℕ) (old new : List (ℕ × Transfer)) (step : Step) (outgoing : Outgoing) →
+pub times_out_closes : (port : ℕ) (old new : List (ℕ × ServerTransfer)) (step : Step) (outgoing : Outgoing) →
     TimesOutLent port old new step outgoing → ClosesAs step.closed (at port new)
 times_out_closes port old new step outgoing t =
     closes_as port t.transfer (with_end t.end t.transfer) old new (timeout_turn t.transfer.end) step t.found t.held
@@ -67,7 +67,7 @@ effect_is at e e' turn step outgoing out copied c reports =
 
 -- the server after it: the transfer is removed if it has closed
 turns_served :
-    (port : ℕ) (was old new : ServerEnd) (before mid after : PlayedServer) (e : EndState) (turn : Turn) (next : Transfer)
+    (port : ℕ) (was old new : ServerEnd) (before mid after : PlayedServer) (e : EndState) (turn : Turn) (next : ServerTransfer)
     (refuses : Bool) (store : Stored) (effect : Effect) (r : Record) →
     next.end ≡ after_turn e turn → at port mid.held ≡ Some next →
     mid ≡ record before { store = store; held = with_next port next before.held } →
@@ -78,7 +78,7 @@ turns_served :
 turns_served port was old new before mid after e turn next refuses store effect r is found server armed_so c recorded
     effects =
     let d : Concludes port (Some next) old new mid after =
-    subst (λ (o : Option Transfer). Concludes port o old new mid after) found c in
+    subst (λ (o : Option ServerTransfer). Concludes port o old new mid after) found c in
     let closed : is_closed next ≡ is_some (outcome_of turn.position.phase) =
     ap (λ (e : EndState). is_some (outcome_of e.position.phase)) is in
     record {
@@ -95,9 +95,9 @@ turns_served port was old new before mid after e turn next refuses store effect 
     }
 
 -- what a transfer sent is what it lent
-sent_is : (outgoing : Outgoing) (o : Option Transfer) (h : Transfer) (out : List ℕ) (r : Record) → o ≡ Some h →
+sent_is : (outgoing : Outgoing) (o : Option ServerTransfer) (h : ServerTransfer) (out : List ℕ) (r : Record) → o ≡ Some h →
     IsSentBy outgoing o out r → (out ≡ lent outgoing h.end) × (r ≡ record_of h.end)
-sent_is outgoing o h out r found sent = subst (λ (p : Option Transfer). IsSentBy outgoing p out r) found sent
+sent_is outgoing o h out r found sent = subst (λ (p : Option ServerTransfer). IsSentBy outgoing p out r) found sent
 
 pub served_times_out :
     (port : ℕ) (old new : ServerEnd) (before mid after : PlayedServer) (step : Step) (outgoing : Outgoing) (out : List ℕ)
@@ -109,7 +109,7 @@ pub served_times_out :
     ServerEndTimeoutStep port old new before after effect r
 served_times_out port old new before mid after step outgoing out effect r t rest c sent here is_here made =
     let turn : Turn = timeout_turn t.transfer.end in
-    let next : Transfer = with_end (after_turn t.transfer.end turn) t.transfer in
+    let next : ServerTransfer = with_end (after_turn t.transfer.end turn) t.transfer in
     let held : mid.held ≡ with_next port next before.held =
     t.held ∙ ap (λ (e : EndState). with_next port (with_end e t.transfer) before.held) t.carries.state in
     let lends =
@@ -120,7 +120,7 @@ served_times_out port old new before mid after step outgoing out effect r t rest
       t.found,
       turns_served port old old new before mid after t.transfer.end turn next old.refuses before.store effect r refl
           (ap (at port) held ∙ lookup-set_same numbers port t.transfer next before.held t.found)
-          (rest ∙ ap (λ (held : List (ℕ × Transfer)). record before { held = held }) held)
+          (rest ∙ ap (λ (held : List (ℕ × ServerTransfer)). record before { held = held }) held)
           refl
           c
           (lends.1 ∙ ap record_of t.carries.state)
@@ -130,18 +130,18 @@ served_times_out port old new before mid after step outgoing out effect r t rest
 
 -- the room for its last datagram is that of its answer to a timeout
 pub fits_last :
-    (port : ℕ) (old new : List (ℕ × Transfer)) (step : Step) (outgoing : Outgoing) (capacity : ℕ) (last : List ℕ) →
+    (port : ℕ) (old new : List (ℕ × ServerTransfer)) (step : Step) (outgoing : Outgoing) (capacity : ℕ) (last : List ℕ) →
     TimesOutLent port old new step outgoing →
-    Some last ≡ option_map (λ (h : Transfer). lent LastSent h.end) (at port old) → length last ≤ capacity →
+    Some last ≡ option_map (λ (h : ServerTransfer). lent LastSent h.end) (at port old) → length last ≤ capacity →
     IsRoomFor outgoing (at port new) capacity
 fits_last port old new step outgoing capacity last t lends room =
     let is : last ≡ t.transfer.end.position.last_sent =
     same_Some last t.transfer.end.position.last_sent
-    (lends ∙ ap (option_map (λ (h : Transfer). lent LastSent h.end)) t.found) in
+    (lends ∙ ap (option_map (λ (h : ServerTransfer). lent LastSent h.end)) t.found) in
     let short = timeout_short t.transfer.end in
     let same : length (lent outgoing t.end) ≡ length (reply_bytes (timeout_turn t.transfer.end).reply) =
     ap length t.carries.bytes in
-    subst (λ (o : Option Transfer). IsRoomFor outgoing o capacity)
+    subst (λ (o : Option ServerTransfer). IsRoomFor outgoing o capacity)
     (sym (ap (at port) t.held ∙ lookup-set_same numbers port t.transfer (with_end t.end t.transfer) old t.found))
     (let l : length last ≡ length t.transfer.end.position.last_sent = ap length is in
     omega (arith, short, same, l, room))
@@ -166,7 +166,7 @@ pub fits_room :
     (port : ℕ) (from : Endpoint) (bytes : List ℕ) (was : ServerEnd) (before armed mid quieted : PlayedServer) (step : Step)
     (outgoing : Outgoing) (r : Record) (capacity : ℕ) →
     ServerEndKept port was before.held → armed ≡ server_armed before was.refuses →
-    Some r ≡ option_map (λ (h : Transfer). record_of h.end) (at port before.held) →
+    Some r ≡ option_map (λ (h : ServerTransfer). record_of h.end) (at port before.held) →
     answer_room DEFAULT_BLOCK r ≤ capacity →
     TakesDatagramLent memory_meaning memory_source port from bytes armed mid step outgoing →
     quieted ≡ server_armed mid false → IsRoomFor outgoing (at port quieted.held) capacity
@@ -178,10 +178,10 @@ fits_room port from bytes was before armed mid quieted step outgoing r capacity 
     armed_is takes in
     let here : t.transfer ≡ kept.transfer = same_Some t.transfer kept.transfer (sym t.found ∙ kept.found) in
     let agrees : AgreesWithin DEFAULT_BLOCK t.transfer.end.position.phase =
-    subst (λ (h : Transfer). AgreesWithin DEFAULT_BLOCK h.end.position.phase) (sym here)
+    subst (λ (h : ServerTransfer). AgreesWithin DEFAULT_BLOCK h.end.position.phase) (sym here)
     (known_agrees DEFAULT_BLOCK kept.transfer.end.position.phase kept.known) in
     let side : AreFilesOf t.transfer.end.role.side t.transfer.files =
-    subst (λ (h : Transfer). AreFilesOf h.end.role.side h.files) (sym here) kept.files in
+    subst (λ (h : ServerTransfer). AreFilesOf h.end.role.side h.files) (sym here) kept.files in
     let short =
     served_short from bytes t.transfer.end (with_armed before.store was.refuses) mid.store t.transfer.path t.next.path
     before.config.overwrite t.takes.turn t.transfer.files t.next.files agrees side t.takes.steps in
@@ -189,8 +189,8 @@ fits_room port from bytes was before armed mid quieted step outgoing r capacity 
     ap length t.takes.carries.bytes in
     let same : answer_room DEFAULT_BLOCK r ≡ answer_room DEFAULT_BLOCK (record_of t.transfer.end) =
     ap (answer_room DEFAULT_BLOCK)
-    (same_Some r (record_of t.transfer.end) (recorded ∙ ap (option_map (λ (h : Transfer). record_of h.end)) t.found)) in
-    subst (λ (o : Option Transfer). IsRoomFor outgoing o capacity)
+    (same_Some r (record_of t.transfer.end) (recorded ∙ ap (option_map (λ (h : ServerTransfer). record_of h.end)) t.found)) in
+    subst (λ (o : Option ServerTransfer). IsRoomFor outgoing o capacity)
     (sym
     (ap (λ (s : PlayedServer). at port s.held) quiet
     ∙ (ap (at port) t.held ∙ lookup-set_same numbers port t.transfer t.next before.held t.found)))
@@ -227,7 +227,7 @@ module _ (port : ℕ) (from : Endpoint) (bytes : List ℕ) (was old new : Server
             (with_armed mid.store false) effect r t.takes.carries.state
             found
             (quiet ∙ (ap (λ (s : PlayedServer). server_armed (record s { store = mid.store }) false) rest
-            ∙ ap (λ (held : List (ℕ × Transfer)). record before { store = with_armed mid.store false; held = held })
+            ∙ ap (λ (held : List (ℕ × ServerTransfer)). record before { store = with_armed mid.store false; held = held })
             t.held))
             armed_so
             c
@@ -255,17 +255,17 @@ module _ (port : ℕ) (from : Endpoint) (bytes : List ℕ) (was old new : Server
       (made ∙ ap (λ (a : Endpoint). record { from = a; to = step.to; bytes = out; closed = step.closed }) is_here)
 
 -- ---- a datagram that the end did not handle changes nothing
-same_by : (port : ℕ) (h : Transfer) (e : ℕ × Transfer) (held : List (ℕ × Transfer)) (b : Bool) →
+same_by : (port : ℕ) (h : ServerTransfer) (e : ℕ × ServerTransfer) (held : List (ℕ × ServerTransfer)) (b : Bool) →
     is_at (nat_cmp port) e.0 ≡ b → at port (e ∷ held) ≡ Some h →
     (is_at (nat_cmp port) e.0 ≡ false → with_next port h held ≡ held) →
     cond b ((e.0, h) ∷ held) (e ∷ with_next port h held) ≡ e ∷ held
 same_by port h e held true t found rest =
-    ap (λ (v : Transfer). (e.0, v) ∷ held)
+    ap (λ (v : ServerTransfer). (e.0, v) ∷ held)
     (let f : Some e.1 ≡ Some h = sym (ap (λ (c : Bool). cond c (Some e.1) (at port held)) t) ∙ found in
     let g : h ≡ e.1 = cc in g)
-same_by port h e held false t found rest = ap (λ (es : List (ℕ × Transfer)). e ∷ es) (rest t)
+same_by port h e held false t found rest = ap (λ (es : List (ℕ × ServerTransfer)). e ∷ es) (rest t)
 
-next_same : (port : ℕ) (h : Transfer) (held : List (ℕ × Transfer)) → at port held ≡ Some h →
+next_same : (port : ℕ) (h : ServerTransfer) (held : List (ℕ × ServerTransfer)) → at port held ≡ Some h →
     with_next port h held ≡ held
 next_same port h [] found = refl
 next_same port h (e ∷ held) found =
@@ -300,7 +300,7 @@ files_kept (Sink draft) (Sink draft') store store' path path' replace stays k = 
 files_kept (Source left) (Sink draft') store store' path path' replace stays k = absurd k
 files_kept (Sink draft) (Source left') store store' path path' replace stays k = absurd k
 
-transfer_is : (next h : Transfer) → next.end ≡ h.end → next.files ≡ h.files → next.path ≡ h.path →
+transfer_is : (next h : ServerTransfer) → next.end ≡ h.end → next.files ≡ h.files → next.path ≡ h.path →
     next.request ≡ h.request → next ≡ h
 transfer_is next h a b c d =
     ap (λ (e : EndState). record next { end = e }) a
@@ -313,20 +313,20 @@ pub not_taken : (port : ℕ) (was : ServerEnd) (before armed mid quieted : Playe
     KeepsHeld memory_meaning memory_source port (at port armed.held) armed mid →
     mid ≡ record armed { store = mid.store; held = mid.held } → quieted ≡ server_armed mid false → quieted ≡ before
 not_taken port was before armed mid quieted kept none armed_is k rest quiet =
-    let h : Transfer = kept.transfer in
+    let h : ServerTransfer = kept.transfer in
     let there : PlayedServer = server_armed before was.refuses in
     let so : KeepsHeld memory_meaning memory_source port (at port before.held) there mid =
     subst (λ (s : PlayedServer). KeepsHeld memory_meaning memory_source port (at port s.held) s mid) armed_is k in
     let s : KeepsHeld memory_meaning memory_source port (Some h) there mid =
-    subst (λ (o : Option Transfer). KeepsHeld memory_meaning memory_source port o there mid) kept.found so in
+    subst (λ (o : Option ServerTransfer). KeepsHeld memory_meaning memory_source port o there mid) kept.found so in
     let files =
     files_kept h.files s.0.files there.store mid.store h.path s.0.path before.config.overwrite s.1.stays s.1.files in
     let same : s.0 ≡ h = transfer_is s.0 h s.1.end files.0 s.1.path s.1.request in
     let held : mid.held ≡ before.held =
-    s.2 ∙ (ap (λ (n : Transfer). with_next port n before.held) same ∙ next_same port h before.held kept.found) in
+    s.2 ∙ (ap (λ (n : ServerTransfer). with_next port n before.held) same ∙ next_same port h before.held kept.found) in
     quiet
     ∙ (ap (λ (m : PlayedServer). server_armed m false)
     (rest ∙ ap (λ (m : PlayedServer). record m { store = mid.store; held = mid.held }) armed_is)
     ∙ (ap (λ (st : Stored). record before { store = with_armed st false; held = mid.held }) files.1
-    ∙ (ap (λ (es : List (ℕ × Transfer)). record before { store = with_armed before.store false; held = es }) held
+    ∙ (ap (λ (es : List (ℕ × ServerTransfer)). record before { store = with_armed before.store false; held = es }) held
     ∙ ap (λ (b : Bool). server_armed before b) (sym none))))

@@ -48,7 +48,7 @@ use Rattle.tftp_player.specs.Openings.{sending_end, receiving_end}
 use Rattle.tftp_server.specs.Port.{Ask, Ignores, Refuses, Reads, Writes, Service, Silent, Refused, Sends, Takes}
 use Rattle.tftp_server.specs.Port.{accept_reply, asks, by_draft, by_file, by_length}
 use Rattle.tftp_player.specs.Requests.{begun_of, open_transfers, opened_of, served, service}
-use Rattle.tftp_player.specs.ServerEnd.{PlayedServer, Transfer}
+use Rattle.tftp_player.specs.ServerEnd.{PlayedServer, ServerTransfer}
 use Rattle.tftp_player.proofs.WorldKeeps.{answered_values}
 use Rattle.tftp_player.proofs.Measured.{measured_whole}
 
@@ -130,10 +130,10 @@ taken_is true there = refl
 taken_is false there = refl
 
 -- the transfer that a new sender or receiver of the world is at its server
-abbrev pub held_sender : OpenEnd → Transfer
+abbrev pub held_sender : OpenEnd → ServerTransfer
 held_sender x = record { end = x.state; files = Source x.left; path = x.path; request = x.request }
 
-abbrev pub held_receiver : OpenEnd → Transfer
+abbrev pub held_receiver : OpenEnd → ServerTransfer
 held_receiver x = record { end = x.state; files = Sink new_draft; path = x.path; request = x.request }
 
 -- what a request is answered from

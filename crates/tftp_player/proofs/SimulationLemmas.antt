@@ -22,7 +22,7 @@ use Rattle.tftp_player.specs.Clients.{server_at, left_in, holding_in, no_holding
 use Rattle.tftp_player.specs.Effect.{effect_of}
 use Rattle.tftp_player.specs.PlayedClient.{PlayedClient}
 use Rattle.tftp_player.specs.Played.{client_end, open_server_end, server_end, end_at, PlayerKept, IsServerEndAt}
-use Rattle.tftp_player.specs.ServerEnd.{PlayedServer, Transfer, CommitsLast, ServerEndKept, ServerEndTurns}
+use Rattle.tftp_player.specs.ServerEnd.{PlayedServer, ServerTransfer, CommitsLast, ServerEndKept, ServerEndTurns}
 use Rattle.tftp_player.specs.ServerEnd.{concluded_end}
 use Rattle.tftp_player.specs.ServerEnd.{concluded_held}
 use Rattle.tftp_player.specs.Simulation.{IsOwned, IsRising}
@@ -38,12 +38,12 @@ use Rattle.tftp_player.specs.Requests.{is_transfer}
 use Rattle.tftp_player.proofs.Standing.{standing_record, standing_open, standing_ended, standing_transfer}
 
 -- an end depends on what is held at its port
-pub by_port : (port : ℕ) (held held' : List (ℕ × Transfer)) (p : Player) → at port held' ≡ at port held →
+pub by_port : (port : ℕ) (held held' : List (ℕ × ServerTransfer)) (p : Player) → at port held' ≡ at port held →
     end_at port held' p ≡ end_at port held p
 by_port port held held' (Client c) e = refl
-by_port port held held' (Server s) e = ap (λ (o : Option Transfer). server_end port s s.ended o) e
+by_port port held held' (Server s) e = ap (λ (o : Option ServerTransfer). server_end port s s.ended o) e
 
-served_by_port : (port : ℕ) (s : ServerEnd) (ended : Option Record) (held held' : List (ℕ × Transfer)) →
+served_by_port : (port : ℕ) (s : ServerEnd) (ended : Option Record) (held held' : List (ℕ × ServerTransfer)) →
     at port held' ≡ at port held → IsServerEndAt port s ended held → IsServerEndAt port s ended held'
 served_by_port port s (Some r) held held' e k = k
 served_by_port port s None held held' e k = record {
@@ -58,7 +58,7 @@ served_by_port port s None held held' e k = record {
   path = k.path;
 }
 
-pub kept_by_port : (port : ℕ) (held held' : List (ℕ × Transfer)) (p : Player) → at port held' ≡ at port held →
+pub kept_by_port : (port : ℕ) (held held' : List (ℕ × ServerTransfer)) (p : Player) → at port held' ≡ at port held →
     PlayerKept port held p → PlayerKept port held' p
 kept_by_port port held held' (Client c) e k = k
 kept_by_port port held held' (Server s) e k = served_by_port port s s.ended held held' e k
@@ -177,21 +177,21 @@ not_some None e = refl
 not_some (Some r) e = absurd (true≢false e)
 
 -- an end of the server, by the transfer that is held
-abbrev pub held_end : ℕ → ServerEnd → Transfer → OpenEnd
+abbrev pub held_end : ℕ → ServerEnd → ServerTransfer → OpenEnd
 held_end port s h = open_server_end port s h.end (left_in h.files) (draft_of h.files) h.request
 
-pub served_is : (port : ℕ) (s : ServerEnd) (held : List (ℕ × Transfer)) (h : Transfer) → is_some s.ended ≡ false →
+pub served_is : (port : ℕ) (s : ServerEnd) (held : List (ℕ × ServerTransfer)) (h : ServerTransfer) → is_some s.ended ≡ false →
     at port held ≡ Some h → end_at port held (Server s) ≡ Open_end (held_end port s h)
 served_is port s held h open_now found =
     ap (λ (o : Option Record). server_end port s o (at port held)) (not_some s.ended open_now)
-    ∙ ap (λ (o : Option Transfer). server_end port s None o) found
+    ∙ ap (λ (o : Option ServerTransfer). server_end port s None o) found
 
-pub served_kept : (port : ℕ) (s : ServerEnd) (held : List (ℕ × Transfer)) → is_some s.ended ≡ false →
+pub served_kept : (port : ℕ) (s : ServerEnd) (held : List (ℕ × ServerTransfer)) → is_some s.ended ≡ false →
     PlayerKept port held (Server s) → ServerEndKept port s held
 served_kept port s held open_now kept =
     subst (λ (o : Option Record). IsServerEndAt port s o held) (not_some s.ended open_now) kept
 
-pub same_transfer : (a b : Transfer) → Some a ≡ Some b → a ≡ b
+pub same_transfer : (a b : ServerTransfer) → Some a ≡ Some b → a ≡ b
 same_transfer a b e = cc
 
 -- the files of a transfer, as its end in the world has them
@@ -258,7 +258,7 @@ served_after port s e turn (Source left) (Sink draft) refuses request k armed = 
 served_after port s e turn (Sink draft) (Source left) refuses request k armed = absurd k
 
 -- the effect of a turn of a transfer h, beside its end
-pub record TransferGoes (h next : Transfer) (turn : Turn) (was refuses : Bool) : Type 0 where
+pub record TransferGoes (h next : ServerTransfer) (turn : Turn) (was refuses : Bool) : Type 0 where
   pub end : next.end ≡ after_turn h.end turn
   pub kind : SameDraftKind h.files next.files
   pub path : next.path ≡ h.path
@@ -267,7 +267,7 @@ pub record TransferGoes (h next : Transfer) (turn : Turn) (was refuses : Bool) :
   pub commits : CommitsLast next.files turn.position.phase
   pub known : is_some (terms_of turn.position.phase) ≡ true
 
-module _ (port : ℕ) (s : ServerEnd) (before : PlayedServer) (h next : Transfer) (turn : Turn) (refuses : Bool)
+module _ (port : ℕ) (s : ServerEnd) (before : PlayedServer) (h next : ServerTransfer) (turn : Turn) (refuses : Bool)
     (store : Stored) (effect : Effect) (r : Record)
     (found : at port before.held ≡ Some h) (open_now : is_some s.ended ≡ false) (kept : ServerEndKept port s before.held)
     (recorded : r ≡ record_of (after_turn h.end turn))
@@ -288,18 +288,18 @@ module _ (port : ℕ) (s : ServerEnd) (before : PlayedServer) (h next : Transfer
   here = same_transfer h kept.transfer (sym found ∙ kept.found)
 
   mode_is : h.end.role.mode ≡ s.mode
-  mode_is = ap (λ (t : Transfer). t.end.role.mode) here ∙ kept.mode
+  mode_is = ap (λ (t : ServerTransfer). t.end.role.mode) here ∙ kept.mode
 
   side_is : is_client h.end.role.side ≡ false
-  side_is = ap (λ (t : Transfer). is_client t.end.role.side) here ∙ kept.side
+  side_is = ap (λ (t : ServerTransfer). is_client t.end.role.side) here ∙ kept.side
 
   path_is : next.path ≡ s.path
-  path_is = goes.path ∙ (ap (λ (t : Transfer). t.path) here ∙ kept.path)
+  path_is = goes.path ∙ (ap (λ (t : ServerTransfer). t.path) here ∙ kept.path)
 
   fits : AreFilesOf h.end.role.side next.files
   fits =
       drafts_kept h.end.role.side h.files next.files goes.kind
-      (subst (λ (t : Transfer). AreFilesOf t.end.role.side t.files) (sym here) kept.files)
+      (subst (λ (t : ServerTransfer). AreFilesOf t.end.role.side t.files) (sym here) kept.files)
 
   after_is : x1 ≡ open_server_end port armed (after_turn h.end turn) (left_in next.files) draft h.request
   after_is = served_after port s h.end turn h.files next.files refuses h.request goes.kind goes.armed
@@ -390,7 +390,7 @@ module _ (port : ℕ) (s : ServerEnd) (before : PlayedServer) (h next : Transfer
       ∙ (ap (λ (c : Bool). not c && not (is_some (outcome_of turn.position.phase))) side_is ∙ ap not e)))
 
   transfer_was : is_transfer (Open_end x0) ≡ true
-  transfer_was = ap not (ap (λ (t : Transfer). is_client t.end.role.side) here ∙ kept.side)
+  transfer_was = ap not (ap (λ (t : ServerTransfer). is_client t.end.role.side) here ∙ kept.side)
 
   counted_by : (b : Bool) → is_some (outcome_of turn.position.phase) ≡ b →
       ((is_transfer
@@ -438,7 +438,7 @@ module _ (port : ℕ) (s : ServerEnd) (before : PlayedServer) (h next : Transfer
 
 -- an end of the server whose transfer made a turn, as it is in the world
 pub served_steps :
-    (port : ℕ) (s s' : ServerEnd) (before after : PlayedServer) (h next : Transfer) (turn : Turn) (refuses : Bool)
+    (port : ℕ) (s s' : ServerEnd) (before after : PlayedServer) (h next : ServerTransfer) (turn : Turn) (refuses : Bool)
     (store : Stored) (effect : Effect) (r : Record) →
     at port before.held ≡ Some h → is_some s.ended ≡ false → PlayerKept port before.held (Server s) →
     SameDraftKind h.files next.files → next.path ≡ h.path → next.request ≡ h.request →

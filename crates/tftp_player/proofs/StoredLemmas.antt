@@ -20,7 +20,7 @@ use Rattle.tftp_player.specs.Played.{client_end, draft_or_new, server_end, end_a
 use Rattle.tftp_player.specs.Played.{server_end_draft}
 use Rattle.tftp_player.specs.Played.{stored_of, committed_of}
 use Rattle.tftp_player.specs.PlayedClient.{PlayedClient}
-use Rattle.tftp_player.specs.ServerEnd.{PlayedServer, Transfer}
+use Rattle.tftp_player.specs.ServerEnd.{PlayedServer, ServerTransfer}
 use Rattle.tftp_player.specs.Simulation.{ends_of, ArePartsConsistent, world_of, opened_at, stored_in, stored_at}
 use Rattle.tftp_player.specs.Simulation.{committed_at}
 use Rattle.tftp_player.specs.World.{WorldState, WorldEnd, end_committed}
@@ -49,24 +49,24 @@ draft_stores None false e = absurd (true≢false (sym e))
 draft_stores (Some draft) true e = absurd (true≢false e)
 draft_stores (Some draft) false e = refl
 
-served_stores : (port : ℕ) (s : ServerEnd) (o : Option Record) (held : List (ℕ × Transfer)) → IsServerEndAt port s o held →
+served_stores : (port : ℕ) (s : ServerEnd) (o : Option Record) (held : List (ℕ × ServerTransfer)) → IsServerEndAt port s o held →
     option_map (λ (d : Drafted). d.bytes) (server_end_draft s o (at port held))
     ≡ stored_in (server_end port s o (at port held))
 served_stores port s (Some r) held k = draft_stores s.draft (is_sender r.side) k.draft
 served_stores port s None held k =
     subst
-    (λ (h : Option Transfer). option_map (λ (d : Drafted). d.bytes) (server_end_draft s None h)
+    (λ (h : Option ServerTransfer). option_map (λ (d : Drafted). d.bytes) (server_end_draft s None h)
     ≡ stored_in (server_end port s None h)) (sym k.found)
     (draft_stores (draft_of k.transfer.files) (is_sender k.transfer.end.role.side)
     (has_draft k.transfer.end.role.side k.transfer.files k.files))
 
-served_commits : (port : ℕ) (s : ServerEnd) (o : Option Record) (h : Option Transfer) →
+served_commits : (port : ℕ) (s : ServerEnd) (o : Option Record) (h : Option ServerTransfer) →
     (draft_or_new (server_end_draft s o h)).committed ≡ end_committed (server_end port s o h)
 served_commits port s (Some r) h = refl
 served_commits port s None (Some h) = refl
 served_commits port s None None = refl
 
-pub stores_is : (port : ℕ) (held : List (ℕ × Transfer)) (p : Player) → PlayerKept port held p →
+pub stores_is : (port : ℕ) (held : List (ℕ × ServerTransfer)) (p : Player) → PlayerKept port held p →
     stored_of port held p ≡ stored_in (end_at port held p)
 stores_is port held (Client c) k =
     client_stores c (is_sender c.end.role.side) c.files k.1 refl
@@ -75,7 +75,7 @@ stores_is port held (Client c) k =
     (client_end port c) refl refl)
 stores_is port held (Server s) k = served_stores port s s.ended held k
 
-pub commits_is : (port : ℕ) (held : List (ℕ × Transfer)) (p : Player) →
+pub commits_is : (port : ℕ) (held : List (ℕ × ServerTransfer)) (p : Player) →
     committed_of port held p ≡ end_committed (end_at port held p)
 commits_is port held (Client c) =
     sym (stands_as end_committed (holding_in c.files).committed (client_end port c) refl refl)

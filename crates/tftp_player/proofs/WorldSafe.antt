@@ -30,7 +30,7 @@ use Rattle.tftp_rules.proofs.SourceMoves.{text_if}
 use Rattle.tftp_player.specs.World.{WorldState, WorldEnd, Open_end, Closed_end, end_record, end_address, end_mode}
 use Rattle.tftp_player.specs.World.{datagram, end_file, end_stored, end_committed, end_text, end_wire, new_world}
 use Rattle.tftp_player.specs.World.{view_of_end}
-use Rattle.tftp_player.specs.WorldSafety.{HasPeer, HasRequested, IsIn, IsSafe, Serves, endpoint_of_end, safety_of}
+use Rattle.tftp_player.specs.WorldSafety.{HasPeer, HasRequested, IsIn, IsSafe, AnswersClient, endpoint_of_end, safety_of}
 use Rattle.tftp_player.specs.WorldKept.{IsKeptIn, Refines, WasAsked}
 use Rattle.tftp_player.specs.WorldRuns.{WorldsAreSafe, PeersStayHome, KeptIsSafe}
 use Rattle.tftp_player.proofs.HostBytes.{wire_prefix, wire_same}
@@ -214,7 +214,7 @@ module _ (strangers : Bool) (w : WorldState) (ok : Refines strangers w) where
           Attests (m.party (end_address x)) request_port (Request write request)
       its_own write request h = attested (end_address x) write request near h
 
-      serves : Serves w (end_address x) y
+      serves : AnswersClient w (end_address x) y
       serves = record {
         is_in = j;
         server = server;
@@ -230,7 +230,7 @@ module _ (strangers : Bool) (w : WorldState) (ok : Refines strangers w) where
         path = asked.path;
       }
 
-    served : (y : WorldEnd) × (end_address y ≡ p) × Serves w (end_address x) y
+    served : (y : WorldEnd) × (end_address y ≡ p) × AnswersClient w (end_address x) y
     served = (there.0, there.2, serves there.0 there.1 there.2)
 
   transfers : AreSafe safety_of (IsIn w) (λ p. host_of p ≢ Elsewhere)

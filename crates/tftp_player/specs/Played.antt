@@ -16,7 +16,7 @@ use Rattle.tftp_rules.specs.OpenEnds.{OpenEnd}
 use Rattle.tftp_player.specs.Clients.{client_at, server_at, left_in, holding_in, ClientTurns}
 use Rattle.tftp_player.specs.Clients.{ClientDatagramStep, stored_by, armed_client}
 use Rattle.tftp_player.specs.PlayedClient.{PlayedClient}
-use Rattle.tftp_player.specs.ServerEnd.{PlayedServer, Transfer, ServerEndKept, ServerEndTimeoutStep}
+use Rattle.tftp_player.specs.ServerEnd.{PlayedServer, ServerTransfer, ServerEndKept, ServerEndTimeoutStep}
 use Rattle.tftp_player.specs.ServerEnd.{ServerEndDatagramStep}
 use Rattle.tftp_player.specs.World.{ClosedEnd, WorldEnd, Open_end, Closed_end, end_record}
 use Rattle.tftp_player.specs.World.{standing}
@@ -90,19 +90,19 @@ closed_server_end port s draft r =
     }
 
 -- the end of the server: closed if it has a record, else as the server holds it
-abbrev pub server_end : ℕ → ServerEnd → Option Record → Option Transfer → WorldEnd
+abbrev pub server_end : ℕ → ServerEnd → Option Record → Option ServerTransfer → WorldEnd
 server_end port s (Some r) held = Closed_end (closed_server_end port s s.draft r)
 server_end port s None (Some h) =
     Open_end (open_server_end port s h.end (left_in h.files) (draft_of h.files) h.request)
 server_end port s None None = Closed_end (closed_server_end port s None unheld)
 
 -- the end at this port
-abbrev pub end_at : ℕ → List (ℕ × Transfer) → Player → WorldEnd
+abbrev pub end_at : ℕ → List (ℕ × ServerTransfer) → Player → WorldEnd
 end_at port held (Client c) = standing (client_end port c)
 end_at port held (Server s) = server_end port s s.ended (at port held)
 
 -- the ends from this port on
-abbrev pub ends_from : ℕ → List (ℕ × Transfer) → List Player → List WorldEnd
+abbrev pub ends_from : ℕ → List (ℕ × ServerTransfer) → List Player → List WorldEnd
 ends_from port held [] = []
 ends_from port held (p ∷ players) = end_at port held p ∷ ends_from (port + 1) held players
 
@@ -118,18 +118,18 @@ pub record ServerEndEnded (s : ServerEnd) (r : Record) : Type 0 where
   pub draft : is_some s.draft ≡ not (is_sender r.side)
 
 -- what holds of an end of the server, closed or open
-abbrev pub IsServerEndAt : ℕ → ServerEnd → Option Record → List (ℕ × Transfer) → Type 0
+abbrev pub IsServerEndAt : ℕ → ServerEnd → Option Record → List (ℕ × ServerTransfer) → Type 0
 IsServerEndAt port s (Some r) held = ServerEndEnded s r
 IsServerEndAt port s None held = ServerEndKept port s held
 
 -- what holds of an end
-abbrev pub PlayerKept : ℕ → List (ℕ × Transfer) → Player → Type 0
+abbrev pub PlayerKept : ℕ → List (ℕ × ServerTransfer) → Player → Type 0
 PlayerKept port held (Client c) =
     (is_client c.end.role.side ≡ true) × AreFilesOf c.end.role.side c.files
 PlayerKept port held (Server s) = IsServerEndAt port s s.ended held
 
 -- of each end
-abbrev pub AllKept : ℕ → List (ℕ × Transfer) → List Player → Type 0
+abbrev pub AllKept : ℕ → List (ℕ × ServerTransfer) → List Player → Type 0
 AllKept port held [] = Unit {0}
 AllKept port held (p ∷ players) = PlayerKept port held p × AllKept (port + 1) held players
 
@@ -167,31 +167,31 @@ armed_server_end None s = s
 armed_server_end (Some draft) s = record s { refuses = true }
 
 -- the same, by its record or by what the server holds
-abbrev pub armed_by : Option Record → Option Transfer → ServerEnd → ServerEnd
+abbrev pub armed_by : Option Record → Option ServerTransfer → ServerEnd → ServerEnd
 armed_by (Some r) held s = s
 armed_by None held s = armed_server_end (draft_at held) s
 
-abbrev pub armed_server_end_in : ℕ → List (ℕ × Transfer) → ServerEnd → ServerEnd
+abbrev pub armed_server_end_in : ℕ → List (ℕ × ServerTransfer) → ServerEnd → ServerEnd
 armed_server_end_in port held s = armed_by s.ended (at port held) s
 
 -- the end, set to refuse
-abbrev pub armed_player : ℕ → List (ℕ × Transfer) → Player → Player
+abbrev pub armed_player : ℕ → List (ℕ × ServerTransfer) → Player → Player
 armed_player port held (Client c) = Client (armed_client c)
 armed_player port held (Server s) = Server (armed_server_end_in port held s)
 
 -- the draft of an end of the server: its own if it is closed, else the server's
-abbrev pub server_end_draft : ServerEnd → Option Record → Option Transfer → Option Drafted
+abbrev pub server_end_draft : ServerEnd → Option Record → Option ServerTransfer → Option Drafted
 server_end_draft s (Some r) held = s.draft
 server_end_draft s None held = draft_at held
 
 -- what a receiver has stored
-abbrev pub stored_of : ℕ → List (ℕ × Transfer) → Player → Option (List ℕ)
+abbrev pub stored_of : ℕ → List (ℕ × ServerTransfer) → Player → Option (List ℕ)
 stored_of port held (Client c) = stored_by c.files
 stored_of port held (Server s) =
     option_map (λ (d : Drafted). d.bytes) (server_end_draft s s.ended (at port held))
 
 -- whether it is committed
-abbrev pub committed_of : ℕ → List (ℕ × Transfer) → Player → Bool
+abbrev pub committed_of : ℕ → List (ℕ × ServerTransfer) → Player → Bool
 committed_of port held (Client c) = (holding_in c.files).committed
 committed_of port held (Server s) =
     (draft_or_new (server_end_draft s s.ended (at port held))).committed

@@ -27,8 +27,8 @@ use Rattle.tftp_player.specs.declared.server_end.ServerEnd.{ServerEnd}
 abbrev pub PlayedServer : Type 0
 PlayedServer = ServerState Stored (List ℕ) Drafted
 
-abbrev pub Transfer : Type 0
-Transfer = TransferState (List ℕ) Drafted
+abbrev pub ServerTransfer : Type 0
+ServerTransfer = TransferState (List ℕ) Drafted
 
 -- the server, with its store set to refuse or not
 abbrev pub server_armed : PlayedServer → Bool → PlayedServer
@@ -40,8 +40,8 @@ CommitsLast (Source left) phase = Unit {0}
 CommitsLast (Sink draft) phase = is_complete phase ≡ false → draft.committed ≡ false
 
 -- an open end of the server: the server holds its transfer, with a peer and the same mode and path
-pub record ServerEndKept (port : ℕ) (s : ServerEnd) (held : List (ℕ × Transfer)) : Type 0 where
-  pub transfer : Transfer
+pub record ServerEndKept (port : ℕ) (s : ServerEnd) (held : List (ℕ × ServerTransfer)) : Type 0 where
+  pub transfer : ServerTransfer
   pub found : at port held ≡ Some transfer
   pub is_open : server.is_closed transfer ≡ false
   pub side : is_client transfer.end.role.side ≡ false
@@ -57,13 +57,13 @@ concluded_end true r draft s = record s { draft = draft; ended = Some r }
 concluded_end false r draft s = s
 
 -- the transfers without the one at the port, if it has closed
-abbrev pub concluded_held : Bool → ℕ → List (ℕ × Transfer) → List (ℕ × Transfer)
+abbrev pub concluded_held : Bool → ℕ → List (ℕ × ServerTransfer) → List (ℕ × ServerTransfer)
 concluded_held true port held = without port held
 concluded_held false port held = held
 
 -- an end of the server made this step from `e`: its transfer is `next`, and the store `store`
 pub record ServerEndTurns (port : ℕ) (old new : ServerEnd) (before after : PlayedServer)
-    (e : EndState) (turn : Turn) (next : Transfer) (refuses : Bool) (store : Stored)
+    (e : EndState) (turn : Turn) (next : ServerTransfer) (refuses : Bool) (store : Stored)
     (effect : Effect) (r : Record) : Type 0 where
   pub end : next.end ≡ after_turn e turn
   pub effects : effect ≡ effect_of (server_at port) turn
@@ -80,15 +80,15 @@ pub record ServerEndTurns (port : ℕ) (old new : ServerEnd) (before after : Pla
 abbrev pub ServerEndTimeoutStep : ℕ → ServerEnd → ServerEnd → PlayedServer → PlayedServer → Effect
     → Record → Type 0
 ServerEndTimeoutStep port old new before after effect r =
-    (h : Transfer) × (at port before.held ≡ Some h)
+    (h : ServerTransfer) × (at port before.held ≡ Some h)
     × ServerEndTurns port old new before after h.end (timeout_turn h.end)
     (with_end (after_turn h.end (timeout_turn h.end)) h) old.refuses before.store effect r
 
 -- the step of a datagram: while it is handled the store is set to refuse as the end is
 pub record ServerEndDatagramStep (port : ℕ) (from : Endpoint) (bytes : List ℕ) (old new : ServerEnd)
     (before after : PlayedServer) (effect : Effect) (r : Record) : Type 0 where
-  pub transfer : Transfer
-  pub next : Transfer
+  pub transfer : ServerTransfer
+  pub next : ServerTransfer
   pub turn : Turn
   pub store : Stored
   pub found : at port before.held ≡ Some transfer
@@ -104,22 +104,22 @@ pub record ServerEndDatagramStep (port : ℕ) (from : Endpoint) (bytes : List �
       (with_armed store false) effect r
 
 -- a buffer of this capacity has room for what the transfer lends
-abbrev pub IsRoomFor : Outgoing → Option Transfer → ℕ → Type 0
+abbrev pub IsRoomFor : Outgoing → Option ServerTransfer → ℕ → Type 0
 IsRoomFor outgoing None capacity = ⊥
 IsRoomFor outgoing (Some h) capacity = length (lent outgoing h.end) ≤ capacity
 
 -- the transfer lends these bytes, and has this record
-abbrev pub IsSentBy : Outgoing → Option Transfer → List ℕ → Record → Type 0
+abbrev pub IsSentBy : Outgoing → Option ServerTransfer → List ℕ → Record → Type 0
 IsSentBy outgoing None bytes r = ⊥
 IsSentBy outgoing (Some h) bytes r = (bytes ≡ lent outgoing h.end) × (r ≡ record_of h.end)
 
 -- the outcome of the transfer, if it has closed
-abbrev pub ClosesAs : Option Outcome → Option Transfer → Type 0
+abbrev pub ClosesAs : Option Outcome → Option ServerTransfer → Type 0
 ClosesAs closed None = ⊥
 ClosesAs closed (Some h) = closed ≡ outcome_of h.end.position.phase
 
 -- the transfer was removed with its record and its draft, if it has closed
-abbrev pub Concludes : ℕ → Option Transfer → ServerEnd → ServerEnd → PlayedServer → PlayedServer
+abbrev pub Concludes : ℕ → Option ServerTransfer → ServerEnd → ServerEnd → PlayedServer → PlayedServer
     → Type 0
 Concludes port None old new before after = ⊥
 Concludes port (Some h) old new before after =

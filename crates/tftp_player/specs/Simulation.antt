@@ -13,7 +13,7 @@ use Rattle.tftp_rules.specs.OpenEnds.{OpenEnd, files_of, end_after}
 use Rattle.tftp_player.specs.Effect.{effect_of, no_effect, said_by, report_by}
 use Rattle.tftp_player.specs.Played.{client_end, ends_from, records_from, AllKept}
 use Rattle.tftp_player.specs.PlayedClient.{PlayedClient}
-use Rattle.tftp_player.specs.ServerEnd.{PlayedServer, Transfer}
+use Rattle.tftp_player.specs.ServerEnd.{PlayedServer, ServerTransfer}
 use Rattle.tftp_player.specs.Requests.{open_transfers}
 use Rattle.tftp_rules.specs.Machine.{Endpoint}
 use Rattle.tftp_player.specs.World.{WorldState, ClosedEnd, WorldEnd, Open_end, Closed_end}
@@ -54,9 +54,9 @@ pub record ArePartsConsistent (server : PlayedServer) (players : List Player)
   pub kept : AllKept 1024 server.held players
   pub recorded : records ≡ records_from 1024 (ends_of server players)
   -- the server holds the transfers of the open ends alone
-  pub below : AllByRecursion (λ (e : ℕ × Transfer). e.0 < 1024 + length players) server.held
+  pub below : AllByRecursion (λ (e : ℕ × ServerTransfer). e.0 < 1024 + length players) server.held
   pub count : length server.held ≡ open_transfers (ends_of server players)
-  pub owned : AllByRecursion (λ (e : ℕ × Transfer). IsOwned players e.0) server.held
+  pub owned : AllByRecursion (λ (e : ℕ × ServerTransfer). IsOwned players e.0) server.held
   -- in the order of their ports
   pub rising : IsRising server.held
   -- between two events the store is not set to refuse

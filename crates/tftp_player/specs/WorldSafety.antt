@@ -63,7 +63,7 @@ HasRequested w a write request =
 
 -- an end of the server serves the client at this endpoint: it has it as its peer, and was opened by
 -- the one request that the client sent, for the path of the name in it
-pub record Serves (w : WorldState) (client : Endpoint) (y : WorldEnd) : Type 0 where
+pub record AnswersClient (w : WorldState) (client : Endpoint) (y : WorldEnd) : Type 0 where
   pub is_in : IsIn w y
   pub server : is_client (end_record y).side ≡ false
   pub peer : HasPeer y client
@@ -90,7 +90,7 @@ pub record IsSafe (w : WorldState) : Type 0 where
       → HasPeer x p → host_of p ≡ At_server
   -- where an end of the server serves it: the file that it asked for
   pub served : (x : WorldEnd) (p : Endpoint) → IsIn w x → is_client (end_record x).side ≡ true →
-      HasPeer x p → (y : WorldEnd) × (end_address y ≡ p) × Serves w (end_address x) y
+      HasPeer x p → (y : WorldEnd) × (end_address y ≡ p) × AnswersClient w (end_address x) y
   -- what the server sends is under its path, and so is what a complete receiver of the server has
   -- stored, unless writes may replace files
   pub is_from_path : w.overwrite ≡ false → (x : WorldEnd) → IsIn w x → IsSender x →

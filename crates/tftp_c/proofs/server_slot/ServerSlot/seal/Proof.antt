@@ -29,11 +29,11 @@ use Rattle.tftp_c.specs.contracts.server_slot.ServerSlot.seal.{ended, clauses}
 use Rattle.tftp_c.specs.contracts.server_slot.ServerSlot.seal.Key.{name as #self}
 use Rattle.tftp_c.proofs.server_slot.ServerSlot.seal.Statement.{statement}
 use Rattle.tftp_c.proofs.server_slot.ServerSlot.seal.Code as code
-use Rattle.tftp_c.specs.contracts.served.Served as served
+use Rattle.tftp_c.specs.contracts.held_server.HeldServer as held_server
 
 pub seal_spec : {M : Type 1} → statement M
 seal_spec 𝓤 𝓛 𝓜 𝓡 wired =
-    let H = 𝓛.H in let 𝓣 = tables 𝓤 H 𝓜 𝓡 𝓡.env in let c = clauses 𝓛 𝓜.mem 𝓡.returns in let R = served.the_row in let Z = heap.the_row in
+    let H = 𝓛.H in let 𝓣 = tables 𝓤 H 𝓜 𝓡 𝓡.env in let c = clauses 𝓛 𝓜.mem 𝓡.returns in let R = held_server.the_row in let Z = heap.the_row in
     let L : RattleType = Row R Z the_row_laws ghosts in let hs : Stays ended.signature.params ended.kept = (stay_dropped (plain (λ _. L)) yes, tt) in
     proved_at 𝓛 ended hs c 𝓜 𝓡 (Goes-blank 𝓛 0 (plain (λ _. L)) yes (λ κs x f. tt), tt) #self code.function (code.unfolded 𝓤 H 𝓜 𝓡 wired) (λ z are.
     let v = z.0.3.0 in let Post : Val → SProp 𝓤 = (walk_of 𝓛 ended hs c).post z in let Run : List Val → SProp 𝓤 = λ ws. WpFn 𝓤 H 𝓣.C 𝓣.Λ code.function ws Post in

@@ -34,12 +34,12 @@ use Rattle.tftp_c.specs.contracts.server_slot.ServerSlot.unseal.{ended, clauses}
 use Rattle.tftp_c.specs.contracts.server_slot.ServerSlot.unseal.Key.{name as #self}
 use Rattle.tftp_c.proofs.server_slot.ServerSlot.unseal.Statement.{statement}
 use Rattle.tftp_c.proofs.server_slot.ServerSlot.unseal.Code as code
-use Rattle.tftp_c.specs.contracts.served.Served as served
+use Rattle.tftp_c.specs.contracts.held_server.HeldServer as held_server
 use Rattle.tftp_c.specs.contracts.server_slot.ServerSlot as slot
 
 pub unseal_spec : {M : Type 1} → statement M
 unseal_spec 𝓤 𝓛 𝓜 𝓡 wired =
-    let H = 𝓛.H in let 𝓣 = tables 𝓤 H 𝓜 𝓡 𝓡.env in let c = clauses 𝓛 𝓜.mem 𝓡.returns in let R = served.the_row in let Z = heap.the_row in
+    let H = 𝓛.H in let 𝓣 = tables 𝓤 H 𝓜 𝓡 𝓡.env in let c = clauses 𝓛 𝓜.mem 𝓡.returns in let R = held_server.the_row in let Z = heap.the_row in
     let S : RattleType = slot.the_row in let hs : Stays ended.signature.params ended.kept = (stay_dropped (plain (λ _. S)) yes, (stay_dropped (plain (λ _. Z)) yes, tt)) in
     let al : Al = record { row = Z; laws = the_row_laws; g = ghosts; d = impl [] tnil dnil; drops = impl [] tnil dnil } in
     proved_at 𝓛 ended hs c 𝓜 𝓡 (Goes-blank 𝓛 0 (plain (λ _. S)) yes (λ κs x f. tt), (Goes-blank 𝓛 0 (plain (λ _. Z)) yes (λ κs x f. tt), tt)) #self code.function (code.unfolded 𝓤 H 𝓜 𝓡 wired) (λ z are.

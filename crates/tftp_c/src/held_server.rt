@@ -6,7 +6,7 @@ use tftp_server::Server;
 
 /// A server whose files are its caller's, behind the pointer of a handle.
 #[derive(Drop)]
-pub struct Served {
+pub struct HeldServer {
     pub(crate) server: Server<Elsewhere>,
     /// What it was opened with.
     pub(crate) options: TftpOptions,

@@ -17,10 +17,10 @@ use Rattle.tftp_c.specs.declared.event.TftpEndpoint.{TftpEndpoint}
 use Rattle.tftp_c.specs.declared.event.TftpEvent.{TftpEvent}
 use Rattle.tftp_c.specs.declared.event.TftpOptions.{TftpOptions}
 use Rattle.tftp_c.specs.declared.event.TftpQuestion.{TftpQuestion}
-use Rattle.tftp_c.specs.declared.served.Served.{Served}
+use Rattle.tftp_c.specs.declared.held_server.HeldServer.{HeldServer}
 use Rattle.tftp_c.specs.Handled.{Received, Sent, TimedOut}
 use Rattle.tftp_c.specs.Reports.{endpoint_of}
-use Rattle.tftp_c.specs.Serves.{limits_of, ServesGet, ServesPut}
+use Rattle.tftp_c.specs.ServerOpens.{limits_of, ServesGet, ServesPut}
 
 -- a transfer of such a server, and the server
 abbrev pub CallersTransfer : Type 0
@@ -40,18 +40,18 @@ config_of options transfers =
     }
 
 -- a server without transfers
-pub record Starts (options : TftpOptions) (transfers : ℕ) (s : Served) : Type 0 where
+pub record Starts (options : TftpOptions) (transfers : ℕ) (s : HeldServer) : Type 0 where
   pub opened_with : s.options ≡ options
   pub config : s.server.config ≡ config_of options transfers
   pub held : s.server.held ≡ []
 
 -- a handle holds a server of which this holds
-abbrev pub HoldsServer : Option Served → (Served → Type 0) → Type 0
+abbrev pub HoldsServer : Option HeldServer → (HeldServer → Type 0) → Type 0
 HoldsServer None holds = ⊥
 HoldsServer (Some s) holds = holds s
 
 -- a call handles the server that is held, and holds it still; it holds none if none was held
-abbrev pub OnServer : Option Served → Option Served → (Served → Served → Type 0) → Type 0
+abbrev pub OnServer : Option HeldServer → Option HeldServer → (HeldServer → HeldServer → Type 0) → Type 0
 OnServer None after does = after ≡ None
 OnServer (Some s) None does = ⊥
 OnServer (Some s) (Some t) does = does s t
