@@ -1,4 +1,4 @@
-//! The tests of packets, options and the file layer, over their public calls.
+//! The tests of packets, options, the file layer and one end of a transfer, over their public calls.
 //!
 //! A helper drops a packet, a path or a source by a call of `drop`: at the end of a scope the proof
 //! of the helper would contain the drop of each part.
@@ -15,15 +15,29 @@ mod calls;
 #[cfg(test)]
 mod cut_rows;
 #[cfg(test)]
+mod end_rows;
+#[cfg(test)]
 mod expect;
+#[cfg(test)]
+mod fault_end_rows;
 #[cfg(test)]
 mod fault_rows;
 #[cfg(test)]
+mod lending_rows;
+#[cfg(test)]
+mod long_end_rows;
+#[cfg(test)]
 mod memory_rows;
+#[cfg(test)]
+mod netascii_end_rows;
 #[cfg(test)]
 mod netascii_rows;
 #[cfg(test)]
 mod oack_rows;
+#[cfg(test)]
+mod open_end;
+#[cfg(test)]
+mod option_end_rows;
 #[cfg(test)]
 mod option_rows;
 #[cfg(test)]
@@ -32,3 +46,7 @@ mod packet_rows;
 mod path_rows;
 #[cfg(test)]
 mod stream_rows;
+#[cfg(test)]
+mod write_rows;
+#[cfg(test)]
+mod wrong_rows;

@@ -91,19 +91,24 @@ pub(crate) fn read_fields(
 impl<'a> Fields<'a> {
     /// The fields of a line of text, if it has six.
     fn of(text: &'a [u8]) -> Option<Fields<'a>> {
-        let mut fields = str::from_utf8(text).ok()?.split('\t');
-        let six = Fields {
-            at: fields.next()?,
-            from_ip: fields.next()?,
-            from_port: fields.next()?,
-            to_ip: fields.next()?,
-            to_port: fields.next()?,
-            digits: fields.next()?,
-        };
-        match fields.next() {
-            Some(_) => None,
-            None => Some(six),
+        let mut six = [""; 6];
+        let mut count = 0usize;
+        for field in str::from_utf8(text).ok()?.split('\t') {
+            *six.get_mut(count)? = field;
+            count = count.saturating_add(1);
         }
+        if count < six.len() {
+            return None;
+        }
+        let [at, from_ip, from_port, to_ip, to_port, digits] = six;
+        Some(Fields {
+            at,
+            from_ip,
+            from_port,
+            to_ip,
+            to_port,
+            digits,
+        })
     }
 }
 

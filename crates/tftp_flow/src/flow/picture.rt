@@ -2,6 +2,7 @@
 
 use crate::flow::captured_transfer::{Aside, CapturedTransfer, Ending};
 use crate::flow::choice::Choice;
+use crate::flow::moment::Span;
 use crate::flow::transfer_datagram::{Party, TransferDatagram, What};
 use std::alloc::{AllocError, Global};
 use std::net::SocketAddrV4;
@@ -63,23 +64,7 @@ impl CapturedTransfer {
     /// Its picture. Of a long transfer the first and the last datagrams are drawn, and those around
     /// one that was sent again.
     pub(crate) fn diagram(&self) -> Result<Diagram, AllocError> {
-        let mut picture = Picture::new(self.alloc(), self.title()?, self.summary()?);
-        picture.add_ends(self)?;
-        let rows = usize::from(MAX_ROWS).saturating_sub(self.asides.len());
-        let choice = Choice::new(self.alloc(), self.datagrams.as_slice(), rows)?;
-        let mut before = 0;
-        for (index, datagram) in self.datagrams.iter().enumerate() {
-            picture.add_asides(self, before, datagram.spot.number())?;
-            if choice.has(index) {
-                picture.add_datagram(self, datagram)?;
-            } else {
-                picture.skipped = picture.skipped.saturating_add(1);
-            }
-            before = datagram.spot.number();
-        }
-        picture.add_asides(self, before, u64::MAX)?;
-        picture.close(self)?;
-        Ok(picture.diagram)
+        Picture::new(self.alloc(), self.title()?, self.summary()?).of_transfer(self)
     }
 
     fn title(&self) -> Result<String, AllocError> {
@@ -108,25 +93,52 @@ impl CapturedTransfer {
         Ok(text)
     }
 
-    /// The line of a datagram.
+    /// The line of a datagram, as a label.
     fn label_of(&self, datagram: &TransferDatagram) -> Result<String, AllocError> {
-        let line = match datagram.what {
-            What::Read | What::Write => self.request.clone()?,
-            What::Options => match &self.agreed {
-                Some(agreed) => agreed.clone()?,
-                None => datagram.what.to_string(self.alloc())?,
-            },
-            What::Error { .. } => match &self.ending {
-                Ending::Error { by, text } if *by == datagram.by => text.clone()?,
-                _ => datagram.what.to_string(self.alloc())?,
-            },
-            what => what.to_string(self.alloc())?,
-        };
-        if datagram.is_cut {
-            let line = format!(in self.alloc(); "{line} (its beginning)")?;
+        let line = self.line_of(datagram)?;
+        if !datagram.is_cut {
             return shortened(self.alloc(), line);
         }
+        let line = format!(in self.alloc(); "{line} (its beginning)")?;
         shortened(self.alloc(), line)
+    }
+
+    fn line_of(&self, datagram: &TransferDatagram) -> Result<String, AllocError> {
+        match self.kept_line_of(datagram) {
+            Some(line) => String::from_str(self.alloc(), line),
+            None => datagram.what.to_string(self.alloc()),
+        }
+    }
+
+    /// The line of a datagram where it was kept.
+    fn kept_line_of(&self, datagram: &TransferDatagram) -> Option<&str> {
+        match datagram.what {
+            What::Read => Some(self.request.as_str()),
+            What::Write => Some(self.request.as_str()),
+            What::Options => match &self.agreed {
+                Some(agreed) => Some(agreed.as_str()),
+                None => None,
+            },
+            What::Error { .. } => match &self.ending {
+                Ending::Error { by, text } if *by == datagram.by => Some(text.as_str()),
+                _ => None,
+            },
+            _ => None,
+        }
+    }
+
+    /// The server's end, or else where the request was sent.
+    fn server_end(&self) -> SocketAddrV4 {
+        self.server.unwrap_or(self.asked_at)
+    }
+
+    /// Whence and where a datagram was sent.
+    fn way_of(&self, datagram: &TransferDatagram) -> (SocketAddrV4, SocketAddrV4) {
+        match datagram.by {
+            Party::Server => (self.server_end(), self.client),
+            Party::Client if datagram.what.is_request() => (self.client, self.asked_at),
+            Party::Client => (self.client, self.server_end()),
+        }
     }
 }
 
@@ -148,6 +160,41 @@ impl Picture {
             ports: Vec::new(alloc),
             skipped: 0,
         }
+    }
+
+    /// The picture of a transfer, of which nothing is drawn yet.
+    fn of_transfer(mut self, transfer: &CapturedTransfer) -> Result<Diagram, AllocError> {
+        match self.draw(transfer) {
+            Ok(()) => Ok(self.diagram),
+            Err(fault) => Err(fault),
+        }
+    }
+
+    fn draw(&mut self, transfer: &CapturedTransfer) -> Result<(), AllocError> {
+        self.add_ends(transfer)?;
+        let rows = usize::from(MAX_ROWS).saturating_sub(transfer.asides.len());
+        let choice = Choice::new(self.alloc, transfer.datagrams.as_slice(), rows)?;
+        self.add_datagrams(transfer, &choice)?;
+        self.close(transfer)
+    }
+
+    /// Adds the datagrams of the transfer that are chosen, and between them those beside it.
+    fn add_datagrams(
+        &mut self,
+        transfer: &CapturedTransfer,
+        choice: &Choice,
+    ) -> Result<(), AllocError> {
+        let mut before = 0;
+        for (index, datagram) in transfer.datagrams.iter().enumerate() {
+            self.add_asides(transfer, before, datagram.spot.number())?;
+            if choice.has(index) {
+                self.add_datagram(transfer, datagram)?;
+            } else {
+                self.skipped = self.skipped.saturating_add(1);
+            }
+            before = datagram.spot.number();
+        }
+        self.add_asides(transfer, before, u64::MAX)
     }
 
     /// The lanes of the client, of the request port and of the server.
@@ -213,42 +260,50 @@ impl Picture {
         transfer: &CapturedTransfer,
         datagram: &TransferDatagram,
     ) -> Result<(), AllocError> {
-        let server = transfer.server.unwrap_or(transfer.asked_at);
-        let (from, to) = match datagram.by {
-            Party::Server => (server, transfer.client),
-            Party::Client if datagram.what.is_request() => (transfer.client, transfer.asked_at),
-            Party::Client => (transfer.client, server),
-        };
-        let opens = datagram.by == Party::Server && !self.has_answer();
         let time = transfer.time_of(datagram.at).to_string(self.alloc)?;
         let Some(sent) = self.next_row(time)? else {
             return Ok(());
         };
-        let (course, again) = match datagram.gap {
-            Some(gap) => {
-                let note = format!(in self.alloc; "again after {gap} s")?;
-                (Course::SeenAgain, note)
-            }
-            None => (Course::Seen, String::new(self.alloc)),
-        };
-        let opened_at = if opens && server != transfer.asked_at {
-            Some(self.lane_of(transfer.asked_at)?)
-        } else {
-            None
-        };
+        let opened_at = self.opened_by(transfer, datagram)?;
+        let (from, to) = transfer.way_of(datagram);
+        let (from, to) = (self.lane_of(from)?, self.lane_of(to)?);
         let flight = Flight {
-            from: self.lane_of(from)?,
-            to: self.lane_of(to)?,
+            from,
+            to,
             label: transfer.label_of(datagram)?,
-            again,
+            again: self.note_of(datagram.gap)?,
             opened_at,
             sent,
-            course,
+            course: course_of(datagram.gap),
             arrivals: Vec::new(self.alloc),
             arrives_later: false,
         };
         self.diagram.flights.push(flight)?;
         Ok(())
+    }
+
+    /// The lane at which a datagram opens the server's end: the first one that comes from a port
+    /// other than that of requests.
+    fn opened_by(
+        &mut self,
+        transfer: &CapturedTransfer,
+        datagram: &TransferDatagram,
+    ) -> Result<Option<usize>, AllocError> {
+        if datagram.by == Party::Client || self.has_answer() {
+            return Ok(None);
+        }
+        if transfer.server_end() == transfer.asked_at {
+            return Ok(None);
+        }
+        Ok(Some(self.lane_of(transfer.asked_at)?))
+    }
+
+    /// What is noted of a datagram that was sent again.
+    fn note_of(&self, gap: Option<Span>) -> Result<String, AllocError> {
+        match gap {
+            Some(gap) => format!(in self.alloc; "again after {gap} s"),
+            None => Ok(String::new(self.alloc)),
+        }
     }
 
     /// Whether a datagram of the server was drawn.
@@ -302,7 +357,7 @@ impl Picture {
             Ending::Error { .. } => (MarkKind::Failed, "ended by ERROR"),
             Ending::Open => return Ok(()),
         };
-        let server = transfer.server.unwrap_or(transfer.asked_at);
+        let server = transfer.server_end();
         let (client, server) = (self.lane_of(transfer.client)?, self.lane_of(server)?);
         let row = self.diagram.rows.saturating_sub(1);
         for (lane, other) in [(client, server), (server, client)] {
@@ -316,5 +371,12 @@ impl Picture {
             })?;
         }
         Ok(())
+    }
+}
+
+fn course_of(gap: Option<Span>) -> Course {
+    match gap {
+        Some(_) => Course::SeenAgain,
+        None => Course::Seen,
     }
 }

@@ -1,13 +1,10 @@
-//! Reads between two ends in memory, without a socket or a world. It prints the number of blocks.
-//! `make bench` measures it.
-#![tactic(auto)]
+//! Reads between two ends in memory, without a socket or a world.
 
 ghost use Rattle.tftp_ends.specs.Files.{AreFilesOf};
 
 use anyhow::{Result, anyhow};
 use std::alloc::Global;
-use std::process::ExitCode;
-use std::{env, io};
+use std::io;
 use tftp_ends::{End, EndConfig, Endpoint, Outgoing};
 use tftp_file::{Files, MAX_WIRE, ReadSource, Sink, Source, WriteSink};
 use tftp_negotiate::{Agreed, Asked, DEFAULT_BLOCK, Kind, Limits, MAX_BLOCK, accept_ref};
@@ -34,48 +31,20 @@ const CONFIG: EndConfig = EndConfig {
 /// A file in memory for the server, and a sink that stores nothing for the client.
 type BenchFiles<'a> = Files<ReadSource<&'a [u8]>, WriteSink<io::Sink>>;
 
-/// Three arguments: the block size and the file length, in bytes, and the number of reads.
-fn main(rt: HostRuntime) -> ExitCode {
-    match play_words(&rt) {
-        Ok(blocks) => {
-            if println!(&rt; "{blocks} blocks").is_ok() {
-                return ExitCode::SUCCESS;
-            }
-            ExitCode::FAILURE
-        }
-        Err(_) => ExitCode::FAILURE,
-    }
-}
-
-/// Runs the reads of the command line, and returns the number of blocks.
-fn play_words(rt: &HostRuntime) -> Result<u64> {
-    let mut words = env::args(rt)?;
-    let _ = words.next();
-    let size = number(words.next())?;
-    let length = number(words.next())?;
-    let rounds = number(words.next())?;
-    let Ok(size) = u16::try_from(size) else {
-        return Err(anyhow!("no block size"));
-    };
+/// Plays reads of a file with this block size, and prints the number of blocks.
+pub(crate) fn play(rt: &HostRuntime, size: u16, length: usize, rounds: usize) -> Result<()> {
     let file = Vec::from_elem(rt.alloc(), 0u8, length)?;
     let mut blocks: u64 = 0;
     for _ in 0..rounds {
-        let count = play(rt.alloc(), size, file.as_slice())?;
+        let count = read(rt.alloc(), size, file.as_slice())?;
         blocks = blocks.saturating_add(u64::from(count));
     }
-    Ok(blocks)
-}
-
-/// The number in an argument.
-fn number(word: Option<String>) -> Result<usize> {
-    match word.and_then(|word| word.parse().ok()) {
-        Some(number) => Ok(number),
-        None => Err(anyhow!("no number")),
-    }
+    println!(rt; "{blocks} blocks")?;
+    Ok(())
 }
 
 /// Runs a read of a file with this block size, and returns the number of blocks.
-fn play(alloc: Global, size: u16, file: &[u8]) -> Result<u16> {
+fn read(alloc: Global, size: u16, file: &[u8]) -> Result<u16> {
     let length = file.len() as u64;
     let asked = Asked {
         blksize: if size == DEFAULT_BLOCK {
