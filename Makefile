@@ -108,8 +108,8 @@ soak: bin/tftp bin/tftpd
 
 bench: $(PROGRAMS)
 	bench/show/run.sh bin/tftp-show
-	@cd crates/tests_speed && rt run -- 512 0 1 > /dev/null
-	bench/ends/run.py crates/tests_speed/out/tests_speed
+	@cd crates/tests_memory && rt run -- 512 0 1 > /dev/null
+	bench/ends/run.py crates/tests_memory/out/tests_memory
 	python3 bench/play/plays.py bin/tftp-play
 
 bench-udp: bin/tftpd bin/tftp $(LIBRARY)

@@ -34,7 +34,7 @@ step tools/lint.py
 step in_crate "$crate" rt check
 for name in $(tests); do
     case $name in
-    tests_speed | tests_memory) ;; # programs of their own
+    tests_memory) ;; # a program of its own
     *) step in_crate "$name" rt try --test < /dev/null ;;
     esac
 done

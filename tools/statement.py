@@ -92,6 +92,12 @@ COMMANDS = {
     "IsBlockSize": "a number from 8 to 65,464",
 }
 
+DISK = {
+}
+
+PUT = {
+}
+
 SEVERAL = {
     "TakesOwn": "a client that has no peer makes no step at a DATA, an ACK or an OACK of another server, so that its peer "
                 "is none",
@@ -107,15 +113,28 @@ WORLD = {
 
 HEADLINES = [
     Headline(
-        "Command lines", "tftp_words", "EndToEnd", "WordsMoveFiles",
+        "A get, from disk to disk", "tftp_words", "FromDisk", "FromDiskToDisk",
         "`tftpd` ran these words and noted this, each `tftp` ran those and noted that, and a network joined them: then the "
-        "transfers keep their promises, over any store and any files, and each job that is complete moved its file whole. "
-        "What the file of a get was handed is what the source gave that the server's store opened for it; what that of a "
-        "put gave is what the server's draft was handed, and committed. The law is `tftp_words::laws::words_keep_promises`, "
-        "clause `files`. Its premises on the runs are the clauses `runs` of `tftp_daemon::tftpd_with_journal` and "
-        "`tftp_client::tftp_with_journal`. For programs of any start, as these are, it is the clause `any_files` of "
-        "`tftp_promises::laws::programs_keep_promises`. `others`, and what is said of it, is empty here.",
-        {}, COMMANDS),
+        "transfers keep their promises, and each get that is complete made, wrote, synced and then named a file of just the "
+        "bytes that reads of the file of its name in ROOT returned at the server, in order, each once. The law is "
+        "`tftp_words::laws::complete_gets_go_from_disk_to_disk`. Its premises on the runs are the clauses `runs` of "
+        "`tftp_daemon::tftpd_with_journal` and `tftp_client::tftp_with_journal`. `others`, and what is said of it, is empty "
+        "here.",
+        {}, {**COMMANDS, **DISK}),
+    Headline(
+        "A put, from disk to disk", "tftp_words", "PutFromDisk", "PutsFromDiskToDisk",
+        "The same of puts: what reads of LOCAL returned to a complete put, in order from its start, is what the server wrote "
+        "to a file that it made among its drafts, synced, and then named as the client asked. The law is "
+        "`tftp_words::laws::complete_puts_go_from_disk_to_disk`; the premise on a client is the clause `sends` of "
+        "`tftp_client::tftp_with_journal`.",
+        {}, PUT),
+    Headline(
+        "Any store and any files", "tftp_words", "EndToEnd", "WordsMoveFiles",
+        "The same where nothing is known of the files: what the file of a complete get was handed is what the source gave "
+        "that the server's store opened for it; what that of a complete put gave is what the server's draft took, before a "
+        "commit of it succeeded. The law is `tftp_words::laws::words_keep_promises`, clause `files`. For programs of any "
+        "start, as these are, it is the clause `any_files` of `tftp_promises::laws::programs_keep_promises`.",
+        {}, {}),
     Headline(
         "Several servers", "tftp_words", "WordsKept", "SeveralKeepAnyFiles",
         "The same of several `tftpd` at one address and request port, for each of them and each client that takes its "
