@@ -9,8 +9,8 @@ use Rattle.tftp_disk.specs.DiskJournal.DiskEvent.{Given}
 use Rattle.tftp_disk.specs.Given.{given, Reads}
 use Rattle.tftp_disk.specs.declared.disk_source.DiskSource.{DiskSource}
 
--- these calls read bytes: a piece was appended to a buffer, and what is left of what was left before
--- and of the wire text of the bytes is left
+-- these calls read bytes: a piece was appended to a buffer, and what is left of what was left
+-- before and of the wire text of the bytes is left
 pub record Passes (mode : Mode) (left left_after : List ℕ) (before after : List DiskEvent)
     (old new : List ℕ) (count : ℕ) : Type 0 where
   pub bytes : List ℕ
@@ -63,8 +63,8 @@ module _ {F : Type 0} where
     pub sound : source_error source ≡ None
     pub empty : pending source ≡ []
 
-  -- a call of a source that gave this piece: what was left before, and then the wire text of what the
-  -- call read, is the piece and what is left; after a failed read it gives nothing
+  -- a call of a source that gave this piece: what was left before, and then the wire text of what
+  -- the call read, is the piece and what is left; after a failed read it gives nothing
   pub record GivesPiece (before : DiskSource F) (piece : List ℕ) (after : DiskSource F)
       : Type 0 where
     pub mode : source_mode after ≡ source_mode before

@@ -1,6 +1,6 @@
 -- What an open file is, and what was read of it, by the calls on it (ours).
-use Rattle.std.specs.Prelude.{ℕ, ◌≡◌, Bool, true, false, ◌==◌, if◌then◌else◌, List, [], ◌∷◌, ◌++◌, Option}
-use Rattle.std.specs.Prelude.{Some, None, Ok}
+use Rattle.std.specs.Prelude.{ℕ, ◌≡◌, Bool, true, false, ◌==◌, if◌then◌else◌, List, [], ◌∷◌, ◌++◌}
+use Rattle.std.specs.Prelude.{Option, Some, None, Ok}
 use Rattle.std.specs.declared.io.SeekFrom.{SeekFrom}
 use Rattle.std.specs.declared.io.SeekFrom.TheVariants.{Start}
 use Rattle.tftp_disk.specs.DiskJournal.{DiskEvent}
@@ -49,8 +49,8 @@ passed (Sought to (Ok place) ∷ events) =
     if is_rewind to then (if is_at_end events then Some (given events) else None) else passed events
 passed (event ∷ events) = passed events
 
--- calls on an open file that read these bytes: the file is the same, and what was said of it and the
--- pass over it too
+-- calls on an open file that read these bytes: the file is the same, and what was said of it and
+-- the pass over it too
 pub record Reads (before after : List DiskEvent) (bytes : List ℕ) : Type 0 where
   pub place : opened_at after ≡ opened_at before
   pub found : examined after ≡ examined before

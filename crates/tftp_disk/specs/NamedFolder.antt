@@ -64,3 +64,16 @@ SyncsAfter path before after =
     ((at : List ℕ) × (answer : Done) × IsFolderOf path at × IsSynced answer
     × (after ≡ Folder_synced (Some at) answer ∷ before))
     ⊎ (MayNotSync path × (after ≡ before))
+
+-- the one call is the opening of the folder of the path
+abbrev pub OpensAlone : List ℕ → List DiskEvent → List DiskEvent → Type 0
+OpensAlone path before after =
+    (at : List ℕ) × (answer : Done) × IsFolderOf path at
+    × (after ≡ Folder_opened at answer ∷ before)
+
+-- the one call, if there is one, is a sync of the folder
+abbrev pub SyncsAlone : {F : Type 0} → Option (DiskFolder F) → List DiskEvent → List DiskEvent
+    → Type 0
+SyncsAlone folder before after =
+    (after ≡ before)
+    ⊎ ((answer : Done) × (after ≡ Folder_synced (path_in folder) answer ∷ before))

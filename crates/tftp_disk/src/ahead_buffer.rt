@@ -80,7 +80,9 @@ impl AheadBuffer {
     {
         if self.at == HEADER && out.len() == HEADER && out.capacity() <= self.text.capacity() {
             if self.text.len() - self.at == want {
-                exchange(&mut self.text, out);
+                // Unlike `[..HEADER]`, `slice_mut` says that the text behind the header stays.
+                self.text.slice_mut(..HEADER).copy_from_slice(out);
+                mem::swap(&mut self.text, out);
                 return Ok(());
             }
         }
@@ -115,22 +117,4 @@ impl AheadBuffer {
             Err(Failure::Read(error)) => Some(error),
         }
     }
-}
-
-/// Writes the bytes of `out` over the start of the text, and exchanges the two.
-fn exchange(text: &mut Vec<u8>, out: &mut Vec<u8>)
-    requires { length out.old.items ≤ length text.old.items }
-    ensures items { out.new.items ≡ out.old.items ++ drop (length out.old.items) text.old.items }
-    ensures head { text.new.items ≡ out.old.items }
-    ensures capacity { vec_capacity out.new ≡ vec_capacity text.old }
-{
-    put_head(out.as_slice(), text.as_mut_slice());
-    mem::swap(text, out);
-}
-
-fn put_head(head: &[u8], text: &mut [u8])
-    requires { length head.now ≤ length text.old }
-    ensures { text.new ≡ head.now ++ drop (length head.now) text.old }
-{
-    text[..head.len()].copy_from_slice(head);
 }

@@ -2,8 +2,8 @@
 //! [`DiskJournal`].
 //!
 //! Review alone shows that a note is true: the files of std have no model. Each call has one note,
-//! behind it: what was passed to the system, and what it returned. An open file keeps the journal of
-//! its own calls, since it outlives the call that opened it; a name that is given to it is noted
+//! behind it: what was passed to the system, and what it returned. An open file keeps the journal
+//! of its own calls, since it outlives the call that opened it; a name that is given to it is noted
 //! with what these calls made of it. No other file of the programs calls the system for a
 //! transfer's files (`tools/disk_calls.py` looks).
 //!

@@ -7,7 +7,6 @@ ghost use Rattle.tftp_disk.specs.Given.{Reads, IsAtEnd};
 ghost use Rattle.tftp_disk.specs.ReadBuffer.{ReadsSome};
 ghost use Rattle.tftp_disk.specs.DiskSource.{Passes, AppendsRead, IsUnread};
 ghost use Rattle.tftp_disk.specs.DiskSource.{source_calls, source_error};
-ghost use Rattle.tftp_wire.specs.declared.mode.Mode.TheVariants.{Octet};
 
 use crate::ahead_buffer::AheadBuffer;
 use crate::calls::DiskFile;
@@ -19,9 +18,9 @@ use tftp_wire::Mode;
 
 /// A source of the wire text of a file's bytes, which are read once, in order.
 ///
-/// It has a buffer. In octet a fill that requests at least its capacity bypasses it, and the file is
-/// read into the buffer of the fill. Between fills it can read ahead as many bytes as the last one
-/// requested. If a read fails, for any reason, the fill returns `Read`, as does each after it.
+/// It has a buffer. In octet a fill that requests at least its capacity bypasses it, and the file
+/// is read into the buffer of the fill. Between fills it can read ahead as many bytes as the last
+/// one requested. If a read fails, for any reason, the fill returns `Read`, as does each after it.
 #[derive(Drop)]
 pub struct DiskSource<F> {
     file: DiskFile<F>,
@@ -35,8 +34,8 @@ pub struct DiskSource<F> {
 }
 
 impl<F: Drop> DiskSource<F> {
-    /// A source of what is next read of the file, with a buffer for reads of so many bytes, at least
-    /// one. Reads nothing.
+    /// A source of what is next read of the file, with a buffer for reads of so many bytes, at
+    /// least one. Reads nothing.
     pub fn new(
         alloc: Global,
         file: DiskFile<F>,
@@ -207,7 +206,7 @@ pub(crate) fn fill_from<F: Read>(
 }
 
 /// Moves some bytes of wire text, and returns how many: 0 at the end. The capacity of `out` is
-/// enough.
+/// enough. In octet at least as many bytes as the buffer has space for bypass it.
 fn give_some<F: Read>(
     file: &mut DiskFile<F>,
     buffer: &mut ReadBuffer,
@@ -225,33 +224,10 @@ fn give_some<F: Read>(
     ensures err { OnErr result (out.new.items ≡ out.old.items) }
     ensures failed { OnErr result (ReadsSome file.old.journal.events file.new.journal.events) }
 {
-    match mode {
-        Mode::Octet => give_octet(file, buffer, room, out),
-        Mode::Netascii => give_buffered(file, buffer, Mode::Netascii, room, out),
-    }
-}
-
-/// The same in octet: at least as many bytes as the buffer has space for bypass it.
-fn give_octet<F: Read>(
-    file: &mut DiskFile<F>,
-    buffer: &mut ReadBuffer,
-    room: usize,
-    out: &mut Vec<u8>,
-) -> io::Result<usize>
-    requires some { 0 < room }
-    requires room { vec_len out.old + room ≤ vec_capacity out.old }
-    ensures ok { IfOk result (Passes Octet buffer.old buffer.new
-        file.old.journal.events file.new.journal.events out.old.items out.new.items) }
-    ensures bound { IfOk result (λ n. n ≤ room) }
-    ensures end { IfOk result (λ n. n ≡ 0 → IsAtEnd file.new.journal.events) }
-    ensures capacity { vec_capacity out.old ≤ vec_capacity out.new }
-    ensures err { OnErr result (out.new.items ≡ out.old.items) }
-    ensures failed { OnErr result (ReadsSome file.old.journal.events file.new.journal.events) }
-{
-    if buffer.len() == 0 && room >= buffer.capacity() {
+    if mode == Mode::Octet && buffer.len() == 0 && room >= buffer.capacity() {
         return read_into(file, room, out);
     }
-    give_buffered(file, buffer, Mode::Octet, room, out)
+    give_buffered(file, buffer, mode, room, out)
 }
 
 /// The same from the buffer, which is filled if it is empty.

@@ -1,6 +1,7 @@
 //! A file that is written block by block, after the blocks are acknowledged.
 
-ghost use Rattle.std.specs.Prelude.{◌≡◌, ◌≢◌, ◌<◌, ◌≤◌, ◌-◌, ◌++◌, ◌∷◌, [], length, take, drop, vec_len, IfOk, OnOk, OnErr};
+ghost use Rattle.std.specs.Prelude.{◌≡◌, ◌≢◌, ◌<◌, ◌≤◌, ◌-◌, ◌++◌, ◌∷◌, [], IfOk, OnOk, OnErr};
+ghost use Rattle.std.specs.Prelude.{length, take, drop, vec_len};
 ghost use Rattle.tftp_disk.specs.DiskJournal.{written};
 ghost use Rattle.tftp_disk.specs.DiskJournal.DiskEvent.{Examined, Synced, Mode_set};
 ghost use Rattle.tftp_disk.specs.DiskWriter.{calls_of, handed, NoSyncs};

@@ -1,6 +1,6 @@
-//! What `tftp` and `tftpd` share of files on a disk: the calls of the system, with a journal of them,
-//! the length of a file in netascii, the faults of the system's errors, a writer block by block, and
-//! the folder of a file that gets a name.
+//! What `tftp` and `tftpd` share of files on a disk: the calls of the system, with a journal of
+//! them, the length of a file in netascii, the faults of the system's errors, a writer block by
+//! block, and the folder of a file that gets a name.
 //!
 //! It has no rule of the protocol.
 //!

@@ -3,7 +3,7 @@
 ghost use Rattle.std.specs.Prelude.{◌∷◌, Err, ◌≡◌, ◌⊎◌, ◌↔◌, IsTrue, IfOk, IfErr, OnOk, OnErr};
 ghost use Rattle.tftp_disk.specs.Changes.{changes, renames};
 ghost use Rattle.tftp_disk.specs.NamedFolder.{OpensFolder, OpensNoFolder, IsFolderFor, SyncsFolder};
-ghost use Rattle.tftp_disk.specs.NamedFolder.{SyncsNoFolder, path_in};
+ghost use Rattle.tftp_disk.specs.NamedFolder.{SyncsNoFolder, path_in, OpensAlone, SyncsAlone};
 ghost use Rattle.tftp_disk.specs.DiskJournal.DiskEvent.{Folder_synced};
 
 use crate::calls::{DiskFolder, open_folder};
@@ -34,6 +34,7 @@ impl<F> NamedFolder<F> {
             (changes journal.old.events) (changes journal.new.events)) }
         ensures fits { IfOk result (λ folder. IsFolderFor path.now folder.folder) }
         ensures renames { renames journal.new.events ≡ renames journal.old.events }
+        ensures calls { OpensAlone path.now journal.old.events journal.new.events }
     {
         match open_folder(files, journal, folder_of(path)) {
             Ok(folder) => Ok(NamedFolder {
@@ -60,6 +61,7 @@ impl<F: OpenFile> NamedFolder<F> {
         ensures unsynced { IfErr result (λ error. changes journal.new.events
             ≡ Folder_synced (path_in self.now.folder) (Err error) ∷ changes journal.old.events) }
         ensures renames { renames journal.new.events ≡ renames journal.old.events }
+        ensures calls { SyncsAlone self.now.folder journal.old.events journal.new.events }
     {
         let Some(folder) = &self.folder else {
             return Ok(());
